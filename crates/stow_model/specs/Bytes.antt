@@ -1,0 +1,9 @@
+-- Byte strings: lists of numbers below 256.
+use Rattle.std.specs.Prelude.{ℕ, List}
+use Rattle.std.specs.declared.cmp.Ordering.{Ordering}
+use Rattle.std.specs.Ordering.{nat_cmp}
+use Rattle.std.specs.Cmp.Lexicographic.{slice_cmp}
+
+-- byte order: byte by byte, a front before its continuation
+abbrev pub bytes_cmp : List ℕ → List ℕ → Ordering
+bytes_cmp = slice_cmp nat_cmp

@@ -1,0 +1,12 @@
+pub mod Limits
+pub mod Bytes
+pub mod Texts
+pub mod Message
+pub mod Item
+pub mod Reply
+pub mod Event
+pub mod Wire
+pub mod Command
+pub mod Login
+pub mod Store
+pub mod History

@@ -1,0 +1,145 @@
+-- One tenant's store, alone: what a request means to it.
+use Rattle.std.specs.Prelude.{◌≡◌, ℕ, ℤ, pos, ◌+◌, ◌-◌, Bool, true, false, List, [], ◌∷◌, ◌++◌, length, sum_by, Option, Some, None, if◌then◌else◌, nat_lt, ◌==◌, ◌&&◌}
+use Rattle.std.specs.List.{list_any, flat_map}
+use Rattle.std.specs.Ordering.{nat_cmp}
+use Rattle.std.specs.Str.{bytes_eq}
+use Rattle.std.specs.FinMap.{FinMap}
+use Rattle.std.specs.FinMap as map
+use Rattle.stow_model.specs.Bytes.{bytes_cmp}
+use Rattle.stow_model.specs.Limits.{value_limit, number_limit}
+use Rattle.stow_model.specs.declared.refusal.Refusal.{Refusal}
+use Rattle.stow_model.specs.declared.refusal.Refusal.TheVariants as refusal
+use Rattle.stow_model.specs.declared.simple_string.SimpleString.TheVariants as simple
+use Rattle.stow_model.specs.declared.usage.Usage.{Usage}
+use Rattle.stow_model.specs.Reply.{Reply}
+use Rattle.stow_model.specs.Reply as reply
+use Rattle.stow_model.specs.Command.{Command, Ping, Echo, Get, Set, Del, Reading, Understood, Refused, reading}
+
+-- ---- what one tenant has
+
+-- a value, and the number of the write that made it
+pub record Version : Type 0 where
+  pub number : ℕ
+  pub value : List ℕ
+
+-- keys in byte order, each with its version
+abbrev pub Rows : Type 0
+Rows = FinMap bytes_cmp Version
+
+pub record Store : Type 0 where
+  pub rows : Rows
+  -- the number of the last write
+  pub last : ℕ
+  -- each live snapshot's id, with a whole copy of the rows
+  pub snapshots : FinMap nat_cmp Rows
+  -- the next snapshot's id
+  pub next : ℕ
+  pub commands : ℕ
+  pub refusals : ℕ
+
+abbrev pub empty_store : Store
+empty_store = record { rows = map.empty; last = 0; snapshots = map.empty; next = 1; commands = 0; refusals = 0 }
+
+-- ---- what is charged for it
+
+-- a key with a version of it
+abbrev pub Shown : Type 0
+Shown = List ℕ × Version
+
+abbrev pub cost : Shown → ℕ
+cost shown = length shown.0 + length shown.1.value + 16
+
+abbrev pub is_same_version : Shown → Shown → Bool
+is_same_version a b = bytes_eq a.0 b.0 && ((a.1.number == b.1.number) && bytes_eq a.1.value b.1.value)
+
+-- each once
+abbrev pub distinct : List Shown → List Shown
+distinct [] = []
+distinct (first ∷ later) = if list_any (is_same_version first) later then distinct later else first ∷ distinct later
+
+-- all that the present rows or a live snapshot show
+abbrev pub shown_by : Store → List Shown
+shown_by store = map.entries store.rows ++ flat_map map.entries (map.values store.snapshots)
+
+unfoldable pub charge : Store → ℕ
+charge store = sum_by cost (distinct (shown_by store))
+
+unfoldable pub usage : ℕ → Store → Usage
+usage quota store = record { rows = map.len store.rows; charge = charge store; quota = quota; writes = store.last; commands = store.commands; refusals = store.refusals; snapshots = map.len store.snapshots }
+
+-- ---- commands
+
+abbrev pub value_or_null : Option Version → Reply
+value_or_null None = reply.Null
+value_or_null (Some version) = reply.Bulk version.value
+
+-- the rows without these keys
+abbrev pub rows_without : List (List ℕ) → Rows → Rows
+rows_without [] rows = rows
+rows_without (key ∷ keys) rows = rows_without keys (map.remove rows key)
+
+abbrev pub Answer : Type 0
+Answer = Store × Reply
+
+abbrev pub refused : Store → Refusal → Answer
+refused store r = (store, reply.Error r)
+
+-- the store's rows become these by its next write
+abbrev pub written : Store → Rows → Reply → Answer
+written store rows r = if nat_lt store.last number_limit then (record store { rows = rows; last = store.last + 1 }, r) else refused store refusal.WriteNumbersUsedUp
+
+abbrev pub set_answer : Store → List ℕ → List ℕ → Answer
+set_answer store key value =
+    if nat_lt value_limit (length value) then refused store refusal.ValueTooLong
+    else written store (map.insert store.rows key (record { number = store.last + 1; value = value })) (reply.Simple simple.Ok)
+
+-- how many rows fewer there are; a write, where that isn't none
+abbrev pub removed_answer : Store → ℕ → Rows → Answer
+removed_answer store removed rows = if removed == 0 then (store, reply.Integer (pos 0)) else written store rows (reply.Integer (pos removed))
+
+abbrev pub del_answer : Store → List (List ℕ) → Answer
+del_answer store keys = removed_answer store (map.len store.rows - map.len (rows_without keys store.rows)) (rows_without keys store.rows)
+
+-- the store after a command that was counted, and the reply
+abbrev pub served : Store → Command → Answer
+served store Ping = (store, reply.Simple simple.Pong)
+served store (Echo text) = (store, reply.Bulk text)
+served store (Get key) = (store, value_or_null (map.get store.rows key))
+served store (Set key value) = set_answer store key value
+served store (Del keys) = del_answer store keys
+
+-- a count, one higher, up to its limit
+abbrev pub one_more : ℕ → ℕ
+one_more n = if nat_lt n number_limit then n + 1 else n
+
+abbrev pub counted : Store → Store
+counted store = record store { commands = one_more store.commands }
+
+abbrev pub answer_to : Store → Reading → Answer
+answer_to store (Understood command) = served store command
+answer_to store (Refused r) = refused store r
+
+-- one tenant's own step: the next store and the reply
+unfoldable pub answer : ℕ → Store → List (List ℕ) → Answer
+answer quota store words = answer_to (counted store) (reading words)
+
+-- ---- one tenant's own run
+
+-- a request that a tenant is served: its words, and whether memory was refused to it
+pub record Request : Type 0 where
+  pub words : List (List ℕ)
+  pub is_refused : Bool
+
+-- the next store and the reply, with memory or without
+unfoldable pub step : ℕ → Store → Request → Answer
+step quota store request = if request.is_refused then refused store refusal.OutOfMemory else answer quota store request.words
+
+-- The tenant's own run over its line of requests, told newest first: the last store ..
+unfoldable pub store_after : ℕ → List Request → Store
+store_after quota [] = empty_store
+store_after quota (request ∷ earlier) = (step quota (store_after quota earlier) request).0
+
+-- .. and the replies, newest first
+unfoldable pub replies_after : ℕ → List Request → List Reply
+replies_after quota [] = []
+replies_after quota (request ∷ earlier) = (step quota (store_after quota earlier) request).1 ∷ replies_after quota earlier

@@ -1,0 +1,20 @@
+//! What the service means: the values that a client and the service exchange, and, in `specs/`, the
+//! definitions that every other crate is proved against.
+//!
+//! The definitions, each in a module of `specs/`: how a request is spelled in a stream (`Wire`), the
+//! bytes of a reply (`Reply`), what words say (`Command`), whom a name and a password log in (`Login`),
+//! what one tenant has and what a request means to it (`Store`), and what a list of events means to
+//! each connection and each tenant (`History`).
+#![tactic(auto)]
+
+pub mod byte_string;
+pub mod event;
+pub mod item;
+pub mod items;
+pub mod message;
+pub mod refusal;
+pub mod reply;
+pub mod simple_string;
+pub mod stream_fault;
+pub mod usage;
+pub mod words;
