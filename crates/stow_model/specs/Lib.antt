@@ -10,3 +10,4 @@ pub mod Command
 pub mod Login
 pub mod Store
 pub mod History
+pub mod Parts

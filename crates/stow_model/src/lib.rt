@@ -7,11 +7,13 @@
 //! each connection and each tenant (`History`).
 #![tactic(auto)]
 
+pub mod bulk_at;
 pub mod byte_string;
 pub mod event;
 pub mod item;
 pub mod items;
 pub mod message;
+pub mod number_at;
 pub mod refusal;
 pub mod reply;
 pub mod simple_string;
