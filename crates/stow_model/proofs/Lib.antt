@@ -1,3 +1,5 @@
 pub mod Spelling
 pub mod Numbers
 pub mod Bulks
+pub mod Messages
+pub mod Places
