@@ -1,12 +1,10 @@
 -- Elements of an array, part by part.
-use Rattle.std.proofs.Common.{◌≡◌, ◌≢◌, ℕ, ◌+◌, ◌-◌, ◌<◌, ◌≤◌, ◌^◌, List, [], ◌∷◌, ◌++◌, length, take, drop, get_or, replicate, refl, ap, ◌∙◌, sym, subst, arith, append_assoc, append-nil, length-append, lit<, lit≤, ◌⊎◌, inl, inr}
-use Rattle.std.specs.List.{AllByRecursion}
-use Rattle.std.specs.Fmt.{decimal}
-use Rattle.std.proofs.lemmas.List.{append_cancel_left, length-replicate, take-append-drop}
-use Rattle.stow_model.specs.declared.stream_fault.StreamFault.TheVariants.{InvalidArrayLength, ExpectedBulk, InvalidBulkLength, BulkNotEnded}
+use Rattle.std.proofs.Common.{◌≡◌, ◌≢◌, ℕ, ◌-◌, ◌<◌, ◌≤◌, List, [], ◌∷◌, ◌++◌, length, take, drop, replicate, refl, ap, ◌∙◌, sym, subst, arith, append_assoc, append-nil, length-append, lit≤, inl, inr}
+use Rattle.std.proofs.lemmas.List.{length-replicate, take-append-drop}
+use Rattle.stow_model.specs.declared.stream_fault.StreamFault.TheVariants.{ExpectedBulk, InvalidBulkLength, BulkNotEnded}
 use Rattle.stow_model.specs.Wire.{bulk_line, bulk, FitsBulk}
 use Rattle.stow_model.proofs.Spelling.{line_once, split_once}
-use Rattle.stow_model.specs.Parts.{ends, IsBegunNumber, IsNoNumber, IsStuckNumber, IsBegunBulk, IsNoBulk, IsStuckBulk}
+use Rattle.stow_model.specs.Parts.{ends, IsBegunNumber, IsStuckNumber, IsBegunBulk, IsStuckBulk}
 
 zeros : ℕ → List ℕ
 zeros n = replicate n 0

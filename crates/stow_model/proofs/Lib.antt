@@ -3,3 +3,5 @@ pub mod Numbers
 pub mod Bulks
 pub mod Messages
 pub mod Places
+pub mod Alone
+pub mod OneHistory

@@ -1,5 +1,5 @@
 -- Messages, element by element.
-use Rattle.std.proofs.Common.{◌≡◌, ◌≢◌, ℕ, zero, suc, ◌+◌, ◌-◌, ◌<◌, ◌≤◌, ◌^◌, List, [], ◌∷◌, ◌++◌, length, replicate, refl, ap, ◌∙◌, sym, subst, arith, append_assoc, append-nil, length-append, lit<, lit≤, ◌⊎◌, inl, inr}
+use Rattle.std.proofs.Common.{◌≡◌, ◌≢◌, ℕ, zero, suc, ◌-◌, ◌<◌, ◌≤◌, List, [], ◌∷◌, ◌++◌, length, replicate, refl, ap, ◌∙◌, sym, subst, arith, append_assoc, append-nil, length-append, lit<, lit≤, ◌⊎◌, inl, inr}
 use Rattle.std.specs.List.{AllByRecursion}
 use Rattle.std.specs.Fmt.{decimal}
 use Rattle.std.proofs.lemmas.List.{append_cancel_left, length-replicate}
@@ -7,11 +7,11 @@ use Rattle.stow_model.specs.Message.{Message}
 use Rattle.stow_model.specs.Message as message
 use Rattle.stow_model.specs.declared.stream_fault.StreamFault.{StreamFault}
 use Rattle.stow_model.specs.declared.stream_fault.StreamFault.TheVariants.{InvalidArrayLength, ExpectedBulk, InvalidBulkLength, BulkNotEnded, InlineTooLong}
-use Rattle.stow_model.specs.Wire.{number_line, array_line, null_line, bulk_line, bulk, bulks, FitsBulk, Spells, IsBegun, IsFaulty, IsPlace, HasNoMessage}
+use Rattle.stow_model.specs.Wire.{array_line, null_line, bulk, bulks, FitsBulk, Spells, IsBegun, IsFaulty, IsPlace}
 use Rattle.std.proofs.lemmas.Fmt.{decimal_nonempty}
 use Rattle.stow_model.proofs.Spelling.{line_once, bulk_once, IsDigit}
 use Rattle.stow_model.proofs.Numbers.{digits_of_decimal}
-use Rattle.stow_model.specs.Parts.{ends, IsBegunNumber, IsNoNumber, IsStuckNumber, IsBegunBulk, IsNoBulk, IsStuckBulk, IsBulkPlace}
+use Rattle.stow_model.specs.Parts.{ends, IsBegunNumber, IsStuckNumber, IsBegunBulk, IsNoBulk, IsStuckBulk, IsBulkPlace}
 
 -- ---- lists of words
 

@@ -1,17 +1,17 @@
 -- Numbers in a line, digit by digit.
-use Rattle.std.proofs.Common.{◌≡◌, ◌≢◌, ℕ, ◌+◌, ◌-◌, ◌*◌, ◌/◌, ◌%◌, ◌<◌, ◌≤◌, ◌^◌, List, [], ◌∷◌, ◌++◌, length, take, get_or, refl, ap, ◌∙◌, sym, subst, arith, append_assoc, append-nil, lit<, ◌⊎◌, inl, inr, ⊎_elim}
+use Rattle.std.proofs.Common.{◌≡◌, ◌≢◌, ℕ, ◌+◌, ◌-◌, ◌*◌, ◌/◌, ◌%◌, ◌<◌, ◌≤◌, ◌^◌, List, [], ◌∷◌, ◌++◌, length, take, get_or, refl, ap, ◌∙◌, sym, subst, arith, append_assoc, append-nil, lit<, ◌⊎◌, inl, inr}
 use Rattle.std.specs.List.{AllByRecursion}
 use Rattle.std.specs.Fmt.{decimal}
 use Rattle.std.specs.List.{IsFirstAndRest}
 use Rattle.std.proofs.lemmas.Fmt.{decimal_injective, digits_decimal, decimal_digit, decimal_step, decimal_nonempty, first_decimal, digits_value-decimal}
 use Rattle.std.proofs.lemmas.Str.Parse.{digits_value-take-le}
 use Rattle.std.specs.Str.Parse.{digits_value}
-use Rattle.std.proofs.lemmas.List.{take-append-le, append_cancel_left, take-append-drop, length-take-le, take_more}
+use Rattle.std.proofs.lemmas.List.{append_cancel_left, take-append-drop, length-take-le, take_more}
 use Rattle.std.proofs.Common.{drop, add-one, drop-cons, length-append}
 use Rattle.std.proofs.Math.Seq.{take-append_seam}
 use Rattle.std.proofs.Common.{zero, suc, Bool, true, false}
-use Rattle.stow_model.proofs.Spelling.{IsDigit, digits_own, decimal-no_cr, until_once, one_begins}
-use Rattle.stow_model.specs.Parts.{ends, IsBegunNumber, IsNoNumber, IsStuckNumber, IsNumberAt, IsSoFar}
+use Rattle.stow_model.proofs.Spelling.{IsDigit, digits_own, one_begins}
+use Rattle.stow_model.specs.Parts.{ends, IsBegunNumber, IsNoNumber, IsStuckNumber, IsSoFar}
 
 pub so_far_none : (limit : ℕ) → IsSoFar limit [] 0
 unfolding IsSoFar

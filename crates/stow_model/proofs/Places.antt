@@ -1,17 +1,16 @@
 -- Which fault it is, is told by the bytes.
-use Rattle.std.proofs.Common.{◌≡◌, ◌≢◌, ℕ, ◌+◌, ◌<◌, ◌≤◌, ◌^◌, List, [], ◌∷◌, ◌++◌, length, refl, ap, ◌∙◌, sym, subst, arith, append_assoc, append-nil, length-append, lit<, ◌⊎◌, inl, inr}
+use Rattle.std.proofs.Common.{◌≡◌, ◌≢◌, ℕ, List, [], ◌∷◌, ◌++◌, length, refl, ap, ◌∙◌, sym, subst, arith, append_assoc, append-nil, length-append, ◌⊎◌, inl, inr}
 use Rattle.std.specs.List.{AllByRecursion}
 use Rattle.std.specs.Fmt.{decimal}
 use Rattle.std.proofs.lemmas.List.{append_cancel_left}
 use Rattle.stow_model.specs.declared.stream_fault.StreamFault.{StreamFault}
 use Rattle.stow_model.specs.declared.stream_fault.StreamFault.TheVariants.{InvalidArrayLength, ExpectedBulk, InvalidBulkLength, BulkNotEnded, InlineTooLong}
-use Rattle.stow_model.specs.Message.{Message}
 use Rattle.stow_model.specs.Wire.{number_line, array_line, bulk_line, bulk, bulks, FitsBulk, Spells, IsBegun, IsInLine, IsInArray, IsPlace, IsFaulty, FaultOnce}
-use Rattle.stow_model.proofs.Spelling.{line_once, bulk_once, split_once, one_begins}
+use Rattle.stow_model.proofs.Spelling.{line_once, bulk_once, one_begins}
 
 -- ---- one place
 
-begun_front : (a b : List ℕ) → IsBegun (a ++ b) → IsBegun a
+pub begun_front : (a b : List ℕ) → IsBegun (a ++ b) → IsBegun a
 begun_front a [] h = subst IsBegun (append-nil a) h
 begun_front a (c ∷ b) (m, next, more, s) = (m, c, b ++ next ∷ more, subst (Spells m) (append_assoc a (c ∷ b) (next ∷ more)) s)
 

@@ -1,5 +1,5 @@
 -- No spelling of a message begins another.
-use Rattle.std.proofs.Common.{◌≡◌, ◌≢◌, ℕ, ◌+◌, ◌<◌, ◌≤◌, ◌^◌, List, [], ◌∷◌, ◌++◌, length, reverse, refl, ap, ◌∙◌, sym, subst, arith, append_assoc, lit<, ◌⊎◌, inl, inr, ⊎_elim}
+use Rattle.std.proofs.Common.{◌≡◌, ◌≢◌, ℕ, ◌<◌, ◌≤◌, ◌^◌, List, [], ◌∷◌, ◌++◌, length, reverse, refl, ap, ◌∙◌, sym, subst, arith, append_assoc, lit<, ◌⊎◌, inl, inr}
 use Rattle.std.specs.List.{AllByRecursion}
 use Rattle.std.proofs.lemmas.List.{append_cancel_right, reverse-append}
 use Rattle.std.specs.Fmt.{decimal}
@@ -8,7 +8,7 @@ use Rattle.std.proofs.lemmas.Str.Parse.{IsDigitsTest, IsNumeralModel, numerals_b
 use Rattle.std.specs.Str.Parse.{digits_value}
 use Rattle.stow_model.specs.Message.{Message}
 use Rattle.stow_model.specs.Message as message
-use Rattle.stow_model.specs.Wire.{number_line, array_line, null_line, bulk_line, bulk, bulks, FitsBulk, Spells, SpellsAll, HasNoMessage, IsBegun, Splits, IsFaulty, SpelledOnce, SplitsOnce, TakenAreFirst, FaultStays}
+use Rattle.stow_model.specs.Wire.{number_line, array_line, null_line, bulk_line, bulk, bulks, FitsBulk, Spells, Splits, SpelledOnce, SplitsOnce, TakenAreFirst, FaultStays}
 
 -- ---- lists
 

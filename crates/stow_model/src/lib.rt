@@ -12,6 +12,7 @@ pub mod byte_string;
 pub mod event;
 pub mod item;
 pub mod items;
+pub mod laws;
 pub mod message;
 pub mod number_at;
 pub mod refusal;

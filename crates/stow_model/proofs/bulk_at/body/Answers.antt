@@ -1,4 +1,4 @@
-use Rattle.std.proofs.Common.{rules, ◌≡◌, ℕ, ap, sym, ◌∙◌, arith, refl, List, [], ◌∷◌, ◌++◌, append_assoc, subst, length}
+use Rattle.std.proofs.Common.{◌≡◌, ap, sym, ◌∙◌, arith, [], ◌∷◌, subst}
 use Rattle.stow_model.specs.Wire.{FitsBulk}
 use Rattle.stow_model.specs.declared.stream_fault.StreamFault.TheVariants.{BulkNotEnded}
 use Rattle.stow_model.specs.Parts.{IsBegunBulk, IsStuckBulk}

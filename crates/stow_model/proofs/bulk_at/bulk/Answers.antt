@@ -1,5 +1,4 @@
-use Rattle.std.proofs.Common.{rules, ◌≡◌, ℕ, ap, sym, ◌∙◌, arith, refl, List, [], ◌∷◌, ◌++◌, append_assoc, subst}
-use Rattle.stow_model.specs.declared.stream_fault.StreamFault.{StreamFault}
+use Rattle.std.proofs.Common.{ap, sym, ◌∙◌, ◌∷◌, subst}
 use Rattle.stow_model.specs.declared.stream_fault.StreamFault.TheVariants.{ExpectedBulk, InvalidBulkLength}
 use Rattle.stow_model.specs.Parts.{IsBegunBulk, IsStuckBulk}
 use Rattle.stow_model.proofs.Numbers.{empty}

@@ -1,5 +1,4 @@
-use Rattle.std.proofs.Common.{rules, ◌≡◌, ◌≢◌, ℕ, ap, sym, ◌∙◌, arith, refl, true, false, List, inl, inr}
-use Rattle.std.proofs.lemmas.Grind.{common_steps}
+use Rattle.std.proofs.Common.{◌≡◌, sym, ◌∙◌, true, false, inl, inr}
 use Rattle.stow_model.proofs.Numbers.{at_end_stuck, at_end_more, at_end_stuck_line, at_end_number, empty, first_and_rest}
 use Rattle.stow_model.proofs.number_at.end_of_line.Goals as goal
 

@@ -1,7 +1,7 @@
-use Rattle.std.proofs.Common.{rules, ◌≡◌, ◌≢◌, ℕ, ◌<◌, ◌≤◌, ◌+◌, ◌*◌, length, inl, inr, take, drop, get_or, ap, sym, ◌∙◌, arith, refl, true, false, List, subst}
+use Rattle.std.proofs.Common.{◌≡◌, ◌≢◌, ℕ, ◌<◌, ◌+◌, ◌*◌, inl, inr, take, sym, arith, subst}
 use Rattle.std.proofs.lemmas.Grind.{common_steps}
-use Rattle.stow_model.specs.Parts.{IsNumberAt, IsSoFar}
-use Rattle.stow_model.proofs.Numbers.{so_far_none, so_far_small, so_far_begun, cut_at, not_first, zero_stuck, large_stuck, digit_more}
+use Rattle.stow_model.specs.Parts.{IsSoFar}
+use Rattle.stow_model.proofs.Numbers.{so_far_none, so_far_small, so_far_begun, zero_stuck, large_stuck, digit_more}
 use Rattle.stow_model.proofs.number_at.number.Goals as goal
 
 pub loop-i-init : goal.loop-i-init

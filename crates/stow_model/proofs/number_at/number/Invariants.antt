@@ -1,4 +1,4 @@
-use Rattle.std.proofs.Common.{◌≡◌, take}
+use Rattle.std.proofs.Common.{take}
 use Rattle.stow_model.specs.Parts.{IsSoFar}
 use Rattle.stow_model.proofs.number_at.number.Given as goal
 
