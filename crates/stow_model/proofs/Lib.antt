@@ -5,3 +5,4 @@ pub mod Messages
 pub mod Places
 pub mod Alone
 pub mod OneHistory
+pub mod Fronts

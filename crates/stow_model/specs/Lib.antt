@@ -11,3 +11,4 @@ pub mod Login
 pub mod Store
 pub mod History
 pub mod Parts
+pub mod Reader
