@@ -6,3 +6,5 @@ pub mod Places
 pub mod Alone
 pub mod OneHistory
 pub mod Fronts
+pub mod Mapped
+pub mod Named

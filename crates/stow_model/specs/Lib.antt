@@ -12,3 +12,5 @@ pub mod Store
 pub mod History
 pub mod Parts
 pub mod Reader
+pub mod PlainMap
+pub mod OwnRun
