@@ -8,3 +8,4 @@ pub mod OneHistory
 pub mod Fronts
 pub mod Mapped
 pub mod Named
+pub mod Stepped
