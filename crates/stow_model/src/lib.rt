@@ -30,5 +30,7 @@ pub mod simple_string;
 pub mod stream_fault;
 pub mod stream_read;
 pub mod stream_rest;
+#[cfg(test)]
+mod tests;
 pub mod usage;
 pub mod words;

@@ -110,8 +110,5 @@ fn elements<A: Allocator + Copy>(
             BulkAt::Stuck(fault) => return Ok(MessageAt::Faulty(fault)),
         }
     }
-    Ok(MessageAt::Message(
-        Message::Words(Words::from_vec(words)),
-        left,
-    ))
+    Ok(MessageAt::Message(Message::Words(Words::from_vec(words)), left))
 }

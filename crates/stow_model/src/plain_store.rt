@@ -50,11 +50,7 @@ impl<A: Allocator + Copy> PlainStore<A> {
     }
 
     /// Serves one request. An `Err` changes nothing.
-    pub fn step(
-        &mut self,
-        alloc: A,
-        request: &PlainRequest<A>,
-    ) -> Result<Reply<A>, AllocError>
+    pub fn step(&mut self, alloc: A, request: &PlainRequest<A>) -> Result<Reply<A>, AllocError>
         ensures ok { IfOk result (λ r. ◌≡◌ {A = store.Answer} (store_of self.new, reply_of r) (store.step self.old.quota (store_of self.old) (request_of request.now))) }
         ensures quota { self.new.quota ≡ self.old.quota }
         ensures err { OnErr result (self.new ≡ self.old) }
@@ -74,11 +70,7 @@ impl<A: Allocator + Copy> PlainStore<A> {
     }
 
     /// Answers what words say, after they were counted.
-    fn serve(
-        &mut self,
-        alloc: A,
-        reading: PlainReading<'_, A>,
-    ) -> Result<Reply<A>, AllocError>
+    fn serve(&mut self, alloc: A, reading: PlainReading<'_, A>) -> Result<Reply<A>, AllocError>
         ensures ok { IfOk result (λ r. ◌≡◌ {A = store.Answer} (store_of self.new, reply_of r) (store.answer_to (store_of self.old) (reading_of reading.entry))) }
         ensures quota { self.new.quota ≡ self.old.quota }
         ensures err { OnErr result (self.new ≡ self.old) }
