@@ -9,3 +9,4 @@ pub mod Fronts
 pub mod Mapped
 pub mod Named
 pub mod Stepped
+pub mod Examples

@@ -14,3 +14,4 @@ pub mod Parts
 pub mod Reader
 pub mod PlainMap
 pub mod OwnRun
+pub mod Examples

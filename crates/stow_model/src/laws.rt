@@ -1,5 +1,6 @@
 //! Laws over the definitions: functions that do nothing, and whose contracts are the laws.
 ghost use Rattle.stow_model.specs.Wire.{SpelledOnce, SplitsOnce, TakenAreFirst, FaultStays, FaultOnce, FaultyNotBegun};
+ghost use Rattle.stow_model.specs.Examples.{Examples};
 ghost use Rattle.stow_model.specs.History.{ToldAlone, TwoRuns, OthersAddNothing, OneHistory};
 
 /// No spelling of a message begins another.
@@ -50,4 +51,9 @@ pub fn others_add_nothing()
 /// The events, with the marks of what memory was refused to, have one history.
 pub fn one_history()
     ensures { OneHistory }
+{}
+
+/// The definitions hold of their examples, and not of what they leave out.
+pub fn examples()
+    ensures { Examples }
 {}
