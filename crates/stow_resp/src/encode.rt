@@ -1,8 +1,8 @@
 //! The bytes of replies.
-ghost use Rattle.std.specs.Prelude.{◌≡◌, ◌++◌, ◌∷◌, [], List, ℕ, OnOk, OnErr};
-ghost use Rattle.stow_model.specs.Item.{item_of, item_encoding, line};
-ghost use Rattle.stow_model.specs.Reply.{reply_of, encoding};
-ghost use Rattle.std.specs.List.{flat_map};
+ghost use Rattle.std.specs.Prelude.{◌≡◌, ◌++◌, List, ℕ, map, codes, OnOk, OnErr};
+ghost use Rattle.stow_model.specs.Item.{item_of, item_encoding, integer_encoding, bulk_encoding, line};
+ghost use Rattle.stow_model.specs.Reply.{reply_of, encoding, Array};
+ghost use Rattle.stow_model.specs.Texts.{fault_text};
 ghost use Rattle.stow_resp.specs.Keeps.{Keeps};
 
 use itoa::Buffer;
@@ -12,7 +12,7 @@ use stow_model::items::Items;
 use stow_model::refusal::refusal_text;
 use stow_model::reply::Reply;
 use stow_model::simple_string::SimpleString;
-use stow_model::stream_fault::fault_text;
+use stow_model::stream_fault::{StreamFault, fault_text};
 
 /// What has bytes on the wire.
 pub trait Encode {
@@ -51,11 +51,7 @@ fn write_reply<A: Allocator, B: Allocator>(
         Reply::Simple(SimpleString::Ok) => write_line(b'+', b"OK", out),
         Reply::Simple(SimpleString::Pong) => write_line(b'+', b"PONG", out),
         Reply::Error(refusal) => write_line(b'-', refusal_text(*refusal), out),
-        Reply::ProtocolError(fault) => {
-            out.extend_from_slice(b"-ERR Protocol error: ")?;
-            out.extend_from_slice(fault_text(*fault))?;
-            out.extend_from_slice(b"\r\n")
-        }
+        Reply::ProtocolError(fault) => write_protocol_error(*fault, out),
         Reply::Integer(number) => write_integer(*number, out),
         Reply::Bulk(bytes) => write_bulk(bytes.as_slice(), out),
         Reply::Null => out.extend_from_slice(b"$-1\r\n"),
@@ -63,11 +59,24 @@ fn write_reply<A: Allocator, B: Allocator>(
     }
 }
 
+fn write_protocol_error<B: Allocator>(
+    fault: StreamFault,
+    out: &mut Vec<u8, B>,
+) -> Result<(), AllocError>
+    ensures ok { OnOk result (out.new.items ≡ out.old.items ++ line 45 (codes "ERR Protocol error: " ++ fault_text fault)) }
+    ensures keeps { Keeps out.old.items out.new.items }
+{
+    out.extend_from_slice(b"-ERR Protocol error: ")?;
+    out.extend_from_slice(fault_text(fault))?;
+    out.extend_from_slice(b"\r\n")?;
+    Ok(())
+}
+
 fn write_array<A: Allocator, B: Allocator>(
     items: &[Item<A>],
     out: &mut Vec<u8, B>,
 ) -> Result<(), AllocError>
-    ensures ok { OnOk result (out.new.items ≡ out.old.items ++ encoding (reply_of (Reply.Array (map item_of items.now)))) }
+    ensures ok { OnOk result (out.new.items ≡ out.old.items ++ encoding (Array (map item_of items.now))) }
     ensures keeps { Keeps out.old.items out.new.items }
 {
     write_line(b'*', Buffer::new().format(items.len()).as_bytes(), out)?;

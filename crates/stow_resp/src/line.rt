@@ -26,8 +26,11 @@ pub fn line(bytes: &[u8]) -> LineAt<'_>
     if *sign != 42 {
         return LineAt::Stuck;
     }
-    if let Some((minus, digits)) = after.split_first() && *minus == 45 {
-        return null_line(digits);
+    let Some((first, later)) = after.split_first() else {
+        return LineAt::More;
+    };
+    if *first == 45 {
+        return null_line(later);
     }
     match number(after, 1024) {
         NumberAt::Number(0, rest) => LineAt::Blank(rest),
