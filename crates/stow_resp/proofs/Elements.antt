@@ -46,9 +46,9 @@ scan_word p bytes word after h is fewer fit =
     }
 
 -- an array of which its line is known
-pub started : (bytes rest : List ℕ) (count : ℕ) → 0 < count → count ≤ 1024 → bytes ≡ array_line count ++ rest → IsProgress (record { count = count; line = length bytes - length rest; found = 0; scanned = length bytes - length rest }) bytes
-started bytes rest count some few at =
-    let line : length bytes - length rest ≡ length (array_line count) = length_front (array_line count) rest bytes at in
+pub started : (bytes rest : List ℕ) (count line : ℕ) → 0 < count → count ≤ 1024 → line ≡ length bytes - length rest → bytes ≡ array_line count ++ rest → IsProgress (record { count = count; line = line; found = 0; scanned = line }) bytes
+started bytes rest count line some few long at =
+    let len : line ≡ length (array_line count) = long ∙ length_front (array_line count) rest bytes at in
     record {
       words = [];
       rest = rest;
@@ -58,14 +58,14 @@ started bytes rest count some few at =
       number = refl;
       fits = tt;
       at = at;
-      line_len = line;
-      scanned_len = line ∙ ap length (sym (append-nil (array_line count)));
+      line_len = len;
+      scanned_len = len ∙ ap length (sym (append-nil (array_line count)));
     }
 
 -- ---- the words of a whole array
 
 -- after fewer words than there are comes a word
-record IsElement (left : List ℕ) : Type 0 where
+pub record IsElement (left : List ℕ) : Type 0 where
   pub word : List ℕ
   pub later : List ℕ
   pub fits : FitsBulk word

@@ -1,6 +1,7 @@
 //! The requests of a stream, from its bytes.
 ghost use Rattle.std.specs.Prelude.{◌≡◌, ◌++◌, [], OnOk, OnErr};
 ghost use Rattle.stow_resp.specs.Next.{IsNext};
+ghost use Rattle.stow_resp.specs.Scans.{IsProgress};
 
 use crate::line::{LineAt, line};
 use crate::next::Next;
@@ -52,40 +53,57 @@ impl<A: Allocator + Copy> Input<A> {
     pub fn next(&mut self, alloc: A) -> Next<A>
         ensures { IsNext result self.old self.new }
     {
-        let mut progress = match self.known {
-            Some(progress) => progress,
-            None => match line(self.unread.as_slice()) {
-                LineAt::Array(count, rest) => {
-                    let line = self.unread.len() - rest.len();
-                    Progress {
-                        count,
-                        line,
-                        found: 0,
-                        scanned: line,
-                    }
-                }
-                LineAt::Blank(rest) => {
-                    let line = self.unread.len() - rest.len();
-                    self.unread.advance(line);
-                    return Next::Blank;
-                }
-                LineAt::More => return Next::More,
-                LineAt::Stuck => return Next::Fault(StreamFault::InvalidArrayLength),
-            },
-        };
+        match self.known {
+            Some(progress) => self.go_on(alloc, progress),
+            None => self.start(alloc),
+        }
+    }
+
+    /// Reads the first line of a message.
+    fn start(&mut self, alloc: A) -> Next<A>
+        ensures { IsNext result self.old self.new }
+    {
+        match line(self.unread.as_slice()) {
+            LineAt::Array(count, rest) => {
+                let line = self.unread.len() - rest.len();
+                self.go_on(alloc, Progress::new(count, line))
+            }
+            LineAt::Blank(rest) => {
+                let line = self.unread.len() - rest.len();
+                self.known = None;
+                self.unread.advance(line);
+                Next::Blank
+            }
+            LineAt::More => Next::More,
+            LineAt::Stuck => Next::Fault(StreamFault::InvalidArrayLength),
+        }
+    }
+
+    /// Looks for the elements that were not found yet.
+    fn go_on(&mut self, alloc: A, mut progress: Progress) -> Next<A>
+        requires { IsProgress progress self.old }
+        ensures { IsNext result self.old self.new }
+    {
         let scan = progress.scan(self.unread.as_slice());
         self.known = Some(progress);
         match scan {
+            Scan::Whole => self.take(alloc, progress),
             Scan::More => Next::More,
             Scan::Stuck(fault) => Next::Fault(fault),
-            Scan::Whole => {
-                let Ok(words) = progress.words(alloc, self.unread.as_slice()) else {
-                    return Next::NoMemory;
-                };
-                self.unread.advance(progress.scanned);
-                self.known = None;
-                Next::Message(words)
-            }
         }
+    }
+
+    /// Takes a whole array off.
+    fn take(&mut self, alloc: A, progress: Progress) -> Next<A>
+        requires progress { IsProgress progress self.old }
+        requires whole { progress.found ≡ progress.count }
+        ensures { IsNext result self.old self.new }
+    {
+        let Ok(words) = progress.words(alloc, self.unread.as_slice()) else {
+            return Next::NoMemory;
+        };
+        self.known = None;
+        self.unread.advance(progress.scanned);
+        Next::Message(words)
     }
 }

@@ -34,6 +34,18 @@ pub enum Scan {
 }
 
 impl Progress {
+    /// An array whose line, of this many bytes, says this count.
+    pub fn new(count: u32, line: usize) -> Progress
+        ensures { result ≡ record { count = count; line = line; found = 0; scanned = line } }
+    {
+        Progress {
+            count,
+            line,
+            found: 0,
+            scanned: line,
+        }
+    }
+
     /// Goes on over the elements that are whole by now.
     pub fn scan(&mut self, bytes: &[u8]) -> Scan
         requires { IsProgress self.old bytes.now }
