@@ -16,21 +16,18 @@ use stow_model::stream_fault::{StreamFault, fault_text};
 
 /// What has bytes on the wire.
 pub trait Encode {
-    ghost encoding: { Self → List ℕ };
+    ghost spelling: { Self → List ℕ };
 
     /// Writes all of the bytes behind those of `out`, or nothing.
     fn write<B: Allocator>(&self, out: &mut Vec<u8, B>) -> Result<(), AllocError>
-        ensures ok { OnOk result (out.new.items ≡ out.old.items ++ encoding self.now) }
+        ensures ok { OnOk result (out.new.items ≡ out.old.items ++ spelling self.now) }
         ensures err { OnErr result (out.new.items ≡ out.old.items) };
 }
 
 impl<A: Allocator> Encode for Reply<A> {
-    ghost encoding = { λ reply. encoding (reply_of reply) };
+    ghost spelling = { λ reply. encoding (reply_of reply) };
 
-    fn write<B: Allocator>(&self, out: &mut Vec<u8, B>) -> Result<(), AllocError>
-        ensures ok { OnOk result (out.new.items ≡ out.old.items ++ encoding (reply_of self.now)) }
-        ensures err { OnErr result (out.new.items ≡ out.old.items) }
-    {
+    fn write<B: Allocator>(&self, out: &mut Vec<u8, B>) -> Result<(), AllocError> {
         let start = out.len();
         let written = write_reply(self, out);
         if written.is_err() {

@@ -5,5 +5,4 @@ ghost use Rattle.stow_resp.specs.Actions.{CutsDoNotMatter};
 /// same messages, and leave the same bytes unread.
 pub fn cuts_do_not_matter()
     ensures { CutsDoNotMatter }
-{
-}
+{}

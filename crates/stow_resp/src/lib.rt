@@ -10,8 +10,8 @@
 pub mod encode;
 pub mod input;
 pub mod laws;
-pub mod next;
 mod line;
+pub mod next;
 mod progress;
 
 pub use stow_model::byte_string::ByteString;
@@ -23,3 +23,6 @@ pub use stow_model::reply::Reply;
 pub use stow_model::simple_string::SimpleString;
 pub use stow_model::stream_fault::StreamFault;
 pub use stow_model::words::Words;
+
+#[cfg(test)]
+mod tests;

@@ -66,11 +66,7 @@ impl Progress {
     }
 
     /// Copies of the words of a whole array.
-    pub fn words<A: Allocator + Copy>(
-        &self,
-        alloc: A,
-        bytes: &[u8],
-    ) -> Result<Words<A>, AllocError>
+    pub fn words<A: Allocator + Copy>(&self, alloc: A, bytes: &[u8]) -> Result<Words<A>, AllocError>
         requires progress { IsProgress self.now bytes.now }
         requires whole { self.now.found ≡ self.now.count }
         ensures { (spelled : List (List ℕ)) (rest : List ℕ) → length spelled ≡ self.now.count
