@@ -9,7 +9,7 @@ use Rattle.stow_model.proofs.Spelling.{bulk_once, bulks_once}
 use Rattle.stow_model.proofs.Messages.{array_begun, array_faulty, array_whole, one_more_word, one_more_fits}
 use Rattle.stow_resp.specs.declared.progress.Progress.{Progress}
 use Rattle.stow_resp.specs.Scans.{IsProgress}
-use Rattle.stow_resp.specs.Next.{IsTaken}
+use Rattle.stow_resp.specs.Next.{IsTaken, HasWords}
 use Rattle.stow_resp.proofs.Lists.{drop_front, slice_from, length_front}
 
 -- ---- what is known of an array
@@ -86,6 +86,12 @@ pub element : (p : Progress) (bytes : List ℕ) (words : List (List ℕ)) (left 
 element p bytes words left h whole fewer fits at =
     next_word words h.words left h.rest fits h.fits (let n = h.number in omega arith) (sym at ∙ elements p bytes h.words h.rest h.line_len h.at)
 
+-- one word more was copied
+pub copied : (words pushed : List (List ℕ)) (word copy left after bytes : List ℕ) → copy ≡ word → pushed ≡ words ++ copy ∷ [] → left ≡ bulk word ++ after → FitsBulk word → AllByRecursion FitsBulk words → bytes ≡ bulks words ++ left → AllByRecursion FitsBulk pushed × (bytes ≡ bulks pushed ++ after)
+copied words pushed word copy left after bytes same push at fit fits is =
+    let items : words ++ word ∷ [] ≡ pushed = ap (λ w. words ++ w ∷ []) (sym same) ∙ sym push in
+    (subst (AllByRecursion FitsBulk) items (one_more_fits words word fits fit), subst (λ ws. bytes ≡ bulks ws ++ after) items (one_more_word words word bytes left after is at))
+
 pub not_begun : (left : List ℕ) → IsElement left → IsBegunBulk left → ⊥
 not_begun left h (word, next, more, fits, e) =
     let both : bulk h.word ++ (h.later ++ next ∷ more) ≡ bulk word ++ [] = sym (append_assoc (bulk h.word) h.later (next ∷ more)) ∙ ap (λ t. t ++ next ∷ more) (sym h.at) ∙ e ∙ sym (append-nil (bulk word)) in
@@ -107,3 +113,6 @@ taken p bytes words h whole is =
       subst (λ w. Spells (message.Words w) spelling) (sym is) (array_whole p.count h.words h.some h.few (h.number ∙ whole) h.fits),
       cut p bytes h ∙ ap (λ t. spelling ++ t) (sym (drop_front spelling h.rest bytes p.scanned (cut p bytes h) h.scanned_len)),
     )
+
+pub has_words : (p : Progress) (bytes : List ℕ) → IsProgress p bytes → p.found ≡ p.count → HasWords bytes
+has_words p bytes h whole = (h.words, drop p.scanned bytes, taken p bytes h.words h whole refl)

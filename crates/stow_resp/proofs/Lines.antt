@@ -1,12 +1,11 @@
 -- The first line of a request.
-use Rattle.std.proofs.Common.{◌≡◌, ◌≢◌, ℕ, zero, suc, ◌+◌, ◌-◌, ◌<◌, ◌≤◌, List, [], ◌∷◌, ◌++◌, length, take, drop, get_or, refl, ap, ◌∙◌, sym, subst, arith}
+use Rattle.std.proofs.Common.{◌≡◌, ◌≢◌, ℕ, zero, suc, ◌+◌, ◌<◌, List, [], ◌∷◌, ◌++◌, length, take, drop, get_or, refl, ap, ◌∙◌, sym, subst, arith}
 use Rattle.std.proofs.lemmas.List.{take_all, take-append-drop}
-use Rattle.stow_model.specs.Message.{Blank}
-use Rattle.stow_model.specs.Wire.{array_line, null_line, Spells, IsBegun, IsFaulty}
+use Rattle.stow_model.specs.Wire.{array_line, null_line, IsBegun, IsFaulty}
 use Rattle.stow_model.specs.declared.stream_fault.StreamFault.TheVariants.{InvalidArrayLength}
 use Rattle.stow_model.specs.Parts.{ends}
 use Rattle.stow_model.proofs.Numbers.{cut_at}
-use Rattle.stow_model.proofs.Messages.{null_begun, null_faulty, null_whole, blank_whole}
+use Rattle.stow_model.proofs.Messages.{null_begun, null_faulty}
 
 -- the null line after its first two bytes
 abbrev pub digits : List ℕ

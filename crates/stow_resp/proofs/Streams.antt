@@ -1,8 +1,8 @@
 -- The messages of a stream don't depend on its pieces.
-use Rattle.std.proofs.Common.{◌≡◌, ℕ, ◌+◌, ◌<◌, ◌≤◌, List, [], ◌∷◌, ◌++◌, length, reverse, refl, ap, ◌∙◌, sym, subst, arith, append_assoc, append-nil, length-append, ◌⊎◌, inl, inr}
+use Rattle.std.proofs.Common.{◌≡◌, ℕ, List, [], ◌∷◌, ◌++◌, length, reverse, refl, ap, ◌∙◌, sym, subst, arith, append_assoc, append-nil, length-append, inl, inr}
 use Rattle.std.proofs.lemmas.List.{reverse-append, reverse-reverse}
 use Rattle.stow_model.specs.Message.{Message}
-use Rattle.stow_model.specs.Wire.{Spells, SpellsAll, Splits, HasNoMessage, IsBegun}
+use Rattle.stow_model.specs.Wire.{SpellsAll, Splits, HasNoMessage, IsBegun}
 use Rattle.stow_model.proofs.Spelling.{spelled_once, splits_once_lem}
 use Rattle.stow_resp.specs.Actions.{Action, Fed, Given, LeadsTo, fed, given, IsAtRest, CutsDoNotMatter}
 

@@ -1,5 +1,5 @@
 -- What the parts of the reader find at the front of some bytes.
-use Rattle.std.specs.Prelude.{◌≡◌, ℕ, ◌+◌, ◌<◌, ◌≤◌, List, ◌++◌, length}
+use Rattle.std.specs.Prelude.{◌≡◌, ℕ, ◌<◌, ◌≤◌, List, ◌++◌, length}
 use Rattle.std.specs.List.{AllByRecursion}
 use Rattle.stow_model.specs.Limits.{words_limit}
 use Rattle.stow_model.specs.Message.{Blank}

@@ -1,5 +1,4 @@
-use Rattle.std.proofs.Common.{◌≡◌, ℕ, ◌-◌, length, List, sym, ap, ◌∙◌, subst, refl}
-use Rattle.stow_resp.specs.declared.progress.Progress.{Progress}
+use Rattle.std.proofs.Common.{◌-◌, length, sym, ap, ◌∙◌, subst}
 use Rattle.stow_resp.specs.Scans.{IsProgress}
 use Rattle.stow_resp.proofs.Elements.{started}
 use Rattle.stow_resp.proofs.input.Input.start.Goals as goal

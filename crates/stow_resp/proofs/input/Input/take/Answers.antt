@@ -1,8 +1,11 @@
-use Rattle.std.proofs.Common.{◌≡◌, List, ℕ, drop, sym, ap, ◌∙◌, subst}
+use Rattle.std.proofs.Common.{drop, refl, sym, ap, ◌∙◌, subst}
 use Rattle.stow_model.specs.Message as message
 use Rattle.stow_resp.specs.Next.{IsTaken}
-use Rattle.stow_resp.proofs.Elements.{taken}
+use Rattle.stow_resp.proofs.Elements.{taken, has_words}
 use Rattle.stow_resp.proofs.input.Input.take.Goals as goal
+
+pub returns-in_default : goal.returns-in_default
+returns-in_default g c = (has_words c.args.progress c.args.self.now c.requires.progress c.requires.whole, refl)
 
 pub returns : goal.returns
 returns g c =

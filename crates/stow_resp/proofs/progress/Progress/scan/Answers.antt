@@ -1,4 +1,4 @@
-use Rattle.std.proofs.Common.{◌≡◌, sym, ◌∙◌}
+use Rattle.std.proofs.Common.{sym, ◌∙◌}
 use Rattle.stow_resp.proofs.Elements.{unscanned, scan_more, scan_stuck, scan_word}
 use Rattle.stow_resp.proofs.progress.Progress.scan.Goals as goal
 

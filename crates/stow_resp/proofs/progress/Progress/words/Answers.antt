@@ -1,10 +1,7 @@
-use Rattle.std.proofs.Common.{rules, ◌≡◌, ◌∷◌, ◌++◌, ◌≤◌, ◌<◌, List, ℕ, [], length, ◌+◌, arith, ap, sym, ◌∙◌, subst, refl, inl, inr}
+use Rattle.std.proofs.Common.{◌≡◌, ◌<◌, length, arith, ◌∙◌, subst, inl, inr}
 use Rattle.std.proofs.lemmas.Grind.{common_steps}
-use Rattle.std.specs.List.{AllByRecursion}
-use Rattle.stow_model.specs.Wire.{array_line, bulks, FitsBulk}
 use Rattle.stow_model.specs.Parts.{IsBulkAt}
-use Rattle.stow_model.proofs.Messages.{one_more_word, one_more_fits}
-use Rattle.stow_resp.proofs.Elements.{IsElement, element, not_begun, not_stuck, all_words}
+use Rattle.stow_resp.proofs.Elements.{element, copied, not_begun, not_stuck, all_words}
 use Rattle.stow_resp.proofs.progress.Progress.words.Goals as goal
 
 pub unreachable-requires : goal.unreachable-requires
@@ -21,14 +18,8 @@ unreachable-requires g c =
 pub loop-index-preserved : goal.loop-index-preserved
 loop-index-preserved g c =
     let v = c.loop-index.invariant in
-    let old = c.loop-index.words.items in
-    let word = c.in-Bulk.word.now in
-    let items : old ++ word ∷ [] ≡ c.push.new.self.items = ap (λ w. old ++ w ∷ []) (sym c.in_ok-from_slice-in-Bulk.ensures) ∙ sym c.in_ok-push-in-Bulk.ensures.items in
-    record {
-      number = grind (arith, common_steps);
-      fits = subst (λ t. AllByRecursion FitsBulk t) items (one_more_fits old word v.fits c.in-Bulk.ensures.0);
-      at = v.at ∙ subst (λ t. bulks old ++ c.loop-index.left.now ≡ bulks t ++ c.in-Bulk.after.now) items (one_more_word old word _ c.loop-index.left.now c.in-Bulk.after.now refl c.in-Bulk.ensures.1);
-    }
+    let next = copied c.loop-index.words.items c.push.new.self.items c.in-Bulk.word.now c.in_ok-from_slice-in-Bulk.field-0 c.loop-index.left.now c.in-Bulk.after.now _ c.in_ok-from_slice-in-Bulk.ensures c.in_ok-push-in-Bulk.ensures.items c.in-Bulk.ensures.1 c.in-Bulk.ensures.0 v.fits v.at in
+    record { number = grind (arith, common_steps); fits = next.0; at = next.1 }
 
 pub returns : goal.returns
 returns g c = λ spelled rest n fits at.
