@@ -1,10 +1,17 @@
 //! Requests in, replies out: what stands between a connection's bytes and the values of `stow_model`.
 //!
-//! `input::Input` holds the unread bytes of a stream and gives the messages that they spell, in whatever
-//! pieces they come; `encode::Encode` writes a reply's bytes. Promised: `next` gives a message only where its
-//! spelling stands at the front of the unread bytes, and takes off just that; it asks for more only where the
-//! bytes begin a spelling, and tells a fault only where they can't become one; a refused request for memory
-//! changes nothing. `laws` has what follows for whole streams. Not promised by a proof: how much work it is.
+//! `input::Input` holds the unread bytes of a stream and gives the messages that they spell, in whatever pieces
+//! they come; `encode::Encode` writes the bytes of a reply. Promised, and proved:
+//!
+//! - `next` gives a message only where its spelling stands at the front of the unread bytes, and takes off just
+//!   that. It asks for more only where they begin a spelling, and tells a fault only where they can become none,
+//!   whatever comes; then it takes nothing, and so the fault stays.
+//! - Whatever the pieces, and whenever messages are asked for, the same bytes give the same messages and leave
+//!   the same bytes unread (`laws`, whose body is empty, so no wrong body can be tried on it).
+//! - A refused request for memory leaves the unread bytes and the written bytes as they were.
+//!
+//! Not proved: how much work it is. An element's body is looked at when it is whole and copied when its message
+//! is whole; until then each piece costs a look at the line of the one unfinished element.
 #![tactic(auto)]
 
 pub mod encode;

@@ -8,7 +8,7 @@ use stow_model::words::Words;
 pub enum Next<A: Allocator = Global> {
     /// The words of a message, which was taken off.
     Message(Words<A>),
-    /// A line with a quotation mark in it, which was taken off.
+    /// A line with a quotation mark in it, which was taken off. Nothing spells one yet.
     Quoted,
     /// A message with nothing to do, which was taken off.
     Blank,
