@@ -1,0 +1,6 @@
+-- What a writer that may stop half-way leaves.
+use Rattle.std.specs.Prelude.{◌≡◌, ℕ, List, ◌++◌}
+
+-- what was written stays, and more may follow it
+abbrev pub Keeps : List ℕ → List ℕ → Type 0
+Keeps old new = (more : List ℕ) × (new ≡ old ++ more)

@@ -1,0 +1,4 @@
+pub mod Keeps
+pub mod Scans
+pub mod Next
+pub mod Actions
