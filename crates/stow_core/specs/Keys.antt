@@ -7,8 +7,9 @@ use Rattle.std.specs.Str.{bytes_eq}
 abbrev pub packed : ℕ → List ℕ → List ℕ
 packed tenant key = to_be_bytes w32 tenant ++ key
 
+-- a key among those of all is this tenant's
 abbrev pub is_of : ℕ → List ℕ → Bool
-is_of tenant key = bytes_eq (take 4 key) (to_be_bytes w32 tenant)
+is_of tenant key = bytes_eq (to_be_bytes w32 tenant) (take 4 key)
 
 -- the tenant's own key
 abbrev pub own_key : List ℕ → List ℕ

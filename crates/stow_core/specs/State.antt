@@ -1,5 +1,5 @@
 -- What the core keeps for all tenants together, and one tenant's store in it.
-use Rattle.std.specs.Prelude.{◌≡◌, ℕ, zero, suc, Bool, true, false, List, [], ◌∷◌, Option, Some, None, slice_get, if◌then◌else◌}
+use Rattle.std.specs.Prelude.{◌≡◌, ℕ, zero, suc, ◌<◌, length, Bool, true, false, List, [], ◌∷◌, Option, Some, None, slice_get, if◌then◌else◌}
 use Rattle.std.specs.FinMap as map
 use Rattle.stow_model.specs.declared.refusal.Refusal.{Refusal}
 use Rattle.stow_model.specs.declared.refusal.Refusal.TheVariants as refusal
@@ -16,6 +16,11 @@ pub record CoreState : Type 0 where
   pub entries : List Entry
   pub accounts : List Account
   pub places : Places
+
+-- each tenant has an account, and there are few
+pub record AccountsFit (entries : List Entry) (accounts : List Account) : Type 0 where
+  pub each : length accounts ≡ length entries
+  pub few : length accounts < 65536
 
 -- the rows with what a place says of a key
 abbrev pub with_place : Rows → List ℕ → Option Version → Rows

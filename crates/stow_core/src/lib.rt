@@ -50,15 +50,14 @@ pub struct Core<A: Allocator = Global> {
 }
 
 impl<A: Allocator> Model for Core<A> {
-    ghost use Rattle.std.specs.Prelude.{◌≡◌, length};
     ghost use Rattle.std.specs.Arc.{arc_value};
-    ghost use Rattle.stow_core.specs.State.{CoreState};
+    ghost use Rattle.stow_core.specs.State.{AccountsFit, CoreState};
 
     ghost Value = { CoreState };
 
     ghost view = { λ c. record { entries = arc_value c.tenants; accounts = c.accounts.items; places = c.places } };
 
-    ghost invariant = { λ c. length c.accounts.items ≡ length (arc_value c.tenants) };
+    ghost invariant = { λ c. AccountsFit (arc_value c.tenants) c.accounts.items };
 }
 
 impl<A: Allocator + Copy> Core<A> {
