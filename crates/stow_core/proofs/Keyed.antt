@@ -1,5 +1,5 @@
 -- Which keys are whose.
-use Rattle.std.proofs.Common.{◌≡◌, ◌≢◌, ℕ, ◌<◌, ◌^◌, Bool, true, false, cond, List, [], ◌∷◌, ◌++◌, length, take, drop, map, eqb, refl, ap, sym, ◌∙◌, arith, ⊎_elim, w32}
+use Rattle.std.proofs.Common.{◌≡◌, ◌≢◌, ℕ, zero, suc, ◌<◌, ◌^◌, Bool, true, false, cond, List, [], ◌∷◌, ◌++◌, length, take, drop, map, get_or, eqb, refl, ap, sym, ◌∙◌, subst, arith, ⊎_elim, w32}
 use Rattle.std.proofs.Math.Bool.{and_assoc, ◌&&◌, ◌||◌}
 use Rattle.std.specs.Int.{to_be_bytes, from_be_bytes}
 use Rattle.std.specs.List.{list_any}
@@ -65,10 +65,41 @@ none_packed t d q (k ∷ ks) low low' differ = λ i. packed_apart t d q k low lo
 pub none_own : (t d : ℕ) (q : List ℕ) (keys : List (List ℕ)) → t < 2 ^ 32 → d < 2 ^ 32 → t ≢ d → AreKeysOf d keys → list_any (bytes_eq (packed t q)) keys ≡ false
 none_own t d q keys low low' differ own = ap (list_any (bytes_eq (packed t q))) (sym own) ∙ none_packed t d q (map own_key keys) low low' differ
 
+head_or : List ℕ → List (List ℕ) → List ℕ
+head_or d [] = d
+head_or d (k ∷ ks) = k
+
+tail_of : List (List ℕ) → List (List ℕ)
+tail_of [] = []
+tail_of (k ∷ ks) = ks
+
+first_own : (t : ℕ) (k : List ℕ) (ks : List (List ℕ)) → AreKeysOf t (k ∷ ks) → packed t (own_key k) ≡ k
+unfolding head_or
+first_own t k ks own = ap (head_or k) own
+
+later_own : (t : ℕ) (k : List ℕ) (ks : List (List ℕ)) → AreKeysOf t (k ∷ ks) → AreKeysOf t ks
+unfolding tail_of
+later_own t k ks own = ap tail_of own
+
 -- one key of these
 pub first_key : (t : ℕ) (key : List ℕ) → AreKeysOf t (key ∷ []) → packed t (own_key key) ≡ key
-first_key t key own = ap (head_or key) own
-  where
-    head_or : List ℕ → List (List ℕ) → List ℕ
-    head_or d [] = d
-    head_or d (k ∷ ks) = k
+first_key t key own = first_own t key [] own
+
+pub one_packed : (t : ℕ) (k key : List ℕ) → key ≡ packed t k → AreKeysOf t (key ∷ [])
+one_packed t k key e = subst (λ x. AreKeysOf t (x ∷ [])) (sym e) (packed_AreKeysOf t (k ∷ []))
+
+-- ---- a part of the keys
+
+pub take_own : (t : ℕ) (keys : List (List ℕ)) (i : ℕ) → AreKeysOf t keys → AreKeysOf t (take i keys)
+take_own t [] zero own = refl
+take_own t [] (suc i) own = refl
+take_own t (k ∷ keys) zero own = refl
+take_own t (k ∷ keys) (suc i) own = λ j. first_own t k keys own j ∷ take_own t keys i (later_own t k keys own) j
+
+pub key_own : (t : ℕ) (keys : List (List ℕ)) (i : ℕ) (d : List ℕ) → AreKeysOf t keys → i < length keys → packed t (own_key (get_or keys i d)) ≡ get_or keys i d
+key_own t [] i d own below = absurd (omega arith)
+key_own t (k ∷ keys) zero d own below = first_own t k keys own
+key_own t (k ∷ keys) (suc i) d own below = key_own t keys i d (later_own t k keys own) (omega arith)
+
+pub one_own : (t : ℕ) (keys : List (List ℕ)) (i : ℕ) (key : List ℕ) → AreKeysOf t keys → i < length keys → key ≡ get_or keys i key → AreKeysOf t (key ∷ [])
+one_own t keys i key own below is = one_packed t (own_key key) key (sym (subst (λ k. packed t (own_key k) ≡ k) (sym is) (key_own t keys i key own below)))

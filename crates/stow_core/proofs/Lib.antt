@@ -1,3 +1,5 @@
 pub mod Placed
 pub mod Keyed
 pub mod Stores
+pub mod Removed
+pub mod Answered

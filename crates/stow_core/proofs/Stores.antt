@@ -1,5 +1,5 @@
 -- One tenant's store in the places and accounts of all.
-use Rattle.std.proofs.Common.{◌≡◌, ◌≢◌, ℕ, ◌+◌, ◌-◌, ◌<◌, ◌≤◌, ◌^◌, zero, suc, Bool, true, false, cond, List, [], ◌∷◌, ◌++◌, length, take, map, get_or, set, Option, Some, None, is_some, refl, ap, sym, ◌∙◌, subst, arith, ⊎_elim, inl, inr}
+use Rattle.std.proofs.Common.{◌≡◌, ◌≢◌, ℕ, ◌+◌, ◌-◌, ◌<◌, ◌≤◌, ◌^◌, zero, suc, Bool, true, false, cond, nat_lt, List, [], ◌∷◌, ◌++◌, length, take, map, get_or, set, Option, Some, None, is_some, option_map, refl, ap, sym, ◌∙◌, subst, arith, ⊎_elim, inl, inr}
 use Rattle.std.proofs.Math.Bool.{◌&&◌, ◌||◌}
 use Rattle.std.specs.Prelude.{slice_get, ◌⊎◌}
 use Rattle.std.specs.FinMap as map
@@ -8,7 +8,7 @@ use Rattle.std.specs.Cmp.Lexicographic.{nat_list_cmp_total, nat_list_eq_equiv}
 use Rattle.std.specs.List.{list_any}
 use Rattle.std.specs.Ordering.{eq_by_cmp}
 use Rattle.std.specs.Str.{bytes_eq}
-use Rattle.std.proofs.lemmas.Bool.{cases_Bool, cases_lt, cond-true, cond-false}
+use Rattle.std.proofs.lemmas.Bool.{cases_Bool, cases_lt, ltb-true, cond-true, cond-false}
 use Rattle.std.proofs.lemmas.Map.Text.{is_eq-slice_cmp}
 use Rattle.std.proofs.lemmas.Option.{slice_get_past, slice_get_read, slice_get-get_or}
 
@@ -256,3 +256,23 @@ pub removed_others : (entries : List Entry) (accounts : List Account) (places pl
     → other ≢ t → store_of (core_of entries (set accounts (t - 1) a') places') other ≡ store_of (core_of entries accounts places) other
 removed_others entries accounts places places' t other a' keys low high few own out differ =
     store_others entries accounts places places' t other a' low differ (λ within. rows_removed_other t other keys places places' own out differ (omega arith) (omega arith))
+
+-- ---- prepares
+
+-- what a reader finds at the packed key is the tenant's row
+pub got : (core core' : CoreState) (t : ℕ) (key : List ℕ) (o : Option Version) → core ≡ core' → 1 ≤ t → t ≤ length core.accounts → o ≡ look_up core.places (packed t key)
+    → o ≡ map.get (store_of core' t).rows key
+got core core' t key o e low high is = is ∙ sym (get-store_of core t key low high) ∙ ap (λ s. map.get (store_of s t).rows key) e
+
+pub can_still_write : (core core' : CoreState) (t : ℕ) (b : Bool) → store_of core' t ≡ store_of core t → b ≡ nat_lt (store_of core t).last number_limit → b ≡ true → CanWrite core' t
+can_still_write core core' t b e is can = subst (λ n. n < number_limit) (ap (λ s. s.last) (sym e)) (ltb-true _ _ (sym is ∙ can))
+
+is_some_mapped : {X Y : Type 0} (f : X → Y) (o : Option X) → is_some o ≡ is_some (option_map f o)
+is_some_mapped f None = refl
+is_some_mapped f (Some x) = refl
+
+-- a look-up finds something where the tenant has a row
+pub has_row : {X : Type 0} (core core' : CoreState) (t : ℕ) (key : List ℕ) (f : X → Version) (o : Option X) → core ≡ core' → 1 ≤ t → t ≤ length core.accounts → AreKeysOf t (key ∷ [])
+    → option_map f o ≡ look_up core.places key → is_some o ≡ is_some (map.get (store_of core' t).rows (own_key key))
+has_row core core' t key f o e low high own is =
+    is_some_mapped f o ∙ ap is_some (got core core' t (own_key key) (option_map f o) e low high (is ∙ ap (look_up core.places) (sym (first_key t key own))))

@@ -1,14 +1,15 @@
 //! Finding answers, with all the memory that they take.
-ghost use Rattle.std.specs.Prelude.{◌≡◌, ℕ, ◌-◌, ◌≤◌, length, map, IfOk, OnOk, OnErr, IsTrue, ◌↔◌};
+ghost use Rattle.std.specs.Prelude.{◌≡◌, ℕ, ◌-◌, ◌≤◌, length, map, IfOk, OnOk, OnErr, IsTrue, ◌↔◌, nat_lt, is_some, not, ◌&&◌, [], ◌∷◌};
 ghost use Rattle.std.specs.List.{list_any};
 ghost use Rattle.std.specs.FinMap as rows;
 ghost use Rattle.std.specs.Str.{bytes_eq};
+ghost use Rattle.stow_model.specs.Limits.{number_limit};
 ghost use Rattle.stow_model.specs.Reply.{reply_of};
 ghost use Rattle.stow_model.specs.Login.{IsTenant};
 ghost use Rattle.stow_model.specs.Store.{counted, served, set_answer, del_answer, value_or_null, rows_without};
 ghost use Rattle.stow_core.specs.Keys.{own_key, AreKeysOf};
 ghost use Rattle.stow_core.specs.State.{store_of};
-ghost use Rattle.stow_core.specs.Prepared.{CanWrite, HasRoom, prepared_answer};
+ghost use Rattle.stow_core.specs.Prepared.{HasRoom, prepared_answer};
 ghost use Rattle.stow_commands.specs.Commands.{command_of};
 
 use crate::Core;
@@ -142,17 +143,25 @@ impl<A: Allocator + Copy> Core<A> {
     {
         let mut removed = 0;
         for index in 0..keys.len() {
-            let key = &keys[index];
-            if self.places.get(key.as_slice()).is_some() && !is_among(key, &keys[..index]) {
+            if self.removes(tenant, &keys[index], &keys[..index]) {
                 removed += 1;
             }
         }
         removed
     }
 
+    /// Whether a key takes a row out, after the keys before it.
+    fn removes(&self, tenant: u32, key: &ByteString<A>, earlier: &[ByteString<A>]) -> bool
+        requires is_tenant { IsTenant self.now.entries tenant }
+        requires own_key { AreKeysOf tenant (key.now ∷ []) }
+        ensures { result ≡ (is_some (rows.get (store_of self.now tenant).rows (own_key key.now)) && not (list_any (bytes_eq key.now) earlier.now)) }
+    {
+        self.places.get(key.as_slice()).is_some() && !is_among(key, earlier)
+    }
+
     fn can_write(&self, tenant: u32) -> bool
         requires { IsTenant self.now.entries tenant }
-        ensures { IsTrue result ↔ CanWrite self.now tenant }
+        ensures { result ≡ nat_lt (store_of self.now tenant).last number_limit }
     {
         self.accounts[tenant as usize - 1].last < NUMBER_LIMIT
     }
