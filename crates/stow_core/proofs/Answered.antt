@@ -1,6 +1,8 @@
 -- What a prepared answer is, as the tenant's own step says it.
 use Rattle.std.proofs.Common.{◌≡◌, ◌≢◌, ℕ, ◌+◌, ◌-◌, ◌<◌, ◌^◌, Bool, true, false, cond, nat_lt, List, [], ◌∷◌, length, map, eqb, Option, Some, None, refl, ap, sym, ◌∙◌, subst, arith, pos, to_z, w64, if◌then◌else◌}
 use lib.Chars.{codes}
+use Rattle.std.specs.Prelude.{Result, Ok, Err, IfOk}
+use Rattle.stow_model.specs.Login.{quota_of}
 use Rattle.std.specs.FinMap as map
 use Rattle.std.proofs.lemmas.Bool.{cond-true, cond-false, eq-eqb, ne_eqb}
 use Rattle.std.proofs.lemmas.Int.{to_z_pos}
@@ -14,7 +16,7 @@ use Rattle.stow_model.specs.Command.{Command, Ping, Echo, Get, Set, Del, Reading
 use Rattle.stow_model.specs.Store.{Store, Answer, Rows, Version, counted, served, answer, answer_to, step, written, set_answer, del_answer, removed_answer, value_or_null, rows_without}
 use Rattle.stow_core.specs.Keys.{packed, own_key}
 use Rattle.stow_core.specs.Prepared.{after_write, after_remove}
-use Rattle.stow_core.specs.State.{is_memory_refusal, is_out_of_memory}
+use Rattle.stow_core.specs.State.{CoreState, store_of, own_step, Answers, is_memory_refusal, is_out_of_memory}
 use Rattle.stow_core.proofs.Keyed.{own_keys}
 
 -- ---- deletions
@@ -115,3 +117,30 @@ plain_to store (Refused r) plain = plain
 pub plain_answer : (quota : ℕ) (store : Store) (words : List (List ℕ)) → is_out_of_memory (answer quota store words).1 ≡ false
 unfolding answer
 plain_answer quota store words = plain_to (counted store) (reading words) (plain_reading words)
+
+-- ---- answers
+
+pub understood : (quota : ℕ) (store : Store) (words : List (List ℕ)) (c : Command) → Understood c ≡ reading words → served (counted store) c ≡ answer quota store words
+unfolding answer
+understood quota store words c e = ap (answer_to (counted store)) e
+
+pub refused_words : (quota : ℕ) (store : Store) (words : List (List ℕ)) (r : Refusal) → Refused r ≡ reading words → ◌≡◌ {A = Answer} (counted store, reply.Error r) (answer quota store words)
+unfolding answer
+refused_words quota store words r e = ap (answer_to (counted store)) e
+
+pub if_ok : {X E : Type 0} (r : Result X E) (P Q : X → Type 0) → ((x : X) → P x → Q x) → IfOk r P → IfOk r Q
+if_ok (Ok x) P Q f h = f x h
+if_ok (Err e) P Q f h = h
+
+pub answered : (old new : CoreState) (t : ℕ) (words : List (List ℕ)) (store : Store) (told : Reply) → store_of new t ≡ store
+    → ◌≡◌ {A = Answer} (store, told) (answer (quota_of old.entries t) (store_of old t) words) → Answers old new t words told
+unfolding step
+answered old new t words store told e is =
+    let quota = quota_of old.entries t in
+    let plain : is_out_of_memory told ≡ false = ap (λ (x : Answer). is_out_of_memory x.1) is ∙ plain_answer quota (store_of old t) words in
+    let whole : ◌≡◌ {A = Answer} (store, told) (own_step old t words told) = is ∙ sym (cond-false (is_out_of_memory told) _ _ plain) in
+    record { store = e ∙ ap (λ (x : Answer). x.0) whole; reply = ap (λ (x : Answer). x.1) whole }
+
+pub out_of_memory : (old new : CoreState) (t : ℕ) (words : List (List ℕ)) → store_of new t ≡ store_of old t → Answers old new t words (reply.Error refusal.OutOfMemory)
+unfolding step
+out_of_memory old new t words e = record { store = e; reply = refl }
