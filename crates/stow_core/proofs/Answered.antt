@@ -1,5 +1,5 @@
 -- What a prepared answer is, as the tenant's own step says it.
-use Rattle.std.proofs.Common.{◌≡◌, ◌≢◌, ℕ, ◌+◌, ◌-◌, ◌<◌, ◌^◌, Bool, true, false, cond, nat_lt, List, [], ◌∷◌, length, map, eqb, Option, Some, None, refl, ap, sym, ◌∙◌, subst, arith, pos, to_z, w64, if◌then◌else◌}
+use Rattle.std.proofs.Common.{◌≡◌, ◌≢◌, ℕ, ◌-◌, ◌<◌, ◌^◌, Bool, true, false, nat_lt, List, [], ◌∷◌, length, map, eqb, Option, Some, None, refl, ap, sym, ◌∙◌, pos, to_z, w64, if◌then◌else◌}
 use lib.Chars.{codes}
 use Rattle.std.specs.Prelude.{Result, Ok, Err, IfOk}
 use Rattle.stow_model.specs.Login.{quota_of}
@@ -12,8 +12,8 @@ use Rattle.stow_model.specs.declared.refusal.Refusal.TheVariants as refusal
 use Rattle.stow_model.specs.declared.simple_string.SimpleString.TheVariants as simple
 use Rattle.stow_model.specs.Reply.{Reply}
 use Rattle.stow_model.specs.Reply as reply
-use Rattle.stow_model.specs.Command.{Command, Ping, Echo, Get, Set, Del, Reading, Understood, Refused, reading, reading_ping, reading_get, reading_set, reading_del, is_named, is_long_key, with_keys}
-use Rattle.stow_model.specs.Store.{Store, Answer, Rows, Version, counted, served, answer, answer_to, step, written, set_answer, del_answer, removed_answer, value_or_null, rows_without}
+use Rattle.stow_model.specs.Command.{Command, Ping, Echo, Get, Set, Del, Reading, Understood, Refused, reading, reading_ping, reading_get, reading_set, reading_del, is_named, with_keys}
+use Rattle.stow_model.specs.Store.{Store, Answer, Rows, Version, counted, served, answer, answer_to, step, written, del_answer, value_or_null, rows_without}
 use Rattle.stow_core.specs.Keys.{packed, own_key}
 use Rattle.stow_core.specs.Prepared.{after_write, after_remove}
 use Rattle.stow_core.specs.State.{CoreState, store_of, own_step, Answers, is_memory_refusal, is_out_of_memory}

@@ -1,11 +1,11 @@
 -- Which keys are whose.
-use Rattle.std.proofs.Common.{◌≡◌, ◌≢◌, ℕ, zero, suc, ◌<◌, ◌^◌, Bool, true, false, cond, List, [], ◌∷◌, ◌++◌, length, take, drop, map, get_or, eqb, refl, ap, sym, ◌∙◌, subst, arith, ⊎_elim, w32}
+use Rattle.std.proofs.Common.{◌≡◌, ◌≢◌, ℕ, zero, suc, ◌<◌, ◌^◌, true, false, List, [], ◌∷◌, ◌++◌, length, take, drop, map, get_or, eqb, refl, ap, sym, ◌∙◌, subst, arith, ⊎_elim, w32}
 use Rattle.std.proofs.Math.Bool.{and_assoc, ◌&&◌, ◌||◌}
 use Rattle.std.specs.Int.{to_be_bytes, from_be_bytes}
 use Rattle.std.specs.List.{list_any}
 use Rattle.std.specs.Str.{bytes_eq}
 use Rattle.std.specs.Cmp.Lexicographic.{bytes_decides, nat_list_eq_equiv}
-use Rattle.std.proofs.lemmas.Bool.{cases_Bool, cond-true, cond-false}
+use Rattle.std.proofs.lemmas.Bool.{cases_Bool}
 use Rattle.std.proofs.lemmas.Nat.{from_be_bytes-to_be_bytes_4}
 use Rattle.stow_core.specs.Keys.{packed, is_of, own_key, AreKeysOf}
 

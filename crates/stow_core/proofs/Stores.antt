@@ -1,26 +1,24 @@
 -- One tenant's store in the places and accounts of all.
-use Rattle.std.proofs.Common.{◌≡◌, ◌≢◌, ℕ, ◌+◌, ◌-◌, ◌<◌, ◌≤◌, ◌^◌, zero, suc, Bool, true, false, cond, nat_lt, List, [], ◌∷◌, ◌++◌, length, take, map, get_or, set, Option, Some, None, is_some, option_map, refl, ap, sym, ◌∙◌, subst, arith, ⊎_elim, inl, inr}
+use Rattle.std.proofs.Common.{◌≡◌, ◌≢◌, ℕ, ◌+◌, ◌-◌, ◌<◌, ◌≤◌, ◌^◌, zero, suc, Bool, true, false, cond, nat_lt, List, [], ◌∷◌, ◌++◌, length, map, get_or, set, Option, Some, None, is_some, option_map, refl, ap, sym, ◌∙◌, subst, arith, ⊎_elim}
 use Rattle.std.proofs.Math.Bool.{◌&&◌, ◌||◌}
-use Rattle.std.specs.Prelude.{slice_get, ◌⊎◌}
+use Rattle.std.specs.Prelude.{slice_get}
 use Rattle.std.specs.FinMap as map
-use Rattle.std.specs.Cmp.{eq_by_cmp_equiv}
 use Rattle.std.specs.Cmp.Lexicographic.{nat_list_cmp_total, nat_list_eq_equiv}
 use Rattle.std.specs.List.{list_any}
 use Rattle.std.specs.Ordering.{eq_by_cmp}
 use Rattle.std.specs.Str.{bytes_eq}
-use Rattle.std.proofs.lemmas.Bool.{cases_Bool, cases_lt, ltb-true, cond-true, cond-false}
+use Rattle.std.proofs.lemmas.Bool.{cases_lt, ltb-true, cond-false}
 use Rattle.std.proofs.lemmas.Map.Text.{is_eq-slice_cmp}
 use Rattle.std.proofs.lemmas.Option.{slice_get_past, slice_get_read, slice_get-get_or}
-
 use Rattle.stow_model.specs.Bytes.{bytes_cmp}
-use Rattle.stow_model.specs.Login.{Entry, IsTenant}
+use Rattle.stow_model.specs.Login.{Entry}
 use Rattle.stow_model.specs.Limits.{number_limit}
 use Rattle.stow_model.specs.Store.{Store, Rows, Version, empty_store, one_more, rows_without}
 use Rattle.stow_core.specs.Prepared.{CanWrite, after_put, after_remove}
 use Rattle.stow_core.specs.declared.account.Account.{Account}
 use Rattle.stow_core.specs.Keys.{packed, is_of, own_key, AreKeysOf}
 use Rattle.stow_core.specs.Places.{Places, place, flat, look_up}
-use Rattle.stow_core.specs.State.{CoreState, AccountsFit, with_place, rows_of, new_account, account_of, store_with, store_of}
+use Rattle.stow_core.specs.State.{CoreState, with_place, rows_of, new_account, account_of, store_with, store_of}
 use Rattle.stow_core.proofs.Keyed.{packed_ties, packed_eq, packed_apart, any_own, none_own, first_key}
 
 -- ---- rows

@@ -1,14 +1,14 @@
 -- What a prepared answer does to its tenant's store, and where it has its room.
-use Rattle.std.specs.Prelude.{◌≡◌, ℕ, ◌+◌, ◌<◌, List, [], ◌∷◌, map}
+use Rattle.std.specs.Prelude.{ℕ, ◌+◌, ◌<◌, List, [], ◌∷◌, map}
 use Rattle.std.specs.FinMap as rows
 use Rattle.stow_model.specs.Limits.{number_limit}
-use Rattle.stow_model.specs.Reply.{Reply, reply_of}
+use Rattle.stow_model.specs.Reply.{reply_of}
 use Rattle.stow_model.specs.Login.{IsTenant}
-use Rattle.stow_model.specs.Store.{Store, Rows, Answer, counted, rows_without, answer}
+use Rattle.stow_model.specs.Store.{Store, Rows, Answer, counted, rows_without}
 use Rattle.stow_core.specs.declared.change.Change as coded
 use Rattle.stow_core.specs.declared.change.Change.TheVariants as change
 use Rattle.stow_core.specs.declared.prepared.Prepared.{Prepared}
-use Rattle.stow_core.specs.Keys.{packed, own_key, AreKeysOf}
+use Rattle.stow_core.specs.Keys.{own_key, AreKeysOf}
 use Rattle.stow_core.specs.Places.{HasPlace}
 use Rattle.stow_core.specs.State.{CoreState, store_of}
 

@@ -6,7 +6,7 @@ use Rattle.stow_model.specs.declared.refusal.Refusal.TheVariants as refusal
 use Rattle.stow_model.specs.Reply.{Reply}
 use Rattle.stow_model.specs.Reply as reply
 use Rattle.stow_model.specs.Login.{Entry, quota_of}
-use Rattle.stow_model.specs.Store.{Store, Rows, Version, Request, empty_store, step}
+use Rattle.stow_model.specs.Store.{Store, Rows, Version, empty_store, step}
 use Rattle.stow_core.specs.declared.account.Account.{Account}
 use Rattle.stow_core.specs.Keys.{is_of, own_key}
 use Rattle.stow_core.specs.Places.{Places}

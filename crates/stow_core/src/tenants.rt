@@ -47,18 +47,12 @@ impl<A: Allocator> Tenants<A> {
         ensures login { result ≡ login self.now name.now password.now }
         ensures tenant { IfSome result (λ t. IsTenant self.now t) }
     {
-        let mut index = 1;
-        for tenant in &self.tenants {
-            if tenant.name.as_slice() == name {
-                return if is_password(tenant, password) {
-                    Some(index)
-                } else {
-                    None
-                };
-            }
-            index += 1;
+        let index = self.find(name)?;
+        if is_password(&self.tenants[index as usize - 1], password) {
+            Some(index)
+        } else {
+            None
         }
-        None
     }
 
     /// How many tenants there are.

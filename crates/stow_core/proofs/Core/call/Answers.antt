@@ -1,4 +1,4 @@
-use Rattle.std.proofs.Common.{rules, ◌≡◌, sym, ap, ◌∙◌}
+use Rattle.std.proofs.Common.{◌≡◌, sym, ap, ◌∙◌}
 use Rattle.stow_model.specs.Reply.{reply_of}
 use Rattle.stow_model.specs.Store.{Answer}
 use Rattle.stow_core.specs.State.{store_of}

@@ -1,4 +1,4 @@
-use Rattle.std.proofs.Common.{rules, ◌≡◌, ◌≢◌, ℕ, ◌≤◌, length, Some, ap, sym, ◌∙◌, subst, arith, refl}
+use Rattle.std.proofs.Common.{rules, ◌≤◌, length, Some, ap, ◌∙◌, refl}
 use Rattle.stow_model.specs.Store.{counted}
 use Rattle.stow_core.specs.State.{store_of, store_with, rows_of}
 use Rattle.stow_core.proofs.Stores.{store_moved, store_others}

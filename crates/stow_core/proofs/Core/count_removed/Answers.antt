@@ -25,5 +25,5 @@ loop-index-preserved g c =
     record {
       few = one_more_at_most c.removes.result removed c.if-removes.removed index step c.loop-index.invariant.few;
       so_far = ap (λ n. n + left rows (take (index + 1) keys)) step
-        ∙ count_step c.args.tenant rows keys index c.index-keys-index.result removed c.removes.result c.requires.own_keys c.loop-index-test.true c.index-keys-index.is c.removes.ensures c.loop-index.invariant.so_far;
+          ∙ count_step c.args.tenant rows keys index c.index-keys-index.result removed c.removes.result c.requires.own_keys c.loop-index-test.true c.index-keys-index.is c.removes.ensures c.loop-index.invariant.so_far;
     }

@@ -1,7 +1,7 @@
-use Rattle.std.proofs.Common.{rules, ◌≡◌, length, sym, ap, ◌∙◌, arith}
+use Rattle.std.proofs.Common.{ap, ◌∙◌, arith}
 use Rattle.std.proofs.lemmas.Grind.{common_steps}
 use Rattle.stow_core.specs.State.{store_of}
-use Rattle.stow_core.proofs.Stores.{IsNew, none_IsNew, push_IsNew, new_stores, core_of}
+use Rattle.stow_core.proofs.Stores.{none_IsNew, push_IsNew, new_stores, core_of}
 use Rattle.stow_core.proofs.Core.new.Goals as goal
 
 pub loop-index-init : goal.loop-index-init

@@ -1,4 +1,4 @@
-use Rattle.std.proofs.Common.{rules, ◌≡◌, ap, ◌∙◌}
+use Rattle.std.proofs.Common.{ap, ◌∙◌}
 use Rattle.stow_model.specs.Login.{quota_of}
 use Rattle.stow_commands.specs.Commands.{command_of}
 use Rattle.stow_core.specs.State.{store_of}

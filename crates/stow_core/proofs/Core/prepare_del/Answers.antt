@@ -1,5 +1,5 @@
-use Rattle.std.proofs.Common.{rules, ◌≡◌, ◌<◌, ◌^◌, true, false, List, map, ap, ◌∙◌, refl, sym, subst, arith}
-use Rattle.stow_core.specs.Keys.{packed, own_key, AreKeysOf}
+use Rattle.std.proofs.Common.{rules, ◌≡◌, ◌<◌, ◌^◌, true, false, ap, ◌∙◌, refl, sym, subst, arith}
+use Rattle.stow_core.specs.Keys.{AreKeysOf}
 use Rattle.stow_core.specs.Prepared.{prepared_answer}
 use Rattle.stow_core.specs.State.{store_of}
 use Rattle.stow_core.proofs.Keyed.{packed_AreKeysOf}
@@ -28,10 +28,11 @@ returns-then-not-can_write-clause-answer g c =
 
 pub returns-clause-room : goal.returns-clause-room
 returns-clause-room g c =
-    let can : c.can_write.result ≡ true = search rules in
-    (c.requires,
-    can_still_write c.args.self.now c.args.self.now c.args.tenant c.can_write.result refl c.can_write.ensures can,
-    subst (AreKeysOf c.args.tenant) (sym (c.from_vec.ensures ∙ c.in_ok-keys.ensures)) (packed_AreKeysOf c.args.tenant c.args.keys.now))
+    let can : c.can_write.result ≡ true = search rules in (
+      c.requires,
+      can_still_write c.args.self.now c.args.self.now c.args.tenant c.can_write.result refl c.can_write.ensures can,
+      subst (AreKeysOf c.args.tenant) (sym (c.from_vec.ensures ∙ c.in_ok-keys.ensures)) (packed_AreKeysOf c.args.tenant c.args.keys.now),
+    )
 
 pub returns-clause-answer : goal.returns-clause-answer
 returns-clause-answer g c =

@@ -1,4 +1,4 @@
-use Rattle.std.proofs.Common.{rules, ◌≡◌, ℕ, ◌≤◌, length, Some, List, cond, ap, ◌∙◌, refl}
+use Rattle.std.proofs.Common.{rules, ◌≡◌, ℕ, ◌≤◌, length, Some, List, cond, ap, ◌∙◌}
 use Rattle.std.specs.Str.{bytes_eq}
 use Rattle.stow_core.specs.Places.{look_up}
 use Rattle.stow_core.specs.Prepared.{after_put}

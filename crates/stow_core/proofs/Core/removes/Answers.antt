@@ -1,4 +1,4 @@
-use Rattle.std.proofs.Common.{rules, ◌≡◌, ◌≤◌, length, not, is_some, ap, ◌∙◌, sym}
+use Rattle.std.proofs.Common.{rules, ◌≤◌, length, not, ap, ◌∙◌, sym}
 use Rattle.std.proofs.Math.Bool.{◌&&◌}
 use Rattle.std.specs.List.{list_any}
 use Rattle.std.specs.Str.{bytes_eq}

@@ -1,4 +1,4 @@
-use Rattle.std.proofs.Common.{rules, ◌≡◌, ◌≤◌, length, Some, None, ap, ◌∙◌, sym}
+use Rattle.std.proofs.Common.{rules, ◌≤◌, length, None, ap, ◌∙◌}
 use Rattle.stow_model.specs.Store.{value_or_null}
 use Rattle.stow_model.specs.Reply as reply
 use Rattle.stow_core.specs.Places.{look_up}

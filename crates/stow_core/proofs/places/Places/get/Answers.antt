@@ -1,4 +1,4 @@
-use Rattle.std.proofs.Common.{◌≡◌, ◌∙◌, sym, ap, Some, None}
+use Rattle.std.proofs.Common.{◌∙◌, sym, ap, Some, None}
 use Rattle.stow_core.proofs.Placed.{looked_up}
 use Rattle.stow_core.proofs.places.Places.get.Goals as goal
 

@@ -1,4 +1,4 @@
-use Rattle.std.proofs.Common.{◌≡◌, is_some, ◌∙◌, ap}
+use Rattle.std.proofs.Common.{is_some, ◌∙◌, ap}
 use Rattle.stow_core.specs.Places.{place}
 use Rattle.stow_core.proofs.Placed.{has_place}
 use Rattle.stow_core.proofs.places.Places.has.Goals as goal

@@ -1,4 +1,4 @@
-use Rattle.std.proofs.Common.{◌≡◌, None}
+use Rattle.std.proofs.Common.{None}
 use Rattle.std.specs.Str.{bytes_eq}
 use Rattle.stow_core.specs.Places.{places_of}
 use Rattle.stow_core.proofs.Placed.{place_updated, look_up_placed}
