@@ -1,0 +1,12 @@
+pub mod Spelling
+pub mod Numbers
+pub mod Bulks
+pub mod Messages
+pub mod Places
+pub mod Alone
+pub mod OneHistory
+pub mod Fronts
+pub mod Mapped
+pub mod Named
+pub mod Stepped
+pub mod Examples

@@ -1,5 +1,5 @@
 -- What has happened at the service, told newest first, and what it means to each connection and each tenant.
-use Rattle.std.specs.Prelude.{◌≡◌, ℕ, ◌+◌, Bool, true, false, List, [], ◌∷◌, ◌++◌, map, Option, Some, None, if◌then◌else◌, ◌==◌}
+use Rattle.std.specs.Prelude.{◌≡◌, ◌≢◌, ℕ, Bool, true, false, List, [], ◌∷◌, ◌++◌, map, Option, Some, None, if◌then◌else◌, ◌==◌}
 use Rattle.stow_model.specs.declared.stream_fault.StreamFault.{StreamFault}
 use Rattle.stow_model.specs.declared.refusal.Refusal.TheVariants as refusal
 use Rattle.stow_model.specs.declared.simple_string.SimpleString.TheVariants as simple
@@ -12,7 +12,7 @@ use Rattle.stow_model.specs.Reply as reply
 use Rattle.stow_model.specs.Wire.{Spells, SpellsAll, IsBegun, IsFaulty}
 use Rattle.stow_model.specs.Command.{Kind, Login, Quit, Malformed, ForStore, kind_of}
 use Rattle.stow_model.specs.Login.{Entry, login, quota_of}
-use Rattle.stow_model.specs.Store.{Request, Store, step, store_after, replies_after}
+use Rattle.stow_model.specs.Store.{Request, step, store_after, replies_after}
 
 -- an event, and what it led to
 pub data Step : Type 0 where
@@ -30,6 +30,20 @@ event_of (Void e) = e
 event_of (Plain e) = e
 event_of (Took c m is_refused) = event.Serve c
 event_of (Broke c fault) = event.Serve c
+
+-- whether memory was refused, so that it is as if the event had not been
+abbrev pub is_void : Step → Bool
+is_void (Void e) = true
+is_void (Plain e) = false
+is_void (Took c m is_refused) = false
+is_void (Broke c fault) = false
+
+-- whether memory was refused to the request that the event took
+abbrev pub is_refused : Step → Bool
+is_refused (Void e) = false
+is_refused (Plain e) = false
+is_refused (Took c m refused) = refused
+is_refused (Broke c fault) = false
 
 -- ---- one connection's part of the history
 
@@ -294,3 +308,28 @@ TwoRuns =
     → ServesAlike entries tenant history entries' tenant' history'
     → (told_to entries tenant history ≡ told_to entries' tenant' history')
     × (store_after (quota_of entries tenant) (line_of entries tenant history) ≡ store_after (quota_of entries' tenant') (line_of entries' tenant' history'))
+
+-- no request is taken, or one to another tenant's store
+abbrev pub IsForAnother : ℕ → Option Service → Type 0
+IsForAnother tenant None = Unit {0}
+IsForAnother tenant (Some service) = service.tenant ≢ tenant
+
+-- a step that serves another tenant, or nobody, adds nothing to a tenant's line, and so changes neither
+-- what it is told nor its store
+abbrev pub OthersAddNothing : Type 0
+OthersAddNothing =
+    (entries : List Entry) (tenant : ℕ) (newest : Step) (earlier : List Step)
+    → IsForAnother tenant (request_of newest (λ c. served_as entries c earlier))
+    → (line_of entries tenant (newest ∷ earlier) ≡ line_of entries tenant earlier)
+    × (told_to entries tenant (newest ∷ earlier) ≡ told_to entries tenant earlier)
+    × (store_after (quota_of entries tenant) (line_of entries tenant (newest ∷ earlier)) ≡ store_after (quota_of entries tenant) (line_of entries tenant earlier))
+
+-- events with the same marks have one history: what each led to is told by the events and the marks
+abbrev pub OneHistory : Type 0
+OneHistory =
+    (history history' : List Step)
+    → IsHistory history → IsHistory history'
+    → map event_of history ≡ map event_of history'
+    → map is_void history ≡ map is_void history'
+    → map is_refused history ≡ map is_refused history'
+    → history ≡ history'

@@ -10,3 +10,8 @@ pub mod Command
 pub mod Login
 pub mod Store
 pub mod History
+pub mod Parts
+pub mod Reader
+pub mod PlainMap
+pub mod OwnRun
+pub mod Examples

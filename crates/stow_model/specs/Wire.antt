@@ -1,6 +1,6 @@
 -- How requests are spelled in the bytes of a stream (RESP protocol specification, "Sending commands to a
 -- Redis server"): by cases on what is spelled.
-use Rattle.std.specs.Prelude.{◌≡◌, ◌≢◌, ℕ, ◌+◌, ◌<◌, ◌≤◌, List, [], ◌∷◌, ◌++◌, length, reverse, ◌⊎◌, codes}
+use Rattle.std.specs.Prelude.{◌≡◌, ◌≢◌, ℕ, ◌<◌, ◌≤◌, List, [], ◌∷◌, ◌++◌, length, reverse, ◌⊎◌, codes}
 use Rattle.std.specs.List.{AllByRecursion}
 use Rattle.std.specs.Fmt.{decimal}
 use Rattle.stow_model.specs.Limits.{value_limit, words_limit}

@@ -7,14 +7,30 @@
 //! each connection and each tenant (`History`).
 #![tactic(auto)]
 
+pub mod bulk_at;
 pub mod byte_string;
 pub mod event;
 pub mod item;
 pub mod items;
+pub mod laws;
 pub mod message;
+pub mod message_at;
+pub mod number_at;
+pub mod own_run;
+pub mod plain_reading;
+pub mod plain_request;
+pub mod plain_rows;
+pub mod plain_run;
+pub mod plain_store;
+pub mod plain_version;
+pub mod reader;
 pub mod refusal;
 pub mod reply;
 pub mod simple_string;
 pub mod stream_fault;
+pub mod stream_read;
+pub mod stream_rest;
+#[cfg(test)]
+mod tests;
 pub mod usage;
 pub mod words;
