@@ -1,0 +1,29 @@
+-- What this crate's own types stand for.
+use Rattle.std.specs.Prelude.{Result, Ok, Err}
+use Rattle.stow_model.specs.declared.refusal.Refusal.{Refusal}
+use Rattle.stow_model.specs.Command as meant
+use Rattle.stow_model.specs.Command.{Reading, Understood, Refused}
+use Rattle.stow_commands.specs.declared.command.Command as coded
+use Rattle.stow_commands.specs.declared.command.Command.TheVariants as command
+use Rattle.stow_commands.specs.declared.kind.Kind.{Kind}
+use Rattle.stow_commands.specs.declared.kind.Kind.TheVariants as kind
+
+-- the command, whatever allocator its words have their memory from
+abbrev pub command_of : {A : Type 0} → coded.Command A → meant.Command
+command_of command.Ping = meant.Ping
+command_of (command.Echo text) = meant.Echo text.now
+command_of (command.Get key) = meant.Get key.now
+command_of (command.Set key value) = meant.Set key.now value.now
+command_of (command.Del keys) = meant.Del keys.now
+
+-- a command, or the first refusal that applies
+abbrev pub reading_of : {A : Type 0} → Result (coded.Command A) Refusal → Reading
+reading_of (Ok command) = Understood (command_of command)
+reading_of (Err refusal) = Refused refusal
+
+-- what words are to a connection
+abbrev pub meaning : Kind → meant.Kind
+meaning (kind.Login name password) = meant.Login name.now password.now
+meaning kind.Quit = meant.Quit
+meaning kind.Malformed = meant.Malformed
+meaning kind.ForStore = meant.ForStore

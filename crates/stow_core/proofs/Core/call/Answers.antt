@@ -1,0 +1,23 @@
+use Rattle.std.proofs.Common.{◌≡◌, sym, ap, ◌∙◌}
+use Rattle.stow_model.specs.Reply.{reply_of}
+use Rattle.stow_model.specs.Store.{Answer}
+use Rattle.stow_core.specs.State.{store_of}
+use Rattle.stow_core.specs.Prepared.{effect, prepared_answer}
+use Rattle.stow_core.proofs.Answered.{answered, out_of_memory}
+use Rattle.stow_core.proofs.Core.call.Goals as goal
+
+pub returns-in-Ok-clause-own : goal.returns-in-Ok-clause-own
+returns-in-Ok-clause-own g c = λ is_tenant.
+    let old = c.args.self.now in
+    let tenant = c.args.tenant in
+    let prepared = c.in-Ok.prepared in
+    let moved : store_of c.commit.new.self tenant ≡ effect prepared (store_of old tenant) =
+    ap (store_of c.commit.new.self) (sym c.in-Ok.ensures.tenant)
+    ∙ c.commit.ensures.own
+    ∙ ap (effect prepared) (c.prepare.ensures.stores prepared.tenant ∙ ap (store_of old) c.in-Ok.ensures.tenant) in
+    let told : ◌≡◌ {A = Answer} (effect prepared (store_of old tenant), reply_of c.commit.result) (prepared_answer prepared (store_of old tenant)) =
+    ap (λ r. (effect prepared (store_of old tenant), reply_of r)) c.commit.ensures.reply in
+    answered old c.commit.new.self tenant c.args.words.now (effect prepared (store_of old tenant)) (reply_of c.commit.result) moved (told ∙ c.in-Ok.ensures.own is_tenant)
+
+pub returns-in-Err-clause-own : goal.returns-in-Err-clause-own
+returns-in-Err-clause-own g c = λ _. out_of_memory c.args.self.now c.prepare.new.self c.args.tenant c.args.words.now (c.prepare.ensures.stores c.args.tenant)

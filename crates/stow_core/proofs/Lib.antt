@@ -1,0 +1,6 @@
+pub mod Placed
+pub mod Keyed
+pub mod Stores
+pub mod Removed
+pub mod Answered
+pub mod Listed

@@ -1,0 +1,5 @@
+pub mod Entries
+pub mod Keys
+pub mod Places
+pub mod State
+pub mod Prepared

@@ -1,0 +1,37 @@
+-- Places in the order of their keys. A place of `None` waits for a value, and has no row.
+use Rattle.std.specs.Prelude.{ℕ, List, [], ◌∷◌, Option, Some, None, IsSome}
+use Rattle.std.specs.Map.{lookup}
+use Rattle.std.specs.Str.{bytes_eq}
+use Rattle.std.specs.declared.vec.Vec.{Vec}
+use Rattle.stow_model.specs.Store.{Version}
+use Rattle.stow_core.specs.declared.version.Version as coded
+
+-- what the code's type stands for, whatever allocator it has its memory from
+abbrev pub version_of : {A : Type 0} → coded.Version A → Version
+version_of version = record { number = version.number; value = version.value }
+
+abbrev pub version_at : {A : Type 0} → Option (coded.Version A) → Option Version
+version_at None = None
+version_at (Some version) = Some (version_of version)
+
+abbrev pub Places : Type 0
+Places = List (List ℕ × Option Version)
+
+abbrev pub places_of : {A : Type 0} → List (Vec ℕ A × Option (coded.Version A)) → Places
+places_of [] = []
+places_of (place ∷ places) = (place.0.items, version_at place.1) ∷ places_of places
+
+abbrev pub place : Places → List ℕ → Option (Option Version)
+place places key = lookup (bytes_eq key) places
+
+-- the version of a place, if it is there and has one
+abbrev pub flat : Option (Option Version) → Option Version
+flat None = None
+flat (Some version) = version
+
+-- what a reader finds at a key
+abbrev pub look_up : Places → List ℕ → Option Version
+look_up places key = flat (place places key)
+
+abbrev pub HasPlace : Places → List ℕ → Type 0
+HasPlace places key = IsSome (place places key)

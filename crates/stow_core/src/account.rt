@@ -1,0 +1,58 @@
+//! What is counted for a tenant.
+ghost use Rattle.std.specs.Prelude.{◌≡◌, ◌+◌, ◌<◌};
+ghost use Rattle.stow_model.specs.Store.{one_more};
+ghost use Rattle.stow_model.specs.Limits.{number_limit};
+
+/// A tenant's counts.
+#[derive(Clone, Copy)]
+pub struct Account {
+    /// The number of the tenant's last write.
+    pub last: u64,
+    /// How many requests were answered.
+    pub commands: u64,
+}
+
+/// The most that a number of a store may be.
+pub(crate) const NUMBER_LIMIT: u64 = 9_223_372_036_854_775_807;
+
+impl Account {
+    pub(crate) fn new() -> Account
+        ensures { result ≡ record { last = 0; commands = 0 } }
+    {
+        Account {
+            last: 0,
+            commands: 0,
+        }
+    }
+
+    /// One more request was answered.
+    pub(crate) fn counted(self) -> Account
+        ensures { result ≡ record { last = self.last; commands = one_more self.commands } }
+    {
+        Account {
+            last: self.last,
+            commands: one_more(self.commands),
+        }
+    }
+
+    /// One more request was answered, by a write.
+    pub(crate) fn written(self) -> Account
+        requires { self.last < number_limit }
+        ensures { result ≡ record { last = self.last + 1; commands = one_more self.commands } }
+    {
+        Account {
+            last: self.last + 1,
+            commands: one_more(self.commands),
+        }
+    }
+}
+
+fn one_more(count: u64) -> u64
+    ensures { result ≡ one_more count }
+{
+    if count < NUMBER_LIMIT {
+        count + 1
+    } else {
+        count
+    }
+}

@@ -1,0 +1,149 @@
+//! The rows of all tenants in one container, with each tenant's requests answered as if it were alone.
+//!
+//! What a tenant has is `store_of` of the core's value. `Core::prepare` asks for all the memory that an
+//! answer takes and changes no tenant's store. `Core::commit` then takes none and cannot fail: it moves the
+//! tenant's store as the answer says and leaves every other tenant's as it was. `Core::call` does both: an
+//! answer to which memory was refused leaves every store as it was. `Tenants` says whom a name and a password
+//! log in.
+#![tactic(auto)]
+
+ghost use Rattle.std.specs.Prelude.{◌≡◌, ◌≢◌, ℕ, IfOk, IsOkAnd};
+ghost use Rattle.std.specs.Arc.{arc_value};
+ghost use Rattle.stow_model.specs.Reply as told;
+ghost use Rattle.stow_model.specs.Reply.{reply_of};
+ghost use Rattle.stow_model.specs.Login.{IsTenant, quota_of};
+ghost use Rattle.stow_model.specs.Store.{empty_store, answer};
+ghost use Rattle.stow_core.specs.State.{store_of, Answers};
+ghost use Rattle.stow_core.specs.Prepared.{effect, HasRoom, prepared_answer};
+
+use account::Account;
+use change::Change;
+use places::Places;
+use prepared::Prepared;
+use preparing::counted;
+use std::alloc::{AllocError, Allocator, Global};
+use std::marker::Model;
+use std::sync::Arc;
+use stow_commands::command::Command;
+use stow_model::refusal::Refusal;
+use stow_model::reply::Reply;
+use stow_model::words::Words;
+use tenants::Tenants;
+
+pub mod account;
+pub mod change;
+mod committing;
+mod keys;
+mod places;
+pub mod prepared;
+mod preparing;
+pub mod tenant;
+pub mod tenants;
+pub mod version;
+
+/// The stores of all tenants.
+#[derive(Drop)]
+pub struct Core<A: Allocator = Global> {
+    tenants: Arc<Tenants<A>, A>,
+    accounts: Vec<Account, A>,
+    places: Places<A>,
+}
+
+impl<A: Allocator> Model for Core<A> {
+    ghost use Rattle.std.specs.Arc.{arc_value};
+    ghost use Rattle.stow_core.specs.State.{AccountsFit, CoreState};
+
+    ghost Value = { CoreState };
+
+    ghost view = { λ c. record { entries = arc_value c.tenants; accounts = c.accounts.items; places = c.places } };
+
+    ghost invariant = { λ c. AccountsFit (arc_value c.tenants) c.accounts.items };
+}
+
+impl<A: Allocator + Copy> Core<A> {
+    /// A core in which each tenant's store is empty.
+    pub fn new(alloc: A, tenants: Arc<Tenants<A>, A>) -> Result<Core<A>, AllocError>
+        ensures entries { IfOk result (λ core. core.entries ≡ arc_value tenants) }
+        ensures empty { IfOk result (λ core. (tenant : ℕ) → store_of core tenant ≡ empty_store) }
+    {
+        let mut accounts = Vec::new(alloc);
+        for _index in 0..tenants.count() {
+            accounts.push(Account::new())?;
+        }
+        Ok(Core {
+            tenants,
+            accounts,
+            places: Places::new(alloc),
+        })
+    }
+
+    /// The tenants.
+    pub fn tenants(&self) -> &Arc<Tenants<A>, A>
+        ensures { arc_value result.now ≡ self.now.entries }
+    {
+        &self.tenants
+    }
+
+    /// Answers a tenant's words in its own store. No other tenant's store changes, and none where memory is
+    /// refused.
+    pub fn call(&mut self, alloc: A, tenant: u32, words: &Words<A>) -> Reply<A>
+        ensures own { IsTenant self.old.entries tenant → Answers self.old self.new tenant words.now (reply_of result) }
+        ensures stranger { ¬ (IsTenant self.old.entries tenant) → (reply_of result ≡ told.Error Refusal.NotAuthenticated) × ((t : ℕ) → store_of self.new t ≡ store_of self.old t) }
+        ensures others { (other : ℕ) → other ≢ tenant → store_of self.new other ≡ store_of self.old other }
+        ensures entries { self.new.entries ≡ self.old.entries }
+    {
+        match self.prepare(alloc, tenant, words) {
+            Ok(prepared) => self.commit(prepared),
+            Err(_) => Reply::Error(Refusal::OutOfMemory),
+        }
+    }
+
+    /// Finds a tenant's answer, and all the memory that it takes. No tenant's store changes.
+    pub fn prepare(
+        &mut self,
+        alloc: A,
+        tenant: u32,
+        words: &Words<A>,
+    ) -> Result<Prepared<A>, AllocError>
+        ensures stores { (t : ℕ) → store_of self.new t ≡ store_of self.old t }
+        ensures entries { self.new.entries ≡ self.old.entries }
+        ensures room { IfOk result (λ p. HasRoom self.new p) }
+        ensures tenant { IfOk result (λ p. p.tenant ≡ tenant) }
+        ensures own { IsTenant self.old.entries tenant → IfOk result (λ p. prepared_answer p (store_of self.old tenant) ≡ answer (quota_of self.old.entries tenant) (store_of self.old tenant) words.now) }
+        ensures stranger { ¬ (IsTenant self.old.entries tenant) → IsOkAnd result (λ p. (p.change ≡ Change.Nothing) × (reply_of p.reply ≡ told.Error Refusal.NotAuthenticated)) }
+    {
+        if !self.is_tenant(tenant) {
+            return Ok(Prepared {
+                tenant,
+                change: Change::Nothing,
+                reply: Reply::Error(Refusal::NotAuthenticated),
+            });
+        }
+        match Command::read(words) {
+            Ok(command) => self.prepare_command(alloc, tenant, command),
+            Err(refusal) => Ok(counted(tenant, Reply::Error(refusal))),
+        }
+    }
+
+    /// Carries a prepared answer out. It takes no memory and cannot fail.
+    pub fn commit(&mut self, prepared: Prepared<A>) -> Reply<A>
+        requires { HasRoom self.old prepared }
+        ensures reply { result ≡ prepared.reply }
+        ensures own { store_of self.new prepared.tenant ≡ effect prepared (store_of self.old prepared.tenant) }
+        ensures others { (other : ℕ) → other ≢ prepared.tenant → store_of self.new other ≡ store_of self.old other }
+        ensures entries { self.new.entries ≡ self.old.entries }
+    {
+        let Prepared {
+            tenant,
+            change,
+            reply,
+        } = prepared;
+        match change {
+            Change::Nothing => {}
+            Change::Count => self.count(tenant),
+            Change::Put(key, value) => self.put(tenant, key, value),
+            Change::Remove(keys) => self.remove(tenant, keys),
+        }
+        reply
+    }
+}

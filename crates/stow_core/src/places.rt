@@ -1,0 +1,96 @@
+//! Places that rows stand in.
+ghost use Rattle.std.specs.Prelude.{◌≡◌, ℕ, List, [], Option, Some, None, IfOk, OnOk, OnErr, IsOk, is_some, option_map, if◌then◌else◌};
+ghost use Rattle.std.specs.List.{list_any};
+ghost use Rattle.std.specs.Str.{bytes_eq};
+ghost use Rattle.stow_core.specs.Places.{place, look_up, HasPlace, version_of, version_at};
+
+use crate::version::Version;
+use std::alloc::{AllocError, Allocator, Global};
+use std::collections::BTreeMap;
+use std::marker::Model;
+use stow_model::byte_string::ByteString;
+
+/// Rows in the order of their keys, and places that wait for a value, which a write may fill with no
+/// memory.
+#[derive(Drop)]
+pub struct Places<A: Allocator = Global> {
+    map: BTreeMap<Vec<u8, A>, Option<Version<A>>, A>,
+}
+
+impl<A: Allocator> Model for Places<A> {
+    ghost use Rattle.stow_core.specs.Places.{Places, places_of};
+
+    ghost Value = { Places };
+
+    ghost view = { λ p. places_of p.map.entries };
+}
+
+impl<A: Allocator + Copy> Places<A> {
+    pub fn new(alloc: A) -> Places<A>
+        ensures { result ≡ [] }
+    {
+        Places {
+            map: BTreeMap::new(alloc),
+        }
+    }
+
+    /// The version at a key.
+    pub fn get(&self, key: &[u8]) -> Option<&Version<A>>
+        ensures { option_map (λ v. version_of v.now) result ≡ look_up self.now key.now }
+    {
+        match self.map.get(key) {
+            Some(Some(version)) => Some(version),
+            Some(None) => None,
+            None => None,
+        }
+    }
+
+    /// Makes a place, if there is none. A reader sees no change.
+    pub fn make(&mut self, alloc: A, key: &[u8]) -> Result<(), AllocError>
+        ensures rows { (q : List ℕ) → look_up self.new q ≡ look_up self.old q }
+        ensures place { OnOk result (HasPlace self.new key.now) }
+    {
+        if self.has(key) {
+            return Ok(());
+        }
+        self.put(Vec::from_slice(alloc, key)?, None)
+    }
+
+    /// Fills a place. It takes no memory.
+    pub fn fill(&mut self, key: Vec<u8, A>, version: Version<A>)
+        requires { HasPlace self.old key.items }
+        ensures { (q : List ℕ) → look_up self.new q ≡ (if bytes_eq key.items q then Some (version_of version) else look_up self.old q) }
+    {
+        let _done = self.put(key, Some(version));
+    }
+
+    /// Takes out all of these keys. It takes no memory.
+    pub fn remove_all(&mut self, keys: &[ByteString<A>])
+        ensures { (q : List ℕ) → look_up self.new q ≡ (if list_any (bytes_eq q) keys.now then None else look_up self.old q) }
+    {
+        for key in keys {
+            self.remove(key.as_slice());
+        }
+    }
+
+    fn remove(&mut self, key: &[u8])
+        ensures { (q : List ℕ) → look_up self.new q ≡ (if bytes_eq key.now q then None else look_up self.old q) }
+    {
+        let _removed = self.map.remove(key);
+    }
+
+    fn has(&self, key: &[u8]) -> bool
+        ensures { result ≡ is_some (place self.now key.now) }
+    {
+        self.map.contains_key(key)
+    }
+
+    fn put(&mut self, key: Vec<u8, A>, version: Option<Version<A>>) -> Result<(), AllocError>
+        ensures ok { OnOk result ((q : List ℕ) → place self.new q ≡ (if bytes_eq key.items q then Some (version_at version) else place self.old q)) }
+        ensures err { OnErr result (self.new ≡ self.old) }
+        ensures succeeds { HasPlace self.old key.items → IsOk result }
+    {
+        self.map.insert(key, version)?;
+        Ok(())
+    }
+}

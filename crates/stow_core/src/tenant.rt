@@ -1,0 +1,13 @@
+//! A tenant of the service.
+use std::alloc::{Allocator, Global};
+use stow_model::byte_string::ByteString;
+
+/// Who may log in as whom, and how many bytes its rows may be charged.
+#[derive(Drop)]
+pub struct Tenant<A: Allocator = Global> {
+    pub name: ByteString<A>,
+    pub salt: ByteString<A>,
+    /// SHA-256 of the salt followed by the password.
+    pub digest: [u8; 32],
+    pub quota: u64,
+}
