@@ -1,0 +1,136 @@
+//! A script's lines: an event each, and what it led to.
+use crate::text::{TextFault, escape, unescape};
+use std::alloc::{AllocError, Allocator};
+use stow_house::step_result::StepResult;
+use stow_model::event::Event;
+use stow_model::reply::Reply;
+use stow_resp::encode::Encode;
+
+/// The greatest number of a connection in a script.
+const CONNECTIONS: u32 = 65_535;
+/// The greatest number of a flusher in a script.
+const FLUSHERS: u32 = 64;
+/// The greatest size of the cache in a script.
+const LEAVES: u32 = 65_536;
+
+/// The event that a line asks for; none for an empty line and a comment.
+pub fn read_line<A: Allocator + Copy>(
+    alloc: A,
+    line: &[u8],
+) -> Result<Option<Event<A>>, TextFault> {
+    if line.is_empty() || line[0] == b'#' {
+        return Ok(None);
+    }
+    let (word, rest) = first_field(line);
+    let Some(rest) = rest else {
+        return Err(TextFault::Malformed);
+    };
+    if word == b"piece".as_slice() {
+        return read_piece(alloc, rest);
+    }
+    match read_numbered(word, rest) {
+        Some(event) => Ok(Some(event)),
+        None => Err(TextFault::Malformed),
+    }
+}
+
+/// The bytes up to the first space, and those after it, if there is one.
+fn first_field(line: &[u8]) -> (&[u8], Option<&[u8]>) {
+    match line.iter().position(|byte| *byte == b' ') {
+        Some(at) => (&line[..at], Some(&line[at + 1..])),
+        None => (line, None),
+    }
+}
+
+fn read_piece<A: Allocator + Copy>(alloc: A, rest: &[u8]) -> Result<Option<Event<A>>, TextFault> {
+    let (number_text, text) = first_field(rest);
+    let (Some(c), Some(text)) = (number(number_text, 1, CONNECTIONS), text) else {
+        return Err(TextFault::Malformed);
+    };
+    Ok(Some(Event::Piece(c, unescape(alloc, text)?)))
+}
+
+/// An event of a word and a number.
+fn read_numbered<A: Allocator>(word: &[u8], rest: &[u8]) -> Option<Event<A>> {
+    let connection = number(rest, 1, CONNECTIONS);
+    let flusher = number(rest, 1, FLUSHERS);
+    match word {
+        b"open" => Some(Event::Open(connection?)),
+        b"serve" => Some(Event::Serve(connection?)),
+        b"close" => Some(Event::Close(connection?)),
+        b"plan" => Some(Event::Plan(flusher?)),
+        b"merge" => Some(Event::Merge(flusher?)),
+        b"install" => Some(Event::Install(flusher?)),
+        b"resize" => Some(Event::Resize(number(rest, 0, LEAVES)? as usize)),
+        _ => None,
+    }
+}
+
+/// The number in decimal with no leading zero, if it is within these.
+fn number(text: &[u8], low: u32, high: u32) -> Option<u32> {
+    if text.len() > 1 && text[0] == b'0' {
+        return None;
+    }
+    if !text.iter().all(|byte| byte.is_ascii_digit()) {
+        return None;
+    }
+    let value: u32 = std::str::from_utf8(text).ok()?.parse().ok()?;
+    if value < low || value > high {
+        return None;
+    }
+    Some(value)
+}
+
+/// Adds the line that tells what the event led to.
+pub fn write_result<A: Allocator + Copy>(
+    alloc: A,
+    event: &Event<A>,
+    outcome: &StepResult<A>,
+    out: &mut Vec<u8, A>,
+) -> Result<(), AllocError> {
+    match outcome {
+        StepResult::Answered(reply) => write_reply(alloc, reply, out)?,
+        StepResult::Done => out.extend_from_slice(done(event))?,
+        other => out.extend_from_slice(word_of(other))?,
+    }
+    out.push(b'\n')?;
+    Ok(())
+}
+
+fn write_reply<A: Allocator + Copy>(
+    alloc: A,
+    reply: &Reply<A>,
+    out: &mut Vec<u8, A>,
+) -> Result<(), AllocError> {
+    let mut bytes = Vec::new(alloc);
+    reply.write(&mut bytes)?;
+    out.extend_from_slice(b"reply ")?;
+    escape(bytes.as_slice(), out)
+}
+
+/// What is told of an event that was carried out and gives nothing.
+fn done<A: Allocator>(event: &Event<A>) -> &'static [u8] {
+    match event {
+        Event::Open(_) => b"open",
+        Event::Piece(_, _) => b"taken",
+        Event::Serve(_) => b"blank",
+        Event::Close(_) => b"closed",
+        Event::Plan(_) => b"job",
+        Event::Merge(_) => b"merged",
+        Event::Install(_) => b"done",
+        Event::Resize(_) => b"resized",
+    }
+}
+
+fn word_of<A: Allocator>(outcome: &StepResult<A>) -> &'static [u8] {
+    match outcome {
+        StepResult::More => b"more",
+        StepResult::Blank => b"blank",
+        StepResult::Job => b"job",
+        StepResult::NoJob => b"none",
+        StepResult::Installed => b"done",
+        StepResult::Stale => b"stale",
+        StepResult::NoMemory => b"memory",
+        _ => b"refused",
+    }
+}

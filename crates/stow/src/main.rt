@@ -1,0 +1,40 @@
+//! The program `stow`.
+//!
+//! It reads its arguments, makes a new service, and either answers the bytes of one connection (`pipe`) or
+//! carries a script's events out (`script`). Proved of it: it is safe, and it ends where its input does. What
+//! it says is shown by tests; what the service answers is proved in the crates below.
+#![tactic(auto)]
+
+mod arguments;
+mod failure;
+mod line;
+mod pipe;
+mod program;
+mod script;
+#[cfg(test)]
+mod tests;
+mod text;
+
+use program::program;
+use std::alloc::Global;
+use std::process::ExitCode;
+
+fn main(rt: HostRuntime) -> ExitCode {
+    match words(&rt) {
+        Ok(words) => ExitCode::from(program(
+            rt.alloc(),
+            words.as_slice(),
+            &mut rt.stdin(),
+            &mut rt.stdout(),
+            &mut rt.stderr(),
+        )),
+        Err(_) => ExitCode::from(failure::MEMORY),
+    }
+}
+
+/// The words of the command line, the program's own name first.
+fn words(rt: &HostRuntime) -> std::io::Result<Vec<String>> {
+    let alloc: Global = rt.alloc();
+    let words = std::env::args(rt)?.collect(alloc)?;
+    Ok(words)
+}

@@ -1,0 +1,362 @@
+//! The program over memory: worked examples whose answers come from the service's description.
+use crate::program::program;
+use std::alloc::{AllocError, Global};
+use std::io;
+use std::io::{Read, Write};
+use std::process::Abort;
+use std::test::Fail;
+
+const LOGIN: &[u8] = b"*3\r\n$4\r\nAUTH\r\n$3\r\nann\r\n$2\r\nbc\r\n";
+
+const HELLO: &[u8] =
+    b"*3\r\n$4\r\nAUTH\r\n$3\r\nann\r\n$2\r\nbc\r\n*3\r\n$3\r\nSET\r\n$1\r\nk\r\n$2\r\nv1\r\n*2\r\n$3\r\nGET\r\n$1\r\nk\r\n";
+
+const HELLO_REPLIES: &[u8] = b"+OK\r\n+OK\r\n$2\r\nv1\r\n";
+
+/// Gives its bytes in two pieces, or, with a step, that many at a time.
+#[derive(Drop)]
+struct Pieces<'a> {
+    left: &'a [u8],
+    first: usize,
+    step: usize,
+}
+
+impl Read for Pieces<'_> {
+    fn read(&mut self, buf: &mut [u8]) -> io::Result<usize> {
+        let most = if self.first > 0 {
+            self.first
+        } else {
+            self.step
+        };
+        let count = most.min(self.left.len()).min(buf.len());
+        let (now, later) = self.left.split_at(count);
+        buf[..count].copy_from_slice(now);
+        self.left = later;
+        self.first = 0;
+        Ok(count)
+    }
+}
+
+/// Fails at its first read.
+#[derive(Drop)]
+struct Broken;
+
+impl Read for Broken {
+    fn read(&mut self, _buf: &mut [u8]) -> io::Result<usize> {
+        Err(io::Error::from(io::ErrorKind::Other))
+    }
+}
+
+/// Fails at its first write.
+#[derive(Drop)]
+struct Full;
+
+impl Write for Full {
+    fn write(&mut self, _buf: &[u8]) -> io::Result<usize> {
+        Err(io::Error::from(io::ErrorKind::Other))
+    }
+
+    fn flush(&mut self) -> io::Result<()> {
+        Ok(())
+    }
+}
+
+/// What a run ended with.
+#[derive(Drop)]
+struct Ended {
+    status: u8,
+    output: Vec<u8>,
+    errors: Vec<u8>,
+}
+
+fn words(alloc: Global, task: &str) -> Result<Vec<String>, AllocError> {
+    let mut words = Vec::new(alloc);
+    words.push(String::from_str(alloc, "stow")?)?;
+    if !task.is_empty() {
+        words.push(String::from_str(alloc, task)?)?;
+    }
+    Ok(words)
+}
+
+fn run<R: Read>(alloc: Global, task: &str, input: &mut R) -> Result<Ended, AllocError> {
+    let words = words(alloc, task)?;
+    let mut output = Vec::new(alloc);
+    let mut errors = Vec::new(alloc);
+    let status = program(alloc, words.as_slice(), input, &mut output, &mut errors);
+    Ok(Ended {
+        status,
+        output,
+        errors,
+    })
+}
+
+/// Runs the task over the bytes, and wants status 0 and this output.
+fn expect<R: Abort + Alloc<A = Global>>(
+    rt: &R,
+    task: &str,
+    input: &[u8],
+    output: &[u8],
+) -> Result<(), AllocError> {
+    let mut left = input;
+    let ended = run(rt.alloc(), task, &mut left)?;
+    let text = String::from_utf8_lossy(rt.alloc(), ended.output.as_slice())?;
+    assert!(rt; ended.status == 0, "status {}", ended.status);
+    assert!(rt; ended.output.as_slice() == output, "output {text:?}");
+    assert!(rt; ended.errors.is_empty());
+    Ok(())
+}
+
+#[test]
+fn a_connection_is_answered_in_every_cutting(rt: HostRuntime) -> Result<(), Fail> {
+    let alloc = rt.alloc();
+    for first in 0..HELLO.len() {
+        let mut pieces = Pieces {
+            left: HELLO,
+            first,
+            step: 4096,
+        };
+        let ended = run(alloc, "pipe", &mut pieces)?;
+        assert!(rt;
+            ended.status == 0 && ended.output.as_slice() == HELLO_REPLIES,
+            "cut at {first}"
+        );
+    }
+    let mut pieces = Pieces {
+        left: HELLO,
+        first: 0,
+        step: 1,
+    };
+    let ended = run(alloc, "pipe", &mut pieces)?;
+    assert!(rt; ended.status == 0 && ended.output.as_slice() == HELLO_REPLIES);
+    Ok(())
+}
+
+#[test]
+fn a_connection_is_told_what_the_description_says(rt: HostRuntime) -> Result<(), Fail> {
+    expect(&rt, "pipe", b"", b"")?;
+    expect(&rt, "pipe", HELLO, HELLO_REPLIES)?;
+    let before_login: &[u8] =
+        b"*2\r\n$3\r\nGET\r\n$1\r\nk\r\n*1\r\n$3\r\nFOO\r\n*3\r\n$4\r\nAUTH\r\n$3\r\nann\r\n$1\r\nc\r\n*1\r\n$4\r\nQUIT\r\n*1\r\n$4\r\nPING\r\n";
+    expect(
+        &rt,
+        "pipe",
+        before_login,
+        b"-NOAUTH Authentication required.\r\n-NOAUTH Authentication required.\r\n-WRONGPASS invalid name or password\r\n+OK\r\n",
+    )?;
+    let unfinished: &[u8] =
+        b"*3\r\n$4\r\nAUTH\r\n$3\r\nann\r\n$2\r\nbc\r\n*2\r\n$3\r\nGET\r\n$5\r\nabc";
+    expect(&rt, "pipe", unfinished, b"+OK\r\n")?;
+    let faulty: &[u8] =
+        b"*3\r\n$4\r\nAUTH\r\n$3\r\nann\r\n$2\r\nbc\r\n*1\r\n$4\r\nPING\r\n*1\r\n$65536\r\n*1\r\n$4\r\nPING\r\n";
+    expect(
+        &rt,
+        "pipe",
+        faulty,
+        b"+OK\r\n+PONG\r\n-ERR Protocol error: invalid bulk length\r\n",
+    )?;
+    expect(
+        &rt,
+        "pipe",
+        b"PING\r\n",
+        b"-ERR Protocol error: invalid multibulk length\r\n",
+    )?;
+    expect(
+        &rt,
+        "pipe",
+        b"*0\r\n*-1\r\n*1\r\n$4\r\nquit\r\n",
+        b"+OK\r\n",
+    )?;
+    Ok(())
+}
+
+#[test]
+fn commands_are_answered_in_their_order_of_checks(rt: HostRuntime) -> Result<(), Fail> {
+    let table: [(&[u8], &[u8]); 14] = [
+        (b"*1\r\n$4\r\nPiNg\r\n", b"+PONG\r\n"),
+        (b"*2\r\n$4\r\nPING\r\n$2\r\nhi\r\n", b"$2\r\nhi\r\n"),
+        (
+            b"*3\r\n$4\r\nPING\r\n$1\r\na\r\n$1\r\nb\r\n",
+            b"-ERR wrong number of arguments\r\n",
+        ),
+        (
+            b"*2\r\n$4\r\nAUTH\r\n$3\r\nann\r\n",
+            b"-ERR wrong number of arguments\r\n",
+        ),
+        (
+            b"*2\r\n$4\r\nQUIT\r\n$1\r\nx\r\n",
+            b"-ERR wrong number of arguments\r\n",
+        ),
+        (
+            b"*2\r\n$5\r\nHELLO\r\n$1\r\n3\r\n",
+            b"-ERR unknown command\r\n",
+        ),
+        (
+            b"*1\r\n$3\r\nGET\r\n",
+            b"-ERR wrong number of arguments\r\n",
+        ),
+        (
+            b"*2\r\n$3\r\nSET\r\n$1\r\nk\r\n",
+            b"-ERR wrong number of arguments\r\n",
+        ),
+        (b"*2\r\n$3\r\nGET\r\n$1\r\nk\r\n", b"$-1\r\n"),
+        (b"*3\r\n$3\r\nset\r\n$0\r\n\r\n$0\r\n\r\n", b"+OK\r\n"),
+        (b"*2\r\n$3\r\nget\r\n$0\r\n\r\n", b"$0\r\n\r\n"),
+        (
+            b"*3\r\n$3\r\nSET\r\n$1\r\nk\r\n$1\r\nv\r\n*3\r\n$3\r\nDEL\r\n$1\r\nk\r\n$1\r\nk\r\n",
+            b"+OK\r\n:1\r\n",
+        ),
+        (b"*2\r\n$3\r\nDEL\r\n$1\r\nk\r\n", b":0\r\n"),
+        (
+            b"*1\r\n$3\r\nDEL\r\n",
+            b"-ERR wrong number of arguments\r\n",
+        ),
+    ];
+    let alloc = rt.alloc();
+    let mut input = Vec::from_slice(alloc, LOGIN)?;
+    let mut output = Vec::from_slice(alloc, b"+OK\r\n")?;
+    for (request, reply) in table.iter() {
+        input.extend_from_slice(request)?;
+        output.extend_from_slice(reply)?;
+    }
+    expect(&rt, "pipe", input.as_slice(), output.as_slice())?;
+    Ok(())
+}
+
+/// A request of this command with as many times the word.
+fn repeated(
+    alloc: Global,
+    command: &str,
+    word: &[u8],
+    times: usize,
+) -> Result<Vec<u8>, AllocError> {
+    let count = times.saturating_add(1);
+    let mut bytes = Vec::new(alloc);
+    bytes.extend_from_slice(format!(in alloc; "*{count}\r\n$3\r\n{command}\r\n")?.as_bytes())?;
+    for _ in 0..times {
+        let length = word.len();
+        bytes.extend_from_slice(format!(in alloc; "${length}\r\n")?.as_bytes())?;
+        bytes.extend_from_slice(word)?;
+        bytes.extend_from_slice(b"\r\n")?;
+    }
+    Ok(bytes)
+}
+
+#[test]
+fn limits_are_kept(rt: HostRuntime) -> Result<(), Fail> {
+    let alloc = rt.alloc();
+    let longest = vec![in alloc; 255u8; 1024]?;
+    let too_long = vec![in alloc; 255u8; 1025]?;
+    let mut input = Vec::from_slice(alloc, LOGIN)?;
+    let table: [(&str, &[u8], usize); 6] = [
+        ("DEL", b"k", 64),
+        ("DEL", b"k", 65),
+        ("DEL", too_long.as_slice(), 65),
+        ("GET", longest.as_slice(), 1),
+        ("GET", too_long.as_slice(), 1),
+        ("GET", too_long.as_slice(), 2),
+    ];
+    for (command, word, times) in table.iter() {
+        let request = repeated(alloc, command, word, *times)?;
+        input.extend_from_slice(request.as_slice())?;
+    }
+    expect(
+        &rt,
+        "pipe",
+        input.as_slice(),
+        b"+OK\r\n:0\r\n-ERR too many keys\r\n-ERR too many keys\r\n$-1\r\n-ERR key is too long\r\n-ERR wrong number of arguments\r\n",
+    )?;
+    Ok(())
+}
+
+#[test]
+fn scripts_are_carried_out(rt: HostRuntime) -> Result<(), Fail> {
+    expect(
+        &rt,
+        "script",
+        b"open 1\npiece 1 *3\\r\\n$4\\r\\nAUTH\\r\\n$3\\r\\nann\\r\\n$2\\r\\nbc\\r\\n\nserve 1\nserve 1\nplan 1\nserve 2\n",
+        b"open\ntaken\nreply +OK\\r\\n\nmore\nnone\nrefused\n",
+    )?;
+    expect(
+        &rt,
+        "script",
+        b"open 1\nopen 1\nserve 1\nplan 1\nmerge 1\nresize 5\nclose 1\nopen 1",
+        b"open\nrefused\nmore\nnone\nrefused\nresized\nclosed\nrefused\n",
+    )?;
+    expect(
+        &rt,
+        "script",
+        b"# two tenants with the same key\n\nopen 1\nopen 2\npiece 1 *3\\r\\n$4\\r\\nAUTH\\r\\n$3\\r\\nann\\r\\n$2\\r\\nbc\\r\\n*3\\r\\n$3\\r\\nSET\\r\\n$1\\r\\nk\\r\\n$1\\r\\nA\\r\\n*2\\r\\n$3\\r\\nGET\\r\\n$1\\r\\nk\\r\\n*2\\r\\n$3\\r\\nGET\\r\\n$1\\r\\nk\\r\\n\npiece 2 *3\\r\\n$4\\r\\nAUTH\\r\\n$3\\r\\nben\\r\\n$1\\r\\nc\\r\\n*3\\r\\n$3\\r\\nSET\\r\\n$1\\r\\nk\\r\\n$1\\r\\n\\x00\\r\\n*2\\r\\n$3\\r\\nDEL\\r\\n$1\\r\\nk\\r\\n*2\\r\\n$3\\r\\nGET\\r\\n$1\\r\\nk\\r\\n\nserve 1\nserve 2\nserve 1\nserve 2\nserve 1\nserve 2\nserve 1\nserve 2\n",
+        b"open\nopen\ntaken\ntaken\nreply +OK\\r\\n\nreply +OK\\r\\n\nreply +OK\\r\\n\nreply +OK\\r\\n\nreply $1\\r\\nA\\r\\n\nreply :1\\r\\n\nreply $1\\r\\nA\\r\\n\nreply $-1\\r\\n\n",
+    )?;
+    // a blank, a byte with no other form, and a fault, after which the connection is closed
+    expect(
+        &rt,
+        "script",
+        b"open 7\npiece 7 *0\\r\\n*2\\r\\n$4\\r\\nPING\\r\\n$1\\r\\n\\xE9\\r\\n*x\nserve 7\nserve 7\nserve 7\nserve 7\npiece 7 \nclose 7\n",
+        b"open\ntaken\nblank\nreply -NOAUTH Authentication required.\\r\\n\nreply -ERR Protocol error: invalid multibulk length\\r\\n\nrefused\nrefused\nrefused\n",
+    )?;
+    expect(
+        &rt,
+        "script",
+        b"open 1\npiece 1 *3\\r\\n$4\\r\\nauth\\r\\n$3\\r\\ncap\\r\\n$3\\r\\nabc\\r\\n*2\\r\\n$4\\r\\nping\\r\\n$2\\r\\n\\\\\\xe9\\r\\n\nserve 1\nserve 1\nresize 65536\nresize 0\n",
+        b"open\ntaken\nreply +OK\\r\\n\nreply $2\\r\\n\\\\\\xe9\\r\\n\nresized\nresized\n",
+    )?;
+    Ok(())
+}
+
+#[test]
+fn bad_lines_are_told_by_their_number(rt: HostRuntime) -> Result<(), Fail> {
+    let alloc = rt.alloc();
+    let table: [(&[u8], &[u8]); 16] = [
+        (b"open 0\n", b"stow: bad line 1\n"),
+        (b"open 01\n", b"stow: bad line 1\n"),
+        (b"open 65536\n", b"stow: bad line 1\n"),
+        (b"open\n", b"stow: bad line 1\n"),
+        (b"open \n", b"stow: bad line 1\n"),
+        (b"open  1\n", b"stow: bad line 1\n"),
+        (b"open 1 \n", b"stow: bad line 1\n"),
+        (b"open +1\n", b"stow: bad line 1\n"),
+        (b"plan 65\n", b"stow: bad line 1\n"),
+        (b"resize 65537\n", b"stow: bad line 1\n"),
+        (b"shape\n", b"stow: bad line 1\n"),
+        (b"usage ann\n", b"stow: bad line 1\n"),
+        (b"open 1\n\n# here\npiece 1\n", b"stow: bad line 4\n"),
+        (b"piece 1 a\\q\n", b"stow: bad line 1\n"),
+        (b"piece 1 a\\xe\n", b"stow: bad line 1\n"),
+        (b"open 1\npiece 1 a\tb", b"stow: bad line 2\n"),
+    ];
+    for (script, errors) in table.iter() {
+        let mut left: &[u8] = script;
+        let ended = run(alloc, "script", &mut left)?;
+        let text = String::from_utf8_lossy(alloc, ended.errors.as_slice())?;
+        assert!(rt; ended.status == 2 && ended.output.is_empty());
+        assert!(rt; ended.errors.as_slice() == *errors, "told {text:?}");
+    }
+    Ok(())
+}
+
+#[test]
+fn the_status_tells_why_it_ended(rt: HostRuntime) -> Result<(), Fail> {
+    let alloc = rt.alloc();
+    let mut none: &[u8] = b"";
+    for task in ["", "bogus", "--bogus"].iter() {
+        let ended = run(alloc, task, &mut none)?;
+        assert!(rt;
+            ended.status == 2 && ended.output.is_empty() && !ended.errors.is_empty(),
+            "{task}"
+        );
+    }
+    let help = run(alloc, "--help", &mut none)?;
+    assert!(rt; help.status == 0 && !help.output.is_empty() && help.errors.is_empty());
+    for task in ["pipe", "script"].iter() {
+        let failed = run(alloc, task, &mut Broken)?;
+        assert!(rt; failed.status == 4 && failed.output.is_empty());
+        assert!(rt; failed.errors.as_slice() == b"stow: input or output failed\n".as_slice());
+    }
+    let words = words(alloc, "pipe")?;
+    let mut errors = Vec::new(alloc);
+    let mut input = HELLO;
+    let status = program(alloc, words.as_slice(), &mut input, &mut Full, &mut errors);
+    assert!(rt; status == 4);
+    Ok(())
+}

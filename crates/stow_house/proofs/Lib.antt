@@ -1,0 +1,4 @@
+pub mod Everywhere
+pub mod Here
+pub mod Histories
+pub mod Runs

@@ -1,0 +1,55 @@
+use Rattle.std.proofs.Common.{rules, ◌≡◌, ◌≢◌, ℕ, List, ◌++◌, Option, Some, None, Bool, true, false, refl, ap, sym, subst, ◌∙◌, arith, cond}
+use Rattle.std.specs.Ordering.{nat_cmp}
+use Rattle.std.specs.BTreeMap.{get}
+use Rattle.stow_model.specs.Event as event
+use Rattle.stow_model.specs.Message as message
+use Rattle.stow_model.specs.Reply.{reply_of}
+use Rattle.stow_model.specs.Reply as reply
+use Rattle.stow_model.specs.History.{Status, IsOpen, Unused, Took}
+use Rattle.stow_core.specs.State.{CoreState, is_out_of_memory}
+use Rattle.stow_house.specs.Seen.{Seen, seen, seen_at, status_by, IsServed, never_opened}
+use Rattle.stow_house.specs.StepResult.{step_result_of, Done, More, Blank, Answered, Refused}
+use Rattle.stow_house.specs.Steps.{StepsHere, quoted_refusal}
+use Rattle.stow_house.proofs.Here.{void, refused_piece, refused_serve, refused_close, refused_open, not_open, fed, closed_now, opened_now, waits, broke, blank, quoted, served_on, as_seen, in_house, idle}
+use Rattle.stow_house.proofs.house.House.close.Goals as goal
+
+pub invariant_of-self : goal.invariant_of-self
+invariant_of-self g c =
+    let old = c.args.self.now.connections in
+    let new = c.get_mut.follows.lender c.close.new.self in
+    let entries = c.args.self.now.core.entries in
+    let here : seen (Some c.close.new.self) ≡ seen_at new c.args.c = search rules in
+    let was : seen (Some c.in-Some.connection.now) ≡ seen_at old c.args.c = ap seen c.in-Some.ensures.value in
+    let own : (seen_at new c.args.c).tenant ≡ (seen_at old c.args.c).tenant = ap (λ s. s.tenant) (sym here) ∙ c.close.ensures.tenant ∙ ap (λ s. s.tenant) was in
+    let others : (d : ℕ) → d ≢ c.args.c → seen_at new d ≡ seen_at old d = search rules in
+    record { served = served_on entries entries c.args.c (seen_at old) (seen_at new) refl c.args.self.now.served (subst (IsServed entries) (sym own) (c.args.self.now.served c.args.c)) others }
+
+pub invariant_of-self-in-None : goal.invariant_of-self-in-None
+invariant_of-self-in-None g c =
+    let entries = c.args.self.now.core.entries in
+    let same : (d : ℕ) → seen_at c.get_mut.follows.lender-at-none d ≡ seen_at c.args.self.now.connections d = search rules in
+    record { served = λ d. subst (λ s. IsServed entries s.tenant) (sym (same d)) (c.args.self.now.served d) }
+
+pub returns-in-Some : goal.returns-in-Some
+returns-in-Some g c =
+    let old = c.args.self.now.connections in
+    let new = c.get_mut.follows.lender c.close.new.self in
+    let core = c.args.self.now.core in
+    let here : seen (Some c.close.new.self) ≡ seen_at new c.args.c = search rules in
+    let was : seen (Some c.in-Some.connection.now) ≡ seen_at old c.args.c = ap seen c.in-Some.ensures.value in
+    in_house _ _ c.args.c (event.Close c.args.c) (step_result_of c.close.result)
+    (as_seen c.args.c (event.Close c.args.c) (step_result_of c.close.result) (seen (Some c.in-Some.connection.now)) (seen (Some c.close.new.self)) (seen_at old c.args.c) (seen_at new c.args.c) core core was here (c.close.ensures.step c.args.c core))
+    (search rules)
+
+pub returns-in-None : goal.returns-in-None
+returns-in-None g c =
+    let old = c.args.self.now.connections in
+    let new = c.get_mut.follows.lender-at-none in
+    let core = c.args.self.now.core in
+    let same : (d : ℕ) → seen_at new d ≡ seen_at old d = search rules in
+    let was : never_opened ≡ seen_at old c.args.c = ap seen c.in-None.ensures.value in
+    let unused : (seen_at old c.args.c).status ≡ IsOpen → ⊥ = λ e. let bad : Unused ≡ IsOpen = ap (λ s. s.status) was ∙ e in cc in
+    let here : StepsHere c.args.c (event.Close c.args.c) Refused (seen_at old c.args.c) (seen_at old c.args.c) core core = refused_close c.args.c (seen_at old c.args.c).status (seen_at old c.args.c).tenant (seen_at old c.args.c).unread core unused in
+    in_house _ _ c.args.c (event.Close c.args.c) Refused
+    (as_seen c.args.c (event.Close c.args.c) Refused (seen_at old c.args.c) (seen_at old c.args.c) (seen_at old c.args.c) (seen_at new c.args.c) core core refl (sym (same c.args.c)) here)
+    (λ d differ. same d)

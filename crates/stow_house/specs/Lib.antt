@@ -1,0 +1,5 @@
+pub mod Seen
+pub mod StepResult
+pub mod Steps
+pub mod Outputs
+pub mod Runs

@@ -1,0 +1,16 @@
+//! Connections over the core, in one thread: each event is one step.
+//!
+//! `House::run` carries the isolation theorem: whatever events there are, each connection is told what each
+//! tenant's own run, alone, over its own requests would tell, and each tenant's store is the last of its own
+//! run (`specs/Runs.antt`). `House::step` says what each event does and is answered (`specs/Steps.antt`).
+//! Not said: time, and that memory is there; where memory was refused, the outputs name the event.
+#![tactic(auto)]
+
+pub mod connection;
+pub mod house;
+pub mod laws;
+pub mod mark;
+pub mod outputs;
+pub mod run_fault;
+pub mod step_result;
+pub mod told;

@@ -1,0 +1,44 @@
+//! What an event is answered.
+ghost use Rattle.std.specs.Prelude.{◌≡◌};
+ghost use Rattle.stow_house.specs.Outputs.{mark_of};
+ghost use Rattle.stow_house.specs.StepResult.{step_result_of};
+
+use crate::mark::Mark;
+use std::alloc::{Allocator, Global};
+use stow_model::refusal::Refusal;
+use stow_model::reply::Reply;
+
+/// What an event led to.
+#[derive(Drop)]
+pub enum StepResult<A: Allocator = Global> {
+    Done,
+    /// The connection is told this.
+    Answered(Reply<A>),
+    /// The connection's next message isn't whole yet.
+    More,
+    /// A message that asks for nothing was taken.
+    Blank,
+    /// The flusher has a job, or its job is merged.
+    Job,
+    NoJob,
+    Installed,
+    Stale,
+    /// The connection isn't open, its number was used, the flusher has not what the event needs, or the
+    /// cache can't have this size. Nothing changed.
+    Refused,
+    /// Memory was refused. It is as if the event had not been.
+    NoMemory,
+}
+
+impl<A: Allocator> StepResult<A> {
+    /// Whether memory was refused to the event, or to the request that it served.
+    pub fn mark(&self) -> Mark
+        ensures { result ≡ mark_of (step_result_of self.now) }
+    {
+        match self {
+            StepResult::NoMemory => Mark::Void,
+            StepResult::Answered(Reply::Error(Refusal::OutOfMemory)) => Mark::Refused,
+            _ => Mark::Kept,
+        }
+    }
+}
