@@ -14,3 +14,5 @@ pub mod outputs;
 pub mod run_fault;
 pub mod step_result;
 pub mod told;
+#[cfg(test)]
+mod tests;

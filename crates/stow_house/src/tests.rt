@@ -1,0 +1,358 @@
+//! The house over memory: worked examples, random requests beside each tenant's own run, and refused memory.
+ghost use Rattle.std.specs.Prelude.{IfOk};
+ghost use Rattle.stow_house.specs.Runs.{IsNewHouse};
+
+use crate::house::House;
+use crate::mark::Mark;
+use crate::outputs::Outputs;
+use crate::step_result::StepResult;
+use std::alloc::{AllocError, Allocator};
+use std::process::Abort;
+use std::sync::Arc;
+use std::test::Fail;
+use stow_core::Core;
+use stow_core::tenants::Tenants;
+use stow_model::byte_string::ByteString;
+use stow_model::event::Event;
+use stow_model::own_run::own_run;
+use stow_model::plain_request::PlainRequest;
+use stow_model::words::Words;
+use stow_refusing::{Plan, Refusing};
+use stow_resp::encode::Encode;
+
+/// A request's words.
+type Request = &'static [&'static [u8]];
+
+const ANN: Request = &[b"AUTH", b"ann", b"bc"];
+const BEN: Request = &[b"AUTH", b"ben", b"c"];
+
+/// What happens on a connection.
+#[derive(Clone, Copy)]
+enum Act {
+    Open(u32),
+    Send(u32, Request),
+    Serve(u32),
+}
+
+fn new_house<A: Allocator + Copy>(alloc: A) -> Result<House<A>, AllocError>
+    ensures { IfOk result (λ house. IsNewHouse house) }
+{
+    let tenants = Arc::new(alloc, Tenants::built_in(alloc)?).map_err(AllocError::from)?;
+    Ok(House::new(alloc, Core::new(alloc, tenants)?))
+}
+
+/// The request's spelling in array form.
+fn spelled<A: Allocator + Copy>(alloc: A, request: Request) -> Result<ByteString<A>, AllocError> {
+    let mut bytes = Vec::new(alloc);
+    let count = request.len();
+    bytes.extend_from_slice(format!(in alloc; "*{count}\r\n")?.as_bytes())?;
+    for word in request {
+        let length = word.len();
+        bytes.extend_from_slice(format!(in alloc; "${length}\r\n")?.as_bytes())?;
+        bytes.extend_from_slice(word)?;
+        bytes.extend_from_slice(b"\r\n")?;
+    }
+    Ok(ByteString::from_vec(bytes))
+}
+
+fn events_of<A: Allocator + Copy>(alloc: A, acts: &[Act]) -> Result<Vec<Event<A>, A>, AllocError> {
+    let mut events = Vec::new(alloc);
+    for act in acts {
+        let event = match act {
+            Act::Open(c) => Event::Open(*c),
+            Act::Send(c, request) => Event::Piece(*c, spelled(alloc, request)?),
+            Act::Serve(c) => Event::Serve(*c),
+        };
+        events.push(event)?;
+    }
+    Ok(events)
+}
+
+/// What a connection is to be told next.
+#[derive(Clone, Copy)]
+enum Expected {
+    LoggedIn,
+    LogIn,
+    /// The next reply of the tenant's own run.
+    Own,
+}
+
+/// One connection as its client sees it: a list of requests, and each tenant's own run.
+#[derive(Drop)]
+struct Client<A: Allocator> {
+    is_open: bool,
+    is_logged_in: bool,
+    sent: Vec<Request, A>,
+    taken: usize,
+    line: Vec<PlainRequest<A>, A>,
+    expected: Vec<Expected, A>,
+}
+
+impl<A: Allocator + Copy> Client<A> {
+    fn new(alloc: A) -> Client<A> {
+        Client {
+            is_open: false,
+            is_logged_in: false,
+            sent: Vec::new(alloc),
+            taken: 0,
+            line: Vec::new(alloc),
+            expected: Vec::new(alloc),
+        }
+    }
+
+    /// One act of this connection that was not void.
+    fn goes_on(&mut self, alloc: A, act: &Act, mark: Mark) -> Result<(), AllocError> {
+        match act {
+            Act::Open(_) => {
+                self.is_open = true;
+                Ok(())
+            }
+            Act::Send(_, request) => {
+                if self.is_open {
+                    self.sent.push(*request)?;
+                }
+                Ok(())
+            }
+            Act::Serve(_) => self.served(alloc, mark),
+        }
+    }
+
+    fn served(&mut self, alloc: A, mark: Mark) -> Result<(), AllocError> {
+        let Some(request) = self.sent.get(self.taken).copied() else {
+            return Ok(());
+        };
+        self.taken = self.taken.saturating_add(1);
+        let is_login = match request {
+            [name, ..] => *name == b"AUTH".as_slice(),
+            [] => false,
+        };
+        if is_login {
+            self.is_logged_in = true;
+            self.expected.push(Expected::LoggedIn)?;
+        } else if self.is_logged_in {
+            let mut words = Vec::new(alloc);
+            for word in request {
+                words.push(ByteString::from_slice(alloc, word)?)?;
+            }
+            self.line.push(PlainRequest {
+                words: Words::from_vec(words),
+                is_refused: mark == Mark::Refused,
+            })?;
+            self.expected.push(Expected::Own)?;
+        } else {
+            self.expected.push(Expected::LogIn)?;
+        }
+        Ok(())
+    }
+
+    /// The bytes that the connection is to be told, the tenant's own part by its own run.
+    fn bytes(&self, alloc: A) -> Result<Vec<u8, A>, AllocError> {
+        let own = own_run(alloc, 1_000_000, self.line.as_slice())?;
+        let mut replies = own.replies.iter();
+        let mut bytes = Vec::new(alloc);
+        for expected in &self.expected {
+            match expected {
+                Expected::LoggedIn => bytes.extend_from_slice(b"+OK\r\n")?,
+                Expected::LogIn => {
+                    bytes.extend_from_slice(b"-NOAUTH Authentication required.\r\n")?
+                }
+                Expected::Own => {
+                    if let Some(reply) = replies.next() {
+                        reply.write(&mut bytes)?;
+                    }
+                }
+            }
+        }
+        Ok(bytes)
+    }
+}
+
+/// Wants of the first acts, as many as there are marks, that each connection was told what its client expects.
+fn compare<A: Allocator + Copy>(
+    rt: &impl Abort,
+    alloc: A,
+    acts: &[Act],
+    outputs: &Outputs<A>,
+) -> Result<(), AllocError> {
+    for c in 1..3u32 {
+        let mut client = Client::new(alloc);
+        for (act, mark) in acts.iter().zip(outputs.marks()) {
+            let own = match act {
+                Act::Open(d) | Act::Send(d, _) | Act::Serve(d) => *d == c,
+            };
+            if own && *mark != Mark::Void {
+                client.goes_on(alloc, act, *mark)?;
+            }
+        }
+        let expected = client.bytes(alloc)?;
+        let told = outputs.bytes(alloc, c)?;
+        assert!(rt; told.as_slice() == expected.as_slice(), "connection {c}");
+    }
+    Ok(())
+}
+
+const ACTS: [Act; 22] = [
+    Act::Open(1),
+    Act::Send(1, &[b"GET", b"k"]),
+    Act::Serve(1),
+    Act::Open(2),
+    Act::Send(1, ANN),
+    Act::Send(2, BEN),
+    Act::Serve(1),
+    Act::Serve(2),
+    Act::Send(1, &[b"SET", b"k", b"A"]),
+    Act::Serve(1),
+    Act::Send(2, &[b"SET", b"k", b"B"]),
+    Act::Serve(2),
+    Act::Send(1, &[b"GET", b"k"]),
+    Act::Serve(1),
+    Act::Send(2, &[b"DEL", b"k", b"k"]),
+    Act::Serve(2),
+    Act::Send(1, &[b"get", b"k"]),
+    Act::Serve(1),
+    Act::Send(2, &[b"GET", b"k"]),
+    Act::Serve(2),
+    Act::Serve(2),
+    Act::Serve(3),
+];
+
+#[test]
+fn two_tenants_keep_their_own_rows(rt: HostRuntime) -> Result<(), Fail> {
+    let alloc = rt.alloc();
+    let mut house = new_house(alloc)?;
+    let events = events_of(alloc, &ACTS)?;
+    let Ok(outputs) = house.run(alloc, events.as_slice()) else {
+        assert!(rt; false, "memory was refused");
+        return Ok(());
+    };
+    let ann = outputs.bytes(alloc, 1)?;
+    assert!(rt; ann.as_slice() == b"-NOAUTH Authentication required.\r\n+OK\r\n+OK\r\n$1\r\nA\r\n$1\r\nA\r\n".as_slice());
+    let ben = outputs.bytes(alloc, 2)?;
+    assert!(rt; ben.as_slice() == b"+OK\r\n+OK\r\n:1\r\n$-1\r\n".as_slice());
+    assert!(rt; outputs.told().len() == 9 && outputs.marks().len() == 22);
+    assert!(rt; house.core().tenants().count() == 3);
+    compare(&rt, alloc, &ACTS, &outputs)?;
+    Ok(())
+}
+
+#[test]
+fn each_event_is_answered(rt: HostRuntime) -> Result<(), Fail> {
+    let alloc = rt.alloc();
+    let mut house = new_house(alloc)?;
+    let opened = matches!(house.step(alloc, &Event::Open(1)), StepResult::Done);
+    let again = matches!(house.step(alloc, &Event::Open(1)), StepResult::Refused);
+    let more = matches!(house.step(alloc, &Event::Serve(1)), StepResult::More);
+    let none = matches!(house.step(alloc, &Event::Plan(1)), StepResult::NoJob);
+    assert!(rt; opened && again && more && none);
+    let merge = matches!(house.step(alloc, &Event::Merge(1)), StepResult::Refused);
+    let install = matches!(house.step(alloc, &Event::Install(1)), StepResult::Refused);
+    let resized = matches!(house.step(alloc, &Event::Resize(65_536)), StepResult::Done);
+    let too_many = matches!(house.step(alloc, &Event::Resize(65_537)), StepResult::Refused);
+    assert!(rt; merge && install && resized && too_many);
+    let blank = Event::Piece(1, ByteString::from_slice(alloc, b"*0\r\n*-1\r\n")?);
+    let taken = matches!(house.step(alloc, &blank), StepResult::Done);
+    let first = matches!(house.step(alloc, &Event::Serve(1)), StepResult::Blank);
+    let second = matches!(house.step(alloc, &Event::Serve(1)), StepResult::Blank);
+    assert!(rt; taken && first && second);
+    let closed = matches!(house.step(alloc, &Event::Close(1)), StepResult::Done);
+    let twice = matches!(house.step(alloc, &Event::Close(1)), StepResult::Refused);
+    let reopened = matches!(house.step(alloc, &Event::Open(1)), StepResult::Refused);
+    let late = matches!(house.step(alloc, &blank), StepResult::Refused);
+    assert!(rt; closed && twice && reopened && late);
+    Ok(())
+}
+
+const REQUESTS: [Request; 12] = [
+    &[b"SET", b"a", b"1"],
+    &[b"SET", b"a", b"22"],
+    &[b"SET", b"", b""],
+    &[b"GET", b"a"],
+    &[b"GET", b""],
+    &[b"GET", b"b"],
+    &[b"SET", b"b", b"x"],
+    &[b"DEL", b"a"],
+    &[b"DEL", b"a", b"b", b"a"],
+    &[b"PING"],
+    &[b"PING", b"text"],
+    &[b"HELLO", b"3"],
+];
+
+/// The next number of a fixed row of numbers that looks random.
+fn random(state: &mut u64) -> u64 {
+    *state = (*state)
+        .wrapping_mul(6_364_136_223_846_793_005)
+        .wrapping_add(1_442_695_040_888_963_407);
+    let value = *state;
+    value / 8_589_934_592
+}
+
+fn random_acts<A: Allocator + Copy>(alloc: A, count: u64) -> Result<Vec<Act, A>, AllocError> {
+    let mut state = 7u64;
+    let mut acts = Vec::new(alloc);
+    for act in [
+        Act::Open(1),
+        Act::Open(2),
+        Act::Send(1, ANN),
+        Act::Send(2, BEN),
+    ] {
+        acts.push(act)?;
+    }
+    for _ in 0..count {
+        let connection = if random(&mut state) % 2 == 0 { 1 } else { 2 };
+        let chosen = random(&mut state) % 24;
+        match REQUESTS.get(chosen as usize) {
+            Some(request) => acts.push(Act::Send(connection, request))?,
+            None => acts.push(Act::Serve(connection))?,
+        }
+    }
+    Ok(acts)
+}
+
+#[test]
+fn random_requests_are_answered_as_alone(rt: HostRuntime) -> Result<(), Fail> {
+    let alloc = rt.alloc();
+    let acts = random_acts(alloc, 2_000)?;
+    let events = events_of(alloc, acts.as_slice())?;
+    let mut house = new_house(alloc)?;
+    let Ok(outputs) = house.run(alloc, events.as_slice()) else {
+        assert!(rt; false, "memory was refused");
+        return Ok(());
+    };
+    assert!(rt; outputs.told().len() > 900);
+    compare(&rt, alloc, acts.as_slice(), &outputs)?;
+    Ok(())
+}
+
+// Each request for memory of the run is refused in turn: the outputs say where, and all else is told as each
+// tenant's own run tells it. A refused place in the outputs ends the run after the events that took place.
+#[test]
+fn a_run_withstands_each_refusal(rt: HostRuntime) -> Result<(), Fail> {
+    let heap = Refusing::new(rt.alloc());
+    let mut refusals = 0u64;
+    for at in 0..1_000u64 {
+        heap.set(Plan::Grant);
+        let events = events_of(&heap, &ACTS)?;
+        let mut house = new_house(&heap)?;
+        heap.set(Plan::RefuseAt(at));
+        let ended = house.run(&heap, events.as_slice());
+        let asked = heap.asked();
+        heap.set(Plan::Grant);
+        match ended {
+            Ok(outputs) => {
+                let kept = outputs.marks().iter().all(|mark| *mark == Mark::Kept);
+                assert!(rt; kept == (asked <= at), "request {at}");
+                compare(&rt, &heap, &ACTS, &outputs)?;
+            }
+            Err(fault) => {
+                assert!(rt; fault.outputs.marks().len() == fault.done, "request {at}");
+                compare(&rt, &heap, &ACTS, &fault.outputs)?;
+            }
+        }
+        if asked <= at {
+            break;
+        }
+        refusals = at + 1;
+    }
+    assert!(rt; refusals >= 10, "{refusals} refusals");
+    Ok(())
+}
