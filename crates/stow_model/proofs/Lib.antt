@@ -10,3 +10,4 @@ pub mod Mapped
 pub mod Named
 pub mod Stepped
 pub mod Examples
+pub mod Charged

@@ -4,6 +4,7 @@ use Rattle.std.specs.declared.cmp.Ordering.{Ordering}
 use Rattle.std.specs.declared.cmp.Ordering.TheVariants.{Less, Equal, Greater}
 use Rattle.std.specs.Ordering.{is_eq, nat_cmp, match_ordering, eq_by_cmp}
 use Rattle.std.specs.Cmp.Lexicographic.{slice_cmp, nat_list_cmp_total}
+use Rattle.std.specs.Prelude.{sum_by}
 use Rattle.std.specs.List.{AllByRecursion, AllZip}
 use Rattle.std.specs.List.Sorted.{IsStrictlySortedBy}
 use Rattle.std.specs.Map.{lookup, keys_of, KeepsOthers}
@@ -13,7 +14,7 @@ use Rattle.std.specs.FinMap.{find, put}
 use Rattle.std.specs.FinMap.Entries.{find-put, by_order}
 use Rattle.std.proofs.lemmas.Map.Keys.{sorted_head, sorted_tail}
 use Rattle.stow_model.specs.Bytes.{bytes_cmp}
-use Rattle.stow_model.specs.Store.{Version, Rows}
+use Rattle.stow_model.specs.Store.{Version, Rows, cost}
 use Rattle.stow_model.specs.declared.plain_version.PlainVersion.{PlainVersion}
 use Rattle.stow_model.specs.PlainMap.{version_of, entries_of, rows_of, value_in}
 
@@ -104,6 +105,23 @@ module _ {K A : Type 0} (bytes : K → List ℕ) where
       map.len-insert nat_list_cmp_total (rows_of bytes es) (bytes e.0) (version_of e.1)
       ∙ ap (λ o. cond (is_some o) (map.len (rows_of bytes es)) (map.len (rows_of bytes es) + 1)) none
       ∙ (let one : map.len (rows_of bytes es) + 1 ≡ suc (length es) = omega arith in one)
+
+  -- ---- what they cost
+
+  put_first : (k : List ℕ) (v : Version) (es : List (K × PlainVersion A)) → AllByRecursion (λ y. slice_cmp nat_cmp k (bytes y) ≡ Less) (keys_of es) → put bytes_cmp k v (entries_of bytes es) ≡ (k, v) ∷ entries_of bytes es
+  put_first k v [] all = refl
+  put_first k v (e ∷ es) all = ap (λ o. by_order o ((k, v) ∷ entries_of bytes (e ∷ es)) ((bytes e.0, v) ∷ entries_of bytes es) ((bytes e.0, version_of e.1) ∷ put bytes_cmp k v (entries_of bytes es))) all.0
+
+  pub entries-rows : (es : List (K × PlainVersion A)) → IsStrictlySortedBy (key_order bytes) (keys_of es) → map.entries (rows_of bytes es) ≡ entries_of bytes es
+  entries-rows [] sorted = no_entries (map.entries map.empty) (sym (map.len-entries map.empty) ∙ map.len-empty bytes_cmp Version)
+    where
+      no_entries : (es : List (List ℕ × Version)) → length es ≡ 0 → es ≡ []
+      no_entries [] e = refl
+      no_entries (x ∷ es) e = absurd (omega arith)
+  entries-rows (e ∷ es) sorted =
+      map.entries-insert nat_list_cmp_total (rows_of bytes es) (bytes e.0) (version_of e.1)
+      ∙ ap (put bytes_cmp (bytes e.0) (version_of e.1)) (entries-rows es (sorted_tail (key_order bytes) e.0 (keys_of es) sorted))
+      ∙ put_first (bytes e.0) (version_of e.1) es (sorted_head (key_order bytes) e.0 (keys_of es) sorted)
 
   -- ---- a copy
 

@@ -1,8 +1,8 @@
 //! The rows of one tenant, as a sorted map.
-ghost use Rattle.std.specs.Prelude.{◌≡◌, ◌<◌, ◌^◌, IfOk, OnOk, OnErr};
-ghost use Rattle.std.specs.Option.{option_copied};
+ghost use Rattle.std.specs.Prelude.{◌≡◌, ◌<◌, ◌^◌, sum_by, IfOk, OnOk, OnErr};
+ghost use Rattle.std.specs.Option.{option_copied, SomeIff};
 ghost use Rattle.std.specs.FinMap as map;
-ghost use Rattle.stow_model.specs.Store.{rows_without};
+ghost use Rattle.stow_model.specs.Store.{cost, rows_without};
 ghost use Rattle.stow_model.specs.PlainMap.{value_in};
 
 use crate::byte_string::ByteString;
@@ -55,6 +55,20 @@ impl<A: Allocator + Copy> PlainRows<A> {
             None => None,
             Some(version) => Some(version.value.as_slice()),
         }
+    }
+
+    /// What the rows cost, if it is below 2^64: of each the bytes of its key and of its value, and 16.
+    pub fn cost(&self) -> Option<u64>
+        ensures { SomeIff result (sum_by cost (map.entries self.now) < 2 ^ 64) (sum_by cost (map.entries self.now)) }
+    {
+        let mut total: u64 = 0;
+        for (key, version) in self.rows.iter() {
+            total = total
+                .checked_add(key.len() as u64)?
+                .checked_add(version.value.len() as u64)?
+                .checked_add(16)?;
+        }
+        Some(total)
     }
 
     /// Gives a key a version. An `Err` changes nothing.

@@ -1,5 +1,6 @@
 //! One tenant's own store: slow, and as the definitions say it.
-ghost use Rattle.std.specs.Prelude.{◌≡◌, IfOk, OnErr};
+ghost use Rattle.std.specs.Prelude.{◌≡◌, ◌<◌, ◌^◌, IfOk, OnErr};
+ghost use Rattle.std.specs.Option.{SomeIff};
 ghost use Rattle.stow_model.specs.Command.{Get};
 ghost use Rattle.stow_model.specs.Store as store;
 ghost use Rattle.stow_model.specs.Reply.{reply_of};
@@ -12,6 +13,7 @@ use crate::plain_rows::PlainRows;
 use crate::refusal::Refusal;
 use crate::reply::Reply;
 use crate::simple_string::SimpleString;
+use crate::usage::Usage;
 use std::alloc::{AllocError, Allocator, Global};
 
 /// What one tenant has. No command takes a snapshot yet, so there are none.
@@ -46,6 +48,24 @@ impl<A: Allocator + Copy> PlainStore<A> {
             next: 1,
             commands: 0,
             refusals: 0,
+        }
+    }
+
+    /// The usage report, if what is charged is below 2^64.
+    pub fn usage(&self) -> Option<Usage>
+        ensures { SomeIff result (store.charge (store_of self.now) < 2 ^ 64) (store.usage self.now.quota (store_of self.now)) }
+    {
+        match self.rows.cost() {
+            None => None,
+            Some(charge) => Some(Usage {
+                rows: self.rows.len() as u64,
+                charge,
+                quota: self.quota,
+                writes: self.last,
+                commands: self.commands,
+                refusals: self.refusals,
+                snapshots: 0,
+            }),
         }
     }
 
