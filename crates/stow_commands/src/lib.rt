@@ -9,3 +9,5 @@
 pub mod command;
 pub mod kind;
 mod name;
+#[cfg(test)]
+mod tests;

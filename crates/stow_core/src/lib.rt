@@ -39,6 +39,8 @@ pub mod prepared;
 mod preparing;
 pub mod tenant;
 pub mod tenants;
+#[cfg(test)]
+mod tests;
 pub mod version;
 
 /// The stores of all tenants.
