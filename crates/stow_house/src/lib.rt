@@ -13,6 +13,6 @@ pub mod mark;
 pub mod outputs;
 pub mod run_fault;
 pub mod step_result;
-pub mod told;
 #[cfg(test)]
 mod tests;
+pub mod told;

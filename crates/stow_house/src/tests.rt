@@ -24,6 +24,7 @@ use stow_resp::encode::Encode;
 type Request = &'static [&'static [u8]];
 
 const ANN: Request = &[b"AUTH", b"ann", b"bc"];
+
 const BEN: Request = &[b"AUTH", b"ben", b"c"];
 
 /// What happens on a connection.
@@ -226,7 +227,10 @@ fn two_tenants_keep_their_own_rows(rt: HostRuntime) -> Result<(), Fail> {
         return Ok(());
     };
     let ann = outputs.bytes(alloc, 1)?;
-    assert!(rt; ann.as_slice() == b"-NOAUTH Authentication required.\r\n+OK\r\n+OK\r\n$1\r\nA\r\n$1\r\nA\r\n".as_slice());
+    assert!(rt;
+        ann.as_slice()
+            == b"-NOAUTH Authentication required.\r\n+OK\r\n+OK\r\n$1\r\nA\r\n$1\r\nA\r\n".as_slice()
+    );
     let ben = outputs.bytes(alloc, 2)?;
     assert!(rt; ben.as_slice() == b"+OK\r\n+OK\r\n:1\r\n$-1\r\n".as_slice());
     assert!(rt; outputs.told().len() == 9 && outputs.marks().len() == 22);
@@ -247,7 +251,10 @@ fn each_event_is_answered(rt: HostRuntime) -> Result<(), Fail> {
     let merge = matches!(house.step(alloc, &Event::Merge(1)), StepResult::Refused);
     let install = matches!(house.step(alloc, &Event::Install(1)), StepResult::Refused);
     let resized = matches!(house.step(alloc, &Event::Resize(65_536)), StepResult::Done);
-    let too_many = matches!(house.step(alloc, &Event::Resize(65_537)), StepResult::Refused);
+    let too_many = matches!(
+        house.step(alloc, &Event::Resize(65_537)),
+        StepResult::Refused
+    );
     assert!(rt; merge && install && resized && too_many);
     let blank = Event::Piece(1, ByteString::from_slice(alloc, b"*0\r\n*-1\r\n")?);
     let taken = matches!(house.step(alloc, &blank), StepResult::Done);
