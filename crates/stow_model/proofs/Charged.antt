@@ -1,5 +1,5 @@
 -- What is charged where there are no snapshots.
-use Rattle.std.proofs.Common.{◌≡◌, ℕ, Bool, true, false, List, [], ◌∷◌, ◌++◌, length, refl, ap, ◌∙◌, sym, subst, arith, append-nil, map as each}
+use Rattle.std.proofs.Common.{◌≡◌, ℕ, Bool, true, false, List, [], ◌∷◌, ◌++◌, length, refl, ap, ◌∙◌, sym, arith, append-nil, map as each}
 use Rattle.std.specs.Prelude.{T, ◌==◌, ◌&&◌, ◌||◌, sum_by, if◌then◌else◌}
 use Rattle.std.specs.List.{list_any, flat_map}
 use Rattle.std.specs.Str.{bytes_eq}
@@ -11,7 +11,7 @@ use Rattle.std.specs.FinMap.{is_sorted}
 use Rattle.std.specs.FinMap.Entries.{below_all}
 use Rattle.std.proofs.lemmas.Map.Text.{is_eq-slice_cmp}
 use Rattle.stow_model.specs.Bytes.{bytes_cmp}
-use Rattle.stow_model.specs.Store.{Version, Rows, Store, Shown, cost, is_same_version, distinct, charge, usage}
+use Rattle.stow_model.specs.Store.{Rows, Shown, cost, is_same_version, distinct, charge, usage}
 use Rattle.stow_model.specs.declared.plain_store.PlainStore.{PlainStore}
 use Rattle.stow_model.specs.OwnRun.{store_of}
 

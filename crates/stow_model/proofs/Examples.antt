@@ -4,14 +4,13 @@ use Rattle.std.specs.Prelude.{codes, Option, Some, None, if◌then◌else◌}
 use Rattle.std.specs.Str.{bytes_eq}
 use Rattle.std.specs.Cmp.Lexicographic.{nat_list_eq_equiv}
 use Rattle.sha2.specs.Sha256.{sha256}
-use Rattle.std.specs.Fmt.{decimal}
 use Rattle.std.proofs.lemmas.Fmt.{decimal_digit}
 use Rattle.stow_model.specs.declared.stream_fault.StreamFault.TheVariants.{InvalidArrayLength, ExpectedBulk}
-use Rattle.stow_model.specs.Message.{Words, Blank}
-use Rattle.stow_model.specs.Wire.{array_line, null_line, Spells, HasNoMessage, IsBegun, IsFaulty, IsPlace}
+use Rattle.stow_model.specs.Message.{Blank}
+use Rattle.stow_model.specs.Wire.{array_line, Spells, IsBegun, IsPlace}
 use Rattle.stow_model.specs.Command.{kind_of}
 use Rattle.stow_model.specs.Login.{login, quota_of}
-use Rattle.stow_model.specs.History.{Step, Plain, Took, IsStep, IsHistory, Takes, Waits, status_of, stream_of, taken_by, served_as, line_of, output_of, reply_of}
+use Rattle.stow_model.specs.History.{IsStep, IsHistory, Takes, Waits, status_of, stream_of, taken_by, served_as, line_of, output_of, reply_of}
 use Rattle.stow_model.specs.Examples.{Encodings, OfWords, OfStreams, OfLogins, OfHistories, OfCharges, Examples}
 use Rattle.stow_model.proofs.Places.{fault_once_lem}
 use Rattle.stow_model.proofs.Messages.{null_begun, null_faulty}

@@ -1,8 +1,8 @@
 -- One more message off the front of a stream.
-use Rattle.std.proofs.Common.{◌≡◌, ℕ, ◌+◌, ◌-◌, ◌<◌, ◌≤◌, List, [], ◌∷◌, ◌++◌, length, drop, refl, ap, ◌∙◌, sym, subst, arith, append_assoc, append-nil, length-append, inl, inr}
+use Rattle.std.proofs.Common.{◌≡◌, ℕ, ◌-◌, ◌<◌, List, [], ◌∷◌, ◌++◌, length, drop, refl, ap, ◌∙◌, sym, subst, arith, append_assoc, append-nil, length-append, inl, inr}
 use Rattle.stow_model.specs.Message.{Message}
 use Rattle.stow_model.specs.Message as message
-use Rattle.stow_model.specs.Wire.{array_line, bulks, null_line, Spells, Splits, HasNoMessage}
+use Rattle.stow_model.specs.Wire.{array_line, Spells, Splits, HasNoMessage}
 
 -- a spelling has some bytes
 pub spelled_some : (m : Message) (spelling : List ℕ) → Spells m spelling → 0 < length spelling

@@ -1,7 +1,7 @@
 -- Definitions at examples, and at what they leave out.
 use Rattle.std.specs.Prelude.{◌≡◌, pos, false, Some, None, List, [], ◌∷◌, sum_by, codes}
 use Rattle.std.specs.declared.cmp.Ordering.TheVariants.{Less, Greater}
-use Rattle.stow_model.specs.declared.refusal.Refusal.TheVariants.{NotAuthenticated, WrongArgumentCount}
+use Rattle.stow_model.specs.declared.refusal.Refusal.TheVariants.{NotAuthenticated}
 use Rattle.stow_model.specs.declared.simple_string.SimpleString.TheVariants.{Ok, Pong}
 use Rattle.stow_model.specs.declared.stream_fault.StreamFault.TheVariants.{InvalidArrayLength, ExpectedBulk, InvalidBulkLength}
 use Rattle.sha2.specs.Sha256.{sha256}
@@ -14,7 +14,7 @@ use Rattle.stow_model.specs.Wire.{Spells, HasNoMessage, IsBegun, Splits, IsFault
 use Rattle.stow_model.specs.Command.{Login, Quit, Malformed, ForStore, kind_of}
 use Rattle.stow_model.specs.Login.{Entry, IsTenant, login}
 use Rattle.stow_model.specs.Store.{Shown, cost, distinct}
-use Rattle.stow_model.specs.History.{Step, Void, Plain, Took, Status, IsOpen, Closed, IsHistory, IsForAnother, Service, ServesAlike, output_of, status_of, stream_of}
+use Rattle.stow_model.specs.History.{Step, Void, Plain, Took, IsOpen, Closed, IsHistory, IsForAnother, ServesAlike, output_of, status_of, stream_of}
 
 -- replies and their bytes (RESP protocol specification, "RESP protocol description")
 pub record Encodings : Type 0 where

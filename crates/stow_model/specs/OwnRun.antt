@@ -1,5 +1,4 @@
 -- What the types of the plain run stand for.
-use Rattle.std.specs.Prelude.{ℕ}
 use Rattle.std.specs.FinMap as map
 use Rattle.stow_model.specs.Command.{Reading, Understood, Refused, Ping, Echo, Get, Set, Del}
 use Rattle.stow_model.specs.Store.{Store, Request}

@@ -103,7 +103,7 @@ fn reply_text<A: Allocator + Copy>(alloc: A, reply: &Reply<A>) -> Result<Vec<u8,
     Ok(text)
 }
 
-/// The replies of a tenant's own run, each after a `;`, and then what its store is.
+/// The replies of a tenant's own run, each after a `;`, and then its usage report.
 fn run_text<A: Allocator + Copy>(alloc: A, lines: &[&str]) -> Result<Vec<u8, A>, AllocError> {
     let mut requests = Vec::new(alloc);
     for line in lines {
@@ -115,12 +115,17 @@ fn run_text<A: Allocator + Copy>(alloc: A, lines: &[&str]) -> Result<Vec<u8, A>,
         text.extend_from_slice(reply_text(alloc, reply)?.as_slice())?;
         text.push(b';')?;
     }
-    let rows = run.store.rows.len();
-    let last = run.store.last;
-    let commands = run.store.commands;
-    text.extend_from_slice(format!(in alloc;
-        " rows {rows} writes {last} commands {commands}"
-    )?.as_bytes())?;
+    match run.store.usage() {
+        None => text.extend_from_slice(b" none")?,
+        Some(u) => {
+            let (rows, charge, quota, writes) = (u.rows, u.charge, u.quota, u.writes);
+            let (commands, refusals, snapshots) = (u.commands, u.refusals, u.snapshots);
+            let report = format!(in alloc;
+                " U({rows}, {charge}, {quota}, {writes}, {commands}, {refusals}, {snapshots})"
+            )?;
+            text.extend_from_slice(report.as_bytes())?;
+        }
+    }
     Ok(text)
 }
 
@@ -129,30 +134,34 @@ fn run_text<A: Allocator + Copy>(alloc: A, lines: &[&str]) -> Result<Vec<u8, A>,
 #[test]
 fn own_runs(rt: HostRuntime) -> Result<(), Fail> {
     let alloc = rt.alloc();
-    let cases: [(&[&str], &str); 6] = [
+    let cases: [(&[&str], &str); 7] = [
         (
             &["SET k A", "GET k", "GET k"],
-            "OK;$A;$A; rows 1 writes 1 commands 3",
+            "OK;$A;$A; U(1, 18, 1000000, 1, 3, 0, 0)",
         ),
         (
             &["SET k B", "DEL k", "GET k"],
-            "OK;:1;nil; rows 0 writes 2 commands 3",
+            "OK;:1;nil; U(0, 0, 1000000, 2, 3, 0, 0)",
         ),
         (
             &["SET k v", "DEL k k", "DEL k"],
-            "OK;:1;:0; rows 0 writes 2 commands 3",
+            "OK;:1;:0; U(0, 0, 1000000, 2, 3, 0, 0)",
         ),
         (
             &["set b 1", "sEt a 2", "SET b 1", "Del a c b"],
-            "OK;OK;OK;:2; rows 0 writes 4 commands 4",
+            "OK;OK;OK;:2; U(0, 0, 1000000, 4, 4, 0, 0)",
+        ),
+        (
+            &["SET a 0123456789", "SET a 9876543210"],
+            "OK;OK; U(1, 27, 1000000, 2, 2, 0, 0)",
         ),
         (
             &["PING", "ping hello", "GET z"],
-            "PONG;$hello;nil; rows 0 writes 0 commands 3",
+            "PONG;$hello;nil; U(0, 0, 1000000, 0, 3, 0, 0)",
         ),
         (
             &["SET k v", "!SET k w", "!DEL k", "GET k"],
-            "OK;OOM memory was refused;OOM memory was refused;$v; rows 1 writes 1 commands 2",
+            "OK;OOM memory was refused;OOM memory was refused;$v; U(1, 18, 1000000, 1, 2, 0, 0)",
         ),
     ];
     for (lines, want) in cases {
@@ -367,7 +376,7 @@ fn withstands_each_refusal(rt: HostRuntime) -> Result<(), Fail> {
         assert!(rt; read_text(&heap, bytes)?.as_slice() == b"[GET][k]B 0 more".as_slice());
         assert!(rt;
             run_text(&heap, &lines)?.as_slice()
-                == b"OK;OK;OK;:2;$x;nil; rows 0 writes 4 commands 6".as_slice()
+                == b"OK;OK;OK;:2;$x;nil; U(0, 0, 1000000, 4, 6, 0, 0)".as_slice()
         );
     }
     assert!(rt; refusals >= 20, "{refusals} refusals");

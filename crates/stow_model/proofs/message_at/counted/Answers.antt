@@ -1,4 +1,4 @@
-use Rattle.std.proofs.Common.{◌≡◌, ap, sym, ◌∙◌, arith, refl, List, [], ◌∷◌, ◌++◌, ℕ, subst}
+use Rattle.std.proofs.Common.{ap, ◌∙◌, ◌∷◌, ◌++◌}
 use Rattle.stow_model.specs.Wire.{array_line}
 use Rattle.stow_model.proofs.Messages.{number_begun, number_faulty, blank_whole}
 use Rattle.stow_model.proofs.message_at.counted.Goals as goal

@@ -1,4 +1,4 @@
-use Rattle.std.proofs.Common.{◌≡◌, ℕ, ◌<◌, ap, sym, ◌∙◌, arith, refl, List, [], ◌∷◌, ◌++◌, append_assoc, subst, length}
+use Rattle.std.proofs.Common.{◌≡◌, ◌<◌, ap, sym, ◌∙◌, arith, [], ◌∷◌, ◌++◌, append_assoc, subst, length}
 use Rattle.std.proofs.lemmas.Grind.{common_steps}
 use Rattle.std.specs.List.{AllByRecursion}
 use Rattle.stow_model.specs.Wire.{array_line, bulks, IsBegun, IsFaulty, FitsBulk, Spells}

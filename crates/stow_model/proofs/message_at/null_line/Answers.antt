@@ -1,4 +1,4 @@
-use Rattle.std.proofs.Common.{◌≡◌, ap, sym, ◌∙◌, arith, refl, List, [], ◌∷◌, ◌++◌, ℕ, subst}
+use Rattle.std.proofs.Common.{◌≡◌, ap, sym, ◌∙◌, arith, refl, [], ◌∷◌, subst}
 use Rattle.stow_model.specs.declared.stream_fault.StreamFault.TheVariants.{InvalidArrayLength}
 use Rattle.stow_model.specs.Wire.{IsBegun, IsFaulty, null_line}
 use Rattle.stow_model.proofs.Numbers.{empty}

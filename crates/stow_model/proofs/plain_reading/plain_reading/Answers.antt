@@ -1,4 +1,4 @@
-use Rattle.std.proofs.Common.{◌≡◌, sym, ◌∙◌, refl}
+use Rattle.std.proofs.Common.{sym, ◌∙◌, refl}
 use Rattle.stow_model.proofs.Named.{no_words, at_ping, at_get, at_set, at_del, at_none}
 use Rattle.stow_model.proofs.plain_reading.plain_reading.Goals as goal
 

@@ -1,7 +1,5 @@
-use Rattle.std.proofs.Common.{◌≡◌, sym, ◌∙◌, refl, arith}
-use Rattle.std.specs.Prelude.{nat_lt, true, false}
+use Rattle.std.proofs.Common.{sym, ◌∙◌, arith}
 use Rattle.std.proofs.lemmas.Grind.{common_steps}
-use Rattle.std.proofs.lemmas.Bool.{le-ltb}
 use Rattle.stow_model.proofs.Named.{del_whole, del_long}
 use Rattle.stow_model.proofs.plain_reading.reading_del.Goals as goal
 

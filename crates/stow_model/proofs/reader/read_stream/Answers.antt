@@ -1,7 +1,7 @@
-use Rattle.std.proofs.Common.{◌≡◌, ◌<◌, ℕ, List, [], ◌∷◌, ◌++◌, length, length-append, drop, map, ap, sym, ◌∙◌, subst, refl, arith, append_assoc}
+use Rattle.std.proofs.Common.{◌≡◌, [], ◌∷◌, ◌++◌, length, length-append, map, ap, sym, ◌∙◌, subst, refl, arith, append_assoc}
 use Rattle.std.proofs.lemmas.List.{map-append}
 use Rattle.stow_model.specs.Message.{message_of}
-use Rattle.stow_model.specs.Wire.{Spells, Splits, IsBegun, IsFaulty}
+use Rattle.stow_model.specs.Wire.{Splits, IsBegun, IsFaulty}
 use Rattle.stow_model.specs.Reader.{IsMessageAt}
 use Rattle.stow_model.proofs.Fronts.{spelled_some, IsSplitTo, none_split, one_more_split, split_whole, left_of}
 use Rattle.stow_model.proofs.OneHistory.{begun_none}

@@ -1,4 +1,4 @@
-use Rattle.std.proofs.Common.{◌≡◌, ap, sym, ◌∙◌, zero-add, lit<}
+use Rattle.std.proofs.Common.{ap, sym, ◌∙◌, zero-add, lit<}
 use Rattle.std.specs.Prelude.{sum_by}
 use Rattle.std.specs.FinMap as map
 use Rattle.stow_model.specs.Store.{cost}

@@ -1,4 +1,4 @@
-use Rattle.std.proofs.Common.{◌≡◌, ap, sym, ◌∙◌}
+use Rattle.std.proofs.Common.{ap, ◌∙◌}
 use Rattle.std.specs.FinMap as map
 use Rattle.stow_model.proofs.Mapped.{remove-rows}
 use Rattle.stow_model.proofs.plain_rows.PlainRows.remove.Goals as goal

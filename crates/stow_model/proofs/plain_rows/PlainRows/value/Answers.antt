@@ -1,4 +1,4 @@
-use Rattle.std.proofs.Common.{◌≡◌, ap, sym, ◌∙◌, Some, None}
+use Rattle.std.proofs.Common.{ap, ◌∙◌, Some, None}
 use Rattle.stow_model.proofs.Mapped.{value-rows}
 use Rattle.stow_model.proofs.plain_rows.PlainRows.value.Goals as goal
 

@@ -1,4 +1,4 @@
-use Rattle.std.proofs.Common.{◌<◌, ◌^◌, ℕ, sym, ◌∙◌, subst}
+use Rattle.std.proofs.Common.{◌<◌, ◌^◌, sym, ◌∙◌, subst}
 use Rattle.stow_model.proofs.Charged.{charge_of_rows, usage_of_rows}
 use Rattle.stow_model.proofs.plain_store.PlainStore.usage.Goals as goal
 
