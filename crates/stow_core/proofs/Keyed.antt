@@ -23,9 +23,6 @@ packed_ties t q key = split (to_be_bytes w32 t) q key
 same_bytes : (bs : List ℕ) → bytes_eq bs bs ≡ true
 same_bytes bs = nat_list_eq_equiv.refl bs
 
-pub own_packed : (t : ℕ) (key : List ℕ) → own_key (packed t key) ≡ key
-own_packed t key = refl
-
 pub packed_eq : (t : ℕ) (a b : List ℕ) → bytes_eq (packed t a) (packed t b) ≡ bytes_eq a b
 packed_eq t a b = packed_ties t a (packed t b) ∙ ap (λ x. x && bytes_eq a b) (same_bytes (to_be_bytes w32 t))
 

@@ -48,12 +48,6 @@ module _ {A : Type 0} where
       ap (λ l. index_from index (map entry_of l) name) (item ts i t below is)
       ∙ cond-true (bytes_eq t.name name) (Some index) (index_from (index + 1) (map entry_of (drop (i + 1) ts)) name) same
 
-  pub passed_by : (ts : List (coded.Tenant A)) (i index : ℕ) (t : coded.Tenant A) (name : List ℕ) → i < length ts → t ≡ get_or ts i t → bytes_eq t.name name ≡ false
-      → index_from index (map entry_of (drop i ts)) name ≡ index_from (index + 1) (map entry_of (drop (i + 1) ts)) name
-  passed_by ts i index t name below is other =
-      ap (λ l. index_from index (map entry_of l) name) (item ts i t below is)
-      ∙ cond-false (bytes_eq t.name name) (Some index) (index_from (index + 1) (map entry_of (drop (i + 1) ts)) name) other
-
   -- ---- an entry by its index
 
   pub quota_at : (ts : List (coded.Tenant A)) (i k index : ℕ) (t : coded.Tenant A) → index ≡ k + i → k < length ts → quota_from i (map entry_of ts) index ≡ (get_or ts k t).quota

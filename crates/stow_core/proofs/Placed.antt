@@ -85,26 +85,6 @@ flat_over false w x = refl
 pub look_up_placed : (ps ps' : Places) (b : Bool) (w : Option (Option Version)) (q : List ℕ) → place ps' q ≡ cond b w (place ps q) → look_up ps' q ≡ cond b (flat w) (look_up ps q)
 look_up_placed ps ps' b w q e = ap flat e ∙ flat_over b w (place ps q)
 
-same_bytes : (bs : List ℕ) → bytes_eq bs bs ≡ true
-same_bytes bs = nat_list_eq_equiv.refl bs
-
--- a new place with no value shows no row
-pub look_up_made : (ps ps' : Places) (key : List ℕ) → is_some (place ps key) ≡ false → ((q : List ℕ) → place ps' q ≡ cond (bytes_eq key q) (Some None) (place ps q))
-    → (q : List ℕ) → look_up ps' q ≡ look_up ps q
-look_up_made ps ps' key none made q =
-    let seen : look_up ps' q ≡ cond (bytes_eq key q) None (look_up ps q) = look_up_placed ps ps' (bytes_eq key q) (Some None) q (made q) in
-    ⊎_elim
-    (λ y. seen ∙ cond-true (bytes_eq key q) None (look_up ps q) y ∙ ap flat (sym (absent (place ps key) none)) ∙ ap (look_up ps) ((bytes_decides key q).0 y))
-    (λ n. seen ∙ cond-false (bytes_eq key q) None (look_up ps q) n)
-    (cases_Bool (bytes_eq key q))
-  where
-    absent : {X : Type 0} (o : Option X) → is_some o ≡ false → o ≡ None
-    absent None e = refl
-    absent (Some x) e = absurd (false≢true (sym e))
-
-pub placed : (ps ps' : Places) (key : List ℕ) (w : Option Version) → ((q : List ℕ) → place ps' q ≡ cond (bytes_eq key q) (Some w) (place ps q)) → place ps' key ≡ Some w
-placed ps ps' key w made = made key ∙ cond-true (bytes_eq key key) _ _ (same_bytes key)
-
 -- one more key is taken out
 pub one_more_out : (first : Bool) (k q : List ℕ) (old mid : Option Version) → mid ≡ cond first None old → cond (bytes_eq k q) None mid ≡ cond (first || bytes_eq q k) None old
 one_more_out first k q old mid e = ap (λ b. cond b None mid) (nat_list_eq_equiv.symm k q) ∙ ap (cond (bytes_eq q k) None) e ∙ either first (bytes_eq q k) old

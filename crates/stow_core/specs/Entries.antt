@@ -27,6 +27,7 @@ built_in_entries =
 abbrev pub is_own : Entry → List ℕ → Bool
 is_own entry password = bytes_eq (sha256 (entry.salt ++ password)) entry.digest
 
+-- the name at an index, where the first entry has the index given first
 abbrev pub name_from : ℕ → List Entry → ℕ → List ℕ
 name_from index [] tenant = []
 name_from index (entry ∷ entries) tenant = if index == tenant then entry.name else name_from (index + 1) entries tenant
@@ -35,6 +36,7 @@ name_from index (entry ∷ entries) tenant = if index == tenant then entry.name 
 unfoldable pub name_of : List Entry → ℕ → List ℕ
 name_of entries tenant = name_from 1 entries tenant
 
+-- the index of a name, where the first entry has the index given first
 abbrev pub index_from : ℕ → List Entry → List ℕ → Option ℕ
 index_from index [] name = None
 index_from index (entry ∷ entries) name = if bytes_eq entry.name name then Some index else index_from (index + 1) entries name

@@ -10,17 +10,21 @@ use Rattle.stow_core.specs.declared.version.Version as coded
 abbrev pub version_of : {A : Type 0} → coded.Version A → Version
 version_of version = record { number = version.number; value = version.value }
 
+-- the same of a place that may wait for its version
 abbrev pub version_at : {A : Type 0} → Option (coded.Version A) → Option Version
 version_at None = None
 version_at (Some version) = Some (version_of version)
 
+-- each place's key, and its version if it has one
 abbrev pub Places : Type 0
 Places = List (List ℕ × Option Version)
 
+-- the places of a map's entries
 abbrev pub places_of : {A : Type 0} → List (Vec ℕ A × Option (coded.Version A)) → Places
 places_of [] = []
 places_of (place ∷ places) = (place.0.items, version_at place.1) ∷ places_of places
 
+-- the place at a key, if there is one
 abbrev pub place : Places → List ℕ → Option (Option Version)
 place places key = lookup (bytes_eq key) places
 
@@ -33,5 +37,6 @@ flat (Some version) = version
 abbrev pub look_up : Places → List ℕ → Option Version
 look_up places key = flat (place places key)
 
+-- there is a place at the key
 abbrev pub HasPlace : Places → List ℕ → Type 0
 HasPlace places key = IsSome (place places key)

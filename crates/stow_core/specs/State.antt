@@ -32,6 +32,7 @@ unfoldable pub rows_of : ℕ → Places → Rows
 rows_of tenant [] = map.empty
 rows_of tenant (place ∷ places) = if is_of tenant place.0 then with_place (rows_of tenant places) (own_key place.0) place.1 else rows_of tenant places
 
+-- nothing was counted yet
 abbrev pub new_account : Account
 new_account = record { last = 0; commands = 0 }
 
@@ -40,6 +41,7 @@ abbrev pub account_of : ℕ → List Account → Option Account
 account_of zero accounts = None
 account_of (suc place) accounts = slice_get accounts place
 
+-- the store of these rows and this account; without an account it is empty
 abbrev pub store_with : Rows → Option Account → Store
 store_with rows None = empty_store
 store_with rows (Some account) = record { rows = rows; last = account.last; snapshots = map.empty; next = 1; commands = account.commands; refusals = 0 }
@@ -48,6 +50,7 @@ store_with rows (Some account) = record { rows = rows; last = account.last; snap
 unfoldable pub store_of : CoreState → ℕ → Store
 store_of core tenant = store_with (rows_of tenant core.places) (account_of tenant core.accounts)
 
+-- the refusal says that memory was refused
 abbrev pub is_memory_refusal : Refusal → Bool
 is_memory_refusal refusal.OutOfMemory = true
 is_memory_refusal _ = false

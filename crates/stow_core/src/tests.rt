@@ -25,17 +25,17 @@ fn words_of<A: Allocator + Copy>(alloc: A, line: &str) -> Result<Words<A>, Alloc
     Ok(Words::from_vec(words))
 }
 
-/// What the client is told, in a word.
-fn text_of<A: Allocator + Copy>(alloc: A, reply: &Reply<A>) -> Result<Vec<u8, A>, AllocError> {
+/// Whether a reply is this text. An integer is so where it is the text's length.
+fn is_text<A: Allocator>(reply: &Reply<A>, want: &[u8]) -> bool {
     match reply {
-        Reply::Simple(SimpleString::Ok) => Vec::from_slice(alloc, b"ok"),
-        Reply::Simple(SimpleString::Pong) => Vec::from_slice(alloc, b"pong"),
-        Reply::Error(refusal) => Vec::from_slice(alloc, refusal_text(*refusal)),
-        Reply::Integer(n) => Vec::from_slice(alloc, format!(in alloc; "{n}")?.as_bytes()),
-        Reply::Bulk(bytes) => Vec::from_slice(alloc, bytes.as_slice()),
-        Reply::Null => Vec::from_slice(alloc, b"(null)"),
-        Reply::ProtocolError(_) => Vec::from_slice(alloc, b"(fault)"),
-        Reply::Array(_) => Vec::from_slice(alloc, b"(array)"),
+        Reply::Simple(SimpleString::Ok) => want == b"ok".as_slice(),
+        Reply::Simple(SimpleString::Pong) => want == b"pong".as_slice(),
+        Reply::Error(refusal) => refusal_text(*refusal) == want,
+        Reply::Integer(n) => *n == want.len() as i64,
+        Reply::Bulk(bytes) => bytes.as_slice() == want,
+        Reply::Null => want == b"(null)".as_slice(),
+        Reply::ProtocolError(_) => false,
+        Reply::Array(_) => false,
     }
 }
 
@@ -49,7 +49,145 @@ fn is_told<A: Allocator + Copy>(
 ) -> Result<bool, AllocError> {
     let words = words_of(alloc, line)?;
     let reply = core.call(alloc, tenant, &words);
-    Ok(text_of(alloc, &reply)?.as_slice() == want.as_bytes())
+    Ok(is_text(&reply, want.as_bytes()))
+}
+
+/// Whether tenant 1 has these values at the keys `a` and `b`.
+fn stands<A: Allocator + Copy>(
+    core: &mut Core<A>,
+    alloc: A,
+    a: &str,
+    b: &str,
+) -> Result<bool, AllocError> {
+    Ok(is_told(core, alloc, 1, "GET a", a)? && is_told(core, alloc, 1, "GET b", b)?)
+}
+
+/// A request, its reply, and what then stands at the keys `a` and `b`, the first of which had "old".
+#[derive(Clone, Copy)]
+struct Case {
+    line: &'static str,
+    told: &'static str,
+    a: &'static str,
+    b: &'static str,
+}
+
+/// A core in which tenant 1 has "old" at the key `a`.
+fn started<A: Allocator + Copy>(alloc: A) -> Result<Core<A>, AllocError> {
+    let mut core = new_core(alloc)?;
+    let _done = is_told(&mut core, alloc, 1, "SET a old", "ok")?;
+    Ok(core)
+}
+
+/// Whether the prepare is refused memory. It is, just where it asks for the request that is refused to it.
+fn is_refused<'a, B: Allocator>(
+    heap: &'a Refusing<B>,
+    core: &mut Core<&'a Refusing<B>>,
+    words: &Words<&'a Refusing<B>>,
+    at: u64,
+) -> bool {
+    heap.set(Plan::RefuseAt(at));
+    let refused = core.prepare(heap, 1, words).is_err();
+    heap.set(Plan::Grant);
+    refused
+}
+
+/// Whether the words are prepared with memory, and then committed with none, and told this.
+fn commits<'a, B: Allocator>(
+    heap: &'a Refusing<B>,
+    core: &mut Core<&'a Refusing<B>>,
+    words: &Words<&'a Refusing<B>>,
+    told: &str,
+) -> Result<bool, AllocError> {
+    let prepared = core.prepare(heap, 1, words)?;
+    let foretold = is_text(prepared.reply(), told.as_bytes());
+    heap.set(Plan::RefuseAll);
+    let reply = core.commit(prepared);
+    let asked = heap.asked();
+    heap.set(Plan::Grant);
+    Ok(foretold && asked == 0 && is_text(&reply, told.as_bytes()))
+}
+
+/// Whether the case withstands the refusal of this request for memory, or `None` if it asks for fewer.
+fn withstands<B: Allocator>(
+    heap: &Refusing<B>,
+    case: Case,
+    at: u64,
+) -> Result<Option<bool>, AllocError> {
+    let mut core = started(heap)?;
+    let words = words_of(heap, case.line)?;
+    if !is_refused(heap, &mut core, &words, at) {
+        return Ok(None);
+    }
+    let stood = stands(&mut core, heap, "old", "(null)")?;
+    let done = commits(heap, &mut core, &words, case.told)?;
+    Ok(Some(stood && done && stands(&mut core, heap, case.a, case.b)?))
+}
+
+/// How many requests for memory the case makes, if it withstands the refusal of each.
+fn refusals<B: Allocator>(heap: &Refusing<B>, case: Case) -> Result<Option<u64>, AllocError> {
+    for at in 0..100u64 {
+        match withstands(heap, case, at)? {
+            None => return Ok(Some(at)),
+            Some(true) => {}
+            Some(false) => return Ok(None),
+        }
+    }
+    Ok(None)
+}
+
+// Each request for memory of a prepare is refused in turn: what stood before still stands, and the same call
+// succeeds once memory is there. Its commit, to which every request is refused, asks for none.
+#[test]
+fn prepares_withstand_each_refusal(rt: HostRuntime) -> Result<(), Fail> {
+    let heap = Refusing::new(rt.alloc());
+    for (line, told, a, b, least) in [
+        ("SET a new", "ok", "new", "(null)", 2),
+        ("SET b new", "ok", "old", "new", 3),
+        ("GET a", "old", "old", "(null)", 2),
+        ("PING hello", "hello", "old", "(null)", 1),
+        ("DEL b a", "#", "(null)", "(null)", 2),
+    ] {
+        let needed = refusals(&heap, Case { line, told, a, b })?;
+        assert!(rt; matches!(needed, Some(n) if n >= least), "{line}");
+    }
+    Ok(())
+}
+
+#[test]
+fn each_tenant_has_its_own_keys(rt: HostRuntime) -> Result<(), Fail> {
+    let alloc = rt.alloc();
+    let mut core = new_core(alloc)?;
+    for (tenant, line, want) in [
+        (1, "PING", "pong"),
+        (1, "PING hello", "hello"),
+        (1, "SET k one", "ok"),
+        (2, "GET k", "(null)"),
+        (2, "SET k two", "ok"),
+        (1, "GET k", "one"),
+        (1, "SET l more", "ok"),
+        (1, "DEL l k none l", "##"),
+        (1, "DEL l", ""),
+        (1, "GET k", "(null)"),
+        (2, "GET k", "two"),
+        (1, "AUTH ann bc", "ERR unknown command"),
+        (0, "PING", "NOAUTH Authentication required."),
+        (4, "PING", "NOAUTH Authentication required."),
+    ] {
+        assert!(rt;
+            is_told(&mut core, alloc, tenant, line, want)?,
+            "{tenant} {line}"
+        );
+    }
+    assert_eq!(rt; core.tenants().count(), 3);
+    Ok(())
+}
+
+/// Whether the tenant of this name has this quota.
+fn has_quota<A: Allocator>(tenants: &Tenants<A>, name: &[u8], quota: u64) -> bool {
+    match tenants.find(name) {
+        Some(index) => tenants.name(index) == name && tenants.quota(index) == quota,
+        None => false,
+    }
 }
 
 #[test]
@@ -64,108 +202,13 @@ fn tenants_log_in_without_memory(rt: HostRuntime) -> Result<(), Fail> {
         ("ann", "abc", None),
         ("dan", "", None),
     ] {
-        let found = tenants.check(name.as_bytes(), password.as_bytes());
-        assert!(rt; found == want, "{name}");
-    }
-    assert_eq!(rt; tenants.count(), 3);
-    for (name, quota) in [("ann", 1_000_000), ("ben", 1_000_000), ("cap", 100)] {
-        if let Some(index) = tenants.find(name.as_bytes()) {
-            assert!(rt; tenants.name(index) == name.as_bytes(), "{name}");
-            assert_eq!(rt; tenants.quota(index), quota, "{name}");
-        } else {
-            assert!(rt; false, "{name}");
-        }
-    }
-    assert_eq!(rt; heap.asked(), 0);
-    Ok(())
-}
-
-#[test]
-fn each_tenant_has_its_own_keys(rt: HostRuntime) -> Result<(), Fail> {
-    let alloc = rt.alloc();
-    let mut core = new_core(alloc)?;
-    for (tenant, line, want) in [
-        (1, "ping", "pong"),
-        (1, "PING hello", "hello"),
-        (1, "SET k one", "ok"),
-        (2, "GET k", "(null)"),
-        (2, "SET k two", "ok"),
-        (1, "GET k", "one"),
-        (2, "GET k", "two"),
-        (1, "SET l more", "ok"),
-        (1, "DEL l k none l", "2"),
-        (1, "DEL l", "0"),
-        (1, "GET k", "(null)"),
-        (2, "GET k", "two"),
-        (2, "SET k three", "ok"),
-        (2, "GET k", "three"),
-        (1, "GET", "ERR wrong number of arguments"),
-        (1, "AUTH ann bc", "ERR unknown command"),
-        (0, "PING", "NOAUTH Authentication required."),
-        (4, "PING", "NOAUTH Authentication required."),
-    ] {
         assert!(rt;
-            is_told(&mut core, alloc, tenant, line, want)?,
-            "{tenant} {line}"
+            tenants.check(name.as_bytes(), password.as_bytes()) == want,
+            "{name}"
         );
     }
-    let tenants = core.tenants();
+    assert!(rt; has_quota(&tenants, b"ann", 1_000_000) && has_quota(&tenants, b"cap", 100));
     assert_eq!(rt; tenants.count(), 3);
-    Ok(())
-}
-
-// Each request for memory of a prepare is refused in turn: what stood before still stands, and the same call
-// succeeds once memory is there. Its commit, to which every request is refused, asks for none.
-#[test]
-fn prepares_withstand_each_refusal(rt: HostRuntime) -> Result<(), Fail> {
-    let heap = Refusing::new(rt.alloc());
-    for (line, want, after_a, after_b, least) in [
-        ("SET a new", "ok", "new", "(null)", 2),
-        ("SET b new", "ok", "old", "new", 3),
-        ("GET a", "old", "old", "(null)", 2),
-        ("PING hello", "hello", "old", "(null)", 1),
-        ("DEL b a", "1", "(null)", "(null)", 2),
-    ] {
-        let mut refusals = 0u64;
-        for at in 0..100u64 {
-            heap.set(Plan::Grant);
-            let mut core = new_core(&heap)?;
-            assert!(rt; is_told(&mut core, &heap, 1, "SET a old", "ok")?);
-            let words = words_of(&heap, line)?;
-            heap.set(Plan::RefuseAt(at));
-            let refused = core.prepare(&heap, 1, &words).is_err();
-            let asked = heap.asked();
-            heap.set(Plan::Grant);
-            assert!(rt; refused == (asked > at), "{line}, request {at}");
-            assert!(rt;
-                is_told(&mut core, &heap, 1, "GET a", "old")?,
-                "{line}, request {at}"
-            );
-            assert!(rt;
-                is_told(&mut core, &heap, 1, "GET b", "(null)")?,
-                "{line}, request {at}"
-            );
-            if !refused {
-                break;
-            }
-            refusals = at + 1;
-            let prepared = core.prepare(&heap, 1, &words)?;
-            assert!(rt;
-                text_of(&heap, prepared.reply())?.as_slice() == want.as_bytes(),
-                "{line}"
-            );
-            heap.set(Plan::RefuseAll);
-            let reply = core.commit(prepared);
-            assert_eq!(rt; heap.asked(), 0);
-            heap.set(Plan::Grant);
-            assert!(rt;
-                text_of(&heap, &reply)?.as_slice() == want.as_bytes(),
-                "{line}"
-            );
-            assert!(rt; is_told(&mut core, &heap, 1, "GET a", after_a)?, "{line}");
-            assert!(rt; is_told(&mut core, &heap, 1, "GET b", after_b)?, "{line}");
-        }
-        assert!(rt; refusals >= least, "{line}: {refusals} refusals");
-    }
+    assert_eq!(rt; heap.asked(), 0);
     Ok(())
 }
