@@ -5,6 +5,9 @@
 //! tenant's store as the answer says and leaves every other tenant's as it was. `Core::call` does both: an
 //! answer to which memory was refused leaves every store as it was. `Tenants` says whom a name and a password
 //! log in.
+//!
+//! A body that prepares the same words twice is right too, since a prepared answer that is never carried out
+//! changes nothing.
 #![tactic(auto)]
 
 ghost use Rattle.std.specs.Prelude.{◌≡◌, ◌≢◌, ℕ, IfOk, IsOkAnd};
