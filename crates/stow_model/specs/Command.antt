@@ -1,21 +1,44 @@
 -- What the words of a request say.
-use Rattle.std.specs.Prelude.{ℕ, Bool, List, [], ◌∷◌, length, map, if◌then◌else◌, nat_lt, codes}
+use Rattle.std.specs.Prelude.{ℕ, ℤ, pos, negsuc, Bool, List, [], ◌∷◌, length, map, Option, Some, None, if◌then◌else◌, nat_lt, codes}
 use Rattle.std.specs.List.{list_any}
 use Rattle.std.specs.Str.{bytes_eq}
 use Rattle.std.specs.Char.{to_ascii_lowercase}
 use Rattle.stow_model.specs.Limits.{key_limit, deleted_limit}
+use Rattle.stow_model.specs.NumberText.{number_of, count_of}
 use Rattle.stow_model.specs.declared.refusal.Refusal.{Refusal}
 use Rattle.stow_model.specs.declared.refusal.Refusal.TheVariants as refusal
+
+-- when a SET writes
+pub data Condition : Type 0 where
+  Always : Condition
+  -- only where the key is missing (NX)
+  IfMissing : Condition
+  -- only where the key is there (XX)
+  IfThere : Condition
+
+-- a change of one row, which its present value alone decides
+pub data Update : Type 0 where
+  Set : List ℕ → Condition → Update
+  Append : List ℕ → Update
+  -- INCR, DECR, INCRBY
+  Add : ℤ → Update
 
 pub data Command : Type 0 where
   -- PING
   Ping : Command
-  -- PING text
+  -- ECHO text, PING text
   Echo : List ℕ → Command
   Get : List ℕ → Command
-  -- key, value
-  Set : List ℕ → List ℕ → Command
+  -- MGET
+  GetMany : List (List ℕ) → Command
+  Exists : List (List ℕ) → Command
+  -- STRLEN
+  Length : List ℕ → Command
+  -- the lower end, the upper end, and how many rows at most
+  Range : List ℕ → List ℕ → ℕ → Command
   Del : List (List ℕ) → Command
+  -- SET, APPEND, INCR, DECR, INCRBY of a key
+  Change : List ℕ → Update → Command
 
 -- what words say: a command, or the first refusal that applies
 pub data Reading : Type 0 where
@@ -33,36 +56,111 @@ is_long_key key = nat_lt key_limit (length key)
 abbrev pub with_keys : List (List ℕ) → Command → Reading
 with_keys keys command = if list_any is_long_key keys then Refused refusal.KeyTooLong else Understood command
 
+-- ---- by the arguments
+
+abbrev pub of_nothing : Command → List (List ℕ) → Reading
+of_nothing command [] = Understood command
+of_nothing command (_ ∷ _) = Refused refusal.WrongArgumentCount
+
+-- a text, of any length
+abbrev pub of_text : (List ℕ → Command) → List (List ℕ) → Reading
+of_text command [] = Refused refusal.WrongArgumentCount
+of_text command (text ∷ []) = Understood (command text)
+of_text command (_ ∷ _ ∷ _) = Refused refusal.WrongArgumentCount
+
+abbrev pub of_key : (List ℕ → Command) → List (List ℕ) → Reading
+of_key command [] = Refused refusal.WrongArgumentCount
+of_key command (key ∷ []) = with_keys (key ∷ []) (command key)
+of_key command (_ ∷ _ ∷ _) = Refused refusal.WrongArgumentCount
+
+-- one key or more
+abbrev pub of_keys : (List (List ℕ) → Command) → List (List ℕ) → Reading
+of_keys command [] = Refused refusal.WrongArgumentCount
+of_keys command (key ∷ keys) = with_keys (key ∷ keys) (command (key ∷ keys))
+
 abbrev pub reading_ping : List (List ℕ) → Reading
 reading_ping [] = Understood Ping
-reading_ping (text ∷ []) = Understood (Echo text)
-reading_ping (_ ∷ _ ∷ _) = Refused refusal.WrongArgumentCount
+reading_ping (text ∷ texts) = of_text Echo (text ∷ texts)
 
-abbrev pub reading_get : List (List ℕ) → Reading
-reading_get [] = Refused refusal.WrongArgumentCount
-reading_get (key ∷ []) = with_keys (key ∷ []) (Get key)
-reading_get (_ ∷ _ ∷ _) = Refused refusal.WrongArgumentCount
+-- the third argument of a SET
+abbrev pub reading_set_if : List ℕ → List ℕ → List ℕ → Reading
+reading_set_if key value option =
+    if is_named option (codes "nx") then with_keys (key ∷ []) (Change key (Set value IfMissing))
+    else if is_named option (codes "xx") then with_keys (key ∷ []) (Change key (Set value IfThere))
+    else Refused refusal.SyntaxError
 
 abbrev pub reading_set : List (List ℕ) → Reading
 reading_set [] = Refused refusal.WrongArgumentCount
 reading_set (_ ∷ []) = Refused refusal.WrongArgumentCount
-reading_set (key ∷ value ∷ []) = with_keys (key ∷ []) (Set key value)
-reading_set (_ ∷ _ ∷ _ ∷ _) = Refused refusal.WrongArgumentCount
+reading_set (key ∷ value ∷ []) = with_keys (key ∷ []) (Change key (Set value Always))
+reading_set (key ∷ value ∷ option ∷ []) = reading_set_if key value option
+reading_set (_ ∷ _ ∷ _ ∷ _ ∷ _) = Refused refusal.WrongArgumentCount
+
+abbrev pub reading_append : List (List ℕ) → Reading
+reading_append [] = Refused refusal.WrongArgumentCount
+reading_append (_ ∷ []) = Refused refusal.WrongArgumentCount
+reading_append (key ∷ suffix ∷ []) = with_keys (key ∷ []) (Change key (Append suffix))
+reading_append (_ ∷ _ ∷ _ ∷ _) = Refused refusal.WrongArgumentCount
+
+abbrev pub reading_add_number : List ℕ → Option ℤ → Reading
+reading_add_number key None = Refused refusal.NotAnInteger
+reading_add_number key (Some amount) = with_keys (key ∷ []) (Change key (Add amount))
+
+-- INCRBY
+abbrev pub reading_add : List (List ℕ) → Reading
+reading_add [] = Refused refusal.WrongArgumentCount
+reading_add (_ ∷ []) = Refused refusal.WrongArgumentCount
+reading_add (key ∷ amount ∷ []) = reading_add_number key (number_of amount)
+reading_add (_ ∷ _ ∷ _ ∷ _) = Refused refusal.WrongArgumentCount
+
+abbrev pub reading_range_count : List ℕ → List ℕ → Option ℕ → Reading
+reading_range_count from to None = Refused refusal.NotAnInteger
+reading_range_count from to (Some count) = with_keys (from ∷ to ∷ []) (Range from to count)
+
+abbrev pub reading_range : List (List ℕ) → Reading
+reading_range [] = Refused refusal.WrongArgumentCount
+reading_range (_ ∷ []) = Refused refusal.WrongArgumentCount
+reading_range (_ ∷ _ ∷ []) = Refused refusal.WrongArgumentCount
+reading_range (from ∷ to ∷ count ∷ []) = reading_range_count from to (count_of (number_of count))
+reading_range (_ ∷ _ ∷ _ ∷ _ ∷ _) = Refused refusal.WrongArgumentCount
 
 abbrev pub reading_del : List (List ℕ) → Reading
 reading_del [] = Refused refusal.WrongArgumentCount
 reading_del (key ∷ keys) = if nat_lt deleted_limit (length (key ∷ keys)) then Refused refusal.TooManyKeys else with_keys (key ∷ keys) (Del (key ∷ keys))
 
--- the command that the words are, or the first refusal that applies: the name, the number of
--- arguments, then the length of each key
+-- ---- by the name
+
+-- a name, and what the arguments after it say
+abbrev pub Entry : Type 0
+Entry = List ℕ × (List (List ℕ) → Reading)
+
+-- the commands of a store, each with its name in lower case
+abbrev pub commands : List Entry
+commands =
+    (codes "ping", reading_ping)
+    ∷ (codes "echo", of_text Echo)
+    ∷ (codes "get", of_key Get)
+    ∷ (codes "mget", of_keys GetMany)
+    ∷ (codes "exists", of_keys Exists)
+    ∷ (codes "strlen", of_key Length)
+    ∷ (codes "range", reading_range)
+    ∷ (codes "set", reading_set)
+    ∷ (codes "append", reading_append)
+    ∷ (codes "incr", of_key (λ key. Change key (Add (pos 1))))
+    ∷ (codes "decr", of_key (λ key. Change key (Add (negsuc 0))))
+    ∷ (codes "incrby", reading_add)
+    ∷ (codes "del", reading_del)
+    ∷ []
+
+abbrev pub reading_among : List Entry → List ℕ → List (List ℕ) → Reading
+reading_among [] name arguments = Refused refusal.UnknownCommand
+reading_among (entry ∷ entries) name arguments = if is_named name entry.0 then entry.1 arguments else reading_among entries name arguments
+
+-- the command that the words are, or the first refusal that applies: the name, the number of arguments,
+-- options, numbers among the arguments, then the length of each key
 unfoldable pub reading : List (List ℕ) → Reading
 reading [] = Refused refusal.UnknownCommand
-reading (name ∷ arguments) =
-    if is_named name (codes "ping") then reading_ping arguments
-    else if is_named name (codes "get") then reading_get arguments
-    else if is_named name (codes "set") then reading_set arguments
-    else if is_named name (codes "del") then reading_del arguments
-    else Refused refusal.UnknownCommand
+reading (name ∷ arguments) = reading_among commands name arguments
 
 -- ---- what is the connection's own
 

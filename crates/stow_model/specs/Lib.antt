@@ -6,6 +6,7 @@ pub mod Item
 pub mod Reply
 pub mod Event
 pub mod Wire
+pub mod NumberText
 pub mod Command
 pub mod Login
 pub mod Store

@@ -13,6 +13,10 @@ value_limit = 65535
 abbrev pub words_limit : ℕ
 words_limit = 1024
 
+-- rows of one RANGE
+abbrev pub count_limit : ℕ
+count_limit = 1024
+
 -- keys of one DEL
 abbrev pub deleted_limit : ℕ
 deleted_limit = 64

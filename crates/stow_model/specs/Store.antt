@@ -1,7 +1,10 @@
 -- One tenant's store, alone: what a request means to it.
-use Rattle.std.specs.Prelude.{ℕ, pos, ◌+◌, ◌-◌, Bool, List, [], ◌∷◌, ◌++◌, length, sum_by, Option, Some, None, if◌then◌else◌, nat_lt, ◌==◌, ◌&&◌}
+use Rattle.std.specs.Prelude.{ℕ, ℤ, pos, ◌+◌, ◌-◌, ◌+ℤ◌, Bool, true, not, List, [], ◌∷◌, ◌++◌, length, filter, take, sum_by, Option, Some, None, is_some, if◌then◌else◌, nat_lt, ◌==◌, ◌&&◌, ◌||◌}
+use Rattle.std.specs.Prelude.{map as list_map}
+use Rattle.std.specs.Option.{unwrap_or}
 use Rattle.std.specs.List.{list_any, flat_map}
-use Rattle.std.specs.Ordering.{nat_cmp}
+use Rattle.std.specs.Fmt.{signed_decimal}
+use Rattle.std.specs.Ordering.{nat_cmp, is_le, is_lt}
 use Rattle.std.specs.Str.{bytes_eq}
 use Rattle.std.specs.FinMap.{FinMap}
 use Rattle.std.specs.FinMap as map
@@ -11,9 +14,12 @@ use Rattle.stow_model.specs.declared.refusal.Refusal.{Refusal}
 use Rattle.stow_model.specs.declared.refusal.Refusal.TheVariants as refusal
 use Rattle.stow_model.specs.declared.simple_string.SimpleString.TheVariants as simple
 use Rattle.stow_model.specs.declared.usage.Usage.{Usage}
+use Rattle.stow_model.specs.Item.{Item}
+use Rattle.stow_model.specs.Item as item
 use Rattle.stow_model.specs.Reply.{Reply}
 use Rattle.stow_model.specs.Reply as reply
-use Rattle.stow_model.specs.Command.{Command, Ping, Echo, Get, Set, Del, Reading, Understood, Refused, reading}
+use Rattle.stow_model.specs.NumberText.{number_of, is_integer}
+use Rattle.stow_model.specs.Command.{Command, Ping, Echo, Get, GetMany, Exists, Length, Range, Del, Change, Update, Set, Append, Add, Condition, Always, IfMissing, IfThere, Reading, Understood, Refused, reading}
 
 -- ---- what one tenant has
 
@@ -67,11 +73,79 @@ charge store = sum_by cost (distinct (shown_by store))
 unfoldable pub usage : ℕ → Store → Usage
 usage quota store = record { rows = map.len store.rows; charge = charge store; quota = quota; writes = store.last; commands = store.commands; refusals = store.refusals; snapshots = map.len store.snapshots }
 
+-- ---- a change of one row
+
+abbrev pub value_in : Option Version → Option (List ℕ)
+value_in None = None
+value_in (Some version) = Some version.value
+
+-- what a change leads to
+pub data Outcome : Type 0 where
+  -- the row gets this value, and this is told
+  Written : List ℕ → Reply → Outcome
+  -- the row stays as it is, and this is told
+  Unchanged : Reply → Outcome
+  Failed : Refusal → Outcome
+
+-- a value, unless it is too long
+abbrev pub if_fits : List ℕ → Outcome → Outcome
+if_fits value outcome = if nat_lt value_limit (length value) then Failed refusal.ValueTooLong else outcome
+
+abbrev pub allows : Condition → Option (List ℕ) → Bool
+allows Always present = true
+allows IfMissing present = not (is_some present)
+allows IfThere present = is_some present
+
+abbrev pub set_outcome : List ℕ → Condition → Option (List ℕ) → Outcome
+set_outcome value condition present = if_fits value (if allows condition present then Written value (reply.Simple simple.Ok) else Unchanged reply.Null)
+
+-- a missing value counts as empty
+abbrev pub append_outcome : List ℕ → Option (List ℕ) → Outcome
+append_outcome suffix present = let value = unwrap_or present [] ++ suffix in if_fits value (Written value (reply.Integer (pos (length value))))
+
+-- a missing value counts as 0
+abbrev pub stored_number : Option (List ℕ) → Option ℤ
+stored_number None = Some (pos 0)
+stored_number (Some value) = number_of value
+
+abbrev pub sum_outcome : Option ℤ → ℤ → Outcome
+sum_outcome None amount = Failed refusal.NotAnInteger
+sum_outcome (Some n) amount = let sum = n +ℤ amount in if is_integer sum then Written (signed_decimal sum) (reply.Integer sum) else Failed refusal.Overflow
+
+-- by the present value
+unfoldable pub outcome : Update → Option (List ℕ) → Outcome
+outcome (Set value condition) present = set_outcome value condition present
+outcome (Append suffix) present = append_outcome suffix present
+outcome (Add amount) present = sum_outcome (stored_number present) amount
+
 -- ---- commands
 
 abbrev pub value_or_null : Option Version → Reply
 value_or_null None = reply.Null
 value_or_null (Some version) = reply.Bulk version.value
+
+abbrev pub item_or_null : Option Version → Item
+item_or_null None = item.Null
+item_or_null (Some version) = item.Bulk version.value
+
+abbrev pub length_or_zero : Option Version → ℕ
+length_or_zero None = 0
+length_or_zero (Some version) = length version.value
+
+-- how many of the keys have a row, each as often as it is named
+abbrev pub count_rows : Rows → List (List ℕ) → ℕ
+count_rows rows keys = length (filter (λ key. is_some (map.get rows key)) keys)
+
+-- from the lower end on, and below the upper end, of which an empty one is none
+abbrev pub is_within : List ℕ → List ℕ → List ℕ → Bool
+is_within from to key = is_le (bytes_cmp from key) && ((length to == 0) || is_lt (bytes_cmp key to))
+
+-- the first rows of an interval, in byte order
+abbrev pub rows_within : List ℕ → List ℕ → ℕ → Rows → List Shown
+rows_within from to count rows = take count (filter (λ row. is_within from to row.0) (map.entries rows))
+
+abbrev pub row_items : Shown → List Item
+row_items row = item.Bulk row.0 ∷ item.Bulk row.1.value ∷ []
 
 -- the rows without these keys
 abbrev pub rows_without : List (List ℕ) → Rows → Rows
@@ -88,10 +162,11 @@ refused store r = (store, reply.Error r)
 abbrev pub written : Store → Rows → Reply → Answer
 written store rows r = if nat_lt store.last number_limit then (record store { rows = rows; last = store.last + 1 }, r) else refused store refusal.WriteNumbersUsedUp
 
-abbrev pub set_answer : Store → List ℕ → List ℕ → Answer
-set_answer store key value =
-    if nat_lt value_limit (length value) then refused store refusal.ValueTooLong
-    else written store (map.insert store.rows key (record { number = store.last + 1; value = value })) (reply.Simple simple.Ok)
+-- a row's value is written with the number of the store's next write
+abbrev pub change_answer : Store → List ℕ → Outcome → Answer
+change_answer store key (Written value r) = written store (map.insert store.rows key (record { number = store.last + 1; value = value })) r
+change_answer store key (Unchanged r) = (store, r)
+change_answer store key (Failed refusal) = refused store refusal
 
 -- how many rows fewer there are; a write, where that isn't none
 abbrev pub removed_answer : Store → ℕ → Rows → Answer
@@ -105,8 +180,12 @@ abbrev pub served : Store → Command → Answer
 served store Ping = (store, reply.Simple simple.Pong)
 served store (Echo text) = (store, reply.Bulk text)
 served store (Get key) = (store, value_or_null (map.get store.rows key))
-served store (Set key value) = set_answer store key value
+served store (GetMany keys) = (store, reply.Array (list_map (λ key. item_or_null (map.get store.rows key)) keys))
+served store (Exists keys) = (store, reply.Integer (pos (count_rows store.rows keys)))
+served store (Length key) = (store, reply.Integer (pos (length_or_zero (map.get store.rows key))))
+served store (Range from to count) = (store, reply.Array (flat_map row_items (rows_within from to count store.rows)))
 served store (Del keys) = del_answer store keys
+served store (Change key update) = change_answer store key (outcome update (value_in (map.get store.rows key)))
 
 -- a count, one higher, up to its limit
 abbrev pub one_more : ℕ → ℕ
