@@ -24,8 +24,3 @@ entries_of bytes (e ∷ es) = (bytes e.0, version_of e.1) ∷ entries_of bytes e
 
 abbrev pub rows_of : {K A : Type 0} → (K → List ℕ) → List (K × PlainVersion A) → Rows
 rows_of bytes es = map.from_entries (entries_of bytes es)
-
--- the value alone
-abbrev pub value_in : Option Version → Option (List ℕ)
-value_in None = None
-value_in (Some version) = Some version.value

@@ -1,20 +1,26 @@
 //! One tenant's own store: slow, and as the definitions say it.
-ghost use Rattle.std.specs.Prelude.{◌≡◌, ◌<◌, ◌^◌, IfOk, OnErr};
+ghost use Rattle.std.specs.Prelude.{◌≡◌, ◌<◌, ◌^◌, Result, IfOk, OnErr};
 ghost use Rattle.std.specs.Option.{SomeIff};
-ghost use Rattle.stow_model.specs.Command.{Get};
+ghost use Rattle.stow_commands.specs.Commands.{command_of, reading_of, update_of};
+ghost use Rattle.stow_commands.specs.Outcomes.{IsOutcome};
+ghost use Rattle.stow_model.specs.Command as command;
 ghost use Rattle.stow_model.specs.Store as store;
 ghost use Rattle.stow_model.specs.Reply.{reply_of};
-ghost use Rattle.stow_plain.specs.OwnRun.{reading_of, request_of, store_of};
+ghost use Rattle.stow_plain.specs.OwnRun.{request_of, store_of};
 
-use stow_model::byte_string::ByteString;
-use crate::plain_reading::{PlainReading, plain_reading};
 use crate::plain_request::PlainRequest;
 use crate::plain_rows::PlainRows;
+use std::alloc::{AllocError, Allocator, Global};
+use stow_commands::command::Command;
+use stow_commands::outcome::Outcome;
+use stow_commands::outcome_fault::OutcomeFault;
+use stow_commands::update::Update;
+use stow_model::byte_string::ByteString;
+use stow_model::items::Items;
 use stow_model::refusal::Refusal;
 use stow_model::reply::Reply;
 use stow_model::simple_string::SimpleString;
 use stow_model::usage::Usage;
-use std::alloc::{AllocError, Allocator, Global};
 
 /// What one tenant has. No command takes a snapshot yet, so there are none.
 #[derive(Drop)]
@@ -80,7 +86,7 @@ impl<A: Allocator + Copy> PlainStore<A> {
         }
         let before = self.commands;
         self.commands = one_more(before);
-        match self.serve(alloc, plain_reading(request.words.as_slice())) {
+        match self.answer(alloc, Command::read(&request.words)) {
             Ok(reply) => Ok(reply),
             Err(error) => {
                 self.commands = before;
@@ -90,51 +96,105 @@ impl<A: Allocator + Copy> PlainStore<A> {
     }
 
     /// Answers what words say, after they were counted.
-    fn serve(&mut self, alloc: A, reading: PlainReading<'_, A>) -> Result<Reply<A>, AllocError>
+    fn answer(
+        &mut self,
+        alloc: A,
+        reading: Result<Command<'_, A>, Refusal>,
+    ) -> Result<Reply<A>, AllocError>
         ensures ok { IfOk result (λ r. ◌≡◌ {A = store.Answer} (store_of self.new, reply_of r) (store.answer_to (store_of self.old) (reading_of reading.entry))) }
         ensures quota { self.new.quota ≡ self.old.quota }
         ensures err { OnErr result (self.new ≡ self.old) }
     {
         match reading {
-            PlainReading::Ping => Ok(Reply::Simple(SimpleString::Pong)),
-            PlainReading::Echo(text) => Ok(Reply::Bulk(text.clone()?)),
-            PlainReading::Get(key) => self.get(alloc, key),
-            PlainReading::Set(key, value) => self.set(alloc, key, value),
-            PlainReading::Del(keys) => self.del(keys),
-            PlainReading::Refused(refusal) => Ok(Reply::Error(refusal)),
+            Ok(command) => self.serve(alloc, command),
+            Err(refusal) => Ok(Reply::Error(refusal)),
         }
     }
 
-    fn get(&self, alloc: A, key: &ByteString<A>) -> Result<Reply<A>, AllocError>
-        ensures { IfOk result (λ r. ◌≡◌ {A = store.Answer} (store_of self.now, reply_of r) (store.served (store_of self.now) (Get key.now))) }
+    fn serve(&mut self, alloc: A, command: Command<'_, A>) -> Result<Reply<A>, AllocError>
+        ensures ok { IfOk result (λ r. ◌≡◌ {A = store.Answer} (store_of self.new, reply_of r) (store.served (store_of self.old) (command_of command.entry))) }
+        ensures quota { self.new.quota ≡ self.old.quota }
+        ensures err { OnErr result (self.new ≡ self.old) }
     {
-        match self.rows.value(key.as_slice()) {
+        match command {
+            Command::Ping => Ok(Reply::Simple(SimpleString::Pong)),
+            Command::Echo(text) => Ok(Reply::Bulk(ByteString::from_slice(alloc, text)?)),
+            Command::Get(key) => self.get(alloc, key),
+            Command::GetMany(keys) => {
+                let items = self.rows.items(alloc, keys)?;
+                Ok(Reply::Array(Items::from_vec(items)))
+            }
+            Command::Exists(keys) => Ok(Reply::Integer(self.rows.count(keys) as i64)),
+            Command::Length(key) => Ok(Reply::Integer(self.rows.value_len(key) as i64)),
+            Command::Range(from, to, count) => {
+                let items = self.rows.items_within(alloc, from, to, count)?;
+                Ok(Reply::Array(Items::from_vec(items)))
+            }
+            Command::Del(keys) => self.del(keys),
+            Command::Change(key, update) => self.change(alloc, key, update),
+        }
+    }
+
+    fn get(&self, alloc: A, key: &[u8]) -> Result<Reply<A>, AllocError>
+        ensures { IfOk result (λ r. ◌≡◌ {A = store.Answer} (store_of self.now, reply_of r) (store.served (store_of self.now) (command.Get key.now))) }
+    {
+        match self.rows.value(key) {
             None => Ok(Reply::Null),
             Some(value) => Ok(Reply::Bulk(ByteString::from_slice(alloc, value)?)),
         }
     }
 
-    fn set(
+    fn change(
         &mut self,
         alloc: A,
-        key: &ByteString<A>,
-        value: &ByteString<A>,
+        key: &[u8],
+        update: Update<'_>,
     ) -> Result<Reply<A>, AllocError>
-        ensures ok { IfOk result (λ r. ◌≡◌ {A = store.Answer} (store_of self.new, reply_of r) (store.set_answer (store_of self.old) key.now value.now)) }
+        ensures ok { IfOk result (λ r. ◌≡◌ {A = store.Answer} (store_of self.new, reply_of r) (store.served (store_of self.old) (command.Change key.now (update_of update.entry)))) }
         ensures quota { self.new.quota ≡ self.old.quota }
         ensures err { OnErr result (self.new ≡ self.old) }
     {
-        if value.len() > 65535 {
-            return Ok(Reply::Error(Refusal::ValueTooLong));
+        let outcome = update.outcome(alloc, self.rows.value(key));
+        self.carry_out(alloc, key, outcome)
+    }
+
+    /// Makes the change of a row that was found.
+    fn carry_out(
+        &mut self,
+        alloc: A,
+        key: &[u8],
+        outcome: Result<Outcome<A>, OutcomeFault>,
+    ) -> Result<Reply<A>, AllocError>
+        ensures ok { (o : store.Outcome) → IsOutcome outcome o → IfOk result (λ r. ◌≡◌ {A = store.Answer} (store_of self.new, reply_of r) (store.change_answer (store_of self.old) key.now o)) }
+        ensures quota { self.new.quota ≡ self.old.quota }
+        ensures err { OnErr result (self.new ≡ self.old) }
+    {
+        match outcome {
+            Ok(Outcome::Written(value, reply)) => self.write(alloc, key, &value, reply),
+            Ok(Outcome::Unchanged(reply)) => Ok(reply),
+            Err(OutcomeFault::Refused(refusal)) => Ok(Reply::Error(refusal)),
+            Err(OutcomeFault::OutOfMemory) => Err(AllocError),
         }
+    }
+
+    fn write(
+        &mut self,
+        alloc: A,
+        key: &[u8],
+        value: &ByteString<A>,
+        reply: Reply<A>,
+    ) -> Result<Reply<A>, AllocError>
+        ensures ok { IfOk result (λ r. ◌≡◌ {A = store.Answer} (store_of self.new, reply_of r) (store.change_answer (store_of self.old) key.now (store.Written value.now (reply_of reply)))) }
+        ensures quota { self.new.quota ≡ self.old.quota }
+        ensures err { OnErr result (self.new ≡ self.old) }
+    {
         if self.last >= NUMBER_LIMIT {
             return Ok(Reply::Error(Refusal::WriteNumbersUsedUp));
         }
         let number = self.last + 1;
-        self.rows
-            .insert(alloc, key.as_slice(), number, value.as_slice())?;
+        self.rows.insert(alloc, key, number, value.as_slice())?;
         self.last = number;
-        Ok(Reply::Simple(SimpleString::Ok))
+        Ok(reply)
     }
 
     fn del(&mut self, keys: &[ByteString<A>]) -> Result<Reply<A>, AllocError>
