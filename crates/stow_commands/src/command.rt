@@ -96,11 +96,10 @@ fn read_named<'a, A: Allocator>(
 fn read_ping<A: Allocator>(arguments: &[ByteString<A>]) -> Result<Command<'_, A>, Refusal>
     ensures { reading_of result ≡ meant.reading_ping arguments.now }
 {
-    match arguments {
-        [] => Ok(Command::Ping),
-        [text] => Ok(Command::Echo(text.as_slice())),
-        _ => Err(Refusal::WrongArgumentCount),
+    if arguments.is_empty() {
+        return Ok(Command::Ping);
     }
+    read_echo(arguments)
 }
 
 fn read_echo<A: Allocator>(arguments: &[ByteString<A>]) -> Result<Command<'_, A>, Refusal>

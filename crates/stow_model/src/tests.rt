@@ -3,13 +3,7 @@
 use crate::byte_string::ByteString;
 use crate::items::Items;
 use crate::message::Message;
-use crate::own_run::own_run;
-use crate::plain_request::PlainRequest;
-use crate::plain_store::PlainStore;
 use crate::reader::read_stream;
-use crate::refusal::{Refusal, refusal_text};
-use crate::reply::Reply;
-use crate::simple_string::SimpleString;
 use crate::stream_fault::{StreamFault, fault_text};
 use crate::stream_rest::StreamRest;
 use crate::words::Words;
@@ -44,6 +38,15 @@ fn read_text<A: Allocator + Copy>(alloc: A, bytes: &[u8]) -> Result<Vec<u8, A>, 
     Ok(text)
 }
 
+fn repeated(alloc: Global, bytes: &[u8], count: usize) -> Result<Vec<u8>, AllocError> {
+    let mut all = Vec::new(alloc);
+    for _ in 0..count {
+        all.extend_from_slice(bytes)?;
+    }
+    Ok(all)
+}
+
+// Whole messages, blanks, and what stands after them.
 #[test]
 fn streams(rt: HostRuntime) -> Result<(), Fail> {
     let alloc = rt.alloc();
@@ -144,37 +147,24 @@ fn limits_of_streams(rt: HostRuntime) -> Result<(), Fail> {
 fn withstands_each_refusal(rt: HostRuntime) -> Result<(), Fail> {
     let heap = Refusing::new(rt.alloc());
     let bytes = b"*2\r\n$3\r\nGET\r\n$1\r\nk\r\n*0\r\n";
-    let lines = [
-        "SET k v",
-        "SET k w",
-        "SET l v",
-        "DEL l k m",
-        "PING x",
-        "GET k",
-    ];
     let mut refusals = 0u64;
     for at in 0..500u64 {
         heap.set(Plan::RefuseAt(at));
         let read = read_text(&heap, bytes);
-        let run = run_text(&heap, &lines);
         if heap.asked() <= at {
-            assert!(rt; read.is_ok() && run.is_ok());
+            assert!(rt; read.is_ok());
             break;
         }
         refusals = at + 1;
-        assert!(rt; read.is_err() || run.is_err(), "request {at}");
+        assert!(rt; read.is_err(), "request {at}");
         heap.set(Plan::Grant);
         assert!(rt; read_text(&heap, bytes)?.as_slice() == b"[GET][k]B 0 more".as_slice());
-        assert!(rt;
-            run_text(&heap, &lines)?.as_slice()
-                == b"OK;OK;OK;:2;$x;nil; U(0, 0, 1000000, 4, 6, 0, 0)".as_slice()
-        );
     }
-    assert!(rt; refusals >= 20, "{refusals} refusals");
+    assert!(rt; refusals >= 5, "{refusals} refusals");
     Ok(())
 }
 
-// A step to which memory is refused leaves the store as it was, and the same step made again succeeds.
+// The values that only hold others.
 #[test]
 fn values(rt: HostRuntime) -> Result<(), Fail> {
     let alloc = rt.alloc();

@@ -1,6 +1,6 @@
 //! One request of a tenant's own run.
-use stow_model::words::Words;
 use std::alloc::{Allocator, Global};
+use stow_model::words::Words;
 
 /// The words that a tenant is served, and whether memory was refused to them.
 #[derive(Drop)]

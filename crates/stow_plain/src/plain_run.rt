@@ -1,7 +1,7 @@
 //! What a tenant's own run gives.
 use crate::plain_store::PlainStore;
-use stow_model::reply::Reply;
 use std::alloc::{Allocator, Global};
+use stow_model::reply::Reply;
 
 /// The last store of a tenant's own run, and the replies, oldest first.
 #[derive(Drop)]

@@ -144,12 +144,7 @@ impl<A: Allocator + Copy> PlainStore<A> {
         }
     }
 
-    fn change(
-        &mut self,
-        alloc: A,
-        key: &[u8],
-        update: Update<'_>,
-    ) -> Result<Reply<A>, AllocError>
+    fn change(&mut self, alloc: A, key: &[u8], update: Update<'_>) -> Result<Reply<A>, AllocError>
         ensures ok { IfOk result (λ r. ◌≡◌ {A = store.Answer} (store_of self.new, reply_of r) (store.served (store_of self.old) (command.Change key.now (update_of update.entry)))) }
         ensures quota { self.new.quota ≡ self.old.quota }
         ensures err { OnErr result (self.new ≡ self.old) }

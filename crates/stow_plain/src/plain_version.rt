@@ -1,8 +1,8 @@
 //! A value in the plain store.
 ghost use Rattle.std.specs.Prelude.{◌≡◌};
 
-use stow_model::byte_string::ByteString;
 use std::alloc::{AllocError, Allocator, Global};
+use stow_model::byte_string::ByteString;
 
 /// A value, and the number of the write that made it.
 #[derive(Drop)]

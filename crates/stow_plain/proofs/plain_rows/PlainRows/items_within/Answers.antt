@@ -15,8 +15,8 @@ loop-key-init g c =
     let es = c.self.inside.rows.entries in
     ap (λ xs. list_map item_of xs ++ flat_map row_items (take c.args.count (filter (λ row. is_within c.args.from.now c.args.to.now row.0) (entries_of (λ k. k.items) c.into_iter-key-iterator.result)))) c.new-items.ensures.items
     ∙ ap (λ rows. flat_map row_items (take c.args.count (filter (λ row. is_within c.args.from.now c.args.to.now row.0) rows)))
-        (ap (entries_of (λ k. k.items)) (c.into_iter-key-iterator.ensures.into_iter_gives ∙ c.iter-key-items.ensures.rest)
-        ∙ sym (entries-rows (λ k. k.items) es c.iter-key-items.ensures.ordered) ∙ ap map.entries c.self.view_is)
+    (ap (entries_of (λ k. k.items)) (c.into_iter-key-iterator.ensures.into_iter_gives ∙ c.iter-key-items.ensures.rest)
+    ∙ sym (entries-rows (λ k. k.items) es c.iter-key-items.ensures.ordered) ∙ ap map.entries c.self.view_is)
 
 pub loop-key-preserved-then-is_within : goal.loop-key-preserved-then-is_within
 loop-key-preserved-then-is_within g c =
