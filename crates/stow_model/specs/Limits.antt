@@ -13,6 +13,10 @@ value_limit = 65535
 abbrev pub words_limit : ℕ
 words_limit = 1024
 
+-- bytes of an inline request's line, before its LF
+abbrev pub line_limit : ℕ
+line_limit = 65536
+
 -- keys of one DEL
 abbrev pub deleted_limit : ℕ
 deleted_limit = 64
