@@ -36,9 +36,11 @@ FitsBulk word = length word ≤ value_limit
 abbrev pub null_line : List ℕ
 null_line = codes "*-1\r\n"
 
--- words in array form
-abbrev pub IsArray : List (List ℕ) → List ℕ → Type 0
-IsArray words bytes = (0 < length words) × (length words ≤ words_limit) × AllByRecursion FitsBulk words × (bytes ≡ array_line (length words) ++ bulks words)
+-- a message in array form
+abbrev pub IsArray : Message → List ℕ → Type 0
+IsArray (Words words) bytes = (0 < length words) × (length words ≤ words_limit) × AllByRecursion FitsBulk words × (bytes ≡ array_line (length words) ++ bulks words)
+IsArray Quoted bytes = ⊥
+IsArray Blank bytes = (bytes ≡ array_line 0) ⊎ (bytes ≡ null_line)
 
 -- ---- inline requests (RESP protocol specification, "Inline commands"), without quoting
 
@@ -84,9 +86,7 @@ IsInline m bytes = (line : List ℕ) × IsLine line × (bytes ≡ line ++ 10 ∷
 
 -- the bytes spell the message
 unfoldable pub Spells : Message → List ℕ → Type 0
-Spells (Words words) bytes = IsArray words bytes ⊎ IsInline (Words words) bytes
-Spells Quoted bytes = IsInline Quoted bytes
-Spells Blank bytes = (bytes ≡ array_line 0) ⊎ ((bytes ≡ null_line) ⊎ IsInline Blank bytes)
+Spells m bytes = IsArray m bytes ⊎ IsInline m bytes
 
 -- the bytes spell the messages, told newest first, one after another
 abbrev pub SpellsAll : List Message → List ℕ → Type 0
