@@ -45,7 +45,7 @@ next_bulk (v ∷ words) (w ∷ ws) x y fits fits' fewer e =
 
 -- ---- messages
 
-pub IsNoMessage : List ℕ → Type 0
+unfoldable pub IsNoMessage : List ℕ → Type 0
 IsNoMessage bytes = (m : Message) (spelling more y : List ℕ) → Spells m spelling → bytes ++ more ≡ spelling ++ y → ⊥
 
 pub faulty : (front more : List ℕ) (byte : ℕ) (fault : StreamFault) → IsBegun front → IsNoMessage (front ++ byte ∷ []) → IsPlace front fault → IsFaulty (front ++ byte ∷ more) fault
