@@ -1,5 +1,5 @@
 -- Messages in inline form.
-use Rattle.std.proofs.Common.{◌≡◌, ◌≢◌, ℕ, zero, suc, ◌+◌, ◌-◌, ◌<◌, ◌≤◌, Bool, true, false, not, min, Option, Some, None, List, [], ◌∷◌, ◌++◌, length, take, drop, get_or, filter, nat_lt, refl, ap, ◌∙◌, sym, subst, arith, append_assoc, append-nil, length-append, length-drop, inl, inr, ◌⊎◌}
+use Rattle.std.proofs.Common.{◌≡◌, ◌≢◌, ℕ, zero, suc, ◌+◌, ◌-◌, ◌<◌, ◌≤◌, Bool, true, false, not, Option, Some, None, List, [], ◌∷◌, ◌++◌, length, take, drop, get_or, filter, nat_lt, refl, ap, ◌∙◌, sym, subst, arith, append_assoc, append-nil, length-append, length-drop, inl, inr}
 use Rattle.std.specs.Prelude.{◌==◌, if◌then◌else◌}
 use Rattle.std.specs.List.{AllByRecursion, list_any, position, slice_split, onto_first}
 use Rattle.std.proofs.lemmas.Bool.Decides.{nat_tests}
@@ -11,11 +11,14 @@ use Rattle.std.proofs.lemmas.List.Splits.{slice_split-cons_yes, slice_split-cons
 use Rattle.stow_model.specs.Message.{Message}
 use Rattle.stow_model.specs.Message as message
 use Rattle.stow_model.specs.declared.stream_fault.StreamFault.TheVariants.{InlineTooLong}
-use Rattle.stow_model.specs.Wire.{IsArray, begins_array, is_space, is_quote, words_of_text, message_of_words, text_of_line, message_of_text, IsLine, IsInline, Spells, IsBegun, IsFaulty, IsPlace}
+use Rattle.stow_model.specs.Wire.{begins_array, is_space, is_quote, words_of_text, message_of_words, text_of_line, message_of_text, IsLine, IsInline, Spells, IsBegun, IsFaulty, IsPlace}
 use Rattle.stow_model.specs.Parts.{IsLooked, AsksForWords}
 use Rattle.stow_model.proofs.Spelling.{split_once, array_sign}
 use Rattle.stow_model.proofs.Numbers.{cut_at}
 use Rattle.stow_model.proofs.Messages.{IsNoMessage, faulty}
+
+not_equal : (a b : ℕ) → a ≢ b → (a == b) ≡ false
+not_equal a b differ = grind (arith, nat_tests)
 
 pub inline_spells : (m : Message) (bytes : List ℕ) → IsInline m bytes → Spells m bytes
 unfolding Spells
@@ -26,6 +29,13 @@ line_whole line h = inline_spells (message_of_text (text_of_line line)) (line ++
 
 pub line_begun : (line : List ℕ) → IsLine line → IsBegun line
 line_begun line h = (message_of_text (text_of_line line), 10, [], line_whole line h)
+
+-- a message off the front
+pub line_taken : (bytes line rest : List ℕ) (m : Message) → IsLine line → bytes ≡ line ++ 10 ∷ rest → m ≡ message_of_text (text_of_line line) → (spelling : List ℕ) × Spells m spelling × (bytes ≡ spelling ++ rest)
+line_taken bytes line rest m h at is = (line ++ 10 ∷ [], inline_spells m (line ++ 10 ∷ []) (line, h, refl, is), at ∙ sym (append_assoc line (10 ∷ []) rest))
+
+pub not_array : (bytes after : List ℕ) (sign : ℕ) → bytes ≡ sign ∷ after → sign ≢ 42 → begins_array bytes ≡ false
+not_array bytes after sign at differ = ap begins_array at ∙ not_equal sign 42 differ
 
 -- a line that ends goes at least as far as there is no LF
 lf_beyond : (a b x y : List ℕ) → AllByRecursion (λ d. d ≢ 10) a → a ++ x ≡ b ++ 10 ∷ y → length a ≤ length b
@@ -64,9 +74,6 @@ rest_at : (xs : List ℕ) (i : ℕ) → i < length xs → drop i xs ≡ get_or x
 rest_at xs i lt = append_cancel_left (take i xs) (drop i xs) (get_or xs i 0 ∷ drop (i + 1) xs) (take-append-drop i xs ∙ sym (cut_at xs i lt))
 
 -- ---- the text of a line
-
-not_equal : (a b : ℕ) → a ≢ b → (a == b) ≡ false
-not_equal a b differ = grind (arith, nat_tests)
 
 pub text_with_cr : (line front : List ℕ) (last : ℕ) → line ≡ front ++ last ∷ [] → last ≡ 13 → front ≡ text_of_line line
 text_with_cr line front last at is = sym (ap text_of_line at ∙ ap (λ b. text_of_line (front ++ b ∷ [])) is ∙ cut front)
@@ -305,8 +312,7 @@ word_found text from word rest start n r at_start at_from at_end is at_word at_r
     let later : length rest ≡ length from - n = ap length at_rest ∙ length-drop n from in
     let whole : text ≡ take start text ++ (word ++ rest) = sym (take-append-drop start text) ∙ ap (λ t. take start text ++ t) (sym tail ∙ sym (take-append-drop n from) ∙ (λ i. sym at_word i ++ sym at_rest i)) in
     let spaces : AllByRecursion (λ b. is_space b ≡ true) (take start text) = all_map (λ b. not (is_space b) ≡ false) (λ b. is_space b ≡ true) (take start text) is_no_other f.fail in
-    let plain : AllByRecursion (λ b. is_space b ≡ false) word = subst (AllByRecursion (λ b. is_space b ≡ false)) (sym at_word) w.plain in
-    (
+    let plain : AllByRecursion (λ b. is_space b ≡ false) word = subst (AllByRecursion (λ b. is_space b ≡ false)) (sym at_word) w.plain in (
       ap words_of_text whole ∙ skip_spaces (take start text) (word ++ rest) spaces ∙ first_word word rest plain (omega arith) (subst EndsWord (sym at_rest) w.ends),
       omega (arith, f.in_range, w.short),
     )

@@ -1,11 +1,11 @@
 -- Which fault it is, is told by the bytes.
-use Rattle.std.proofs.Common.{◌≡◌, ◌≢◌, ℕ, List, [], ◌∷◌, ◌++◌, length, refl, ap, ◌∙◌, sym, subst, arith, append_assoc, append-nil, length-append, false, ◌⊎◌, inl, inr}
+use Rattle.std.proofs.Common.{◌≡◌, ◌≢◌, ℕ, List, [], ◌∷◌, ◌++◌, length, refl, ap, ◌∙◌, sym, subst, arith, append_assoc, append-nil, length-append, false, inl, inr}
 use Rattle.std.specs.List.{AllByRecursion}
 use Rattle.std.specs.Fmt.{decimal}
 use Rattle.std.proofs.lemmas.List.{append_cancel_left}
 use Rattle.stow_model.specs.declared.stream_fault.StreamFault.{StreamFault}
 use Rattle.stow_model.specs.declared.stream_fault.StreamFault.TheVariants.{InvalidArrayLength, ExpectedBulk, InvalidBulkLength, BulkNotEnded, InlineTooLong}
-use Rattle.stow_model.specs.Wire.{number_line, array_line, bulk_line, bulk, bulks, FitsBulk, begins_array, IsLine, Spells, IsBegun, IsInLine, IsInArray, IsPlace, IsFaulty, FaultOnce}
+use Rattle.stow_model.specs.Wire.{number_line, bulk_line, bulk, bulks, FitsBulk, begins_array, IsLine, Spells, IsBegun, IsInLine, IsInArray, IsPlace, IsFaulty, FaultOnce}
 use Rattle.stow_model.proofs.Spelling.{line_once, bulk_once, one_begins}
 
 -- ---- one place

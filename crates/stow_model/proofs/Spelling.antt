@@ -130,7 +130,7 @@ inline_once m m' a b x y (line, (all, short, plain), at, is) (line', (all', shor
 pub array_sign : (m : Message) (bytes : List ℕ) → IsArray m bytes → (after : List ℕ) × (bytes ≡ 42 ∷ after)
 array_sign (message.Words words) bytes s = (_, s.3)
 array_sign message.Quoted bytes s = absurd s
-array_sign message.Blank bytes s = elim s [ | inl none ↦ (_, none) | inr null ↦ (_, null) ]
+array_sign message.Blank bytes s = elim s [ inl none ↦ (_, none) | inr null ↦ (_, null) ]
 
 -- and one in inline form doesn't
 line_sign : (line x y : List ℕ) → begins_array line ≡ false → line ++ 10 ∷ x ≡ 42 ∷ y → ⊥
@@ -155,7 +155,7 @@ array_or_inline m m' a b x y s s' e =
 -- a spelling that begins with `*` is in array form
 pub array_of : (m : Message) (spelling x y : List ℕ) → Spells m spelling → 42 ∷ x ≡ spelling ++ y → IsArray m spelling
 unfolding Spells
-array_of m spelling x y s e = elim s [ | inl array ↦ array | inr inline ↦ absurd (inline_sign m spelling y x inline (sym e)) ]
+array_of m spelling x y s e = elim s [ inl array ↦ array | inr inline ↦ absurd (inline_sign m spelling y x inline (sym e)) ]
 
 pub spelled_once : (m m' : Message) (a b x y : List ℕ) → Spells m a → Spells m' b → a ++ x ≡ b ++ y → (m ≡ m') × (x ≡ y)
 unfolding Spells

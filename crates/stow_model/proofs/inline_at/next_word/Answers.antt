@@ -1,4 +1,4 @@
-use Rattle.std.proofs.Common.{◌≡◌, ◌-◌, not, ℕ, length, take, drop, refl, sym, ◌∙◌, subst, rules, tests}
+use Rattle.std.proofs.Common.{◌-◌, not, ℕ, length, take, drop, refl, sym, ◌∙◌, subst, rules, tests}
 use Rattle.std.proofs.lemmas.Iterator.{YieldsList-from_slice}
 use Rattle.std.proofs.lemmas.Iterator.Search.{position_from_yields_List}
 use Rattle.stow_model.specs.Wire.{is_space}

@@ -1,4 +1,4 @@
-use Rattle.std.proofs.Common.{◌≡◌, sym, ap, ◌∙◌}
+use Rattle.std.proofs.Common.{sym, ap, ◌∙◌}
 use Rattle.stow_model.specs.Wire.{text_of_line}
 use Rattle.stow_model.proofs.Numbers.{empty}
 use Rattle.stow_model.proofs.Inlines.{text_with_cr, text_without_cr}
