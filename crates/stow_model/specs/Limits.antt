@@ -16,6 +16,7 @@ words_limit = 1024
 -- rows of one RANGE
 abbrev pub count_limit : ℕ
 count_limit = 1024
+
 -- bytes of an inline request's line, before its LF
 abbrev pub line_limit : ℕ
 line_limit = 65536
