@@ -4,7 +4,7 @@ use lib.Chars.{codes}
 use Rattle.std.proofs.lemmas.Grind.{common_steps}
 use Rattle.std.proofs.lemmas.Bool.{cond-true, cond-false}
 use Rattle.stow_model.specs.declared.refusal.Refusal.TheVariants as refusal
-use Rattle.stow_model.specs.Command.{is_named, Refused, reading, reading_ping, reading_get, reading_set, reading_del, ForStore, kind_of, login_kind, quit_kind}
+use Rattle.stow_model.specs.Command.{is_named, Refused, reading, reading_among, commands, ForStore, kind_of, login_kind, quit_kind}
 
 -- the words after the first
 rest_of : (w : List ℕ) (words : List (List ℕ)) → take (length (w ∷ words) - 1) (drop 1 (w ∷ words)) ≡ words
@@ -43,54 +43,11 @@ kind_none (w ∷ words) e = absurd (omega arith)
 
 -- ---- to a store
 
-pub reads_ping : (words : List (List ℕ)) (n : List ℕ) → 1 ≤ length words → n ≡ get_or words 0 n
-    → is_named n (codes "ping") ≡ true → reading words ≡ reading_ping (take (length words - 1) (drop 1 words))
+pub reads_named : (words : List (List ℕ)) (n : List ℕ) → 1 ≤ length words → n ≡ get_or words 0 n
+    → reading words ≡ reading_among commands n (take (length words - 1) (drop 1 words))
 unfolding reading
-reads_ping [] n some e ping = absurd (omega arith)
-reads_ping (w ∷ words) n some e ping = cond-true (is_named w (codes "ping")) _ _ (ap (λ x. is_named x (codes "ping")) (sym e) ∙ ping)
-    ∙ ap reading_ping (sym (rest_of w words))
-
-pub reads_get : (words : List (List ℕ)) (n : List ℕ) → 1 ≤ length words → n ≡ get_or words 0 n
-    → is_named n (codes "ping") ≡ false → is_named n (codes "get") ≡ true → reading words ≡ reading_get (take (length words - 1) (drop 1 words))
-unfolding reading
-reads_get [] n some e ping get = absurd (omega arith)
-reads_get (w ∷ words) n some e ping get =
-    cond-false (is_named w (codes "ping")) _ _ (ap (λ x. is_named x (codes "ping")) (sym e) ∙ ping)
-    ∙ cond-true (is_named w (codes "get")) _ _ (ap (λ x. is_named x (codes "get")) (sym e) ∙ get)
-    ∙ ap reading_get (sym (rest_of w words))
-
-pub reads_set : (words : List (List ℕ)) (n : List ℕ) → 1 ≤ length words → n ≡ get_or words 0 n
-    → is_named n (codes "ping") ≡ false → is_named n (codes "get") ≡ false → is_named n (codes "set") ≡ true → reading words ≡ reading_set (take (length words - 1) (drop 1 words))
-unfolding reading
-reads_set [] n some e ping get set = absurd (omega arith)
-reads_set (w ∷ words) n some e ping get set =
-    cond-false (is_named w (codes "ping")) _ _ (ap (λ x. is_named x (codes "ping")) (sym e) ∙ ping)
-    ∙ cond-false (is_named w (codes "get")) _ _ (ap (λ x. is_named x (codes "get")) (sym e) ∙ get)
-    ∙ cond-true (is_named w (codes "set")) _ _ (ap (λ x. is_named x (codes "set")) (sym e) ∙ set)
-    ∙ ap reading_set (sym (rest_of w words))
-
-pub reads_del : (words : List (List ℕ)) (n : List ℕ) → 1 ≤ length words → n ≡ get_or words 0 n
-    → is_named n (codes "ping") ≡ false → is_named n (codes "get") ≡ false → is_named n (codes "set") ≡ false → is_named n (codes "del") ≡ true
-    → reading words ≡ reading_del (take (length words - 1) (drop 1 words))
-unfolding reading
-reads_del [] n some e ping get set del = absurd (omega arith)
-reads_del (w ∷ words) n some e ping get set del =
-    cond-false (is_named w (codes "ping")) _ _ (ap (λ x. is_named x (codes "ping")) (sym e) ∙ ping)
-    ∙ cond-false (is_named w (codes "get")) _ _ (ap (λ x. is_named x (codes "get")) (sym e) ∙ get)
-    ∙ cond-false (is_named w (codes "set")) _ _ (ap (λ x. is_named x (codes "set")) (sym e) ∙ set)
-    ∙ cond-true (is_named w (codes "del")) _ _ (ap (λ x. is_named x (codes "del")) (sym e) ∙ del)
-    ∙ ap reading_del (sym (rest_of w words))
-
-pub reads_other : (words : List (List ℕ)) (n : List ℕ) → 1 ≤ length words → n ≡ get_or words 0 n
-    → is_named n (codes "ping") ≡ false → is_named n (codes "get") ≡ false → is_named n (codes "set") ≡ false → is_named n (codes "del") ≡ false
-    → reading words ≡ Refused refusal.UnknownCommand
-unfolding reading
-reads_other [] n some e ping get set del = absurd (omega arith)
-reads_other (w ∷ words) n some e ping get set del =
-    cond-false (is_named w (codes "ping")) _ _ (ap (λ x. is_named x (codes "ping")) (sym e) ∙ ping)
-    ∙ cond-false (is_named w (codes "get")) _ _ (ap (λ x. is_named x (codes "get")) (sym e) ∙ get)
-    ∙ cond-false (is_named w (codes "set")) _ _ (ap (λ x. is_named x (codes "set")) (sym e) ∙ set)
-    ∙ cond-false (is_named w (codes "del")) _ _ (ap (λ x. is_named x (codes "del")) (sym e) ∙ del)
+reads_named [] n some e = absurd (omega arith)
+reads_named (w ∷ words) n some e = (λ i. reading_among commands (sym e i) (sym (rest_of w words) i))
 
 pub reads_none : (words : List (List ℕ)) → length words ≡ 0 → reading words ≡ Refused refusal.UnknownCommand
 unfolding reading
@@ -101,4 +58,4 @@ reads_none (w ∷ words) e = absurd (omega arith)
 pub ruleset kinds = (kind_auth, kind_quit, kind_other, kind_none)
 
 -- what words are to a store
-pub ruleset readings = (reads_ping, reads_get, reads_set, reads_del, reads_other, reads_none)
+pub ruleset readings = (reads_named, reads_none)

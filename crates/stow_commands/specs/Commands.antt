@@ -1,20 +1,38 @@
 -- What this crate's own types stand for.
-use Rattle.std.specs.Prelude.{Result, Ok, Err}
+use Rattle.std.specs.Prelude.{Result, Ok, Err, List, [], ◌∷◌, ℕ}
 use Rattle.stow_model.specs.declared.refusal.Refusal.{Refusal}
 use Rattle.stow_model.specs.Command as meant
 use Rattle.stow_model.specs.Command.{Reading, Understood, Refused}
 use Rattle.stow_commands.specs.declared.command.Command as coded
 use Rattle.stow_commands.specs.declared.command.Command.TheVariants as command
+use Rattle.stow_commands.specs.declared.condition.Condition.{Condition}
+use Rattle.stow_commands.specs.declared.condition.Condition.TheVariants as condition
 use Rattle.stow_commands.specs.declared.kind.Kind.{Kind}
 use Rattle.stow_commands.specs.declared.kind.Kind.TheVariants as kind
+use Rattle.stow_commands.specs.declared.update.Update.{Update}
+use Rattle.stow_commands.specs.declared.update.Update.TheVariants as update
+
+abbrev pub condition_of : Condition → meant.Condition
+condition_of condition.Always = meant.Always
+condition_of condition.IfMissing = meant.IfMissing
+condition_of condition.IfThere = meant.IfThere
+
+abbrev pub update_of : Update → meant.Update
+update_of (update.Set value condition) = meant.Set value.now (condition_of condition)
+update_of (update.Append suffix) = meant.Append suffix.now
+update_of (update.Add amount) = meant.Add amount
 
 -- the command, whatever allocator its words have their memory from
 abbrev pub command_of : {A : Type 0} → coded.Command A → meant.Command
 command_of command.Ping = meant.Ping
 command_of (command.Echo text) = meant.Echo text.now
 command_of (command.Get key) = meant.Get key.now
-command_of (command.Set key value) = meant.Set key.now value.now
+command_of (command.GetMany keys) = meant.GetMany keys.now
+command_of (command.Exists keys) = meant.Exists keys.now
+command_of (command.Length key) = meant.Length key.now
+command_of (command.Range from to count) = meant.Range from.now to.now count
 command_of (command.Del keys) = meant.Del keys.now
+command_of (command.Change key update) = meant.Change key.now (update_of update)
 
 -- a command, or the first refusal that applies
 abbrev pub reading_of : {A : Type 0} → Result (coded.Command A) Refusal → Reading

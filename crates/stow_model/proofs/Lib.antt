@@ -6,8 +6,4 @@ pub mod Places
 pub mod Alone
 pub mod OneHistory
 pub mod Fronts
-pub mod Mapped
-pub mod Named
-pub mod Stepped
 pub mod Examples
-pub mod Charged

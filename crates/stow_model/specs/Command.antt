@@ -83,17 +83,18 @@ reading_ping [] = Understood Ping
 reading_ping (text ∷ texts) = of_text Echo (text ∷ texts)
 
 -- the third argument of a SET
-abbrev pub reading_set_if : List ℕ → List ℕ → List ℕ → Reading
-reading_set_if key value option =
-    if is_named option (codes "nx") then with_keys (key ∷ []) (Change key (Set value IfMissing))
-    else if is_named option (codes "xx") then with_keys (key ∷ []) (Change key (Set value IfThere))
-    else Refused refusal.SyntaxError
+abbrev pub condition_named : List ℕ → Option Condition
+condition_named option = if is_named option (codes "nx") then Some IfMissing else if is_named option (codes "xx") then Some IfThere else None
+
+abbrev pub reading_set_if : List ℕ → List ℕ → Option Condition → Reading
+reading_set_if key value None = Refused refusal.SyntaxError
+reading_set_if key value (Some condition) = with_keys (key ∷ []) (Change key (Set value condition))
 
 abbrev pub reading_set : List (List ℕ) → Reading
 reading_set [] = Refused refusal.WrongArgumentCount
 reading_set (_ ∷ []) = Refused refusal.WrongArgumentCount
 reading_set (key ∷ value ∷ []) = with_keys (key ∷ []) (Change key (Set value Always))
-reading_set (key ∷ value ∷ option ∷ []) = reading_set_if key value option
+reading_set (key ∷ value ∷ option ∷ []) = reading_set_if key value (condition_named option)
 reading_set (_ ∷ _ ∷ _ ∷ _ ∷ _) = Refused refusal.WrongArgumentCount
 
 abbrev pub reading_append : List (List ℕ) → Reading

@@ -13,6 +13,4 @@ pub mod Store
 pub mod History
 pub mod Parts
 pub mod Reader
-pub mod PlainMap
-pub mod OwnRun
 pub mod Examples

@@ -6,9 +6,9 @@
 //! what one tenant has and what a request means to it (`Store`), and what a list of events means to
 //! each connection and each tenant (`History`). `docs/DEFINITIONS.md` tells them in plain words.
 //!
-//! Beside them stand laws over the definitions (`laws`), and programs that are slow and plain, and whose
-//! contracts are the definitions: a reader of streams (`reader`), and one tenant's own run (`own_run`). Tests
-//! compare with them; the service does not run them.
+//! Beside them stand laws over the definitions (`laws`), and a reader of streams (`reader`) that is slow and
+//! plain, and whose contract is the definition; `stow_plain` has one tenant's own run. Tests compare with them;
+//! the service does not run them.
 //!
 //! A call that asks for memory may be refused it at any time, so a body that always answers `AllocError` meets
 //! the contract of each such call. Tests call each with ample memory, and with each request refused in turn.
@@ -23,13 +23,6 @@ pub mod laws;
 pub mod message;
 pub mod message_at;
 pub mod number_at;
-pub mod own_run;
-pub mod plain_reading;
-pub mod plain_request;
-pub mod plain_rows;
-pub mod plain_run;
-pub mod plain_store;
-pub mod plain_version;
 pub mod reader;
 pub mod refusal;
 pub mod reply;

@@ -1,0 +1,21 @@
+-- What a change of a row leads to, as this crate's types say it.
+use Rattle.std.specs.Prelude.{◌≡◌, ℕ, Option, Some, None, Result, Ok, Err, List}
+use Rattle.std.specs.Borrow.{Bor}
+use Rattle.stow_model.specs.Reply.{reply_of}
+use Rattle.stow_model.specs.Store as meant
+use Rattle.stow_commands.specs.declared.outcome.Outcome.{Outcome}
+use Rattle.stow_commands.specs.declared.outcome.Outcome.TheVariants as outcome
+use Rattle.stow_commands.specs.declared.outcome_fault.OutcomeFault.{OutcomeFault}
+use Rattle.stow_commands.specs.declared.outcome_fault.OutcomeFault.TheVariants as fault
+
+-- a row's present value, lent
+abbrev pub value_of : Option (Bor (List ℕ)) → Option (List ℕ)
+value_of None = None
+value_of (Some value) = Some value.now
+
+-- the outcome was found, but for memory
+abbrev pub IsOutcome : {A : Type 0} → Result (Outcome A) OutcomeFault → meant.Outcome → Type 0
+IsOutcome (Ok (outcome.Written value reply)) o = o ≡ meant.Written value (reply_of reply)
+IsOutcome (Ok (outcome.Unchanged reply)) o = o ≡ meant.Unchanged (reply_of reply)
+IsOutcome (Err (fault.Refused refusal)) o = o ≡ meant.Failed refusal
+IsOutcome (Err fault.OutOfMemory) o = Unit {0}

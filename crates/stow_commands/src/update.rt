@@ -1,0 +1,136 @@
+//! Changes of one row.
+ghost use Rattle.std.specs.Prelude.{◌≡◌, Some};
+ghost use Rattle.stow_model.specs.Store as meant;
+ghost use Rattle.stow_commands.specs.Commands.{condition_of, update_of};
+ghost use Rattle.stow_commands.specs.Outcomes.{value_of, IsOutcome};
+
+use crate::condition::Condition;
+use crate::number::number;
+use crate::outcome::Outcome;
+use crate::outcome_fault::OutcomeFault;
+use itoa::Buffer;
+use std::alloc::Allocator;
+use stow_model::byte_string::ByteString;
+use stow_model::refusal::Refusal;
+use stow_model::reply::Reply;
+use stow_model::simple_string::SimpleString;
+
+/// Bytes of a value.
+const VALUE_LIMIT: usize = 65535;
+
+/// A change of one row, which its present value alone decides.
+#[derive(Clone, Copy)]
+pub enum Update<'a> {
+    /// SET to this value, where the condition holds.
+    Set(&'a [u8], Condition),
+    /// APPEND of this.
+    Append(&'a [u8]),
+    /// INCR, DECR or INCRBY by this number.
+    Add(i64),
+}
+
+impl Update<'_> {
+    /// What the change leads to by the row's present value. A missing value counts as empty for an APPEND,
+    /// and as 0 for an addition.
+    #[tactic(auto, unfolding(stow_model::specs::Store::outcome))]
+    pub fn outcome<A: Allocator + Copy>(
+        &self,
+        alloc: A,
+        present: Option<&[u8]>,
+    ) -> Result<Outcome<A>, OutcomeFault>
+        ensures { IsOutcome result (meant.outcome (update_of self.now) (value_of present.entry)) }
+    {
+        match *self {
+            Update::Set(value, condition) => set(alloc, value, condition, present),
+            Update::Append(suffix) => append(alloc, suffix, present),
+            Update::Add(amount) => add(alloc, amount, present),
+        }
+    }
+}
+
+fn set<A: Allocator + Copy>(
+    alloc: A,
+    value: &[u8],
+    condition: Condition,
+    present: Option<&[u8]>,
+) -> Result<Outcome<A>, OutcomeFault>
+    ensures { IsOutcome result (meant.set_outcome value.now (condition_of condition) (value_of present.entry)) }
+{
+    if value.len() > VALUE_LIMIT {
+        return Err(OutcomeFault::Refused(Refusal::ValueTooLong));
+    }
+    if !allows(condition, present) {
+        return Ok(Outcome::Unchanged(Reply::Null));
+    }
+    let value = ByteString::from_slice(alloc, value)?;
+    Ok(Outcome::Written(value, Reply::Simple(SimpleString::Ok)))
+}
+
+/// Whether a SET with this condition writes.
+fn allows(condition: Condition, present: Option<&[u8]>) -> bool
+    ensures { result ≡ meant.allows (condition_of condition) (value_of present.entry) }
+{
+    match condition {
+        Condition::Always => true,
+        Condition::IfMissing => present.is_none(),
+        Condition::IfThere => present.is_some(),
+    }
+}
+
+fn append<A: Allocator + Copy>(
+    alloc: A,
+    suffix: &[u8],
+    present: Option<&[u8]>,
+) -> Result<Outcome<A>, OutcomeFault>
+    ensures { IsOutcome result (meant.append_outcome suffix.now (value_of present.entry)) }
+{
+    match present {
+        Some(front) => joined(alloc, front, suffix),
+        None => joined(alloc, b"".as_slice(), suffix),
+    }
+}
+
+fn joined<A: Allocator + Copy>(
+    alloc: A,
+    front: &[u8],
+    suffix: &[u8],
+) -> Result<Outcome<A>, OutcomeFault>
+    ensures { IsOutcome result (meant.append_outcome suffix.now (Some front.now)) }
+{
+    if suffix.len() > VALUE_LIMIT || front.len() > VALUE_LIMIT - suffix.len() {
+        return Err(OutcomeFault::Refused(Refusal::ValueTooLong));
+    }
+    let length = front.len() + suffix.len();
+    let mut value = Vec::with_capacity(alloc, length)?;
+    value.extend_from_slice(front)?;
+    value.extend_from_slice(suffix)?;
+    let told = Reply::Integer(length as i64);
+    Ok(Outcome::Written(ByteString::from_vec(value), told))
+}
+
+fn add<A: Allocator + Copy>(
+    alloc: A,
+    amount: i64,
+    present: Option<&[u8]>,
+) -> Result<Outcome<A>, OutcomeFault>
+    ensures { IsOutcome result (meant.sum_outcome (meant.stored_number (value_of present.entry)) amount) }
+{
+    let Some(stored) = stored_number(present) else {
+        return Err(OutcomeFault::Refused(Refusal::NotAnInteger));
+    };
+    let Some(sum) = stored.checked_add(amount) else {
+        return Err(OutcomeFault::Refused(Refusal::Overflow));
+    };
+    let mut buffer = Buffer::new();
+    let value = ByteString::from_slice(alloc, buffer.format(sum).as_bytes())?;
+    Ok(Outcome::Written(value, Reply::Integer(sum)))
+}
+
+fn stored_number(present: Option<&[u8]>) -> Option<i64>
+    ensures { result ≡ meant.stored_number (value_of present.entry) }
+{
+    match present {
+        None => Some(0),
+        Some(value) => number(value),
+    }
+}

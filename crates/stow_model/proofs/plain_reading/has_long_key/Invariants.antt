@@ -1,7 +1,0 @@
-use Rattle.std.proofs.Common.{◌≡◌, drop}
-use Rattle.std.specs.List.{list_any}
-use Rattle.stow_model.specs.Command.{is_long_key}
-use Rattle.stow_model.proofs.plain_reading.has_long_key.Given as goal
-
-abbrev pub invariant-loop-key : goal.invariant-loop-key
-invariant-loop-key g l = list_any is_long_key (drop l.key-index l.keys) ≡ list_any is_long_key l.keys

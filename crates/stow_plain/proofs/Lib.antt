@@ -1,0 +1,4 @@
+pub mod Mapped
+pub mod Charged
+pub mod Stepped
+pub mod Within
