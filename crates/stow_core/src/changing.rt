@@ -1,6 +1,5 @@
 //! Changes of one row.
 ghost use Rattle.std.specs.Prelude.{◌≡◌, ℕ, [], ◌∷◌, IfOk, nat_lt, option_map};
-ghost use Rattle.std.specs.Option.{option_copied};
 ghost use Rattle.std.specs.FinMap as rows;
 ghost use Rattle.stow_model.specs.Limits.{number_limit};
 ghost use Rattle.stow_model.specs.Reply.{reply_of};
@@ -10,7 +9,8 @@ ghost use Rattle.stow_core.specs.Keys.{own_key, AreKeysOf};
 ghost use Rattle.stow_core.specs.Places.{version_of};
 ghost use Rattle.stow_core.specs.State.{store_of};
 ghost use Rattle.stow_core.specs.Prepared.{HasRoom, prepared_answer};
-ghost use Rattle.stow_commands.specs.Outcomes.{update_of};
+ghost use Rattle.stow_commands.specs.Commands.{update_of};
+ghost use Rattle.stow_commands.specs.Outcomes.{value_of};
 
 use crate::Core;
 use crate::account::NUMBER_LIMIT;
@@ -93,7 +93,7 @@ impl<A: Allocator + Copy> Core<A> {
 
 /// The value of a row.
 fn value_in<A: Allocator>(row: Option<&Version<A>>) -> Option<&[u8]>
-    ensures { option_copied result ≡ value_in (option_map (λ v. version_of v.now) row.entry) }
+    ensures { value_of result ≡ value_in (option_map (λ v. version_of v.now) row.entry) }
 {
     match row {
         Some(version) => Some(version.value.as_slice()),

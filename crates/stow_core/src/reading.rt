@@ -82,13 +82,13 @@ impl<A: Allocator + Copy> Core<A> {
         ensures { IfOk result (λ r. reply_of r ≡ told.Integer (pos (count_rows (store_of self.now tenant).rows keys.now))) }
     {
         let mut buffer = Vec::new(alloc);
-        let mut count = 0;
+        let mut count: usize = 0;
         for key in keys {
             if self.row(&mut buffer, tenant, key.as_slice())?.is_some() {
                 count += 1;
             }
         }
-        Ok(Reply::Integer(count))
+        Ok(Reply::Integer(count as i64))
     }
 
     /// The length of a key's value, 0 where there is none.
