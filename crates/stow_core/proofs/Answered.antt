@@ -15,7 +15,7 @@ use Rattle.stow_model.specs.declared.simple_string.SimpleString.TheVariants as s
 use Rattle.stow_model.specs.Reply.{Reply}
 use Rattle.stow_model.specs.Reply as reply
 use Rattle.stow_model.specs.NumberText.{number_of, count_of, is_integer}
-use Rattle.stow_model.specs.Command.{Command, Ping, Echo, Get, GetMany, Exists, Length, Range, Del, Change, Update, Set, Append, Add, Condition, Always, IfMissing, IfThere, Reading, Understood, Refused, reading, of_text, of_key, of_keys, reading_ping, reading_set, reading_append, reading_add, reading_add_number, reading_range, reading_range_count, reading_del, is_named, with_keys}
+use Rattle.stow_model.specs.Command.{Command, Ping, Echo, Get, GetMany, Exists, Length, Range, Del, Change, Update, Set, Append, Add, Condition, Always, Reading, Understood, Refused, reading, of_text, of_key, of_keys, reading_ping, reading_set, reading_set_if, condition_named, reading_append, reading_add, reading_add_number, reading_range, reading_range_count, reading_del, is_named, with_keys}
 use Rattle.stow_model.specs.Store.{Store, Answer, Rows, Version, Outcome, Written, Unchanged, Failed, counted, served, answer, answer_to, step, written, del_answer, change_answer, outcome, allows, stored_number, sum_outcome, value_in, value_or_null, rows_without}
 use Rattle.stow_core.specs.Keys.{packed, own_key}
 use Rattle.stow_core.specs.Prepared.{after_write, after_remove}
@@ -134,14 +134,17 @@ unfolding is_memory
 plain_ping [] = refl
 plain_ping (a ∷ args) = plain-of_text Echo (a ∷ args)
 
+plain_set_if : (key value : List ℕ) (condition : Option Condition) → is_memory (reading_set_if key value condition) ≡ false
+unfolding is_memory
+plain_set_if key value None = refl
+plain_set_if key value (Some condition) = plain_keys (key ∷ []) (Change key (Set value condition))
+
 plain_set : (args : List (List ℕ)) → is_memory (reading_set args) ≡ false
 unfolding is_memory
 plain_set [] = refl
 plain_set (a ∷ []) = refl
 plain_set (a ∷ b ∷ []) = plain_keys (a ∷ []) (Change a (Set b Always))
-plain_set (a ∷ b ∷ c ∷ []) =
-    choice (is_named c (codes "nx")) _ _ (plain_keys (a ∷ []) (Change a (Set b IfMissing)))
-    (choice (is_named c (codes "xx")) _ (Refused refusal.SyntaxError) (plain_keys (a ∷ []) (Change a (Set b IfThere))) refl)
+plain_set (a ∷ b ∷ c ∷ []) = plain_set_if a b (condition_named c)
 plain_set (a ∷ b ∷ c ∷ d ∷ args) = refl
 
 plain_append : (args : List (List ℕ)) → is_memory (reading_append args) ≡ false
