@@ -1,12 +1,20 @@
 -- Which keys are whose.
-use Rattle.std.proofs.Common.{◌≡◌, ◌≢◌, ℕ, zero, suc, ◌<◌, ◌^◌, true, false, List, [], ◌∷◌, ◌++◌, length, take, drop, map, get_or, eqb, refl, ap, sym, ◌∙◌, subst, arith, ⊎_elim, w32}
-use Rattle.std.proofs.Math.Bool.{and_assoc, ◌&&◌, ◌||◌}
+use Rattle.std.proofs.Common.{◌≡◌, ◌≢◌, ℕ, zero, suc, ◌<◌, ◌^◌, Bool, true, false, List, [], ◌∷◌, ◌++◌, length, take, drop, map, get_or, eqb, refl, ap, sym, ◌∙◌, subst, arith, ⊎_elim, w32}
+use Rattle.std.proofs.Math.Bool.{and_assoc, ◌&&◌, ◌||◌, false≢true}
+use Rattle.std.proofs.lemmas.Cmp.{tied_itself}
+use Rattle.std.proofs.lemmas.List.{take-append-drop}
+use Rattle.std.specs.FinMap as map_of
 use Rattle.std.specs.Int.{to_be_bytes, from_be_bytes}
 use Rattle.std.specs.List.{list_any}
 use Rattle.std.specs.Str.{bytes_eq}
 use Rattle.std.specs.Cmp.Lexicographic.{bytes_decides, nat_list_eq_equiv}
 use Rattle.std.proofs.lemmas.Bool.{cases_Bool}
 use Rattle.std.proofs.lemmas.Nat.{from_be_bytes-to_be_bytes_4}
+use Rattle.std.specs.declared.cmp.Ordering.{Ordering}
+use Rattle.std.specs.declared.cmp.Ordering.TheVariants.{Less, Equal, Greater}
+use Rattle.std.specs.Ordering.{is_le, is_lt, ordering_then, ordering_reverse, nat_cmp}
+use Rattle.std.specs.Cmp.{nat_cmp_total}
+use Rattle.stow_model.specs.Bytes.{bytes_cmp}
 use Rattle.stow_core.specs.Keys.{packed, is_of, own_key, AreKeysOf}
 
 -- the bytes of two parts, one after the other
@@ -100,3 +108,54 @@ key_own t (k ∷ keys) (suc i) d own below = key_own t keys i d (later_own t k k
 
 pub one_own : (t : ℕ) (keys : List (List ℕ)) (i : ℕ) (key : List ℕ) → AreKeysOf t keys → i < length keys → key ≡ get_or keys i key → AreKeysOf t (key ∷ [])
 one_own t keys i key own below is = one_packed t (own_key key) key (sym (subst (λ k. packed t (own_key k) ≡ k) (sym is) (key_own t keys i key own below)))
+
+-- ---- whose a key is
+
+-- a key that has the tenant's bytes in front is the tenant's
+pub is_of_front : (t : ℕ) (front key : List ℕ) (b : Bool) → front ≡ to_be_bytes w32 t → bytes_eq (take (length front) key) front ≡ b → is_of t key ≡ b
+is_of_front t front key b e tests =
+    nat_list_eq_equiv.symm (to_be_bytes w32 t) (take 4 key) ∙ ap (λ f. bytes_eq (take (length f) key) f) (sym e) ∙ tests
+
+pub own_rest : (t : ℕ) (front key : List ℕ) → front ≡ to_be_bytes w32 t → drop (length front) key ≡ own_key key
+own_rest t front key e = ap (λ f. drop (length f) key) e
+
+-- a tenant's key is packed
+pub packed-own_key : (t : ℕ) (key : List ℕ) → is_of t key ≡ true → packed t (own_key key) ≡ key
+packed-own_key t key own = ap (λ p. p ++ drop 4 key) ((bytes_decides (to_be_bytes w32 t) (take 4 key)).0 own) ∙ take-append-drop 4 key
+
+-- ---- the order of keys
+
+same_front : (p a b : List ℕ) → bytes_cmp (p ++ a) (p ++ b) ≡ bytes_cmp a b
+same_front [] a b = refl
+same_front (x ∷ p) a b = ap (λ o. ordering_then o (bytes_cmp (p ++ a) (p ++ b))) (tied_itself nat_cmp_total x) ∙ same_front p a b
+
+-- packed keys are in the order of the tenant's own
+pub cmp-packed : (t : ℕ) (a b : List ℕ) → bytes_cmp (packed t a) (packed t b) ≡ bytes_cmp a b
+cmp-packed t a b = same_front (to_be_bytes w32 t) a b
+
+pub cmp-own_key : (t : ℕ) (a b : List ℕ) → is_of t a ≡ true → is_of t b ≡ true → bytes_cmp (own_key a) (own_key b) ≡ bytes_cmp a b
+cmp-own_key t a b own own' = sym (cmp-packed t (own_key a) (own_key b)) ∙ (λ i. bytes_cmp (packed-own_key t a own i) (packed-own_key t b own' i))
+
+-- two numbers that stand first in two keys, the first of which isn't after the other nor before it
+level : (x y : ℕ) (r s : Ordering) (o : Ordering) → nat_cmp y x ≡ o → is_le (ordering_then (nat_cmp x y) r) ≡ true → ordering_then (nat_cmp y x) s ≡ Less → (y ≡ x) × (is_le r ≡ true) × (s ≡ Less)
+level x y r s Less e le lt = absurd (false≢true (sym (ap (λ p. is_le (ordering_then p r)) (nat_cmp_total.antisymm x y ∙ ap ordering_reverse e)) ∙ le))
+level x y r s Equal e le lt = (
+      map_of.nat_cmp-IsAntisymmetric y x e,
+      sym (ap (λ p. is_le (ordering_then p r)) (nat_cmp_total.antisymm x y ∙ ap ordering_reverse e)) ∙ le,
+      sym (ap (λ p. ordering_then p s) e) ∙ lt,
+    )
+level x y r s Greater e le lt = absurd (false≢true (ap is_lt (sym (ap (λ p. ordering_then p s) e) ∙ lt)))
+
+-- what stands between two keys with one front has this front
+between : (p a k b : List ℕ) → is_le (bytes_cmp (p ++ a) k) ≡ true → bytes_cmp k (p ++ b) ≡ Less → take (length p) k ≡ p
+between [] a k b le lt = refl
+between (x ∷ p) a [] b le lt = absurd (false≢true le)
+between (x ∷ p) a (y ∷ k) b le lt =
+    let h = level x y (bytes_cmp (p ++ a) k) (bytes_cmp k (p ++ b)) (nat_cmp y x) refl le lt in
+    λ i. h.0 i ∷ between p a k b h.1 h.2 i
+
+-- a key between two of a tenant's is the tenant's
+pub is_of_between : (t : ℕ) (from key later : List ℕ) → is_le (bytes_cmp (packed t from) key) ≡ true → bytes_cmp key later ≡ Less → is_of t later ≡ true → is_of t key ≡ true
+is_of_between t from key later le lt own =
+    let front : take 4 key ≡ to_be_bytes w32 t = between (to_be_bytes w32 t) from key (own_key later) le (ap (bytes_cmp key) (packed-own_key t later own) ∙ lt) in
+    ap (bytes_eq (to_be_bytes w32 t)) front ∙ same_bytes (to_be_bytes w32 t)

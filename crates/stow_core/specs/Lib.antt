@@ -2,4 +2,5 @@ pub mod Entries
 pub mod Keys
 pub mod Places
 pub mod State
+pub mod Interval
 pub mod Prepared

@@ -1,5 +1,5 @@
 //! Keys of all tenants in one order.
-ghost use Rattle.std.specs.Prelude.{◌≡◌, IfOk, map};
+ghost use Rattle.std.specs.Prelude.{◌≡◌, IfOk, OnOk, map};
 ghost use Rattle.stow_core.specs.Keys.{packed};
 
 use std::alloc::{AllocError, Allocator};
@@ -14,9 +14,21 @@ pub fn packed_key<A: Allocator>(
     ensures { IfOk result (λ k. k ≡ packed tenant key.now) }
 {
     let mut bytes = Vec::with_capacity(alloc, key.len().saturating_add(4))?;
-    bytes.extend_from_slice(&tenant.to_be_bytes())?;
-    bytes.extend_from_slice(key)?;
+    pack_into(&mut bytes, tenant, key)?;
     Ok(ByteString::from_vec(bytes))
+}
+
+/// Writes a tenant's key, among the keys of all, in place of what the buffer has.
+pub fn pack_into<A: Allocator>(
+    buffer: &mut Vec<u8, A>,
+    tenant: u32,
+    key: &[u8],
+) -> Result<(), AllocError>
+    ensures { OnOk result (buffer.new.items ≡ packed tenant key.now) }
+{
+    buffer.clear();
+    buffer.extend_from_slice(&tenant.to_be_bytes())?;
+    buffer.extend_from_slice(key)
 }
 
 /// A tenant's keys among the keys of all.

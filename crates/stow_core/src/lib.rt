@@ -35,11 +35,15 @@ use tenants::Tenants;
 
 pub mod account;
 pub mod change;
+mod changing;
 mod committing;
+mod deleting;
+mod interval;
 mod keys;
 mod places;
 pub mod prepared;
 mod preparing;
+mod reading;
 pub mod tenant;
 pub mod tenants;
 #[cfg(test)]

@@ -1,14 +1,20 @@
 //! Places that rows stand in.
-ghost use Rattle.std.specs.Prelude.{◌≡◌, ℕ, List, [], Option, Some, None, IfOk, OnOk, OnErr, IsOk, is_some, option_map, if◌then◌else◌};
-ghost use Rattle.std.specs.List.{list_any};
+ghost use Rattle.std.specs.Prelude.{◌≡◌, ℕ, List, [], ◌++◌, map, Option, Some, None, IfOk, OnOk, OnErr, IsOk, is_some, option_map, if◌then◌else◌};
+ghost use Rattle.std.specs.List.{list_any, flat_map};
 ghost use Rattle.std.specs.Str.{bytes_eq};
+ghost use Rattle.stow_model.specs.Item.{item_of};
+ghost use Rattle.stow_model.specs.Store.{row_items, rows_within};
 ghost use Rattle.stow_core.specs.Places.{place, look_up, HasPlace, version_of, version_at};
+ghost use Rattle.stow_core.specs.State.{rows_of};
 
+use crate::interval::Interval;
+use crate::keys::packed_key;
 use crate::version::Version;
 use std::alloc::{AllocError, Allocator, Global};
 use std::collections::BTreeMap;
 use std::marker::Model;
 use stow_model::byte_string::ByteString;
+use stow_model::item::Item;
 
 /// Rows in the order of their keys, and places that wait for a value, which a write may fill with no
 /// memory.
@@ -43,6 +49,34 @@ impl<A: Allocator + Copy> Places<A> {
             Some(None) => None,
             None => None,
         }
+    }
+
+    /// The first rows of an interval, `count` at most, in the order of their keys: of each its tenant's own
+    /// key and its value, copied. It takes time in proportion to the places that it goes over.
+    pub fn first_rows(
+        &self,
+        alloc: A,
+        interval: Interval<'_>,
+        count: u32,
+    ) -> Result<Vec<Item<A>, A>, AllocError>
+        ensures { IfOk result (λ items. map item_of items.items ≡ flat_map row_items (rows_within interval.entry.from.now interval.entry.to.now count (rows_of interval.entry.tenant self.now))) }
+    {
+        let lower = packed_key(alloc, interval.tenant, interval.from)?.into_vec();
+        let mut items = Vec::new(alloc);
+        let mut left = count;
+        for (key, version) in self.map.range(&lower..) {
+            let Some(own) = interval.own_key(key.as_slice()) else {
+                break;
+            };
+            if left == 0 {
+                break;
+            }
+            if let Some(version) = version {
+                push_row(&mut items, alloc, own, version)?;
+                left -= 1;
+            }
+        }
+        Ok(items)
     }
 
     /// Makes a place, if there is none. A reader sees no change.
@@ -93,4 +127,19 @@ impl<A: Allocator + Copy> Places<A> {
         self.map.insert(key, version)?;
         Ok(())
     }
+}
+
+/// Adds a row's key and its value, copied.
+fn push_row<A: Allocator + Copy>(
+    items: &mut Vec<Item<A>, A>,
+    alloc: A,
+    key: &[u8],
+    version: &Version<A>,
+) -> Result<(), AllocError>
+    ensures { OnOk result (map item_of items.new.items ≡ map item_of items.old.items ++ row_items (key.now, version_of version.now)) }
+{
+    items.push(Item::Bulk(ByteString::from_slice(alloc, key)?))?;
+    let value = ByteString::from_slice(alloc, version.value.as_slice())?;
+    items.push(Item::Bulk(value))?;
+    Ok(())
 }

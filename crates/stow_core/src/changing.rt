@@ -1,0 +1,102 @@
+//! Changes of one row.
+ghost use Rattle.std.specs.Prelude.{◌≡◌, ℕ, [], ◌∷◌, IfOk, nat_lt, option_map};
+ghost use Rattle.std.specs.FinMap as rows;
+ghost use Rattle.stow_model.specs.Limits.{number_limit};
+ghost use Rattle.stow_model.specs.Reply.{reply_of};
+ghost use Rattle.stow_model.specs.Login.{IsTenant};
+ghost use Rattle.stow_model.specs.Store.{counted, outcome, change_answer, value_in, Written};
+ghost use Rattle.stow_core.specs.Keys.{own_key, AreKeysOf};
+ghost use Rattle.stow_core.specs.Places.{version_of};
+ghost use Rattle.stow_core.specs.State.{store_of};
+ghost use Rattle.stow_core.specs.Prepared.{HasRoom, prepared_answer};
+ghost use Rattle.stow_commands.specs.Commands.{update_of};
+ghost use Rattle.stow_commands.specs.Outcomes.{value_of};
+
+use crate::Core;
+use crate::account::NUMBER_LIMIT;
+use crate::change::Change;
+use crate::prepared::Prepared;
+use crate::preparing::counted;
+use crate::version::Version;
+use std::alloc::{AllocError, Allocator};
+use stow_commands::outcome::Outcome;
+use stow_commands::outcome_fault::OutcomeFault;
+use stow_commands::update::Update;
+use stow_model::byte_string::ByteString;
+use stow_model::refusal::Refusal;
+use stow_model::reply::Reply;
+
+impl<A: Allocator + Copy> Core<A> {
+    /// Finds what a change of a key's row says, by the value that the row has.
+    pub(crate) fn prepare_change(
+        &mut self,
+        alloc: A,
+        tenant: u32,
+        key: &[u8],
+        update: Update<'_>,
+    ) -> Result<Prepared<A>, AllocError>
+        requires { IsTenant self.old.entries tenant }
+        ensures stores { (t : ℕ) → store_of self.new t ≡ store_of self.old t }
+        ensures entries { self.new.entries ≡ self.old.entries }
+        ensures room { IfOk result (λ p. HasRoom self.new p) }
+        ensures tenant { IfOk result (λ p. p.tenant ≡ tenant) }
+        ensures answer { IfOk result (λ p. prepared_answer p (store_of self.old tenant) ≡ change_answer (counted (store_of self.old tenant)) key.now (outcome (update_of update.entry) (value_in (rows.get (store_of self.old tenant).rows key.now)))) }
+    {
+        let mut buffer = Vec::new(alloc);
+        let present = value_in(self.row(&mut buffer, tenant, key)?);
+        match update.outcome(alloc, present) {
+            Ok(Outcome::Written(value, reply)) => {
+                self.prepare_write(alloc, tenant, ByteString::from_vec(buffer), value, reply)
+            }
+            Ok(Outcome::Unchanged(reply)) => Ok(counted(tenant, reply)),
+            Err(OutcomeFault::Refused(refusal)) => Ok(counted(tenant, Reply::Error(refusal))),
+            Err(OutcomeFault::OutOfMemory) => Err(AllocError),
+        }
+    }
+
+    /// Makes room for a row's value. The key is one among the keys of all.
+    fn prepare_write(
+        &mut self,
+        alloc: A,
+        tenant: u32,
+        key: ByteString<A>,
+        value: ByteString<A>,
+        reply: Reply<A>,
+    ) -> Result<Prepared<A>, AllocError>
+        requires is_tenant { IsTenant self.old.entries tenant }
+        requires own_key { AreKeysOf tenant (key ∷ []) }
+        ensures stores { (t : ℕ) → store_of self.new t ≡ store_of self.old t }
+        ensures entries { self.new.entries ≡ self.old.entries }
+        ensures room { IfOk result (λ p. HasRoom self.new p) }
+        ensures tenant { IfOk result (λ p. p.tenant ≡ tenant) }
+        ensures answer { IfOk result (λ p. prepared_answer p (store_of self.old tenant) ≡ change_answer (counted (store_of self.old tenant)) (own_key key) (Written value (reply_of reply))) }
+    {
+        if !self.can_write(tenant) {
+            return Ok(counted(tenant, Reply::Error(Refusal::WriteNumbersUsedUp)));
+        }
+        self.places.make(alloc, key.as_slice())?;
+        Ok(Prepared {
+            tenant,
+            change: Change::Put(key, value),
+            reply,
+        })
+    }
+
+    /// Whether a number is left for a write of the tenant's.
+    pub(crate) fn can_write(&self, tenant: u32) -> bool
+        requires { IsTenant self.now.entries tenant }
+        ensures { result ≡ nat_lt (store_of self.now tenant).last number_limit }
+    {
+        self.accounts[tenant as usize - 1].last < NUMBER_LIMIT
+    }
+}
+
+/// The value of a row.
+fn value_in<A: Allocator>(row: Option<&Version<A>>) -> Option<&[u8]>
+    ensures { value_of result ≡ value_in (option_map (λ v. version_of v.now) row.entry) }
+{
+    match row {
+        Some(version) => Some(version.value.as_slice()),
+        None => None,
+    }
+}
