@@ -3,4 +3,3 @@ pub mod Keyed
 pub mod Stores
 pub mod Removed
 pub mod Answered
-pub mod Listed

@@ -31,7 +31,7 @@ use stow_commands::command::Command;
 use stow_model::refusal::Refusal;
 use stow_model::reply::Reply;
 use stow_model::words::Words;
-use tenants::Tenants;
+use stow_login::tenants::Tenants;
 
 pub mod account;
 pub mod change;
@@ -40,8 +40,6 @@ mod keys;
 mod places;
 pub mod prepared;
 mod preparing;
-pub mod tenant;
-pub mod tenants;
 #[cfg(test)]
 mod tests;
 pub mod version;

@@ -11,7 +11,7 @@ use std::process::Abort;
 use std::sync::Arc;
 use std::test::Fail;
 use stow_core::Core;
-use stow_core::tenants::Tenants;
+use stow_login::tenants::Tenants;
 use stow_model::byte_string::ByteString;
 use stow_model::event::Event;
 use stow_model::own_run::own_run;
