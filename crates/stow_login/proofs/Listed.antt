@@ -1,5 +1,5 @@
 -- Tenants by their names and their indexes.
-use Rattle.std.proofs.Common.{◌≡◌, ℕ, zero, suc, ◌+◌, ◌-◌, ◌<◌, ◌≤◌, true, false, List, [], ◌∷◌, length, drop, map, get_or, eqb, Some, None, refl, ap, sym, ◌∙◌, subst, arith, drop-cons, is_some, ⊎_elim}
+use Rattle.std.proofs.Common.{◌≡◌, ℕ, zero, suc, ◌+◌, ◌-◌, ◌<◌, ◌≤◌, true, List, [], ◌∷◌, length, drop, map, get_or, eqb, Some, None, refl, ap, sym, ◌∙◌, subst, arith, drop-cons, is_some, ⊎_elim}
 use Rattle.std.proofs.lemmas.List.{length-map}
 use mathlib.Core.Bool.{false≢true}
 use Rattle.std.specs.Option.{unwrap_or}

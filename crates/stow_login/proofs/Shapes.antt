@@ -1,5 +1,5 @@
 -- A tenant file's table and its items, by how many they are.
-use Rattle.std.proofs.Common.{◌≡◌, ◌≢◌, ℕ, suc, ◌+◌, ◌<◌, ◌≤◌, List, [], ◌∷◌, ◌++◌, drop, get_or, length, map, ◌⊎◌, Option, Some, None, Result, Ok, Err, option_map, IfOk, IfErr, String, Vec, BTreeMap, Global, Bor, codes, refl, ap, ◌∙◌, sym, arith}
+use Rattle.std.proofs.Common.{◌≡◌, ◌≢◌, ℕ, suc, ◌+◌, ◌<◌, ◌≤◌, List, [], ◌∷◌, ◌++◌, drop, get_or, length, ◌⊎◌, Option, Some, None, Ok, Err, option_map, IfOk, IfErr, String, BTreeMap, Global, Bor, codes, refl, ap, ◌∙◌, sym, arith}
 use Rattle.std.specs.Prelude.{ok_or, option_and_then}
 use Rattle.std.proofs.lemmas.Bool.Decides.{nat_tests}
 use Rattle.toml.specs.declared.value.Value.{Value}

@@ -1,7 +1,6 @@
-use Rattle.std.proofs.Common.{◌≢◌, refl, sym, ◌∙◌}
+use Rattle.std.proofs.Common.{refl, sym, ◌∙◌}
 use mathlib.Core.Bool.{false≢true}
 use Rattle.toml.specs.View.{table_view}
-use Rattle.stow_login.specs.TenantFile.{size}
 use Rattle.stow_login.proofs.Shapes.{size_of_table, items_of_one, items_of_more, ok_items, err_items}
 use Rattle.stow_login.proofs.reading.items_in.Goals as goal
 

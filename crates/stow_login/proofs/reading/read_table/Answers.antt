@@ -1,4 +1,4 @@
-use Rattle.std.proofs.Common.{◌≡◌, ◌≢◌, ℕ, ◌<◌, ◌⊎◌, ⊎_elim, true, false, inl, inr, eqb, map, refl, sym, ap, subst, ◌∙◌, length, rules, Err}
+use Rattle.std.proofs.Common.{◌≡◌, ◌<◌, ◌⊎◌, ⊎_elim, inl, inr, map, sym, ap, subst, ◌∙◌, length, rules, Err}
 use mathlib.Core.Bool.{false≢true}
 use Rattle.std.proofs.lemmas.Bool.{eqb-true, eq-eqb}
 use Rattle.toml.specs.View.{view, table_view, items_view}
@@ -22,9 +22,9 @@ loop-item-init g c =
     let items = c.in_ok-items.items.now in
     record {
       left = counted_in (table_view c.args.table.now) (items_view items) c.in_ok-items.ensures.ok
-        (λ none. false≢true (c.if-is_empty.ensures ∙ eq-eqb (length items) 0 (sym (count_of_items items) ∙ none)))
-        (rw (count_of_items items) c.if-items-gt-TENANT_LIMIT.false)
-        ∙ ap (λ ts. entries_after (map entry_of ts) (items_view items)) (sym c.new-tenants.ensures.items);
+          (λ none. false≢true (c.if-is_empty.ensures ∙ eq-eqb (length items) 0 (sym (count_of_items items) ∙ none)))
+          (rw (count_of_items items) c.if-items-gt-TENANT_LIMIT.false)
+          ∙ ap (λ ts. entries_after (map entry_of ts) (items_view items)) (sym c.new-tenants.ensures.items);
       read = ap length c.new-tenants.ensures.items;
     }
 
@@ -34,7 +34,7 @@ returns-in_err-tenant-clause-err g c =
     let told : (fault ≡ OutOfMemory) ⊎ (entries_of (table_view c.args.table.now) ≡ Err fault) =
     ⊎_elim inl
     (λ bad. inr (fault_here (table_view c.args.table.now) (map entry_of c.loop-item.tenants.items) c.in_ok-items.items.now c.loop-item.item-index c.item-item.result fault
-      c.loop-item.invariant.left c.loop-item-test.true c.item-item.is
-      (ap (λ ts. entry_in (map entry_of ts) (view c.item-item.result)) (sym c.as_slice.ensures.value) ∙ bad)))
+    c.loop-item.invariant.left c.loop-item-test.true c.item-item.is
+    (ap (λ ts. entry_in (map entry_of ts) (view c.item-item.result)) (sym c.as_slice.ensures.value) ∙ bad)))
     c.in_err-tenant.ensures.err in
     search (rules, told)

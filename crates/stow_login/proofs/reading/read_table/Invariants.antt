@@ -1,4 +1,4 @@
-use Rattle.std.proofs.Common.{◌≡◌, ◌≤◌, drop, length, map}
+use Rattle.std.proofs.Common.{◌≡◌, drop, length, map}
 use Rattle.toml.specs.View.{table_view, items_view}
 use Rattle.stow_login.specs.Entries.{entry_of}
 use Rattle.stow_login.specs.TenantFile.{entries_of, entries_after}
