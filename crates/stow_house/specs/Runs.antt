@@ -5,10 +5,10 @@ use Rattle.stow_model.specs.Event.{Event}
 use Rattle.stow_model.specs.Reply.{encoding}
 use Rattle.stow_model.specs.Store.{Store, empty_store, store_after}
 use Rattle.stow_model.specs.History.{Step, event_of, IsHistory, output_of, line_of, told_to, ServesAlike}
-use Rattle.stow_core.specs.State.{CoreState, store_of}
+use Rattle.stow_core.specs.State.{store_of}
 use Rattle.stow_house.specs.declared.mark.Mark.{Mark}
 use Rattle.stow_house.specs.declared.house.House.{House}
-use Rattle.stow_house.specs.Seen.{Seen, never_opened}
+use Rattle.stow_house.specs.Seen.{never_opened}
 use Rattle.stow_house.specs.Steps.{core_of, seen_in}
 use Rattle.stow_house.specs.Outputs.{Told, replies_to, mark_of_step}
 
