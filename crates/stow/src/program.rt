@@ -7,7 +7,7 @@ use std::alloc::{AllocError, Allocator, Global};
 use std::io::{Read, Write};
 use std::sync::Arc;
 use stow_core::Core;
-use stow_core::tenants::Tenants;
+use stow_login::tenants::Tenants;
 use stow_house::house::House;
 
 /// Does what the words ask for, the first being the program's own name, and gives the exit status: 0; 2

@@ -1,10 +1,10 @@
 //! What no clause says: that the calls succeed where there is memory, that a commit asks for none, and worked
 //! requests of two tenants.
 use crate::Core;
-use crate::tenants::Tenants;
-use std::alloc::{AllocError, Allocator};
+use std::alloc::{AllocError, Allocator, Global};
 use std::sync::Arc;
 use std::test::Fail;
+use stow_login::tenants::Tenants;
 use stow_model::byte_string::ByteString;
 use stow_model::refusal::refusal_text;
 use stow_model::reply::Reply;
@@ -12,9 +12,28 @@ use stow_model::simple_string::SimpleString;
 use stow_model::words::Words;
 use stow_refusing::{Plan, Refusing};
 
-fn new_core<A: Allocator + Copy>(alloc: A) -> Result<Core<A>, AllocError> {
-    let tenants = Arc::new(alloc, Tenants::built_in(alloc)?)?;
-    Core::new(alloc, tenants)
+/// Three tenants.
+const THREE: &str = "[[tenant]]
+name = \"ann\"
+salt = \"61\"
+digest = \"ba7816bf8f01cfea414140de5dae2223b00361a396177a9cb410ff61f20015ad\"
+quota = 1000000
+[[tenant]]
+name = \"ben\"
+salt = \"6162\"
+digest = \"ba7816bf8f01cfea414140de5dae2223b00361a396177a9cb410ff61f20015ad\"
+quota = 1000000
+[[tenant]]
+name = \"cap\"
+salt = \"\"
+digest = \"ba7816bf8f01cfea414140de5dae2223b00361a396177a9cb410ff61f20015ad\"
+quota = 100
+";
+
+/// A core of the three tenants; their file's table is kept in `global` for as long as it is read.
+fn new_core<A: Allocator + Copy>(alloc: A, global: Global) -> Result<Core<A>, AllocError> {
+    let tenants = Tenants::read(alloc, global, THREE).map_err(|_| AllocError)?;
+    Core::new(alloc, Arc::new(alloc, tenants)?)
 }
 
 fn words_of<A: Allocator + Copy>(alloc: A, line: &str) -> Result<Words<A>, AllocError> {
@@ -72,8 +91,8 @@ struct Case {
 }
 
 /// A core in which tenant 1 has "old" at the key `a`.
-fn started<A: Allocator + Copy>(alloc: A) -> Result<Core<A>, AllocError> {
-    let mut core = new_core(alloc)?;
+fn started<A: Allocator + Copy>(alloc: A, global: Global) -> Result<Core<A>, AllocError> {
+    let mut core = new_core(alloc, global)?;
     let _done = is_told(&mut core, alloc, 1, "SET a old", "ok")?;
     Ok(core)
 }
@@ -110,10 +129,11 @@ fn commits<'a, B: Allocator>(
 /// Whether the case withstands the refusal of this request for memory, or `None` if it asks for fewer.
 fn withstands<B: Allocator>(
     heap: &Refusing<B>,
+    global: Global,
     case: Case,
     at: u64,
 ) -> Result<Option<bool>, AllocError> {
-    let mut core = started(heap)?;
+    let mut core = started(heap, global)?;
     let words = words_of(heap, case.line)?;
     if !is_refused(heap, &mut core, &words, at) {
         return Ok(None);
@@ -124,9 +144,13 @@ fn withstands<B: Allocator>(
 }
 
 /// How many requests for memory the case makes, if it withstands the refusal of each.
-fn refusals<B: Allocator>(heap: &Refusing<B>, case: Case) -> Result<Option<u64>, AllocError> {
+fn refusals<B: Allocator>(
+    heap: &Refusing<B>,
+    global: Global,
+    case: Case,
+) -> Result<Option<u64>, AllocError> {
     for at in 0..100u64 {
-        match withstands(heap, case, at)? {
+        match withstands(heap, global, case, at)? {
             None => return Ok(Some(at)),
             Some(true) => {}
             Some(false) => return Ok(None),
@@ -147,7 +171,7 @@ fn prepares_withstand_each_refusal(rt: HostRuntime) -> Result<(), Fail> {
         ("PING hello", "hello", "old", "(null)", 1),
         ("DEL b a", "#", "(null)", "(null)", 2),
     ] {
-        let needed = refusals(&heap, Case { line, told, a, b })?;
+        let needed = refusals(&heap, rt.alloc(), Case { line, told, a, b })?;
         assert!(rt; matches!(needed, Some(n) if n >= least), "{line}");
     }
     Ok(())
@@ -156,7 +180,7 @@ fn prepares_withstand_each_refusal(rt: HostRuntime) -> Result<(), Fail> {
 #[test]
 fn each_tenant_has_its_own_keys(rt: HostRuntime) -> Result<(), Fail> {
     let alloc = rt.alloc();
-    let mut core = new_core(alloc)?;
+    let mut core = new_core(alloc, rt.alloc())?;
     for (tenant, line, want) in [
         (1, "PING", "pong"),
         (1, "PING hello", "hello"),
@@ -179,36 +203,5 @@ fn each_tenant_has_its_own_keys(rt: HostRuntime) -> Result<(), Fail> {
         );
     }
     assert_eq!(rt; core.tenants().count(), 3);
-    Ok(())
-}
-
-/// Whether the tenant of this name has this quota.
-fn has_quota<A: Allocator>(tenants: &Tenants<A>, name: &[u8], quota: u64) -> bool {
-    match tenants.find(name) {
-        Some(index) => tenants.name(index) == name && tenants.quota(index) == quota,
-        None => false,
-    }
-}
-
-#[test]
-fn tenants_log_in_without_memory(rt: HostRuntime) -> Result<(), Fail> {
-    let heap = Refusing::new(rt.alloc());
-    let tenants = Tenants::built_in(&heap)?;
-    heap.set(Plan::RefuseAll);
-    for (name, password, want) in [
-        ("ann", "bc", Some(1)),
-        ("ben", "c", Some(2)),
-        ("cap", "abc", Some(3)),
-        ("ann", "abc", None),
-        ("dan", "", None),
-    ] {
-        assert!(rt;
-            tenants.check(name.as_bytes(), password.as_bytes()) == want,
-            "{name}"
-        );
-    }
-    assert!(rt; has_quota(&tenants, b"ann", 1_000_000) && has_quota(&tenants, b"cap", 100));
-    assert_eq!(rt; tenants.count(), 3);
-    assert_eq!(rt; heap.asked(), 0);
     Ok(())
 }

@@ -2,3 +2,4 @@ pub mod Everywhere
 pub mod Here
 pub mod Histories
 pub mod Runs
+pub mod Served

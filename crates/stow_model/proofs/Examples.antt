@@ -12,7 +12,7 @@ use Rattle.stow_model.specs.declared.stream_fault.StreamFault.TheVariants.{Inval
 use Rattle.stow_model.specs.Message.{Message, Words, Quoted, Blank}
 use Rattle.stow_model.specs.Wire.{array_line, bulks, message_of_text, text_of_line, begins_array, IsLine, Spells, IsBegun, IsFaulty, IsPlace}
 use Rattle.stow_model.specs.Command.{kind_of}
-use Rattle.stow_model.specs.Login.{login, quota_of}
+use Rattle.stow_model.specs.Login.{Entry, login, entry_at}
 use Rattle.stow_model.specs.History.{IsStep, IsHistory, Takes, Waits, status_of, stream_of, taken_by, served_as, line_of, output_of, reply_of}
 use Rattle.stow_model.specs.Examples.{Encodings, OfWords, OfStreams, OfLines, OfLogins, OfHistories, OfCharges, Examples}
 use Rattle.stow_model.proofs.Spelling.{spelled_once, array_of}
@@ -202,8 +202,12 @@ not_waited (front, rest, all, begun, e) =
     let whole : codes "*0\r\n" ≡ rest = e ∙ ap (λ f. f ++ rest) all in
     begun_none (codes "*0\r\n") (subst IsBegun (sym whole) begun) Blank (codes "*0\r\n") [] blank refl
 
+abbrev first_of_name : Option Entry → ℕ
+first_of_name None = 0
+first_of_name (Some entry) = get_or entry.name 0 0
+
 of_histories : OfHistories
-unfolding IsHistory IsStep status_of stream_of taken_by served_as line_of output_of reply_of quota_of kind_of
+unfolding IsHistory IsStep status_of stream_of taken_by served_as line_of output_of reply_of entry_at kind_of
 of_histories = record {
   history = ((refl, ([], codes "*0\r\n", [], refl, blank, refl)), (tt, (tt, tt)));
   not_history = λ h. nothing_taken h.0.1;
@@ -213,8 +217,8 @@ of_histories = record {
   stream = refl;
   told = refl;
   void = refl;
-  alike = record { quota = refl; line = refl };
-  not_alike = λ h. (let bad : 0 ≡ 5 = h.quota in omega arith);
+  alike = record { entry = refl; line = refl };
+  not_alike = λ h. (let bad : 97 ≡ 98 = ap first_of_name h.entry in omega arith);
   another = λ e. omega arith;
   not_another = λ h. h refl;
   tenant = (omega arith, omega arith);

@@ -90,6 +90,9 @@ not_logged_in = Took 1 (Words (codes "quit" ∷ [])) false ∷ Took 1 (Words (co
 abbrev pub some_entry : Entry
 some_entry = record { name = codes "ann"; salt = codes "a"; digest = sha256 (codes "abc"); quota = 5 }
 
+abbrev pub other_entry : Entry
+other_entry = record { name = codes "ben"; salt = codes "ab"; digest = sha256 (codes "abc"); quota = 5 }
+
 -- logins
 pub record OfLogins : Type 0 where
   pub right : login (some_entry ∷ []) (codes "ann") (codes "bc") ≡ Some 1
@@ -106,8 +109,8 @@ pub record OfHistories : Type 0 where
   pub stream : stream_of 1 blank_served ≡ codes "*0\r\n"
   pub told : output_of [] 1 not_logged_in ≡ Simple Ok ∷ Error NotAuthenticated ∷ []
   pub void : output_of [] 1 (Void (Serve 1) ∷ Plain (Open 1) ∷ []) ≡ []
-  pub alike : ServesAlike [] 1 [] [] 1 blank_served
-  pub not_alike : ServesAlike [] 1 [] (some_entry ∷ []) 1 [] → ⊥
+  pub alike : ServesAlike (some_entry ∷ []) 1 [] (other_entry ∷ some_entry ∷ []) 2 blank_served
+  pub not_alike : ServesAlike (some_entry ∷ []) 1 [] (other_entry ∷ []) 1 [] → ⊥
   pub another : IsForAnother 1 (Some (record { tenant = 2; request = record { words = []; is_refused = false } }))
   pub not_another : IsForAnother 2 (Some (record { tenant = 2; request = record { words = []; is_refused = false } })) → ⊥
   pub tenant : IsTenant (some_entry ∷ []) 1

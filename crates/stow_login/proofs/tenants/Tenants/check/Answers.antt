@@ -1,9 +1,9 @@
 use Rattle.std.proofs.Common.{None, Some, sym, ◌∙◌}
 use Rattle.std.proofs.lemmas.Bool.{cond-true, cond-false}
 use Rattle.stow_model.specs.Login.{login}
-use Rattle.stow_core.specs.Entries.{entry_of, is_own, index_named}
-use Rattle.stow_core.proofs.Listed.{login_nobody, login_of}
-use Rattle.stow_core.proofs.tenants.Tenants.check.Goals as goal
+use Rattle.stow_login.specs.Entries.{entry_of, is_own, index_named}
+use Rattle.stow_login.proofs.Listed.{login_nobody, login_of}
+use Rattle.stow_login.proofs.tenants.Tenants.check.Goals as goal
 
 pub returns-in_err-index-clause-login : goal.returns-in_err-index-clause-login
 unfolding login index_named

@@ -1,13 +1,13 @@
 -- Tenants by their names and their indexes.
-use Rattle.std.proofs.Common.{◌≡◌, ℕ, zero, suc, ◌+◌, ◌-◌, ◌<◌, ◌≤◌, true, false, List, [], ◌∷◌, length, drop, map, get_or, eqb, Some, None, refl, ap, sym, ◌∙◌, subst, arith, drop-cons, is_some, ⊎_elim}
+use Rattle.std.proofs.Common.{◌≡◌, ℕ, zero, suc, ◌+◌, ◌-◌, ◌<◌, ◌≤◌, true, List, [], ◌∷◌, length, drop, map, get_or, eqb, Some, None, refl, ap, sym, ◌∙◌, subst, arith, drop-cons, is_some, ⊎_elim}
 use Rattle.std.proofs.lemmas.List.{length-map}
 use mathlib.Core.Bool.{false≢true}
 use Rattle.std.specs.Option.{unwrap_or}
 use Rattle.std.proofs.lemmas.Bool.{cases_Bool, cond-true, cond-false, eq-eqb, ne_eqb}
 use Rattle.std.specs.Str.{bytes_eq}
 use Rattle.stow_model.specs.Login.{Entry, login_from, checked, quota_from}
-use Rattle.stow_core.specs.declared.tenant.Tenant as coded
-use Rattle.stow_core.specs.Entries.{entry_of, name_from, index_from}
+use Rattle.stow_login.specs.declared.tenant.Tenant as coded
+use Rattle.stow_login.specs.Entries.{entry_of, name_from, index_from}
 
 some_same : {X : Type 0} (x y : X) → Some x ≡ Some y → x ≡ y
 some_same x y e = ap (λ o. unwrap_or o x) e

@@ -1,27 +1,13 @@
 -- The tenants' entries.
-use Rattle.std.specs.Prelude.{ℕ, ◌+◌, Bool, List, [], ◌∷◌, ◌++◌, Option, Some, None, if◌then◌else◌, ◌==◌, codes}
+use Rattle.std.specs.Prelude.{ℕ, ◌+◌, Bool, List, [], ◌∷◌, ◌++◌, Option, Some, None, if◌then◌else◌, ◌==◌}
 use Rattle.std.specs.Str.{bytes_eq}
 use Rattle.sha2.specs.Sha256.{sha256}
 use Rattle.stow_model.specs.Login.{Entry}
-use Rattle.stow_core.specs.declared.tenant.Tenant as coded
+use Rattle.stow_login.specs.declared.tenant.Tenant as coded
 
 -- what the code's type stands for, whatever allocator it has its memory from
 abbrev pub entry_of : {A : Type 0} → coded.Tenant A → Entry
 entry_of tenant = record { name = tenant.name; salt = tenant.salt; digest = tenant.digest; quota = tenant.quota }
-
--- SHA-256 of "abc" (FIPS 180-4's first example)
-abbrev pub digest_of_abc : List ℕ
-digest_of_abc =
-    186 ∷ 120 ∷ 22 ∷ 191 ∷ 143 ∷ 1 ∷ 207 ∷ 234 ∷ 65 ∷ 65 ∷ 64 ∷ 222 ∷ 93 ∷ 174 ∷ 34 ∷ 35
-    ∷ 176 ∷ 3 ∷ 97 ∷ 163 ∷ 150 ∷ 23 ∷ 122 ∷ 156 ∷ 180 ∷ 16 ∷ 255 ∷ 97 ∷ 242 ∷ 0 ∷ 21 ∷ 173 ∷ []
-
--- three tenants, whose salts and passwords join to "abc" each
-abbrev pub built_in_entries : List Entry
-built_in_entries =
-    record { name = codes "ann"; salt = codes "a"; digest = digest_of_abc; quota = 1000000 }
-    ∷ record { name = codes "ben"; salt = codes "ab"; digest = digest_of_abc; quota = 1000000 }
-    ∷ record { name = codes "cap"; salt = []; digest = digest_of_abc; quota = 100 }
-    ∷ []
 
 -- SHA-256 of the salt followed by the password is the digest
 abbrev pub is_own : Entry → List ℕ → Bool

@@ -1,8 +1,8 @@
 use Rattle.std.proofs.Common.{◌≡◌, map, true, ap, sym, ◌∙◌}
 use Rattle.std.specs.Str.{bytes_eq}
-use Rattle.stow_core.specs.Entries.{entry_of, index_from, index_named}
-use Rattle.stow_core.proofs.Listed.{found_here, nobody_left}
-use Rattle.stow_core.proofs.tenants.Tenants.find.Goals as goal
+use Rattle.stow_login.specs.Entries.{entry_of, index_from, index_named}
+use Rattle.stow_login.proofs.Listed.{found_here, nobody_left}
+use Rattle.stow_login.proofs.tenants.Tenants.find.Goals as goal
 
 pub returns-then-eq-clause-named : goal.returns-then-eq-clause-named
 unfolding index_named

@@ -1,7 +1,7 @@
 use Rattle.std.proofs.Common.{◌-◌, ◌≤◌, length, ap, sym, ◌∙◌, arith}
-use Rattle.stow_core.specs.Entries.{name_of, name_from}
-use Rattle.stow_core.proofs.Listed.{has_index, name_at}
-use Rattle.stow_core.proofs.tenants.Tenants.name.Goals as goal
+use Rattle.stow_login.specs.Entries.{name_of, name_from}
+use Rattle.stow_login.proofs.Listed.{has_index, name_at}
+use Rattle.stow_login.proofs.tenants.Tenants.name.Goals as goal
 
 pub returns : goal.returns
 unfolding name_of

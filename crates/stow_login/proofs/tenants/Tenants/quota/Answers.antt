@@ -1,7 +1,7 @@
 use Rattle.std.proofs.Common.{◌-◌, ◌≤◌, length, ap, sym, ◌∙◌, arith}
 use Rattle.stow_model.specs.Login.{quota_of, quota_from}
-use Rattle.stow_core.proofs.Listed.{has_index, quota_at}
-use Rattle.stow_core.proofs.tenants.Tenants.quota.Goals as goal
+use Rattle.stow_login.proofs.Listed.{has_index, quota_at}
+use Rattle.stow_login.proofs.tenants.Tenants.quota.Goals as goal
 
 pub returns : goal.returns
 unfolding quota_of

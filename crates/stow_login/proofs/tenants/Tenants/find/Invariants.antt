@@ -1,6 +1,6 @@
 use Rattle.std.proofs.Common.{◌≡◌, ◌+◌, drop, map}
-use Rattle.stow_core.specs.Entries.{entry_of, index_from}
-use Rattle.stow_core.proofs.tenants.Tenants.find.Given as goal
+use Rattle.stow_login.specs.Entries.{entry_of, index_from}
+use Rattle.stow_login.proofs.tenants.Tenants.find.Given as goal
 
 abbrev pub invariant-loop-tenant : goal.invariant-loop-tenant
 invariant-loop-tenant g l = record {

@@ -1,11 +1,14 @@
 //! The tenants of the service.
-ghost use Rattle.std.specs.Prelude.{◌≡◌, ◌<◌, length, IfOk, IfSome};
+ghost use Rattle.std.specs.Prelude.{◌≡◌, ◌<◌, length, IfSome};
 ghost use Rattle.stow_model.specs.Login.{IsTenant, login, quota_of};
-ghost use Rattle.stow_core.specs.Entries.{entry_of, built_in_entries, digest_of_abc, name_of, index_named, is_own};
+ghost use Rattle.stow_login.specs.Entries.{entry_of, name_of, index_named, is_own};
+ghost use Rattle.stow_login.specs.TenantFile.{IsReading};
 
+use crate::reading::read_table;
 use crate::tenant::Tenant;
+use crate::tenants_fault::TenantsFault;
 use sha2::{Digest, Sha256};
-use std::alloc::{AllocError, Allocator, Global};
+use std::alloc::{Allocator, Global};
 use std::marker::Model;
 use stow_model::byte_string::ByteString;
 
@@ -18,7 +21,7 @@ pub struct Tenants<A: Allocator = Global> {
 impl<A: Allocator> Model for Tenants<A> {
     ghost use Rattle.std.specs.Prelude.{◌<◌, List, length, map};
     ghost use Rattle.stow_model.specs.Login.{Entry};
-    ghost use Rattle.stow_core.specs.Entries.{entry_of};
+    ghost use Rattle.stow_login.specs.Entries.{entry_of};
 
     ghost Value = { List Entry };
 
@@ -28,16 +31,18 @@ impl<A: Allocator> Model for Tenants<A> {
 }
 
 impl<A: Allocator + Copy> Tenants<A> {
-    /// Three tenants: ann with the password "bc", ben with the password "c", and cap with the password
-    /// "abc".
-    pub fn built_in(alloc: A) -> Result<Tenants<A>, AllocError>
-        ensures { IfOk result (λ t. t ≡ built_in_entries) }
+    /// The tenants of a tenant file's text, in its order, or the first fault. `heap` is where `toml` keeps the
+    /// file's table for as long as it is read.
+    pub fn read(alloc: A, heap: Global, text: &str) -> Result<Tenants<A>, TenantsFault>
+        ensures { IsReading text.now result }
     {
-        let mut tenants = Vec::new(alloc);
-        tenants.push(built_in_tenant(alloc, b"ann", b"a", 1_000_000)?)?;
-        tenants.push(built_in_tenant(alloc, b"ben", b"ab", 1_000_000)?)?;
-        tenants.push(built_in_tenant(alloc, b"cap", b"", 100)?)?;
-        Ok(Tenants { tenants })
+        match toml::table_from_str(heap, text) {
+            Ok(table) => Ok(Tenants {
+                tenants: read_table(alloc, &table)?,
+            }),
+            Err(error) if error.is_memory() => Err(TenantsFault::OutOfMemory),
+            Err(_) => Err(TenantsFault::NotToml),
+        }
     }
 }
 
@@ -91,28 +96,6 @@ impl<A: Allocator> Tenants<A> {
     {
         self.tenants[index as usize - 1].quota
     }
-}
-
-/// SHA-256 of "abc".
-const DIGEST_OF_ABC: [u8; 32] = [
-    0xba, 0x78, 0x16, 0xbf, 0x8f, 0x01, 0xcf, 0xea, 0x41, 0x41, 0x40, 0xde, 0x5d, 0xae, 0x22, 0x23,
-    0xb0, 0x03, 0x61, 0xa3, 0x96, 0x17, 0x7a, 0x9c, 0xb4, 0x10, 0xff, 0x61, 0xf2, 0x00, 0x15, 0xad,
-];
-
-fn built_in_tenant<A: Allocator + Copy>(
-    alloc: A,
-    name: &[u8],
-    salt: &[u8],
-    quota: u64,
-) -> Result<Tenant<A>, AllocError>
-    ensures { IfOk result (λ t. entry_of t ≡ record { name = name.now; salt = salt.now; digest = digest_of_abc; quota = quota }) }
-{
-    Ok(Tenant {
-        name: ByteString::from_slice(alloc, name)?,
-        salt: ByteString::from_slice(alloc, salt)?,
-        digest: DIGEST_OF_ABC,
-        quota,
-    })
 }
 
 fn is_password<A: Allocator>(tenant: &Tenant<A>, password: &[u8]) -> bool
