@@ -3,3 +3,4 @@ pub mod Here
 pub mod Histories
 pub mod Runs
 pub mod Served
+pub mod Marked

@@ -38,3 +38,11 @@ TwoRuns =
     → (told_to entries tenant s.history ≡ told_to entries' tenant' s'.history)
     × (map encoding (told_to entries tenant s.history) ≡ map encoding (told_to entries' tenant' s'.history))
     × (stores tenant ≡ stores' tenant')
+
+-- The events, and the marks of what memory was refused to, say all: runs with the same marks tell each
+-- connection the same and leave each tenant the same store.
+abbrev pub OneRun : Type 0
+OneRun =
+    (entries : List Entry) (events : List Event) (told told' : List Told) (marks : List Mark) (stores stores' : ℕ → Store)
+    → Shows entries events told marks stores → Shows entries events told' marks stores'
+    → ((c : ℕ) → replies_to c told ≡ replies_to c told') × ((tenant : ℕ) → stores tenant ≡ stores' tenant)
