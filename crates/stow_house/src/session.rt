@@ -18,6 +18,9 @@ use stow_model::reply::Reply;
 use stow_model::simple_string::SimpleString;
 use stow_model::words::Words;
 
+#[cfg(test)]
+mod tests;
+
 /// One connection's login: the tenant of the last one that was accepted, if any was.
 #[derive(Drop)]
 pub struct Session {

@@ -382,3 +382,52 @@ fn a_run_withstands_each_refusal(rt: HostRuntime) -> Result<(), Fail> {
     assert!(rt; refusals >= 10, "{refusals} refusals");
     Ok(())
 }
+
+// One connection changes hands, and one tenant is served on two connections: a login that is accepted changes
+// who is served from the next request on, and one that fails changes nothing.
+#[test]
+fn connections_change_hands(rt: HostRuntime) -> Result<(), Fail> {
+    let alloc = rt.alloc();
+    let mut house = new_house(alloc, alloc)?;
+    let mut acts = Vec::new(alloc);
+    acts.push(Act::Open(1))?;
+    acts.push(Act::Open(2))?;
+    for (c, request) in HANDED_OVER {
+        acts.push(Act::Send(c, request))?;
+        acts.push(Act::Serve(c))?;
+    }
+    let events = events_of(alloc, acts.as_slice())?;
+    let Ok(outputs) = house.run(alloc, events.as_slice()) else {
+        assert!(rt; false, "memory was refused");
+        return Ok(());
+    };
+    let first = outputs.bytes(alloc, 1)?;
+    assert!(rt;
+        first.as_slice()
+            == b"+OK\r\n+OK\r\n+OK\r\n$-1\r\n+OK\r\n\
+-WRONGPASS invalid name or password\r\n$3\r\nben\r\n\
+-ERR wrong number of arguments\r\n$3\r\nben\r\n+OK\r\n$3\r\nann\r\n"
+                .as_slice()
+    );
+    let second = outputs.bytes(alloc, 2)?;
+    assert!(rt; second.as_slice() == b"+OK\r\n$3\r\nann\r\n:1\r\n".as_slice());
+    Ok(())
+}
+
+/// What each connection asks, in the order of the events.
+const HANDED_OVER: [(u32, Request); 14] = [
+    (1, ANN),
+    (1, &[b"SET", b"k", b"ann"]),
+    (1, BEN),
+    (1, &[b"GET", b"k"]),
+    (1, &[b"SET", b"k", b"ben"]),
+    (1, &[b"AUTH", b"ann", b"c"]),
+    (1, &[b"GET", b"k"]),
+    (1, &[b"AUTH", b"ann"]),
+    (1, &[b"GET", b"k"]),
+    (2, ANN),
+    (2, &[b"GET", b"k"]),
+    (1, ANN),
+    (1, &[b"GET", b"k"]),
+    (2, &[b"DEL", b"k"]),
+];
