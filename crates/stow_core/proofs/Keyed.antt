@@ -140,10 +140,10 @@ cmp-own_key t a b own own' = sym (cmp-packed t (own_key a) (own_key b)) ∙ (λ 
 level : (x y : ℕ) (r s : Ordering) (o : Ordering) → nat_cmp y x ≡ o → is_le (ordering_then (nat_cmp x y) r) ≡ true → ordering_then (nat_cmp y x) s ≡ Less → (y ≡ x) × (is_le r ≡ true) × (s ≡ Less)
 level x y r s Less e le lt = absurd (false≢true (sym (ap (λ p. is_le (ordering_then p r)) (nat_cmp_total.antisymm x y ∙ ap ordering_reverse e)) ∙ le))
 level x y r s Equal e le lt = (
-      map_of.nat_cmp-IsAntisymmetric y x e,
-      sym (ap (λ p. is_le (ordering_then p r)) (nat_cmp_total.antisymm x y ∙ ap ordering_reverse e)) ∙ le,
-      sym (ap (λ p. ordering_then p s) e) ∙ lt,
-    )
+  map_of.nat_cmp-IsAntisymmetric y x e,
+  sym (ap (λ p. is_le (ordering_then p r)) (nat_cmp_total.antisymm x y ∙ ap ordering_reverse e)) ∙ le,
+  sym (ap (λ p. ordering_then p s) e) ∙ lt,
+)
 level x y r s Greater e le lt = absurd (false≢true (ap is_lt (sym (ap (λ p. ordering_then p s) e) ∙ lt)))
 
 -- what stands between two keys with one front has this front

@@ -18,7 +18,11 @@ impl Interval<'_> {
         ensures { option_copied result ≡ (if reaches self.now key.now then Some (own_key key.now) else None) }
     {
         let own = key.strip_prefix(&self.tenant.to_be_bytes())?;
-        if is_below(self.to, own) { Some(own) } else { None }
+        if is_below(self.to, own) {
+            Some(own)
+        } else {
+            None
+        }
     }
 }
 

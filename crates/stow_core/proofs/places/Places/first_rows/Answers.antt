@@ -25,9 +25,9 @@ loop-key-preserved-in-Some-version g c =
     let version = c.in-Some-version.version in
     let left : IsLeft i.tenant i.from.now i.to.now c.loop-key.left whole (map item_of c.loop-key.items.items) ((key, Some (version_of version)) ∷ places_of c.next.new.self) =
     subst (λ ps. IsLeft i.tenant i.from.now i.to.now c.loop-key.left whole (map item_of c.loop-key.items.items) ps)
-        (ap places_of (c.in-Some.ensures.steps ∙ ap (λ v. (c.in-Some.key.now, v) ∷ c.next.new.self) c.in-Some-version.is)) c.loop-key.invariant in
+    (ap places_of (c.in-Some.ensures.steps ∙ ap (λ v. (c.in-Some.key.now, v) ∷ c.next.new.self) c.in-Some-version.is)) c.loop-key.invariant in
     let found = some_found (reach i.tenant i.to.now key) (own_key key) c.in-Some-own_key.own.now
-        (c.in-Some-own_key.ensures ∙ ap (λ k. cond (reach i.tenant i.to.now k) (Some (own_key k)) None) c.as_slice.ensures.value) in
+    (c.in-Some-own_key.ensures ∙ ap (λ k. cond (reach i.tenant i.to.now k) (Some (own_key k)) None) c.as_slice.ensures.value) in
     taken i.tenant i.from.now i.to.now c.loop-key.left whole (map item_of c.loop-key.items.items) (map item_of c.push_row.new.items.items) key c.in-Some-own_key.own.now (version_of version) (places_of c.next.new.self)
     left c.if-left-eq0.false found.0 found.1 c.in_ok-push_row.ensures
 
@@ -37,7 +37,7 @@ loop-key-preserved g c =
     let whole = flat_map row_items (rows_within i.from.now i.to.now c.args.count (rows_of i.tenant c.args.self.now)) in
     skipped i.tenant i.from.now i.to.now c.loop-key.left whole (map item_of c.loop-key.items.items) c.in-Some.key.now.items (places_of c.next.new.self)
     (subst (λ ps. IsLeft i.tenant i.from.now i.to.now c.loop-key.left whole (map item_of c.loop-key.items.items) ps)
-        (ap places_of (c.in-Some.ensures.steps ∙ ap (λ v. (c.in-Some.key.now, v) ∷ c.next.new.self) c.in_default-version.is)) c.loop-key.invariant)
+    (ap places_of (c.in-Some.ensures.steps ∙ ap (λ v. (c.in-Some.key.now, v) ∷ c.next.new.self) c.in_default-version.is)) c.loop-key.invariant)
 
 pub returns : goal.returns
 returns g c =
@@ -49,6 +49,6 @@ returns g c =
       | in-Some+in_default w ↦ past_end i.tenant i.from.now i.to.now c.loop-key.left whole told w.in-Some.key.now.items _ (places_of c.next.new.self)
           (subst (λ ps. IsLeft i.tenant i.from.now i.to.now c.loop-key.left whole told ps) (ap places_of w.in-Some.ensures.steps) c.loop-key.invariant)
           (none_found (reach i.tenant i.to.now w.in-Some.key.now.items) (own_key w.in-Some.key.now.items)
-              (sym (ap option_copied w.in_default.is) ∙ w.own_key.ensures ∙ ap (λ k. cond (reach i.tenant i.to.now k) (Some (own_key k)) None) w.as_slice.ensures.value))
+          (sym (ap option_copied w.in_default.is) ∙ w.own_key.ensures ∙ ap (λ k. cond (reach i.tenant i.to.now k) (Some (own_key k)) None) w.as_slice.ensures.value))
       | in-Some+in-Some-own_key+then-left-eq0 w ↦ counted_off i.tenant i.from.now i.to.now c.loop-key.left whole told (places_of c.loop-key.key-iterator) c.loop-key.invariant w.if-left-eq0.true
     ]

@@ -1,0 +1,97 @@
+//! Random requests of three tenants, each beside the tenant's own plain store.
+use crate::Core;
+use crate::tests::new_core;
+use crate::tests::text::{reply_text, words_of};
+use std::alloc::{AllocError, Allocator};
+use std::string::String;
+use std::test::Fail;
+use stow_plain::plain_request::PlainRequest;
+use stow_plain::plain_store::PlainStore;
+
+const KEYS: [&str; 6] = ["''", "a", "ab", "b", "b0", "c"];
+
+const VALUES: [&str; 6] = ["''", "7", "-3", "x", "9223372036854775807", "007"];
+
+/// The next number of a fixed row of numbers that looks random.
+fn random(state: &mut u64) -> u64 {
+    *state = (*state)
+        .wrapping_mul(6_364_136_223_846_793_005)
+        .wrapping_add(1_442_695_040_888_963_407);
+    let value = *state;
+    value / 8_589_934_592
+}
+
+fn one_of(state: &mut u64, words: &[&'static str; 6]) -> &'static str {
+    words[(random(state) % 6) as usize]
+}
+
+/// A random request's line.
+fn random_line<A: Allocator + Copy>(alloc: A, state: &mut u64) -> Result<String<A>, AllocError> {
+    let k = one_of(state, &KEYS);
+    let l = one_of(state, &KEYS);
+    let v = one_of(state, &VALUES);
+    let n = random(state) % 5;
+    match random(state) % 16 {
+        0 => format!(in alloc; "GET {k}"),
+        1 => format!(in alloc; "MGET {k} {l} {k}"),
+        2 => format!(in alloc; "EXISTS {k} {l} {k}"),
+        3 => format!(in alloc; "STRLEN {k}"),
+        4 => format!(in alloc; "RANGE {k} {l} {n}"),
+        5 => format!(in alloc; "RANGE {k} '' {n}"),
+        6 => format!(in alloc; "SET {k} {v} NX"),
+        7 => format!(in alloc; "SET {k} {v} XX"),
+        8 => format!(in alloc; "APPEND {k} {v}"),
+        9 => format!(in alloc; "INCR {k}"),
+        10 => format!(in alloc; "DECR {k}"),
+        11 => format!(in alloc; "INCRBY {k} {v}"),
+        12 => format!(in alloc; "DEL {k} {l}"),
+        13 => format!(in alloc; "DEL {k} {l} {k}"),
+        14 => format!(in alloc; "ECHO {v}"),
+        _ => format!(in alloc; "SET {k} {v}"),
+    }
+}
+
+/// Whether the core and the tenant's own store tell a line the same.
+fn is_alike<A: Allocator + Copy>(
+    core: &mut Core<A>,
+    alone: &mut PlainStore<A>,
+    alloc: A,
+    tenant: u32,
+    line: &str,
+) -> Result<bool, AllocError> {
+    let words = words_of(alloc, line)?;
+    let told = core.call(alloc, tenant, &words);
+    let request = PlainRequest {
+        words,
+        is_refused: false,
+    };
+    let want = alone.step(alloc, &request)?;
+    Ok(reply_text(alloc, &told)? == reply_text(alloc, &want)?)
+}
+
+#[test]
+fn random_requests_are_answered_as_alone(rt: HostRuntime) -> Result<(), Fail> {
+    let alloc = rt.alloc();
+    let mut core = new_core(alloc, alloc)?;
+    let mut stores = [
+        PlainStore::new(alloc, 1_000_000),
+        PlainStore::new(alloc, 1_000_000),
+        PlainStore::new(alloc, 1_000_000),
+    ];
+    let mut state = 7u64;
+    for _ in 0..3_000 {
+        let place = random(&mut state) % 3;
+        let line = random_line(alloc, &mut state)?;
+        let alone = &mut stores[place as usize];
+        assert!(rt;
+            is_alike(&mut core, alone, alloc, place as u32 + 1, line.as_str())?,
+            "{line}"
+        );
+    }
+    for place in 0..3u32 {
+        let alone = &mut stores[place as usize];
+        assert!(rt; alone.last > 100);
+        assert!(rt; is_alike(&mut core, alone, alloc, place + 1, "RANGE '' '' 1024")?);
+    }
+    Ok(())
+}

@@ -1,0 +1,135 @@
+//! Each request for memory of each command, refused in turn.
+use crate::Core;
+use crate::tests::new_core;
+use crate::tests::text::{is_text, is_told, words_of};
+use std::alloc::{AllocError, Allocator, Global};
+use std::test::Fail;
+use stow_model::words::Words;
+use stow_refusing::{Plan, Refusing};
+
+/// A request of tenant 1, its reply, and what then stands at the keys `a` and `b`, the first of which had "old".
+#[derive(Clone, Copy)]
+struct Case {
+    line: &'static str,
+    told: &'static str,
+    a: &'static str,
+    b: &'static str,
+}
+
+/// A core in which tenant 1 has "old" at the key `a`, and tenant 2 "other".
+fn started<A: Allocator + Copy>(alloc: A, global: Global) -> Result<Core<A>, AllocError> {
+    let mut core = new_core(alloc, global)?;
+    let _done = is_told(&mut core, alloc, 1, "SET a old", "OK")?;
+    let _done = is_told(&mut core, alloc, 2, "SET a other", "OK")?;
+    Ok(core)
+}
+
+/// Whether tenant 1 has these values at the keys `a` and `b`, and tenant 2 what it had.
+fn stands<A: Allocator + Copy>(
+    core: &mut Core<A>,
+    alloc: A,
+    a: &str,
+    b: &str,
+) -> Result<bool, AllocError> {
+    Ok(
+        is_told(core, alloc, 1, "GET a", a)?
+            && is_told(core, alloc, 1, "GET b", b)?
+            && is_told(core, alloc, 2, "RANGE '' '' 9", "[$a $other ]")?,
+    )
+}
+
+/// Whether the prepare is refused memory. It is, just where it asks for the request that is refused to it.
+fn is_refused<'a, B: Allocator>(
+    heap: &'a Refusing<B>,
+    core: &mut Core<&'a Refusing<B>>,
+    words: &Words<&'a Refusing<B>>,
+    at: u64,
+) -> bool {
+    heap.set(Plan::RefuseAt(at));
+    let refused = core.prepare(heap, 1, words).is_err();
+    heap.set(Plan::Grant);
+    refused
+}
+
+/// Whether the words are prepared with memory, and then committed with none, and told this.
+fn commits<'a, B: Allocator>(
+    heap: &'a Refusing<B>,
+    core: &mut Core<&'a Refusing<B>>,
+    words: &Words<&'a Refusing<B>>,
+    told: &str,
+) -> Result<bool, AllocError> {
+    let prepared = core.prepare(heap, 1, words)?;
+    let foretold = is_text(heap, prepared.reply(), told)?;
+    heap.set(Plan::RefuseAll);
+    let reply = core.commit(prepared);
+    let asked = heap.asked();
+    heap.set(Plan::Grant);
+    Ok(foretold && asked == 0 && is_text(heap, &reply, told)?)
+}
+
+/// Whether the case withstands the refusal of this request for memory, or `None` if it asks for fewer.
+fn withstands<B: Allocator>(
+    heap: &Refusing<B>,
+    global: Global,
+    case: Case,
+    at: u64,
+) -> Result<Option<bool>, AllocError> {
+    let mut core = started(heap, global)?;
+    let words = words_of(heap, case.line)?;
+    if !is_refused(heap, &mut core, &words, at) {
+        return Ok(None);
+    }
+    let stood = stands(&mut core, heap, "$old", "nil")?;
+    let done = commits(heap, &mut core, &words, case.told)?;
+    Ok(Some(stood && done && stands(&mut core, heap, case.a, case.b)?))
+}
+
+/// How many requests for memory the case makes, if it withstands the refusal of each.
+fn refusals<B: Allocator>(
+    heap: &Refusing<B>,
+    global: Global,
+    case: Case,
+) -> Result<Option<u64>, AllocError> {
+    for at in 0..100u64 {
+        match withstands(heap, global, case, at)? {
+            None => return Ok(Some(at)),
+            Some(true) => {}
+            Some(false) => return Ok(None),
+        }
+    }
+    Ok(None)
+}
+
+// Each request for memory of a prepare is refused in turn: what stood before still stands, and the same call
+// succeeds once memory is there. Its commit, to which every request is refused, asks for none.
+#[test]
+fn prepares_withstand_each_refusal(rt: HostRuntime) -> Result<(), Fail> {
+    let global = rt.alloc();
+    let heap = Refusing::new(global);
+    let used = "ERR value is not an integer or out of range";
+    for (line, told, a, b, least) in [
+        ("SET a new", "OK", "$new", "nil", 2),
+        ("SET b new", "OK", "$old", "$new", 3),
+        ("SET b new NX", "OK", "$old", "$new", 3),
+        ("SET a new NX", "nil", "$old", "nil", 1),
+        ("SET a new XX", "OK", "$new", "nil", 2),
+        ("GET a", "$old", "$old", "nil", 2),
+        ("MGET a b a", "[$old nil $old ]", "$old", "nil", 4),
+        ("EXISTS a b a", ":2", "$old", "nil", 1),
+        ("STRLEN a", ":3", "$old", "nil", 1),
+        ("RANGE '' '' 9", "[$a $old ]", "$old", "nil", 4),
+        ("PING hello", "$hello", "$old", "nil", 1),
+        ("ECHO hello", "$hello", "$old", "nil", 1),
+        ("APPEND a er", ":5", "$older", "nil", 2),
+        ("APPEND b er", ":2", "$old", "$er", 3),
+        ("INCR b", ":1", "$old", "$1", 3),
+        ("DECR b", ":-1", "$old", "$-1", 3),
+        ("INCRBY b 12", ":12", "$old", "$12", 3),
+        ("INCR a", used, "$old", "nil", 1),
+        ("DEL b a", ":1", "nil", "nil", 2),
+    ] {
+        let needed = refusals(&heap, global, Case { line, told, a, b })?;
+        assert!(rt; matches!(needed, Some(n) if n >= least), "{line}");
+    }
+    Ok(())
+}

@@ -1,0 +1,84 @@
+//! Replies as texts, and requests of lines.
+use crate::Core;
+use std::alloc::{AllocError, Allocator};
+use stow_model::byte_string::ByteString;
+use stow_model::item::Item;
+use stow_model::refusal::refusal_text;
+use stow_model::reply::Reply;
+use stow_model::simple_string::SimpleString;
+use stow_model::stream_fault::fault_text;
+use stow_model::words::Words;
+
+/// The words of a line, of which `''` is the empty one.
+pub fn words_of<A: Allocator + Copy>(alloc: A, line: &str) -> Result<Words<A>, AllocError> {
+    let mut words = Vec::new(alloc);
+    for word in line.split_whitespace() {
+        let bytes = if word == "''" { b"" } else { word.as_bytes() };
+        words.push(ByteString::from_slice(alloc, bytes)?)?;
+    }
+    Ok(Words::from_vec(words))
+}
+
+/// A reply's text: `$` before a bulk string, `:` before an integer, brackets around an array.
+pub fn reply_text<A: Allocator + Copy>(
+    alloc: A,
+    reply: &Reply<A>,
+) -> Result<Vec<u8, A>, AllocError> {
+    let mut text = Vec::new(alloc);
+    match reply {
+        Reply::Simple(SimpleString::Ok) => text.extend_from_slice(b"OK")?,
+        Reply::Simple(SimpleString::Pong) => text.extend_from_slice(b"PONG")?,
+        Reply::Error(refusal) => text.extend_from_slice(refusal_text(*refusal))?,
+        Reply::ProtocolError(fault) => text.extend_from_slice(fault_text(*fault))?,
+        Reply::Integer(n) => text.extend_from_slice(format!(in alloc; ":{n}")?.as_bytes())?,
+        Reply::Bulk(bytes) => {
+            text.push(b'$')?;
+            text.extend_from_slice(bytes.as_slice())?;
+        }
+        Reply::Null => text.extend_from_slice(b"nil")?,
+        Reply::Array(items) => {
+            text.push(b'[')?;
+            for item in items.as_slice() {
+                text.extend_from_slice(item_text(alloc, item)?.as_slice())?;
+            }
+            text.push(b']')?;
+        }
+    }
+    Ok(text)
+}
+
+fn item_text<A: Allocator + Copy>(alloc: A, item: &Item<A>) -> Result<Vec<u8, A>, AllocError> {
+    let mut text = Vec::new(alloc);
+    match item {
+        Item::Integer(n) => text.extend_from_slice(format!(in alloc; ":{n}")?.as_bytes())?,
+        Item::Bulk(bytes) => {
+            text.push(b'$')?;
+            text.extend_from_slice(bytes.as_slice())?;
+        }
+        Item::Null => text.extend_from_slice(b"nil")?,
+    }
+    text.push(b' ')?;
+    Ok(text)
+}
+
+/// Whether a reply has this text.
+pub fn is_text<A: Allocator + Copy>(
+    alloc: A,
+    reply: &Reply<A>,
+    want: &str,
+) -> Result<bool, AllocError> {
+    Ok(reply_text(alloc, reply)?.as_slice() == want.as_bytes())
+}
+
+/// Whether the tenant's words are told this.
+pub fn is_told<A: Allocator + Copy>(
+    core: &mut Core<A>,
+    alloc: A,
+    tenant: u32,
+    line: &str,
+    want: &str,
+) -> Result<bool, AllocError> {
+    let words = words_of(alloc, line)?;
+    let reply = core.call(alloc, tenant, &words);
+    is_text(alloc, &reply, want)
+}
