@@ -21,9 +21,10 @@ fn told_in_pieces(
 ) -> Result<Vec<u8>, AllocError> {
     let mut input = Input::new(alloc);
     let mut log = Vec::new(alloc);
-    input.feed(&bytes[..first])?;
+    let (front, back) = bytes.split_at(first.min(bytes.len()));
+    input.feed(front)?;
     let mut told = tell(&mut input, alloc, &mut log)?;
-    for piece in bytes[first..].chunks(size) {
+    for piece in back.chunks(size.max(1)) {
         log.truncate(told);
         input.feed(piece)?;
         told = tell(&mut input, alloc, &mut log)?;
@@ -95,7 +96,7 @@ fn next_random(number: u64) -> u64 {
         .wrapping_add(1_442_695_040_888_963_407)
 }
 
-/// A stream of some parts that are drawn, some of them with a byte changed.
+/// A stream of some parts that are drawn, with some bytes changed.
 fn random_stream(alloc: Global, seed: u64) -> Result<Vec<u8>, AllocError> {
     let parts: [&[u8]; 16] = [
         b"PING\r\n",
@@ -119,12 +120,11 @@ fn random_stream(alloc: Global, seed: u64) -> Result<Vec<u8>, AllocError> {
     let mut number = next_random(seed);
     for _ in 0..6 {
         number = next_random(number);
-        let part = parts[(number >> 60) as usize];
-        bytes.extend_from_slice(part)?;
-        let at = (number >> 50) as usize % 64;
-        if at < part.len() {
-            let place = bytes.len() - part.len() + at;
-            bytes[place] = b"\r\n*$ '10x\t"[(number >> 40) as usize % 10];
+        bytes.extend_from_slice(parts[(number >> 60) as usize % 16])?;
+        let back = (number >> 50) as usize % 32;
+        let place = bytes.len().saturating_sub(back);
+        if let Some(byte) = bytes.get_mut(place) {
+            *byte = b"\r\n*$ '10x\t"[(number >> 40) as usize % 10];
         }
     }
     Ok(bytes)
@@ -153,7 +153,7 @@ fn long_line(rt: &impl Abort, alloc: Global, len: usize, size: usize) -> Result<
     let mut bytes = Vec::new(alloc);
     bytes.resize(len, b'x')?;
     let mut input = Input::new(alloc);
-    for piece in bytes.as_slice().chunks(size) {
+    for piece in bytes.as_slice().chunks(size.max(1)) {
         assert!(rt; matches!(input.next(alloc), Next::More));
         input.feed(piece)?;
     }
@@ -175,7 +175,7 @@ fn too_long_line(rt: &impl Abort, alloc: Global, size: usize, end: &[u8]) -> Res
     let mut bytes = Vec::new(alloc);
     bytes.resize(65_536, b'x')?;
     let mut input = Input::new(alloc);
-    for piece in bytes.as_slice().chunks(size) {
+    for piece in bytes.as_slice().chunks(size.max(1)) {
         assert!(rt; matches!(input.next(alloc), Next::More));
         input.feed(piece)?;
     }
