@@ -139,10 +139,38 @@ fn random_streams(rt: HostRuntime) -> Result<(), Fail> {
         let want = told_plainly(alloc, bytes.as_slice())?;
         for cut in 0..bytes.len() {
             let log = told_in_pieces(alloc, bytes.as_slice(), cut, bytes.len())?;
-            assert_eq!(rt; log.as_slice(), want.as_slice(), "stream {seed} cut at {cut}");
+            assert_eq!(rt;
+                log.as_slice(),
+                want.as_slice(),
+                "stream {seed} cut at {cut}"
+            );
         }
         let log = told_in_pieces(alloc, bytes.as_slice(), 0, 1)?;
-        assert_eq!(rt; log.as_slice(), want.as_slice(), "stream {seed} byte by byte");
+        assert_eq!(rt;
+            log.as_slice(),
+            want.as_slice(),
+            "stream {seed} byte by byte"
+        );
+    }
+    Ok(())
+}
+
+// A stream with any one of its bytes changed to any value is told as the plain reader tells it.
+#[test]
+fn each_byte_changed(rt: HostRuntime) -> Result<(), Fail> {
+    let alloc = rt.alloc();
+    let bytes =
+        b"*3\r\n$4\r\nAUTH\r\n$3\r\nann\r\n$2\r\nbc\r\n*3\r\n$3\r\nSET\r\n$1\r\nk\r\n$2\r\nv1\r\n*2\r\n$3\r\nGET\r\n$1\r\nk\r\n";
+    for place in 0..bytes.len() {
+        let mut changed = Vec::from_slice(alloc, bytes)?;
+        for value in 0..=255u8 {
+            if let Some(byte) = changed.get_mut(place) {
+                *byte = value;
+            }
+            let want = told_plainly(alloc, changed.as_slice())?;
+            let log = told_in_pieces(alloc, changed.as_slice(), place, 5)?;
+            assert_eq!(rt; log.as_slice(), want.as_slice(), "{value} at {place}");
+        }
     }
     Ok(())
 }
