@@ -1,7 +1,7 @@
 //! The command line.
 use crate::failure::Failure;
 use clap::error::ErrorKind;
-use clap::{Command, Error};
+use clap::{Arg, ArgAction, ArgMatches, Command, Error};
 use std::alloc::Global;
 
 /// What the program is asked to do.
@@ -13,31 +13,61 @@ pub enum Task {
     Script,
 }
 
-/// The task that the words name, of which the first is the program's own name.
-pub fn read_task(alloc: Global, words: &[String]) -> Result<Task, Failure> {
+/// What the words of the command line say.
+#[derive(Debug, Drop)]
+pub struct Arguments<'a> {
+    pub task: Task,
+    /// The path of the tenant file.
+    pub tenants: &'a str,
+}
+
+/// What the words say, of which the first is the program's own name.
+pub fn read_arguments(alloc: Global, words: &[String]) -> Result<Arguments<'_>, Failure> {
     match found(alloc, words) {
-        Ok(task) => Ok(task),
+        Ok(Some(arguments)) => Ok(arguments),
+        Ok(None) => Err(Failure::Arguments(String::new(alloc))),
         Err(error) => Err(refused(alloc, &error)),
     }
 }
 
-fn found(alloc: Global, words: &[String]) -> Result<Task, Error> {
-    let pipe = Command::new(alloc, "pipe").about(
-        "Answers the requests on standard input, as one connection",
-    );
-    let script = Command::new(alloc, "script").about(
-        "Carries out the events of a script on standard input",
-    );
+fn found(alloc: Global, words: &[String]) -> Result<Option<Arguments<'_>>, Error> {
+    let pipe = Command::new(alloc, "pipe")
+        .about("Answers the requests on standard input, as one connection")
+        .arg(tenants(alloc))?;
+    let script = Command::new(alloc, "script")
+        .about("Carries out the events of a script on standard input")
+        .arg(tenants(alloc))?;
     let command = Command::new(alloc, "stow")
         .about("An ordered key-value service for many tenants, spoken to in RESP2")
         .subcommand_required(true)
         .subcommand(pipe)?
         .subcommand(script)?;
     let matches = command.try_get_matches_from(words)?;
-    match matches.subcommand_name() {
-        Some("script") => Ok(Task::Script),
-        _ => Ok(Task::Pipe),
-    }
+    Ok(arguments_of(&matches))
+}
+
+/// The option that each task needs.
+fn tenants<'a>(alloc: Global) -> Arg<'a> {
+    Arg::new(alloc, "tenants")
+        .long("tenants")
+        .value_name("FILE")
+        .help("The tenant file")
+        .required(true)
+        .action(ArgAction::Set)
+}
+
+/// What was matched; each task that is matched has its file.
+fn arguments_of<'a>(matches: &ArgMatches<'a>) -> Option<Arguments<'a>> {
+    let (name, matches) = matches.subcommand()?;
+    let task = if name == "script" {
+        Task::Script
+    } else {
+        Task::Pipe
+    };
+    Some(Arguments {
+        task,
+        tenants: matches.get_str("tenants")?,
+    })
 }
 
 /// What is told where the parser gives no task.

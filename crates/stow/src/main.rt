@@ -1,12 +1,13 @@
 //! The program `stow`.
 //!
-//! It reads its arguments, makes a new service, and either answers the bytes of one connection (`pipe`) or
-//! carries a script's events out (`script`). Proved of it: it is safe, and it ends where its input does. What
+//! It reads its arguments and the tenant file that they name, makes a new service, and either answers the bytes
+//! of one connection (`pipe`) or carries a script's events out (`script`). Proved of it: it is safe, and it ends where its input does. What
 //! it says is shown by tests; what the service answers is proved in the crates below.
 #![tactic(auto)]
 
 mod arguments;
 mod failure;
+mod folder;
 mod line;
 mod pipe;
 mod program;
@@ -15,6 +16,7 @@ mod script;
 mod tests;
 mod text;
 
+use folder::System;
 use program::program;
 use std::alloc::Global;
 use std::process::ExitCode;
@@ -23,6 +25,7 @@ fn main(rt: HostRuntime) -> ExitCode {
     match words(&rt) {
         Ok(words) => ExitCode::from(program(
             rt.alloc(),
+            &System { rt: &rt },
             words.as_slice(),
             &mut rt.stdin(),
             &mut rt.stdout(),

@@ -1,4 +1,5 @@
 //! The program over memory: worked examples whose answers come from the service's description.
+use crate::folder::Folder;
 use crate::program::program;
 use std::alloc::{AllocError, Global};
 use std::io;
@@ -69,25 +70,98 @@ struct Ended {
     errors: Vec<u8>,
 }
 
-fn words(alloc: Global, task: &str) -> Result<Vec<String>, AllocError> {
+/// The tenant file's text.
+const THREE: &str = "[[tenant]]
+name = \"ann\"
+salt = \"61\"
+digest = \"ba7816bf8f01cfea414140de5dae2223b00361a396177a9cb410ff61f20015ad\"
+quota = 1000000
+[[tenant]]
+name = \"ben\"
+salt = \"6162\"
+digest = \"ba7816bf8f01cfea414140de5dae2223b00361a396177a9cb410ff61f20015ad\"
+quota = 1000000
+[[tenant]]
+name = \"cap\"
+salt = \"\"
+digest = \"ba7816bf8f01cfea414140de5dae2223b00361a396177a9cb410ff61f20015ad\"
+quota = 100
+";
+
+/// A file over memory: its bytes, or one whose reads fail.
+#[derive(Drop)]
+enum Held {
+    Bytes(&'static [u8]),
+    Broken,
+}
+
+impl Read for Held {
+    fn read(&mut self, buf: &mut [u8]) -> io::Result<usize> {
+        match self {
+            Held::Bytes(left) => {
+                let count = left.len().min(buf.len());
+                let (now, later) = left.split_at(count);
+                buf[..count].copy_from_slice(now);
+                *left = later;
+                Ok(count)
+            }
+            Held::Broken => Err(io::Error::from(io::ErrorKind::Other)),
+        }
+    }
+}
+
+/// Files over memory.
+struct Shelf;
+
+impl Folder for Shelf {
+    type File = Held;
+
+    fn open(&self, path: &str) -> io::Result<Held> {
+        match path {
+            "three.toml" => Ok(Held::Bytes(THREE.as_bytes())),
+            "empty.toml" => Ok(Held::Bytes(b"")),
+            "latin.toml" => Ok(Held::Bytes(b"# \xe9\n")),
+            "number.toml" => Ok(Held::Bytes(b"tenant = 1")),
+            "broken.toml" => Ok(Held::Broken),
+            _ => Err(io::Error::from(io::ErrorKind::NotFound)),
+        }
+    }
+}
+
+/// The words of a command line, after the program's own name.
+fn words_of(alloc: Global, line: &str) -> Result<Vec<String>, AllocError> {
     let mut words = Vec::new(alloc);
     words.push(String::from_str(alloc, "stow")?)?;
-    if !task.is_empty() {
-        words.push(String::from_str(alloc, task)?)?;
+    for word in line.split_whitespace() {
+        words.push(String::from_str(alloc, word)?)?;
     }
     Ok(words)
 }
 
-fn run<R: Read>(alloc: Global, task: &str, input: &mut R) -> Result<Ended, AllocError> {
-    let words = words(alloc, task)?;
+/// Runs a command line over files and input.
+fn run_line<R: Read>(alloc: Global, line: &str, input: &mut R) -> Result<Ended, AllocError> {
+    let words = words_of(alloc, line)?;
     let mut output = Vec::new(alloc);
     let mut errors = Vec::new(alloc);
-    let status = program(alloc, words.as_slice(), input, &mut output, &mut errors);
+    let status = program(
+        alloc,
+        &Shelf,
+        words.as_slice(),
+        input,
+        &mut output,
+        &mut errors,
+    );
     Ok(Ended {
         status,
         output,
         errors,
     })
+}
+
+/// Runs the task for the three tenants.
+fn run<R: Read>(alloc: Global, task: &str, input: &mut R) -> Result<Ended, AllocError> {
+    let line = format!(in alloc; "{task} --tenants three.toml")?;
+    run_line(alloc, line.as_str(), input)
 }
 
 /// Runs the task over the bytes, and wants status 0 and this output.
@@ -339,24 +413,66 @@ fn bad_lines_are_told_by_their_number(rt: HostRuntime) -> Result<(), Fail> {
 fn the_status_tells_why_it_ended(rt: HostRuntime) -> Result<(), Fail> {
     let alloc = rt.alloc();
     let mut none: &[u8] = b"";
-    for task in ["", "bogus", "--bogus"].iter() {
-        let ended = run(alloc, task, &mut none)?;
+    for line in [
+        "",
+        "bogus",
+        "--bogus",
+        "--tenants three.toml",
+        "pipe",
+        "script",
+        "pipe --tenants",
+        "pipe three.toml",
+        "script --tenants three.toml --bogus",
+        "bogus --tenants empty.toml",
+    ] {
+        let ended = run_line(alloc, line, &mut none)?;
         assert!(rt;
             ended.status == 2 && ended.output.is_empty() && !ended.errors.is_empty(),
-            "{task}"
+            "{line}"
         );
     }
-    let help = run(alloc, "--help", &mut none)?;
-    assert!(rt; help.status == 0 && !help.output.is_empty() && help.errors.is_empty());
+    for line in ["--help", "pipe --help"] {
+        let help = run_line(alloc, line, &mut none)?;
+        assert!(rt; help.status == 0 && !help.output.is_empty() && help.errors.is_empty());
+    }
     for task in ["pipe", "script"].iter() {
         let failed = run(alloc, task, &mut Broken)?;
         assert!(rt; failed.status == 4 && failed.output.is_empty());
         assert!(rt; failed.errors.as_slice() == b"stow: input or output failed\n".as_slice());
     }
-    let words = words(alloc, "pipe")?;
+    let words = words_of(alloc, "pipe --tenants three.toml")?;
     let mut errors = Vec::new(alloc);
     let mut input = HELLO;
-    let status = program(alloc, words.as_slice(), &mut input, &mut Full, &mut errors);
+    let status = program(
+        alloc,
+        &Shelf,
+        words.as_slice(),
+        &mut input,
+        &mut Full,
+        &mut errors,
+    );
     assert!(rt; status == 4);
+    Ok(())
+}
+
+// The tenant file is looked at after the arguments and before the input, and nothing is told on standard output.
+#[test]
+fn a_refused_tenant_file_is_told(rt: HostRuntime) -> Result<(), Fail> {
+    let alloc = rt.alloc();
+    for (file, status, told) in [
+        ("empty.toml", 3, "stow: tenant file refused: fault 7\n"),
+        ("latin.toml", 3, "stow: tenant file refused: fault 1\n"),
+        ("number.toml", 3, "stow: tenant file refused: fault 2\n"),
+        ("broken.toml", 4, "stow: input or output failed\n"),
+        ("missing.toml", 4, "stow: input or output failed\n"),
+    ] {
+        for task in ["pipe", "script"] {
+            let line = format!(in alloc; "{task} --tenants {file}")?;
+            let mut bad_line: &[u8] = b"shape\n";
+            let ended = run_line(alloc, line.as_str(), &mut bad_line)?;
+            assert!(rt; ended.status == status && ended.output.is_empty(), "{line}");
+            assert!(rt; ended.errors.as_slice() == told.as_bytes(), "{line}");
+        }
+    }
     Ok(())
 }

@@ -4,4 +4,3 @@ pub mod Stores
 pub mod Within
 pub mod Removed
 pub mod Answered
-pub mod Listed

@@ -1,4 +1,3 @@
-pub mod Entries
 pub mod Keys
 pub mod Places
 pub mod State

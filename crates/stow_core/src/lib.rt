@@ -3,8 +3,8 @@
 //! What a tenant has is `store_of` of the core's value. `Core::prepare` asks for all the memory that an
 //! answer takes and changes no tenant's store. `Core::commit` then takes none and cannot fail: it moves the
 //! tenant's store as the answer says and leaves every other tenant's as it was. `Core::call` does both: an
-//! answer to which memory was refused leaves every store as it was. `Tenants` says whom a name and a password
-//! log in.
+//! answer to which memory was refused leaves every store as it was. Who the tenants are is said by `Tenants`
+//! of `stow_login`.
 //!
 //! A body that prepares the same words twice is right too, since a prepared answer that is never carried out
 //! changes nothing.
@@ -28,10 +28,10 @@ use std::alloc::{AllocError, Allocator, Global};
 use std::marker::Model;
 use std::sync::Arc;
 use stow_commands::command::Command;
+use stow_login::tenants::Tenants;
 use stow_model::refusal::Refusal;
 use stow_model::reply::Reply;
 use stow_model::words::Words;
-use tenants::Tenants;
 
 pub mod account;
 pub mod change;
@@ -44,8 +44,6 @@ mod places;
 pub mod prepared;
 mod preparing;
 mod reading;
-pub mod tenant;
-pub mod tenants;
 #[cfg(test)]
 mod tests;
 pub mod version;

@@ -1,27 +1,45 @@
 //! What no clause says: that the calls succeed where there is memory, that a commit asks for none, and worked
 //! and random requests of several tenants.
 use crate::Core;
-use crate::tenants::Tenants;
 use crate::tests::text::is_told;
-use std::alloc::{AllocError, Allocator};
+use std::alloc::{AllocError, Allocator, Global};
 use std::sync::Arc;
 use std::test::Fail;
-use stow_refusing::{Plan, Refusing};
+use stow_login::tenants::Tenants;
 
 mod alone;
 mod refusals;
 mod text;
 mod worked;
 
-fn new_core<A: Allocator + Copy>(alloc: A) -> Result<Core<A>, AllocError> {
-    let tenants = Arc::new(alloc, Tenants::built_in(alloc)?)?;
-    Core::new(alloc, tenants)
+/// Three tenants.
+const THREE: &str = "[[tenant]]
+name = \"ann\"
+salt = \"61\"
+digest = \"ba7816bf8f01cfea414140de5dae2223b00361a396177a9cb410ff61f20015ad\"
+quota = 1000000
+[[tenant]]
+name = \"ben\"
+salt = \"6162\"
+digest = \"ba7816bf8f01cfea414140de5dae2223b00361a396177a9cb410ff61f20015ad\"
+quota = 1000000
+[[tenant]]
+name = \"cap\"
+salt = \"\"
+digest = \"ba7816bf8f01cfea414140de5dae2223b00361a396177a9cb410ff61f20015ad\"
+quota = 100
+";
+
+/// A core of the three tenants; their file's table is kept in `global` for as long as it is read.
+fn new_core<A: Allocator + Copy>(alloc: A, global: Global) -> Result<Core<A>, AllocError> {
+    let tenants = Tenants::read(alloc, global, THREE).map_err(|_| AllocError)?;
+    Core::new(alloc, Arc::new(alloc, tenants)?)
 }
 
 #[test]
 fn each_tenant_has_its_own_keys(rt: HostRuntime) -> Result<(), Fail> {
     let alloc = rt.alloc();
-    let mut core = new_core(alloc)?;
+    let mut core = new_core(alloc, alloc)?;
     for (tenant, line, want) in [
         (1, "PING", "PONG"),
         (1, "PING hello", "$hello"),
@@ -44,36 +62,5 @@ fn each_tenant_has_its_own_keys(rt: HostRuntime) -> Result<(), Fail> {
         );
     }
     assert_eq!(rt; core.tenants().count(), 3);
-    Ok(())
-}
-
-/// Whether the tenant of this name has this quota.
-fn has_quota<A: Allocator>(tenants: &Tenants<A>, name: &[u8], quota: u64) -> bool {
-    match tenants.find(name) {
-        Some(index) => tenants.name(index) == name && tenants.quota(index) == quota,
-        None => false,
-    }
-}
-
-#[test]
-fn tenants_log_in_without_memory(rt: HostRuntime) -> Result<(), Fail> {
-    let heap = Refusing::new(rt.alloc());
-    let tenants = Tenants::built_in(&heap)?;
-    heap.set(Plan::RefuseAll);
-    for (name, password, want) in [
-        ("ann", "bc", Some(1)),
-        ("ben", "c", Some(2)),
-        ("cap", "abc", Some(3)),
-        ("ann", "abc", None),
-        ("dan", "", None),
-    ] {
-        assert!(rt;
-            tenants.check(name.as_bytes(), password.as_bytes()) == want,
-            "{name}"
-        );
-    }
-    assert!(rt; has_quota(&tenants, b"ann", 1_000_000) && has_quota(&tenants, b"cap", 100));
-    assert_eq!(rt; tenants.count(), 3);
-    assert_eq!(rt; heap.asked(), 0);
     Ok(())
 }

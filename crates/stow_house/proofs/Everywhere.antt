@@ -1,5 +1,5 @@
 -- What a step does to its own connection, said of every connection.
-use Rattle.std.proofs.Common.{◌≡◌, ◌≢◌, ℕ, eqb, Bool, true, false, List, [], ◌∷◌, ◌++◌, Option, Some, None, refl, ap, ◌∙◌, sym, subst, ⊎_elim}
+use Rattle.std.proofs.Common.{◌≡◌, ◌≢◌, ℕ, eqb, Bool, List, Option, refl, ap, ◌∙◌, sym, subst, ⊎_elim}
 use Rattle.std.specs.Prelude.{if◌then◌else◌, ◌==◌}
 use Rattle.std.specs.Bool.{MatchBool}
 use Rattle.std.proofs.lemmas.Bool.{cases_eq, cond-true, cond-false, eq-eqb, ne_eqb}
@@ -7,11 +7,11 @@ use Rattle.stow_model.specs.Login.{Entry}
 use Rattle.stow_model.specs.Reply.{Reply}
 use Rattle.stow_model.specs.Event.{Event}
 use Rattle.stow_model.specs.Event as event
-use Rattle.stow_model.specs.History.{Step, Void, Plain, Took, Broke, Status, Unused, IsOpen, Closed, opened, closed, status_after, status_after_message, served_after, served_after_message, stream_with, stream_after_event, Service, request_of, request_of_message, message_reply, told_by}
+use Rattle.stow_model.specs.History.{Step, Void, Plain, Took, Broke, Status, IsOpen, Closed, opened, closed, status_after, status_after_message, served_after, served_after_message, stream_with, stream_after_event, request_of, request_of_message, message_reply, told_by}
 use Rattle.stow_core.specs.State.{CoreState, store_of}
 use Rattle.stow_house.specs.Seen.{Seen}
 use Rattle.stow_house.specs.StepResult.{StepResult, answer_to_step, when_open, when_unused, Done, More}
-use Rattle.stow_house.specs.Steps.{moved, reply_in_core, TakesOff, Reads, CanWait, Can, Moves, IsEventAt, IsStepAt, status_here, status_here_by, served_here, unread_here_by, ReadsHere, CanHere, MovesHere}
+use Rattle.stow_house.specs.Steps.{moved, reply_in_core, TakesOff, Reads, CanWait, Can, Moves, IsEventAt, IsStepAt, status_here, served_here, unread_here_by, ReadsHere, CanHere, MovesHere}
 
 here : {A : Type 0} (d c : ℕ) (x y : A) → d ≡ c → (if d == c then x else y) ≡ x
 here d c x y e = cond-true (eqb d c) x y (eq-eqb d c e)

@@ -1,5 +1,5 @@
 -- What one event does to its own connection.
-use Rattle.std.proofs.Common.{◌≡◌, ◌≢◌, ℕ, Bool, true, false, List, [], ◌∷◌, ◌++◌, Option, Some, None, refl, ap, ◌∙◌, sym, subst, ⊎_elim}
+use Rattle.std.proofs.Common.{◌≡◌, ◌≢◌, ℕ, Bool, true, false, List, ◌++◌, Option, Some, None, refl, ap, ◌∙◌, sym, subst, ⊎_elim}
 use Rattle.std.proofs.lemmas.Bool.{cases_eq}
 use Rattle.stow_model.specs.declared.stream_fault.StreamFault.{StreamFault}
 use Rattle.stow_model.specs.Login.{Entry}
@@ -9,14 +9,15 @@ use Rattle.stow_model.specs.Reply as reply
 use Rattle.stow_model.specs.Event.{Event}
 use Rattle.stow_model.specs.Event as event
 use Rattle.stow_model.specs.Wire.{IsBegun, IsFaulty}
-use Rattle.stow_model.specs.History.{Step, Void, Plain, Took, Broke, Status, Unused, IsOpen, Closed, quoted_reply, status_after_event, stream_after_event}
+use Rattle.stow_model.specs.History.{Void, Plain, Took, Broke, Status, Unused, IsOpen, Closed, quoted_reply, status_after_event, stream_after_event}
 use Rattle.stow_core.specs.State.{CoreState}
 use Rattle.std.specs.Prelude.{is_some}
 use Rattle.stow_house.specs.declared.connection.Connection.{Connection}
 use Rattle.stow_house.specs.Seen.{Seen, seen, IsServed, never_opened, just_opened, status_by}
 use Rattle.stow_house.specs.StepResult.{StepResult, Done, Answered, More, Blank, Refused, NoMemory, answer_to_event}
 use Rattle.stow_house.specs.declared.house.House.{House}
-use Rattle.stow_house.specs.Steps.{TakesOff, IsEventAt, StepsHere, Steps, CanBePlain, core_of, seen_in, quoted_refusal}
+use Rattle.stow_house.specs.Steps.{TakesOff, IsEventAt, StepsHere, Steps, CanBePlain, core_of, seen_in}
+use Rattle.stow_house.specs.Sessions.{quoted_refusal}
 use Rattle.stow_house.proofs.Everywhere.{everywhere}
 
 pub void : (c : ℕ) (e : Event) (r : StepResult) (s new : Seen) (core : CoreState) → IsEventAt c e → r ≡ NoMemory → new ≡ s → StepsHere c e r s new core core

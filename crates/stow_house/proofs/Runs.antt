@@ -10,25 +10,23 @@ use Rattle.std.proofs.lemmas.Bool.{eq-eqb, ne_eqb}
 use Rattle.stow_model.specs.Reply.{encoding}
 use Rattle.std.proofs.lemmas.Bool.Decides.{nat_tests}
 use Rattle.std.proofs.lemmas.List.{reverse-append}
-use Rattle.stow_model.specs.declared.refusal.Refusal.{Refusal}
 use Rattle.stow_model.specs.declared.refusal.Refusal.TheVariants as refusal
-use Rattle.stow_model.specs.Login.{Entry, IsTenant, checked, login, login_from, quota_of}
-use Rattle.stow_model.specs.Message as message
+use Rattle.stow_model.specs.Login.{Entry, checked, login, login_from, quota_of}
 use Rattle.stow_model.specs.Reply.{Reply}
 use Rattle.stow_model.specs.Reply as reply
 use Rattle.stow_model.specs.Event.{Event}
 use Rattle.stow_model.specs.Event as event
 use Rattle.stow_model.specs.Store.{store_after, empty_store}
-use Rattle.stow_model.specs.History.{Step, Void, Plain, Took, Broke, event_of, Status, Unused, IsOpen, Closed, is_of, with_reply, told_by, message_reply, reply_of, status_of, served_as, taken_by, stream_of, line_of, output_of, IsHistory}
+use Rattle.stow_model.specs.History.{Step, Void, Plain, Took, Broke, event_of, Status, Unused, IsOpen, Closed, is_of, with_reply, told_by, reply_of, status_of, served_as, taken_by, stream_of, line_of, output_of, IsHistory}
 use Rattle.stow_core.specs.State.{CoreState, store_of, is_out_of_memory}
 use Rattle.stow_house.specs.declared.mark.Mark.{Mark}
 use Rattle.stow_house.specs.declared.mark.Mark.TheVariants as mark
 use Rattle.stow_house.specs.Seen.{Seen, never_opened, IsServed}
-use Rattle.stow_house.specs.StepResult.{StepResult, Done, Answered, More, Blank, Refused, NoJob, NoMemory, answer_to_event, answer_to_step, answered, when_open, when_unused}
+use Rattle.stow_house.specs.StepResult.{StepResult, Done, More, Refused, answer_to_step, answered, when_open, when_unused}
 use Rattle.stow_house.specs.Steps.{Moves, is_refused_request, is_told_out_of_memory, reply_in_core}
 use Rattle.stow_house.specs.Outputs.{Told, replies_to, told_to, told_of, mark_of, mark_of_reply, mark_if, mark_of_step, connection_of}
 use Rattle.stow_house.specs.Runs.{Shows}
-use Rattle.stow_house.proofs.Histories.{AgreesAt, Agrees, goes_on, tells}
+use Rattle.stow_house.proofs.Histories.{Agrees, goes_on, tells}
 
 -- ---- whom a login makes a connection's
 

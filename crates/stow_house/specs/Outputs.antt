@@ -1,5 +1,5 @@
 -- What a run led to.
-use Rattle.std.specs.Prelude.{◌≡◌, ℕ, ◌<◌, Bool, true, false, List, [], ◌∷◌, map, filter, Option, Some, None, ◌==◌, vec_len}
+use Rattle.std.specs.Prelude.{ℕ, ◌<◌, Bool, true, false, List, [], ◌∷◌, map, filter, Option, Some, None, ◌==◌, vec_len}
 use Rattle.std.specs.Vec.{vec_capacity}
 use Rattle.stow_model.specs.declared.refusal.Refusal.TheVariants as refusal
 use Rattle.stow_model.specs.Reply.{Reply, reply_of}

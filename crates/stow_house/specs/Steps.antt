@@ -1,9 +1,7 @@
 -- One step of the house.
-use Rattle.std.specs.Prelude.{◌≡◌, ◌≢◌, ℕ, Bool, true, false, List, [], ◌∷◌, ◌++◌, Option, Some, None, if◌then◌else◌, ◌==◌}
+use Rattle.std.specs.Prelude.{◌≡◌, ℕ, Bool, false, List, ◌++◌, Option, Some, None, if◌then◌else◌, ◌==◌}
 use Rattle.std.specs.Bool.{MatchBool}
 use Rattle.stow_model.specs.Login.{Entry, quota_of}
-use Rattle.stow_model.specs.declared.refusal.Refusal.{Refusal}
-use Rattle.stow_model.specs.declared.refusal.Refusal.TheVariants as refusal
 use Rattle.stow_model.specs.Message.{Message}
 use Rattle.stow_model.specs.Reply.{Reply}
 use Rattle.stow_model.specs.Event.{Event}
@@ -11,7 +9,7 @@ use Rattle.stow_model.specs.Event as event
 use Rattle.stow_model.specs.Wire.{Spells, IsBegun, IsFaulty}
 use Rattle.stow_model.specs.Command.{kind_of}
 use Rattle.stow_model.specs.Store.{Store, step}
-use Rattle.stow_model.specs.History.{Step, Void, Plain, Took, Broke, event_of, Status, Unused, IsOpen, Closed, opened, closed, status_after, status_after_kind, status_after_message, served_after, served_after_kind, served_after_message, stream_with, stream_after_event, Service, request_as, request_of, request_of_message, kind_reply, message_reply, told_by}
+use Rattle.stow_model.specs.History.{Step, Void, Plain, Took, Broke, event_of, Status, Unused, IsOpen, Closed, opened, closed, status_after, status_after_kind, status_after_message, served_after, served_after_kind, served_after_message, stream_with, stream_after_event, Service, request_as, request_of, kind_reply, told_by}
 use Rattle.stow_core.specs.State.{CoreState, store_of, is_out_of_memory}
 use Rattle.stow_house.specs.declared.connection.Connection.{Connection}
 use Rattle.stow_house.specs.declared.house.House.{House}
@@ -170,11 +168,7 @@ pub record StepsHere (c : ℕ) (e : Event) (r : StepResult) (old new : Seen) (be
 pub record AnsweredAs {A : Type 0} (old new : Connection A) (before after : CoreState) (words : List (List ℕ)) (r : Reply) : Type 0 where
   pub input : new.input ≡ old.input
   pub status : status_by new.is_open ≡ status_after_kind (kind_of words) IsOpen
-  pub tenant : new.tenant ≡ served_after_kind before.entries (kind_of words) old.tenant
+  pub tenant : new.session ≡ served_after_kind before.entries (kind_of words) old.session
   pub entries : after.entries ≡ before.entries
-  pub stores : (t : ℕ) → store_of after t ≡ moved before.entries t (request_as (kind_of words) words (is_out_of_memory r) old.tenant) (store_of before t)
-  pub told : r ≡ kind_reply before.entries (kind_of words) old.tenant (reply_in_core before (is_out_of_memory r) words)
-
-abbrev pub quoted_refusal : Option ℕ → Refusal
-quoted_refusal None = refusal.NotAuthenticated
-quoted_refusal (Some tenant) = refusal.QuotedInline
+  pub stores : (t : ℕ) → store_of after t ≡ moved before.entries t (request_as (kind_of words) words (is_out_of_memory r) old.session) (store_of before t)
+  pub told : r ≡ kind_reply before.entries (kind_of words) old.session (reply_in_core before (is_out_of_memory r) words)

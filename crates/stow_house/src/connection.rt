@@ -5,15 +5,13 @@ ghost use Rattle.stow_model.specs.Reply.{reply_of};
 ghost use Rattle.stow_core.specs.State.{CoreState};
 ghost use Rattle.stow_house.specs.Seen.{seen, IsServed, never_opened};
 ghost use Rattle.stow_house.specs.StepResult.{step_result_of};
-ghost use Rattle.stow_house.specs.Steps.{AnsweredAs, StepsHere, quoted_refusal};
+ghost use Rattle.stow_house.specs.Steps.{AnsweredAs, StepsHere};
 
+use crate::session::Session;
 use crate::step_result::StepResult;
 use std::alloc::{Allocator, Global};
-use stow_commands::kind::{Kind, kind_of};
 use stow_core::Core;
-use stow_model::refusal::Refusal;
 use stow_model::reply::Reply;
-use stow_model::simple_string::SimpleString;
 use stow_model::words::Words;
 use stow_resp::input::Input;
 use stow_resp::next::Next;
@@ -22,7 +20,7 @@ use stow_resp::next::Next;
 #[derive(Drop)]
 pub struct Connection<A: Allocator = Global> {
     input: Input<A>,
-    tenant: Option<u32>,
+    session: Session,
     is_open: bool,
 }
 
@@ -31,11 +29,11 @@ impl<A: Allocator + Copy> Connection<A> {
     pub fn new(alloc: A) -> Connection<A>
         ensures open { result.is_open ≡ true }
         ensures unread { result.input ≡ [] }
-        ensures tenant { result.tenant ≡ None }
+        ensures tenant { result.session ≡ None }
     {
         Connection {
             input: Input::new(alloc),
-            tenant: None,
+            session: Session::new(),
             is_open: true,
         }
     }
@@ -43,7 +41,7 @@ impl<A: Allocator + Copy> Connection<A> {
     /// Takes bytes that came.
     pub fn feed(&mut self, bytes: &[u8]) -> StepResult<A>
         ensures step { (c : ℕ) (core : CoreState) → StepsHere c (event.Piece c bytes.now) (step_result_of result) (seen (Some self.old)) (seen (Some self.new)) core core }
-        ensures tenant { self.new.tenant ≡ self.old.tenant }
+        ensures tenant { self.new.session ≡ self.old.session }
     {
         if !self.is_open {
             return StepResult::Refused;
@@ -57,7 +55,7 @@ impl<A: Allocator + Copy> Connection<A> {
     /// Closes the connection for the client.
     pub fn close(&mut self) -> StepResult<A>
         ensures step { (c : ℕ) (core : CoreState) → StepsHere c (event.Close c) (step_result_of result) (seen (Some self.old)) (seen (Some self.new)) core core }
-        ensures tenant { self.new.tenant ≡ self.old.tenant }
+        ensures tenant { self.new.session ≡ self.old.session }
     {
         let was_open = self.is_open;
         self.is_open = false;
@@ -70,10 +68,10 @@ impl<A: Allocator + Copy> Connection<A> {
 
     /// Serves the next message of the stream.
     pub fn serve(&mut self, alloc: A, core: &mut Core<A>) -> StepResult<A>
-        requires { IsServed core.old.entries self.old.tenant }
+        requires { IsServed core.old.entries self.old.session }
         ensures step { (c : ℕ) → StepsHere c (event.Serve c) (step_result_of result) (seen (Some self.old)) (seen (Some self.new)) core.old core.new }
         ensures entries { core.new.entries ≡ core.old.entries }
-        ensures served { IsServed core.old.entries self.new.tenant }
+        ensures served { IsServed core.old.entries self.new.session }
     {
         if self.is_open {
             self.serve_open(alloc, core)
@@ -85,14 +83,14 @@ impl<A: Allocator + Copy> Connection<A> {
     /// Serves the next message of the open connection.
     fn serve_open(&mut self, alloc: A, core: &mut Core<A>) -> StepResult<A>
         requires open { self.old.is_open ≡ true }
-        requires served { IsServed core.old.entries self.old.tenant }
+        requires served { IsServed core.old.entries self.old.session }
         ensures step { (c : ℕ) → StepsHere c (event.Serve c) (step_result_of result) (seen (Some self.old)) (seen (Some self.new)) core.old core.new }
         ensures entries { core.new.entries ≡ core.old.entries }
-        ensures served { IsServed core.old.entries self.new.tenant }
+        ensures served { IsServed core.old.entries self.new.session }
     {
         match self.input.next(alloc) {
             Next::Message(words) => StepResult::Answered(self.answer(alloc, core, &words)),
-            Next::Quoted => StepResult::Answered(Reply::Error(self.quoted())),
+            Next::Quoted => StepResult::Answered(Reply::Error(self.session.quoted())),
             Next::Blank => StepResult::Blank,
             Next::More => StepResult::More,
             Next::Fault(fault) => {
@@ -103,42 +101,16 @@ impl<A: Allocator + Copy> Connection<A> {
         }
     }
 
-    /// What a quoted line is told.
-    fn quoted(&self) -> Refusal
-        ensures { result ≡ quoted_refusal self.now.tenant }
-    {
-        match self.tenant {
-            None => Refusal::NotAuthenticated,
-            Some(_) => Refusal::QuotedInline,
-        }
-    }
-
     /// Answers words that came on the open connection.
     fn answer(&mut self, alloc: A, core: &mut Core<A>, words: &Words<A>) -> Reply<A>
         requires open { self.old.is_open ≡ true }
-        requires served { IsServed core.old.entries self.old.tenant }
+        requires served { IsServed core.old.entries self.old.session }
         ensures answered { AnsweredAs self.old self.new core.old core.new words.now (reply_of result) }
-        ensures served { IsServed core.old.entries self.new.tenant }
+        ensures served { IsServed core.old.entries self.new.session }
     {
-        match kind_of(words.as_slice()) {
-            Kind::Login(name, password) => {
-                match core.tenants().check(name, password) {
-                    Some(tenant) => {
-                        self.tenant = Some(tenant);
-                        Reply::Simple(SimpleString::Ok)
-                    }
-                    None => Reply::Error(Refusal::WrongPassword),
-                }
-            }
-            Kind::Quit => {
-                self.is_open = false;
-                Reply::Simple(SimpleString::Ok)
-            }
-            Kind::Malformed => Reply::Error(Refusal::WrongArgumentCount),
-            Kind::ForStore => match self.tenant {
-                None => Reply::Error(Refusal::NotAuthenticated),
-                Some(tenant) => core.call(alloc, tenant, words),
-            },
-        }
+        let taken = self.session.take(core.tenants(), words);
+        let answer = taken.finish(alloc, core, words);
+        self.is_open = !answer.ends;
+        answer.reply
     }
 }

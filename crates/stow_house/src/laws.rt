@@ -1,5 +1,5 @@
-//! A law over runs, on a function that does nothing.
-ghost use Rattle.stow_house.specs.Runs.{TwoRuns};
+//! Laws over runs, on functions that do nothing.
+ghost use Rattle.stow_house.specs.Runs.{TwoRuns, OneRun};
 
 /// Two runs in which a tenant is served the same requests, whatever else they hold, tell it the same and
 /// leave it the same store.
@@ -7,4 +7,12 @@ pub fn two_runs()
     ensures { TwoRuns }
 {
     stow_model::laws::two_runs();
+}
+
+/// The events, and the marks of what memory was refused to, say all: runs with the same marks tell each
+/// connection the same and leave each tenant the same store.
+pub fn one_run()
+    ensures { OneRun }
+{
+    stow_model::laws::one_history();
 }

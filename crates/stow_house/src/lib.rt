@@ -6,13 +6,17 @@
 //! Not said: time, and that memory is there; where memory was refused, the outputs name the event.
 #![tactic(auto)]
 
+pub mod answer;
 pub mod connection;
+pub mod door;
 pub mod house;
 pub mod laws;
 pub mod mark;
 pub mod outputs;
 pub mod run_fault;
+pub mod session;
 pub mod step_result;
+pub mod taken;
 #[cfg(test)]
 mod tests;
 pub mod told;

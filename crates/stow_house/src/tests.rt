@@ -6,12 +6,12 @@ use crate::house::House;
 use crate::mark::Mark;
 use crate::outputs::Outputs;
 use crate::step_result::StepResult;
-use std::alloc::{AllocError, Allocator};
+use std::alloc::{AllocError, Allocator, Global};
 use std::process::Abort;
 use std::sync::Arc;
 use std::test::Fail;
 use stow_core::Core;
-use stow_core::tenants::Tenants;
+use stow_login::tenants::Tenants;
 use stow_model::byte_string::ByteString;
 use stow_model::event::Event;
 use stow_plain::own_run::own_run;
@@ -35,10 +35,29 @@ enum Act {
     Serve(u32),
 }
 
-fn new_house<A: Allocator + Copy>(alloc: A) -> Result<House<A>, AllocError>
+/// Three tenants.
+const THREE: &str = "[[tenant]]
+name = \"ann\"
+salt = \"61\"
+digest = \"ba7816bf8f01cfea414140de5dae2223b00361a396177a9cb410ff61f20015ad\"
+quota = 1000000
+[[tenant]]
+name = \"ben\"
+salt = \"6162\"
+digest = \"ba7816bf8f01cfea414140de5dae2223b00361a396177a9cb410ff61f20015ad\"
+quota = 1000000
+[[tenant]]
+name = \"cap\"
+salt = \"\"
+digest = \"ba7816bf8f01cfea414140de5dae2223b00361a396177a9cb410ff61f20015ad\"
+quota = 100
+";
+
+fn new_house<A: Allocator + Copy>(alloc: A, global: Global) -> Result<House<A>, AllocError>
     ensures { IfOk result (λ house. IsNewHouse house) }
 {
-    let tenants = Arc::new(alloc, Tenants::built_in(alloc)?).map_err(AllocError::from)?;
+    let tenants = Tenants::read(alloc, global, THREE).map_err(|_| AllocError)?;
+    let tenants = Arc::new(alloc, tenants).map_err(AllocError::from)?;
     Ok(House::new(alloc, Core::new(alloc, tenants)?))
 }
 
@@ -220,7 +239,7 @@ const ACTS: [Act; 22] = [
 #[test]
 fn two_tenants_keep_their_own_rows(rt: HostRuntime) -> Result<(), Fail> {
     let alloc = rt.alloc();
-    let mut house = new_house(alloc)?;
+    let mut house = new_house(alloc, alloc)?;
     let events = events_of(alloc, &ACTS)?;
     let Ok(outputs) = house.run(alloc, events.as_slice()) else {
         assert!(rt; false, "memory was refused");
@@ -242,7 +261,7 @@ fn two_tenants_keep_their_own_rows(rt: HostRuntime) -> Result<(), Fail> {
 #[test]
 fn each_event_is_answered(rt: HostRuntime) -> Result<(), Fail> {
     let alloc = rt.alloc();
-    let mut house = new_house(alloc)?;
+    let mut house = new_house(alloc, alloc)?;
     let opened = matches!(house.step(alloc, &Event::Open(1)), StepResult::Done);
     let again = matches!(house.step(alloc, &Event::Open(1)), StepResult::Refused);
     let more = matches!(house.step(alloc, &Event::Serve(1)), StepResult::More);
@@ -320,7 +339,7 @@ fn random_requests_are_answered_as_alone(rt: HostRuntime) -> Result<(), Fail> {
     let alloc = rt.alloc();
     let acts = random_acts(alloc, 2_000)?;
     let events = events_of(alloc, acts.as_slice())?;
-    let mut house = new_house(alloc)?;
+    let mut house = new_house(alloc, alloc)?;
     let Ok(outputs) = house.run(alloc, events.as_slice()) else {
         assert!(rt; false, "memory was refused");
         return Ok(());
@@ -339,7 +358,7 @@ fn a_run_withstands_each_refusal(rt: HostRuntime) -> Result<(), Fail> {
     for at in 0..1_000u64 {
         heap.set(Plan::Grant);
         let events = events_of(&heap, &ACTS)?;
-        let mut house = new_house(&heap)?;
+        let mut house = new_house(&heap, rt.alloc())?;
         heap.set(Plan::RefuseAt(at));
         let ended = house.run(&heap, events.as_slice());
         let asked = heap.asked();
@@ -363,3 +382,52 @@ fn a_run_withstands_each_refusal(rt: HostRuntime) -> Result<(), Fail> {
     assert!(rt; refusals >= 10, "{refusals} refusals");
     Ok(())
 }
+
+// One connection changes hands, and one tenant is served on two connections: a login that is accepted changes
+// who is served from the next request on, and one that fails changes nothing.
+#[test]
+fn connections_change_hands(rt: HostRuntime) -> Result<(), Fail> {
+    let alloc = rt.alloc();
+    let mut house = new_house(alloc, alloc)?;
+    let mut acts = Vec::new(alloc);
+    acts.push(Act::Open(1))?;
+    acts.push(Act::Open(2))?;
+    for (c, request) in HANDED_OVER {
+        acts.push(Act::Send(c, request))?;
+        acts.push(Act::Serve(c))?;
+    }
+    let events = events_of(alloc, acts.as_slice())?;
+    let Ok(outputs) = house.run(alloc, events.as_slice()) else {
+        assert!(rt; false, "memory was refused");
+        return Ok(());
+    };
+    let first = outputs.bytes(alloc, 1)?;
+    assert!(rt;
+        first.as_slice()
+            == b"+OK\r\n+OK\r\n+OK\r\n$-1\r\n+OK\r\n\
+-WRONGPASS invalid name or password\r\n$3\r\nben\r\n\
+-ERR wrong number of arguments\r\n$3\r\nben\r\n+OK\r\n$3\r\nann\r\n"
+                .as_slice()
+    );
+    let second = outputs.bytes(alloc, 2)?;
+    assert!(rt; second.as_slice() == b"+OK\r\n$3\r\nann\r\n:1\r\n".as_slice());
+    Ok(())
+}
+
+/// What each connection asks, in the order of the events.
+const HANDED_OVER: [(u32, Request); 14] = [
+    (1, ANN),
+    (1, &[b"SET", b"k", b"ann"]),
+    (1, BEN),
+    (1, &[b"GET", b"k"]),
+    (1, &[b"SET", b"k", b"ben"]),
+    (1, &[b"AUTH", b"ann", b"c"]),
+    (1, &[b"GET", b"k"]),
+    (1, &[b"AUTH", b"ann"]),
+    (1, &[b"GET", b"k"]),
+    (2, ANN),
+    (2, &[b"GET", b"k"]),
+    (1, ANN),
+    (1, &[b"GET", b"k"]),
+    (2, &[b"DEL", b"k"]),
+];

@@ -1,13 +1,13 @@
 -- A tenant's own run inside a history.
-use Rattle.std.proofs.Common.{◌≡◌, ℕ, List, [], ◌∷◌, Bool, true, false, Option, Some, None, refl, ap, ◌∙◌, sym, arith}
+use Rattle.std.proofs.Common.{◌≡◌, ℕ, List, [], ◌∷◌, Bool, true, false, Option, Some, None, ◌+◌, map, refl, ap, ◌∙◌, sym, arith}
 use Rattle.std.specs.Prelude.{if◌then◌else◌, ◌==◌}
 use Rattle.std.proofs.lemmas.Bool.{eqb-true}
 use Rattle.std.proofs.lemmas.Bool.Decides.{nat_tests}
 use Rattle.stow_model.specs.Message.{Message}
 use Rattle.stow_model.specs.Message as message
-use Rattle.stow_model.specs.Reply.{Reply}
+use Rattle.stow_model.specs.Reply.{Reply, encoding}
 use Rattle.stow_model.specs.Command.{Kind, Login, Quit, Malformed, ForStore, kind_of}
-use Rattle.stow_model.specs.Login.{Entry, quota_of}
+use Rattle.stow_model.specs.Login.{Entry, quota_from, quota_of, entry_from, entry_at}
 use Rattle.stow_model.specs.Store.{Request, step, store_after, replies_after}
 use Rattle.stow_model.specs.History.{Step, Void, Plain, Took, Broke, Service, served_as, request_as, request_of_message, request_of, with_request, line_of, kind_reply, message_reply, told_by, reply_in_line, reply_of, with_reply, with_told, told_to, ToldAlone, TwoRuns, IsForAnother, OthersAddNothing}
 
@@ -58,11 +58,30 @@ told_alone_lem entries tenant (newest ∷ earlier) =
     one_more_told entries tenant (request_of newest (λ c. served_as entries c earlier)) (reply_of entries newest earlier) earlier (told_to entries tenant earlier)
     (of_step entries newest (λ c. served_as entries c earlier) (reply_in_line entries earlier)) (told_alone_lem entries tenant earlier)
 
+-- ---- an entry tells the quota
+
+abbrev quota_in : Option Entry → ℕ
+quota_in None = 0
+quota_in (Some entry) = entry.quota
+
+entry_or_later : (here : Bool) (entry : Entry) (entries : List Entry) (index tenant : ℕ) → quota_from index entries tenant ≡ quota_in (entry_from index entries tenant)
+    → (if here then entry.quota else quota_from index entries tenant) ≡ quota_in (if here then Some entry else entry_from index entries tenant)
+entry_or_later true entry entries index tenant later = refl
+entry_or_later false entry entries index tenant later = later
+
+quota_from-entry : (index : ℕ) (entries : List Entry) (tenant : ℕ) → quota_from index entries tenant ≡ quota_in (entry_from index entries tenant)
+quota_from-entry index [] tenant = refl
+quota_from-entry index (entry ∷ entries) tenant = entry_or_later (index == tenant) entry entries (index + 1) tenant (quota_from-entry (index + 1) entries tenant)
+
+same_quota : (entries entries' : List Entry) (tenant tenant' : ℕ) → entry_at entries tenant ≡ entry_at entries' tenant' → quota_of entries tenant ≡ quota_of entries' tenant'
+unfolding quota_of entry_at
+same_quota entries entries' tenant tenant' e = quota_from-entry 1 entries tenant ∙ ap quota_in e ∙ sym (quota_from-entry 1 entries' tenant')
+
 pub two_runs_lem : TwoRuns
-two_runs_lem entries entries' tenant tenant' history history' alike = (
-  told_alone_lem entries tenant history ∙ (λ i. replies_after (alike.quota i) (alike.line i)) ∙ sym (told_alone_lem entries' tenant' history'),
-  λ i. store_after (alike.quota i) (alike.line i),
-)
+two_runs_lem entries entries' tenant tenant' history history' alike =
+    let quota = same_quota entries entries' tenant tenant' alike.entry in
+    let told = told_alone_lem entries tenant history ∙ (λ i. replies_after (quota i) (alike.line i)) ∙ sym (told_alone_lem entries' tenant' history') in
+    (told, ap (map encoding) told, λ i. store_after (quota i) (alike.line i))
 
 -- ---- steps of others
 

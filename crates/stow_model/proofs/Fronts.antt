@@ -1,20 +1,15 @@
 -- One more message off the front of a stream.
 use Rattle.std.proofs.Common.{◌≡◌, ℕ, ◌-◌, ◌<◌, List, [], ◌∷◌, ◌++◌, length, drop, refl, ap, ◌∙◌, sym, subst, arith, append_assoc, append-nil, length-append, inl, inr}
 use Rattle.stow_model.specs.Message.{Message}
-use Rattle.stow_model.specs.Message as message
-use Rattle.stow_model.specs.Wire.{array_line, Spells, Splits, HasNoMessage}
+use Rattle.stow_model.specs.Wire.{Spells, Splits, HasNoMessage}
+use Rattle.stow_model.proofs.Spelling.{array_sign}
 
 -- a spelling has some bytes
 pub spelled_some : (m : Message) (spelling : List ℕ) → Spells m spelling → 0 < length spelling
 unfolding Spells
-spelled_some (message.Words words) spelling s = long spelling _ s.3
-  where
-    long : (spelling later : List ℕ) → spelling ≡ 42 ∷ later → 0 < length spelling
-    long spelling later e = let n : length spelling ≡ length (42 ∷ later) = ap length e in omega arith
-spelled_some message.Quoted spelling s = absurd s
-spelled_some message.Blank spelling s = elim s [
-  | inl zero ↦ (let n : length spelling ≡ length (array_line 0) = ap length zero in omega arith)
-  | inr null ↦ (let n : length spelling ≡ 5 = ap length null in omega arith)
+spelled_some m spelling s = elim s [
+  | inl array ↦ (let (after, e) = array_sign m spelling array in let n : length spelling ≡ length (42 ∷ after) = ap length e in omega arith)
+  | inr (line, h, e, is) ↦ (let n : length spelling ≡ length (line ++ 10 ∷ []) = ap length e in omega (arith, length-append line (10 ∷ [])))
 ]
 
 -- what splits the bytes that are left splits all of them, behind the messages before

@@ -2,6 +2,7 @@ pub mod Spelling
 pub mod Numbers
 pub mod Bulks
 pub mod Messages
+pub mod Inlines
 pub mod Places
 pub mod Alone
 pub mod OneHistory

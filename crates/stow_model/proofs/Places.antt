@@ -1,11 +1,11 @@
 -- Which fault it is, is told by the bytes.
-use Rattle.std.proofs.Common.{◌≡◌, ◌≢◌, ℕ, List, [], ◌∷◌, ◌++◌, length, refl, ap, ◌∙◌, sym, subst, arith, append_assoc, append-nil, length-append, ◌⊎◌, inl, inr}
+use Rattle.std.proofs.Common.{◌≡◌, ◌≢◌, ℕ, List, [], ◌∷◌, ◌++◌, length, refl, ap, ◌∙◌, sym, subst, arith, append_assoc, append-nil, length-append, false, inl, inr}
 use Rattle.std.specs.List.{AllByRecursion}
 use Rattle.std.specs.Fmt.{decimal}
 use Rattle.std.proofs.lemmas.List.{append_cancel_left}
 use Rattle.stow_model.specs.declared.stream_fault.StreamFault.{StreamFault}
 use Rattle.stow_model.specs.declared.stream_fault.StreamFault.TheVariants.{InvalidArrayLength, ExpectedBulk, InvalidBulkLength, BulkNotEnded, InlineTooLong}
-use Rattle.stow_model.specs.Wire.{number_line, array_line, bulk_line, bulk, bulks, FitsBulk, Spells, IsBegun, IsInLine, IsInArray, IsPlace, IsFaulty, FaultOnce}
+use Rattle.stow_model.specs.Wire.{number_line, bulk_line, bulk, bulks, FitsBulk, begins_array, IsLine, Spells, IsBegun, IsInLine, IsInArray, IsPlace, IsFaulty, FaultOnce}
 use Rattle.stow_model.proofs.Spelling.{line_once, bulk_once, one_begins}
 
 -- ---- one place
@@ -85,18 +85,10 @@ in_array_once : (bytes x y : List ℕ) → NoWhole x → NoWhole y → IsInArray
 in_array_once bytes x y n n' (c, few, words, fewer, fits, e) (c', few', words', fewer', fits', e') =
     rest_once words words' x y fits fits' n n' (line_once 42 c c' (bulks words ++ x) (bulks words' ++ y) (omega arith) (omega arith) (sym e ∙ e')).1
 
-in_array_head : (bytes x : List ℕ) → IsInArray bytes x → ((bytes ≡ []) ⊎ IsInLine 42 bytes) → ⊥
-in_array_head bytes x (c, few, words, fewer, fits, e) h = elim h [
-  | inl none ↦ let bad : [] ≡ array_line c ++ (bulks words ++ x) = sym none ∙ e in cc
-  | inr inside ↦ line_has_lf 42 c inside.0 (bulks words ++ x) inside.1 (sym inside.2 ∙ e)
-]
+in_array_head : (bytes x : List ℕ) → IsInArray bytes x → IsInLine 42 bytes → ⊥
+in_array_head bytes x (c, few, words, fewer, fits, e) inside = line_has_lf 42 c inside.0 (bulks words ++ x) inside.1 (sym inside.2 ∙ e)
 
--- in the array, what comes after its whole elements
-record Inside (bytes : List ℕ) (fault : StreamFault) : Type 0 where
-  pub rest : List ℕ
-  pub at : IsInArray bytes rest
-  pub none : NoWhole rest
-
+-- in an array, what comes after its whole elements
 abbrev IsRest : StreamFault → List ℕ → Type 0
 IsRest InvalidArrayLength rest = ⊥
 IsRest InlineTooLong rest = ⊥
@@ -104,16 +96,22 @@ IsRest ExpectedBulk rest = rest ≡ []
 IsRest InvalidBulkLength rest = IsInLine 36 rest
 IsRest BulkNotEnded rest = (n : ℕ) × (tail : List ℕ) × (rest ≡ bulk_line n ++ tail)
 
-inside : (bytes : List ℕ) (fault : StreamFault) → IsPlace bytes fault → (fault ≡ InvalidArrayLength) ⊎ ((rest : List ℕ) × IsInArray bytes rest × NoWhole rest × IsRest fault rest)
+-- the three kinds of places
+data Kind (bytes : List ℕ) (fault : StreamFault) : Type 0 where
+  InHead : IsInLine 42 bytes → fault ≡ InvalidArrayLength → Kind bytes fault
+  InInline : IsLine bytes → length bytes ≡ 65536 → fault ≡ InlineTooLong → Kind bytes fault
+  InElement : (rest : List ℕ) → IsInArray bytes rest → NoWhole rest → IsRest fault rest → Kind bytes fault
+
+kind : (bytes : List ℕ) (fault : StreamFault) → IsPlace bytes fault → Kind bytes fault
 unfolding IsPlace
-inside bytes InvalidArrayLength p = inl refl
-inside bytes InlineTooLong p = absurd p
-inside bytes ExpectedBulk p = inr ([], p, no_whole-none, refl)
-inside bytes InvalidBulkLength p = inr (p.0, p.2, no_whole-line p.0 p.1, p.1)
-inside bytes BulkNotEnded p = inr (elim p.2 [
-  | inl word ↦ (bulk_line (length p.0) ++ p.0, word, no_whole-word p.0 p.1, (length p.0, p.0, refl))
-  | inr cr ↦ (bulk_line (length p.0) ++ (p.0 ++ 13 ∷ []), cr, no_whole-cr p.0 p.1, (length p.0, p.0 ++ 13 ∷ [], refl))
-])
+kind bytes InvalidArrayLength p = InHead p refl
+kind bytes InlineTooLong p = InInline p.0 p.1 refl
+kind bytes ExpectedBulk p = InElement [] p no_whole-none refl
+kind bytes InvalidBulkLength p = InElement p.0 p.2 (no_whole-line p.0 p.1) p.1
+kind bytes BulkNotEnded p = elim p.2 [
+  | inl word ↦ InElement (bulk_line (length p.0) ++ p.0) word (no_whole-word p.0 p.1) (length p.0, p.0, refl)
+  | inr cr ↦ InElement (bulk_line (length p.0) ++ (p.0 ++ 13 ∷ [])) cr (no_whole-cr p.0 p.1) (length p.0, p.0 ++ 13 ∷ [], refl)
+]
 
 rest_kind : (f g : StreamFault) (rest : List ℕ) → IsRest f rest → IsRest g rest → f ≡ g
 rest_kind InvalidArrayLength g rest p q = absurd p
@@ -130,23 +128,23 @@ rest_kind BulkNotEnded ExpectedBulk rest p q = let bad : [] ≡ bulk_line p.0 ++
 rest_kind InvalidBulkLength BulkNotEnded rest p q = absurd (line_has_lf 36 q.0 p.0 q.1 p.1 (sym p.2 ∙ q.2))
 rest_kind BulkNotEnded InvalidBulkLength rest p q = absurd (line_has_lf 36 p.0 q.0 p.1 q.1 (sym q.2 ∙ p.2))
 
-head_only : (bytes : List ℕ) (f g : StreamFault) → f ≡ InvalidArrayLength → IsPlace bytes f → IsPlace bytes g → f ≡ g
-unfolding IsPlace
-head_only bytes f g is p q =
-    let head : (bytes ≡ []) ⊎ IsInLine 42 bytes = subst (IsPlace bytes) is p in
-    elim (inside bytes g q) [
-      | inl same ↦ is ∙ sym same
-      | inr h ↦ absurd (in_array_head bytes h.0 h.1 head)
-    ]
+-- an inline line is in no array
+line_head : (bytes part : List ℕ) → IsLine bytes → bytes ≡ 42 ∷ part → ⊥
+line_head bytes part h e = let bad : begins_array (42 ∷ part) ≡ false = subst (λ t. begins_array t ≡ false) e h.2 in cc
+
+kind_once : (bytes : List ℕ) (f g : StreamFault) → Kind bytes f → Kind bytes g → f ≡ g
+kind_once bytes f g (InHead h is) (InHead h' is') = is ∙ sym is'
+kind_once bytes f g (InInline h long is) (InInline h' long' is') = is ∙ sym is'
+kind_once bytes f g (InElement x at none rest) (InElement x' at' none' rest') = rest_kind f g x' (subst (IsRest f) (in_array_once bytes x x' none none' at at') rest) rest'
+kind_once bytes f g (InHead h is) (InInline h' long' is') = absurd (line_head bytes h.0 h' h.2)
+kind_once bytes f g (InInline h long is) (InHead h' is') = absurd (line_head bytes h'.0 h h'.2)
+kind_once bytes f g (InHead h is) (InElement x at none rest) = absurd (in_array_head bytes x at h)
+kind_once bytes f g (InElement x at none rest) (InHead h is) = absurd (in_array_head bytes x at h)
+kind_once bytes f g (InInline h long is) (InElement x (n, few, words, fewer, fits, e) none rest) = absurd (line_head bytes _ h e)
+kind_once bytes f g (InElement x (n, few, words, fewer, fits, e) none rest) (InInline h long is) = absurd (line_head bytes _ h e)
 
 place_once : (bytes : List ℕ) (f g : StreamFault) → IsPlace bytes f → IsPlace bytes g → f ≡ g
-place_once bytes f g p q = elim (inside bytes f p) [
-  | inl is ↦ head_only bytes f g is p q
-  | inr h ↦ elim (inside bytes g q) [
-    | inl is ↦ sym (head_only bytes g f is q p)
-    | inr k ↦ rest_kind f g k.0 (subst (IsRest f) (in_array_once bytes h.0 k.0 h.2 k.2 h.1 k.1) h.3) k.3
-  ]
-]
+place_once bytes f g p q = kind_once bytes f g (kind bytes f p) (kind bytes g q)
 
 pub fault_once_lem : FaultOnce
 fault_once_lem bytes f g p q = place_once q.front f g (subst (λ t. IsPlace t f) (front_once bytes f g p q) p.place) q.place

@@ -1,5 +1,5 @@
 -- No spelling of a message begins another.
-use Rattle.std.proofs.Common.{◌≡◌, ◌≢◌, ℕ, ◌<◌, ◌≤◌, ◌^◌, List, [], ◌∷◌, ◌++◌, length, reverse, refl, ap, ◌∙◌, sym, subst, arith, append_assoc, lit<, ◌⊎◌, inl, inr}
+use Rattle.std.proofs.Common.{◌≡◌, ◌≢◌, ℕ, ◌<◌, ◌≤◌, ◌^◌, List, [], ◌∷◌, ◌++◌, length, reverse, refl, ap, ◌∙◌, sym, subst, arith, append_assoc, lit<, ◌⊎◌, inl, inr, true, false}
 use Rattle.std.specs.List.{AllByRecursion}
 use Rattle.std.proofs.lemmas.List.{append_cancel_right, reverse-append}
 use Rattle.std.specs.Fmt.{decimal}
@@ -8,7 +8,7 @@ use Rattle.std.proofs.lemmas.Str.Parse.{IsDigitsTest, IsNumeralModel, numerals_b
 use Rattle.std.specs.Str.Parse.{digits_value}
 use Rattle.stow_model.specs.Message.{Message}
 use Rattle.stow_model.specs.Message as message
-use Rattle.stow_model.specs.Wire.{number_line, array_line, null_line, bulk_line, bulk, bulks, FitsBulk, Spells, Splits, SpelledOnce, SplitsOnce, TakenAreFirst, FaultStays}
+use Rattle.stow_model.specs.Wire.{number_line, array_line, null_line, bulk_line, bulk, bulks, FitsBulk, IsArray, message_of_text, text_of_line, begins_array, IsInline, Spells, Splits, SpelledOnce, SplitsOnce, TakenAreFirst, FaultStays}
 
 -- ---- lists
 
@@ -68,7 +68,7 @@ bulks_once (v ∷ vs) (w ∷ ws) x y same fits fits' e =
 
 -- ---- messages
 
--- every spelling is a line, told by what stands before its CR, and what comes after the line
+-- a spelling in array form is a line, told by what stands before its CR, and what comes after the line
 record Lined (bytes head after : List ℕ) : Type 0 where
   one : AllByRecursion (λ d. d ≢ 13) head
   is : bytes ≡ 42 ∷ (head ++ 13 ∷ 10 ∷ after)
@@ -101,23 +101,74 @@ not_blank n head small some is e = elim is [
   | inr minus ↦ let digits : AllByRecursion IsDigit (45 ∷ 49 ∷ []) = subst (AllByRecursion IsDigit) (e ∙ minus) (digits_decimal digits_own n small) in omega (arith, digits.0.0)
 ]
 
-pub spelled_once : (m m' : Message) (a b x y : List ℕ) → Spells m a → Spells m' b → a ++ x ≡ b ++ y → (m ≡ m') × (x ≡ y)
-unfolding Spells
-spelled_once (message.Words vs) (message.Words ws) a b x y s s' e =
-    let parts = lined_once a b _ _ _ _ x y (words_lined vs a (omega arith) s.3) (words_lined ws b (omega arith) s'.3) e in
-    let same : length vs ≡ length ws = decimal_injective (length vs) (length ws) (omega arith) (omega arith) parts.0 in
+array_once : (m m' : Message) (a b x y : List ℕ) → IsArray m a → IsArray m' b → a ++ x ≡ b ++ y → (m ≡ m') × (x ≡ y)
+array_once (message.Words vs) (message.Words ws) a b x y s s' e =
+    let parts = lined_once a b _ _ _ _ x y (words_lined vs a (omega (arith, s.1)) s.3) (words_lined ws b (omega (arith, s'.1)) s'.3) e in
+    let same : length vs ≡ length ws = decimal_injective (length vs) (length ws) (omega (arith, s.1)) (omega (arith, s'.1)) parts.0 in
     let words = bulks_once vs ws x y same s.2 s'.2 parts.1 in
     (ap message.Words words.0, words.1)
-spelled_once (message.Words vs) message.Blank a b x y s s' e =
+array_once (message.Words vs) message.Blank a b x y s s' e =
     let l = blank_lined b s' in
-    absurd (not_blank (length vs) l.head (omega arith) s.0 l.is (lined_once a b _ _ _ _ x y (words_lined vs a (omega arith) s.3) l.lined e).0)
-spelled_once (message.Words vs) message.Quoted a b x y s s' e = absurd s'
-spelled_once message.Quoted m' a b x y s s' e = absurd s
-spelled_once message.Blank (message.Words ws) a b x y s s' e =
+    absurd (not_blank (length vs) l.head (omega (arith, s.1)) s.0 l.is (lined_once a b _ _ _ _ x y (words_lined vs a (omega (arith, s.1)) s.3) l.lined e).0)
+array_once (message.Words vs) message.Quoted a b x y s s' e = absurd s'
+array_once message.Quoted m' a b x y s s' e = absurd s
+array_once message.Blank (message.Words ws) a b x y s s' e =
     let l = blank_lined a s in
-    absurd (not_blank (length ws) l.head (omega arith) s'.0 l.is (sym (lined_once a b _ _ _ _ x y l.lined (words_lined ws b (omega arith) s'.3) e).0))
-spelled_once message.Blank message.Quoted a b x y s s' e = absurd s'
-spelled_once message.Blank message.Blank a b x y s s' e = (refl, (lined_once a b _ _ _ _ x y (blank_lined a s).lined (blank_lined b s').lined e).1)
+    absurd (not_blank (length ws) l.head (omega (arith, s'.1)) s'.0 l.is (sym (lined_once a b _ _ _ _ x y l.lined (words_lined ws b (omega (arith, s'.1)) s'.3) e).0))
+array_once message.Blank message.Quoted a b x y s s' e = absurd s'
+array_once message.Blank message.Blank a b x y s s' e = (refl, (lined_once a b _ _ _ _ x y (blank_lined a s).lined (blank_lined b s').lined e).1)
+
+inline_once : (m m' : Message) (a b x y : List ℕ) → IsInline m a → IsInline m' b → a ++ x ≡ b ++ y → (m ≡ m') × (x ≡ y)
+inline_once m m' a b x y (line, (all, short, plain), at, is) (line', (all', short', plain'), at', is') e =
+    let meet : line ++ 10 ∷ x ≡ line' ++ 10 ∷ y = sym (append_assoc line (10 ∷ []) x) ∙ ap (λ t. t ++ x) (sym at) ∙ e ∙ ap (λ t. t ++ y) at' ∙ append_assoc line' (10 ∷ []) y in
+    let parts = until_once 10 line line' x y all all' meet in
+    (is ∙ ap (λ t. message_of_text (text_of_line t)) parts.0 ∙ sym is', parts.1)
+
+-- ---- the two forms
+
+-- a spelling in array form begins with `*`
+pub array_sign : (m : Message) (bytes : List ℕ) → IsArray m bytes → (after : List ℕ) × (bytes ≡ 42 ∷ after)
+array_sign (message.Words words) bytes s = (_, s.3)
+array_sign message.Quoted bytes s = absurd s
+array_sign message.Blank bytes s = elim s [ inl none ↦ (_, none) | inr null ↦ (_, null) ]
+
+-- and one in inline form doesn't
+line_sign : (line x y : List ℕ) → begins_array line ≡ false → line ++ 10 ∷ x ≡ 42 ∷ y → ⊥
+line_sign [] x y plain e = let bad : ◌≡◌ {A = ℕ} 10 42 = cc in omega arith
+line_sign (b ∷ line) x y plain e =
+    let star : b ≡ 42 = cc in
+    let bad : begins_array (42 ∷ line) ≡ false = subst (λ c. begins_array (c ∷ line) ≡ false) star plain in
+    true_is_not_false bad
+  where
+    true_is_not_false : true ≡ false → ⊥
+    true_is_not_false e = cc
+
+pub inline_sign : (m : Message) (bytes x y : List ℕ) → IsInline m bytes → bytes ++ x ≡ 42 ∷ y → ⊥
+inline_sign m bytes x y (line, (all, short, plain), at, is) e =
+    line_sign line x y plain (sym (append_assoc line (10 ∷ []) x) ∙ ap (λ t. t ++ x) (sym at) ∙ e)
+
+array_or_inline : (m m' : Message) (a b x y : List ℕ) → IsArray m a → IsInline m' b → a ++ x ≡ b ++ y → ⊥
+array_or_inline m m' a b x y s s' e =
+    let (after, at) = array_sign m a s in
+    inline_sign m' b y (after ++ x) s' (sym e ∙ ap (λ t. t ++ x) at)
+
+-- a spelling that begins with `*` is in array form
+pub array_of : (m : Message) (spelling x y : List ℕ) → Spells m spelling → 42 ∷ x ≡ spelling ++ y → IsArray m spelling
+unfolding Spells
+array_of m spelling x y s e = elim s [ inl array ↦ array | inr inline ↦ absurd (inline_sign m spelling y x inline (sym e)) ]
+
+pub spelled_once : (m m' : Message) (a b x y : List ℕ) → Spells m a → Spells m' b → a ++ x ≡ b ++ y → (m ≡ m') × (x ≡ y)
+unfolding Spells
+spelled_once m m' a b x y s s' e = elim s [
+  | inl array ↦ elim s' [
+    | inl array' ↦ array_once m m' a b x y array array' e
+    | inr inline' ↦ absurd (array_or_inline m m' a b x y array inline' e)
+  ]
+  | inr inline ↦ elim s' [
+    | inl array' ↦ absurd (array_or_inline m' m b a y x array' inline (sym e))
+    | inr inline' ↦ inline_once m m' a b x y inline inline' e
+  ]
+]
 
 pub spelled_once_lem : SpelledOnce
 spelled_once_lem m m' a b x y s s' e =

@@ -1,13 +1,14 @@
 -- Definitions at examples, and at what they leave out.
-use Rattle.std.specs.Prelude.{◌≡◌, pos, false, Some, None, List, [], ◌∷◌, sum_by, codes}
+use Rattle.std.specs.Prelude.{◌≡◌, ℕ, ◌<◌, ◌≤◌, replicate, pos, false, Some, None, List, [], ◌∷◌, sum_by, codes}
 use Rattle.std.specs.declared.cmp.Ordering.TheVariants.{Less, Greater}
 use Rattle.stow_model.specs.declared.refusal.Refusal.TheVariants.{NotAuthenticated}
 use Rattle.stow_model.specs.declared.simple_string.SimpleString.TheVariants.{Ok, Pong}
-use Rattle.stow_model.specs.declared.stream_fault.StreamFault.TheVariants.{InvalidArrayLength, ExpectedBulk, InvalidBulkLength}
+use Rattle.stow_model.specs.declared.stream_fault.StreamFault.TheVariants.{InvalidArrayLength, ExpectedBulk, InvalidBulkLength, InlineTooLong}
 use Rattle.sha2.specs.Sha256.{sha256}
+use Rattle.stow_model.specs.Limits.{line_limit}
 use Rattle.stow_model.specs.Bytes.{bytes_cmp}
 use Rattle.stow_model.specs.Item as item
-use Rattle.stow_model.specs.Message.{Words, Blank}
+use Rattle.stow_model.specs.Message.{Words, Quoted, Blank}
 use Rattle.stow_model.specs.Event.{Open, Piece, Serve}
 use Rattle.stow_model.specs.Reply.{Simple, Error, ProtocolError, Integer, Bulk, Null, Array, encoding}
 use Rattle.stow_model.specs.Wire.{Spells, HasNoMessage, IsBegun, Splits, IsFaulty, IsPlace}
@@ -50,8 +51,32 @@ pub record OfStreams : Type 0 where
   pub faulty : IsFaulty (codes "*-2") InvalidArrayLength
   pub not_faulty : IsFaulty (codes "*-") InvalidArrayLength → ⊥
   pub other_fault : IsFaulty (codes "*-2") ExpectedBulk → ⊥
-  pub place : IsPlace [] InvalidArrayLength
-  pub not_place : IsPlace [] ExpectedBulk → ⊥
+  pub place : IsPlace (codes "*") InvalidArrayLength
+  pub not_place : IsPlace [] InvalidArrayLength → ⊥
+  pub other_place : IsPlace (codes "*") ExpectedBulk → ⊥
+
+-- inline requests
+pub record OfLines : Type 0 where
+  pub words : Spells (Words (codes "GET" ∷ codes "k" ∷ [])) (codes "GET k\n")
+  pub not_words : Spells (Words (codes "GET k" ∷ [])) (codes "GET k\n") → ⊥
+  pub cr : Spells (Words (codes "PING" ∷ [])) (codes "PING\r\n")
+  pub not_cr : Spells (Words (codes "PING\r" ∷ [])) (codes "PING\r\n") → ⊥
+  pub inner_cr : Spells (Words (codes "PI\rNG\r" ∷ [])) (codes "PI\rNG\r\r\n")
+  pub not_inner_cr : Spells (Words (codes "PI" ∷ codes "NG" ∷ [])) (codes "PI\rNG\n") → ⊥
+  pub spaces : Spells (Words (codes "a" ∷ codes "b" ∷ [])) (codes " a \tb\t\n")
+  pub not_spaces : Spells (Words (codes "a" ∷ [] ∷ codes "b" ∷ [])) (codes "a  b\n") → ⊥
+  pub quoted : Spells Quoted (codes "ECHO \"m\"\r\n")
+  pub single : Spells Quoted (codes "it's\n")
+  pub not_quoted : Spells (Words (codes "it's" ∷ [])) (codes "it's\n") → ⊥
+  pub blank : Spells Blank (codes " \t\r\n")
+  pub not_blank : Spells (Words (codes " \t" ∷ [])) (codes " \t\r\n") → ⊥
+  pub empty : Spells Blank (codes "\n")
+  pub not_empty : Spells (Words []) (codes "\n") → ⊥
+  pub sign : Spells (Words (codes "$5" ∷ [])) (codes "$5\r\n")
+  pub begun : IsBegun (codes "$5")
+  pub not_faulty : IsFaulty (codes "$5") ExpectedBulk → ⊥
+  pub waits : (n : ℕ) → n ≤ line_limit → IsBegun (replicate n 120)
+  pub too_long : (n : ℕ) → line_limit < n → IsFaulty (replicate n 120) InlineTooLong
 
 -- connection 1 is opened, a blank comes, and is served
 abbrev pub blank_served : List Step
@@ -64,6 +89,9 @@ not_logged_in = Took 1 (Words (codes "quit" ∷ [])) false ∷ Took 1 (Words (co
 -- a tenant's entry, whose password is `bc`
 abbrev pub some_entry : Entry
 some_entry = record { name = codes "ann"; salt = codes "a"; digest = sha256 (codes "abc"); quota = 5 }
+
+abbrev pub other_entry : Entry
+other_entry = record { name = codes "ben"; salt = codes "ab"; digest = sha256 (codes "abc"); quota = 5 }
 
 -- logins
 pub record OfLogins : Type 0 where
@@ -81,8 +109,8 @@ pub record OfHistories : Type 0 where
   pub stream : stream_of 1 blank_served ≡ codes "*0\r\n"
   pub told : output_of [] 1 not_logged_in ≡ Simple Ok ∷ Error NotAuthenticated ∷ []
   pub void : output_of [] 1 (Void (Serve 1) ∷ Plain (Open 1) ∷ []) ≡ []
-  pub alike : ServesAlike [] 1 [] [] 1 blank_served
-  pub not_alike : ServesAlike [] 1 [] (some_entry ∷ []) 1 [] → ⊥
+  pub alike : ServesAlike (some_entry ∷ []) 1 [] (other_entry ∷ some_entry ∷ []) 2 blank_served
+  pub not_alike : ServesAlike (some_entry ∷ []) 1 [] (other_entry ∷ []) 1 [] → ⊥
   pub another : IsForAnother 1 (Some (record { tenant = 2; request = record { words = []; is_refused = false } }))
   pub not_another : IsForAnother 2 (Some (record { tenant = 2; request = record { words = []; is_refused = false } })) → ⊥
   pub tenant : IsTenant (some_entry ∷ []) 1
@@ -101,4 +129,4 @@ pub record OfCharges : Type 0 where
 
 -- all of them
 abbrev pub Examples : Type 0
-Examples = Encodings × OfWords × OfStreams × OfLogins × OfHistories × OfCharges
+Examples = Encodings × OfWords × OfStreams × OfLines × OfLogins × OfHistories × OfCharges

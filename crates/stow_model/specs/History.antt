@@ -7,11 +7,11 @@ use Rattle.stow_model.specs.Message.{Message}
 use Rattle.stow_model.specs.Message as message
 use Rattle.stow_model.specs.Event.{Event}
 use Rattle.stow_model.specs.Event as event
-use Rattle.stow_model.specs.Reply.{Reply}
+use Rattle.stow_model.specs.Reply.{Reply, encoding}
 use Rattle.stow_model.specs.Reply as reply
 use Rattle.stow_model.specs.Wire.{Spells, SpellsAll, IsBegun, IsFaulty}
 use Rattle.stow_model.specs.Command.{Kind, Login, Quit, Malformed, ForStore, kind_of}
-use Rattle.stow_model.specs.Login.{Entry, login, quota_of}
+use Rattle.stow_model.specs.Login.{Entry, login, quota_of, entry_at}
 use Rattle.stow_model.specs.Store.{Request, step, store_after, replies_after}
 
 -- an event, and what it led to
@@ -297,16 +297,19 @@ told_to entries tenant (newest ∷ earlier) = with_told tenant (request_of newes
 abbrev pub ToldAlone : Type 0
 ToldAlone = (entries : List Entry) (tenant : ℕ) (history : List Step) → told_to entries tenant history ≡ replies_after (quota_of entries tenant) (line_of entries tenant history)
 
--- two histories that serve a tenant the same requests, whatever else is in them
+-- two histories that serve a tenant the same requests, whatever else is in them: its entry (name, salt,
+-- digest and quota) is the same, while its index and all other entries may differ
 pub record ServesAlike (entries : List Entry) (tenant : ℕ) (history : List Step) (entries' : List Entry) (tenant' : ℕ) (history' : List Step) : Type 0 where
-  pub quota : quota_of entries tenant ≡ quota_of entries' tenant'
+  pub entry : entry_at entries tenant ≡ entry_at entries' tenant'
   pub line : line_of entries tenant history ≡ line_of entries' tenant' history'
 
+-- histories that serve a tenant alike tell it the same, as replies and as bytes, and leave it the same store
 abbrev pub TwoRuns : Type 0
 TwoRuns =
     (entries entries' : List Entry) (tenant tenant' : ℕ) (history history' : List Step)
     → ServesAlike entries tenant history entries' tenant' history'
     → (told_to entries tenant history ≡ told_to entries' tenant' history')
+    × (map encoding (told_to entries tenant history) ≡ map encoding (told_to entries' tenant' history'))
     × (store_after (quota_of entries tenant) (line_of entries tenant history) ≡ store_after (quota_of entries' tenant') (line_of entries' tenant' history'))
 
 -- no request is taken, or one to another tenant's store

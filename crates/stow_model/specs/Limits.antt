@@ -17,6 +17,10 @@ words_limit = 1024
 abbrev pub count_limit : ℕ
 count_limit = 1024
 
+-- bytes of an inline request's line, before its LF
+abbrev pub line_limit : ℕ
+line_limit = 65536
+
 -- keys of one DEL
 abbrev pub deleted_limit : ℕ
 deleted_limit = 64

@@ -30,6 +30,14 @@ quota_from index (entry ∷ entries) tenant = if index == tenant then entry.quot
 unfoldable pub quota_of : List Entry → ℕ → ℕ
 quota_of entries tenant = quota_from 1 entries tenant
 
+abbrev pub entry_from : ℕ → List Entry → ℕ → Option Entry
+entry_from index [] tenant = None
+entry_from index (entry ∷ entries) tenant = if index == tenant then Some entry else entry_from (index + 1) entries tenant
+
+-- the entry of the tenant of this index, counted from 1
+unfoldable pub entry_at : List Entry → ℕ → Option Entry
+entry_at entries tenant = entry_from 1 entries tenant
+
 -- the index is a tenant's
 abbrev pub IsTenant : List Entry → ℕ → Type 0
 IsTenant entries tenant = (1 ≤ tenant) × (tenant ≤ length entries)

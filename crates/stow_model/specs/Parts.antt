@@ -1,12 +1,16 @@
--- What stands at the front of some bytes where a number, or an element of an array, is to stand.
-use Rattle.std.specs.Prelude.{◌≡◌, ◌≢◌, ℕ, ◌≤◌, List, [], ◌∷◌, ◌++◌, length, ◌⊎◌}
+-- What stands at the front of some bytes where a number, an element of an array, or an inline line is to stand.
+use Rattle.std.specs.Prelude.{◌≡◌, ◌≢◌, ℕ, ◌<◌, ◌≤◌, false, Option, Some, None, List, [], ◌∷◌, ◌++◌, length, take, ◌⊎◌}
+use Rattle.std.specs.Borrow.{Bor}
 use Rattle.std.specs.List.{AllByRecursion}
 use Rattle.std.specs.Fmt.{decimal}
 use Rattle.stow_model.specs.declared.stream_fault.StreamFault.{StreamFault}
 use Rattle.stow_model.specs.declared.stream_fault.StreamFault.TheVariants.{InvalidArrayLength, ExpectedBulk, InvalidBulkLength, BulkNotEnded, InlineTooLong}
-use Rattle.stow_model.specs.Wire.{bulk_line, bulk, FitsBulk, IsInLine}
+use Rattle.stow_model.specs.Message.{Words}
+use Rattle.stow_model.specs.Wire.{bulk_line, bulk, FitsBulk, IsInLine, begins_array, IsLine, words_of_text, text_of_line, message_of_text, IsFaulty}
 use Rattle.stow_model.specs.declared.bulk_at.BulkAt.{BulkAt}
 use Rattle.stow_model.specs.declared.bulk_at.BulkAt.TheVariants as element
+use Rattle.stow_model.specs.declared.inline_at.InlineAt.{InlineAt}
+use Rattle.stow_model.specs.declared.inline_at.InlineAt.TheVariants as inline
 use Rattle.stow_model.specs.declared.number_at.NumberAt.{NumberAt}
 use Rattle.stow_model.specs.declared.number_at.NumberAt.TheVariants as number
 
@@ -70,3 +74,23 @@ abbrev pub IsBulkAt : List ℕ → BulkAt → Type 0
 IsBulkAt bytes (element.Bulk word rest) = FitsBulk word.now × (bytes ≡ bulk word.now ++ rest.now)
 IsBulkAt bytes element.More = IsBegunBulk bytes
 IsBulkAt bytes (element.Stuck fault) = IsStuckBulk bytes fault
+
+-- ---- inline lines
+
+-- no array begins with the bytes, and the first of them are a line so far
+abbrev pub IsLooked : ℕ → List ℕ → Type 0
+IsLooked looked bytes = (begins_array bytes ≡ false) × (looked ≤ length bytes) × IsLine (take looked bytes)
+
+abbrev pub IsInlineAt : List ℕ → InlineAt → Type 0
+IsInlineAt bytes (inline.Line line rest) = IsLine line.now × (bytes ≡ line.now ++ 10 ∷ rest.now)
+IsInlineAt bytes inline.More = IsLine bytes
+IsInlineAt bytes inline.TooLong = IsFaulty bytes InlineTooLong
+
+-- the first word of a text, and a rest that has the others
+abbrev pub IsNextWord : List ℕ → Option (Bor (List ℕ) × Bor (List ℕ)) → Type 0
+IsNextWord text None = words_of_text text ≡ []
+IsNextWord text (Some (word, rest)) = (words_of_text text ≡ word.now ∷ words_of_text rest.now) × (length rest.now < length text)
+
+-- the line asks for words
+abbrev pub AsksForWords : List ℕ → Type 0
+AsksForWords line = (words : List (List ℕ)) × (message_of_text (text_of_line line) ≡ Words words)

@@ -1,9 +1,9 @@
 -- How requests are spelled in the bytes of a stream (RESP protocol specification, "Sending commands to a
 -- Redis server"): by cases on what is spelled.
-use Rattle.std.specs.Prelude.{◌≡◌, ◌≢◌, ℕ, ◌<◌, ◌≤◌, List, [], ◌∷◌, ◌++◌, length, reverse, ◌⊎◌, codes}
-use Rattle.std.specs.List.{AllByRecursion}
+use Rattle.std.specs.Prelude.{◌≡◌, ◌≢◌, ℕ, ◌<◌, ◌≤◌, Bool, false, if◌then◌else◌, ◌==◌, ◌||◌, nat_lt, List, [], ◌∷◌, ◌++◌, length, reverse, filter, ◌⊎◌, codes}
+use Rattle.std.specs.List.{AllByRecursion, list_any, slice_split}
 use Rattle.std.specs.Fmt.{decimal}
-use Rattle.stow_model.specs.Limits.{value_limit, words_limit}
+use Rattle.stow_model.specs.Limits.{value_limit, words_limit, line_limit}
 use Rattle.stow_model.specs.Message.{Message, Words, Quoted, Blank}
 use Rattle.stow_model.specs.declared.stream_fault.StreamFault.{StreamFault}
 use Rattle.stow_model.specs.declared.stream_fault.StreamFault.TheVariants.{InvalidArrayLength, ExpectedBulk, InvalidBulkLength, BulkNotEnded, InlineTooLong}
@@ -36,11 +36,57 @@ FitsBulk word = length word ≤ value_limit
 abbrev pub null_line : List ℕ
 null_line = codes "*-1\r\n"
 
+-- a message in array form
+abbrev pub IsArray : Message → List ℕ → Type 0
+IsArray (Words words) bytes = (0 < length words) × (length words ≤ words_limit) × AllByRecursion FitsBulk words × (bytes ≡ array_line (length words) ++ bulks words)
+IsArray Quoted bytes = ⊥
+IsArray Blank bytes = (bytes ≡ array_line 0) ⊎ (bytes ≡ null_line)
+
+-- ---- inline requests (RESP protocol specification, "Inline commands"), without quoting
+
+-- a space or a tab
+abbrev pub is_space : ℕ → Bool
+is_space b = (b == 32) || (b == 9)
+
+-- a quotation mark, double or single
+abbrev pub is_quote : ℕ → Bool
+is_quote b = (b == 34) || (b == 39)
+
+-- the words of a text: what stands between its spaces and tabs, where that isn't empty
+abbrev pub words_of_text : List ℕ → List (List ℕ)
+words_of_text text = filter (λ part. nat_lt 0 (length part)) (slice_split is_space text)
+
+abbrev pub message_of_words : List (List ℕ) → Message
+message_of_words [] = Blank
+message_of_words (word ∷ words) = Words (word ∷ words)
+
+-- what a line's text asks for
+abbrev pub message_of_text : List ℕ → Message
+message_of_text text = if list_any is_quote text then Quoted else message_of_words (words_of_text text)
+
+-- the text of a line: all of it but one CR at its end
+abbrev pub text_of_line : List ℕ → List ℕ
+text_of_line [] = []
+text_of_line (b ∷ []) = if b == 13 then [] else b ∷ []
+text_of_line (b ∷ next ∷ line) = b ∷ text_of_line (next ∷ line)
+
+abbrev pub begins_array : List ℕ → Bool
+begins_array [] = false
+begins_array (b ∷ _) = b == 42
+
+-- an inline request's line, before its LF
+abbrev pub IsLine : List ℕ → Type 0
+IsLine line = AllByRecursion (λ b. b ≢ 10) line × (length line ≤ line_limit) × (begins_array line ≡ false)
+
+-- a message in inline form
+abbrev pub IsInline : Message → List ℕ → Type 0
+IsInline m bytes = (line : List ℕ) × IsLine line × (bytes ≡ line ++ 10 ∷ []) × (m ≡ message_of_text (text_of_line line))
+
+-- ---- all requests
+
 -- the bytes spell the message
 unfoldable pub Spells : Message → List ℕ → Type 0
-Spells (Words words) bytes = (0 < length words) × (length words ≤ words_limit) × AllByRecursion FitsBulk words × (bytes ≡ array_line (length words) ++ bulks words)
-Spells Quoted bytes = ⊥
-Spells Blank bytes = (bytes ≡ array_line 0) ⊎ (bytes ≡ null_line)
+Spells m bytes = IsArray m bytes ⊎ IsInline m bytes
 
 -- the bytes spell the messages, told newest first, one after another
 abbrev pub SpellsAll : List Message → List ℕ → Type 0
@@ -74,16 +120,16 @@ IsInArray bytes rest = (n : ℕ) × (n ≤ words_limit) × (words : List (List �
 
 -- where the byte after these bytes stands, if they begin a spelling, and what is wrong if it can't follow
 unfoldable pub IsPlace : List ℕ → StreamFault → Type 0
--- in the array's line; the sign is the line's first byte
-IsPlace bytes InvalidArrayLength = (bytes ≡ []) ⊎ IsInLine 42 bytes
+-- in the array's line
+IsPlace bytes InvalidArrayLength = IsInLine 42 bytes
 -- first of an element
 IsPlace bytes ExpectedBulk = IsInArray bytes []
 -- in an element's line
 IsPlace bytes InvalidBulkLength = (part : List ℕ) × IsInLine 36 part × IsInArray bytes part
 -- one of the two bytes after an element's own
 IsPlace bytes BulkNotEnded = (word : List ℕ) × FitsBulk word × (IsInArray bytes (bulk_line (length word) ++ word) ⊎ IsInArray bytes (bulk_line (length word) ++ (word ++ 13 ∷ [])))
--- in an inline line, of which there are none yet
-IsPlace bytes InlineTooLong = ⊥
+-- in an inline request's line, which is as long as it may be
+IsPlace bytes InlineTooLong = IsLine bytes × (length bytes ≡ line_limit)
 
 -- the bytes can become no message: up to a byte they begin one, and with that byte they don't
 pub record IsFaulty (bytes : List ℕ) (fault : StreamFault) : Type 0 where

@@ -17,6 +17,7 @@
 pub mod bulk_at;
 pub mod byte_string;
 pub mod event;
+pub mod inline_at;
 pub mod item;
 pub mod items;
 pub mod laws;

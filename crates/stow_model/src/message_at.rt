@@ -1,10 +1,11 @@
 //! One request at the front of a stream's bytes.
-ghost use Rattle.std.specs.Prelude.{◌≡◌, ◌<◌, ◌≤◌, ℕ, List, ◌∷◌, ◌++◌, IfOk};
-ghost use Rattle.stow_model.specs.Wire.{array_line};
+ghost use Rattle.std.specs.Prelude.{◌≡◌, ◌<◌, ◌≤◌, false, ℕ, List, ◌∷◌, ◌++◌, IfOk};
+ghost use Rattle.stow_model.specs.Wire.{array_line, begins_array};
 ghost use Rattle.stow_model.specs.Reader.{IsMessageAt};
 
 use crate::bulk_at::{BulkAt, bulk};
 use crate::byte_string::ByteString;
+use crate::inline_at::{InlineAt, inline, inline_message};
 use crate::message::Message;
 use crate::number_at::{NumberAt, number};
 use crate::stream_fault::StreamFault;
@@ -33,7 +34,7 @@ pub fn message_at<A: Allocator + Copy>(
         return Ok(MessageAt::More);
     };
     if *sign != b'*' {
-        return Ok(MessageAt::Faulty(StreamFault::InvalidArrayLength));
+        return in_line(alloc, bytes);
     }
     match after.split_first() {
         None => Ok(MessageAt::More),
@@ -43,6 +44,18 @@ pub fn message_at<A: Allocator + Copy>(
             }
             counted(alloc, after)
         }
+    }
+}
+
+/// What is found where no array begins.
+fn in_line<A: Allocator + Copy>(alloc: A, bytes: &[u8]) -> Result<MessageAt<'_, A>, AllocError>
+    requires { begins_array bytes.now ≡ false }
+    ensures { IfOk result (λ found. IsMessageAt bytes.now found) }
+{
+    match inline(bytes, 0) {
+        InlineAt::Line(line, rest) => Ok(MessageAt::Message(inline_message(alloc, line)?, rest)),
+        InlineAt::More => Ok(MessageAt::More),
+        InlineAt::TooLong => Ok(MessageAt::Faulty(StreamFault::InlineTooLong)),
     }
 }
 

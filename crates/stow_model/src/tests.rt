@@ -11,6 +11,8 @@ use std::alloc::{AllocError, Allocator, Global};
 use std::test::Fail;
 use stow_refusing::{Plan, Refusing};
 
+mod inline;
+
 /// What a stream holds: of each message its words in brackets, or `B` for a blank; then the number of the
 /// bytes that are left, and `more`, or the fault's text.
 fn read_text<A: Allocator + Copy>(alloc: A, bytes: &[u8]) -> Result<Vec<u8, A>, AllocError> {
@@ -77,10 +79,7 @@ fn streams(rt: HostRuntime) -> Result<(), Fail> {
 #[test]
 fn hostile_beginnings(rt: HostRuntime) -> Result<(), Fail> {
     let alloc = rt.alloc();
-    let cases: [(&[u8], StreamFault); 29] = [
-        (b"P", StreamFault::InvalidArrayLength),
-        (b"$", StreamFault::InvalidArrayLength),
-        (b"\r", StreamFault::InvalidArrayLength),
+    let cases: [(&[u8], StreamFault); 26] = [
         (b"*\r", StreamFault::InvalidArrayLength),
         (b"*+", StreamFault::InvalidArrayLength),
         (b"* ", StreamFault::InvalidArrayLength),

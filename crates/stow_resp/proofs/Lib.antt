@@ -1,4 +1,5 @@
 pub mod Lists
 pub mod Lines
+pub mod Inlines
 pub mod Elements
 pub mod Streams

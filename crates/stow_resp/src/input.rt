@@ -1,33 +1,36 @@
 //! The requests of a stream, from its bytes.
 ghost use Rattle.std.specs.Prelude.{◌≡◌, ◌++◌, [], OnOk, OnErr};
 ghost use Rattle.stow_resp.specs.Next.{IsNext};
-ghost use Rattle.stow_resp.specs.Scans.{IsProgress};
+ghost use Rattle.stow_resp.specs.Scans.{IsProgress, IsLineBegun};
 
+use crate::known::Known;
 use crate::line::{LineAt, line};
 use crate::next::Next;
 use crate::progress::{Progress, Scan};
 use bytes::BytesMut;
 use std::alloc::{AllocError, Allocator, Global};
 use std::marker::Model;
+use stow_model::inline_at::{InlineAt, inline, inline_message};
 use stow_model::stream_fault::StreamFault;
 
 /// The bytes of a stream that no message was made of yet. Of an unfinished array it keeps how much of it was
-/// found whole, so that a message in many pieces is looked through once.
+/// found whole, and of an unfinished inline line how much has no LF, so that a message in many pieces is looked
+/// through once.
 #[derive(Drop)]
 pub struct Input<A: Allocator = Global> {
     unread: BytesMut<A>,
-    known: Option<Progress>,
+    known: Known,
 }
 
 impl<A: Allocator> Model for Input<A> {
-    ghost use Rattle.std.specs.Prelude.{List, ℕ, IfSome};
-    ghost use Rattle.stow_resp.specs.Scans.{IsProgress};
+    ghost use Rattle.std.specs.Prelude.{List, ℕ};
+    ghost use Rattle.stow_resp.specs.Scans.{IsKnown};
 
     ghost Value = { List ℕ };
 
     ghost view = { λ a. a.unread.items };
 
-    ghost invariant = { λ a. IfSome a.known (λ p. IsProgress p a.unread.items) };
+    ghost invariant = { λ a. IsKnown a.known a.unread.items };
 }
 
 impl<A: Allocator + Copy> Input<A> {
@@ -37,7 +40,7 @@ impl<A: Allocator + Copy> Input<A> {
     {
         Input {
             unread: BytesMut::new(alloc),
-            known: None,
+            known: Known::Nothing,
         }
     }
 
@@ -54,12 +57,13 @@ impl<A: Allocator + Copy> Input<A> {
         ensures { IsNext result self.old self.new }
     {
         match self.known {
-            Some(progress) => self.go_on(alloc, progress),
-            None => self.start(alloc),
+            Known::Nothing => self.start(alloc),
+            Known::Array(progress) => self.go_on(alloc, progress),
+            Known::Line(looked) => self.go_on_line(alloc, looked),
         }
     }
 
-    /// Reads the first line of a message.
+    /// Looks how a message begins.
     fn start(&mut self, alloc: A) -> Next<A>
         ensures { IsNext result self.old self.new }
     {
@@ -70,10 +74,11 @@ impl<A: Allocator + Copy> Input<A> {
             }
             LineAt::Blank(rest) => {
                 let line = self.unread.len() - rest.len();
-                self.known = None;
+                self.known = Known::Nothing;
                 self.unread.advance(line);
                 Next::Blank
             }
+            LineAt::Inline => self.go_on_line(alloc, 0),
             LineAt::More => Next::More,
             LineAt::Stuck => Next::Fault(StreamFault::InvalidArrayLength),
         }
@@ -85,7 +90,7 @@ impl<A: Allocator + Copy> Input<A> {
         ensures { IsNext result self.old self.new }
     {
         let scan = progress.scan(self.unread.as_slice());
-        self.known = Some(progress);
+        self.known = Known::Array(progress);
         match scan {
             Scan::Whole => self.take(alloc, progress),
             Scan::More => Next::More,
@@ -102,8 +107,31 @@ impl<A: Allocator + Copy> Input<A> {
         let Ok(words) = progress.words(alloc, self.unread.as_slice()) else {
             return Next::NoMemory;
         };
-        self.known = None;
+        self.known = Known::Nothing;
         self.unread.advance(progress.scanned);
         Next::Message(words)
+    }
+
+    /// Looks for the end of an inline line, of which so many bytes were looked at, and takes the line off.
+    fn go_on_line(&mut self, alloc: A, looked: usize) -> Next<A>
+        requires { IsLineBegun looked self.old }
+        ensures { IsNext result self.old self.new }
+    {
+        match inline(self.unread.as_slice(), looked) {
+            InlineAt::Line(line, rest) => {
+                let Ok(message) = inline_message(alloc, line) else {
+                    return Next::NoMemory;
+                };
+                let used = self.unread.len() - rest.len();
+                self.known = Known::Nothing;
+                self.unread.advance(used);
+                Next::of_message(message)
+            }
+            InlineAt::More => {
+                self.known = Known::Line(self.unread.len());
+                Next::More
+            }
+            InlineAt::TooLong => Next::Fault(StreamFault::InlineTooLong),
+        }
     }
 }

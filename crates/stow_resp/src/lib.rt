@@ -11,11 +11,13 @@
 //! - A refused request for memory leaves the unread bytes and the written bytes as they were.
 //!
 //! Not proved: how much work it is. An element's body is looked at when it is whole and copied when its message
-//! is whole; until then each piece costs a look at the line of the one unfinished element.
+//! is whole; until then each piece costs a look at the line of the one unfinished element. The bytes of an inline
+//! line are looked at once for its LF, and its words are copied when it has ended.
 #![tactic(auto)]
 
 pub mod encode;
 pub mod input;
+mod known;
 pub mod laws;
 mod line;
 pub mod next;

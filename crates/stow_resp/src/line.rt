@@ -1,22 +1,24 @@
-//! The line that a request begins with.
+//! The line that an array begins with.
 ghost use Rattle.std.specs.Prelude.{◌≡◌, ◌≤◌, ◌∷◌, [], length, take};
 ghost use Rattle.stow_resp.specs.Scans.{IsLineAt};
 
 use stow_model::number_at::{NumberAt, number};
 
-/// What is found where a request's first line is to stand.
+/// What is found where a request is to stand.
 pub enum LineAt<'a> {
     /// A count of words that isn't zero, and what comes after the line.
     Array(u32, &'a [u8]),
     /// An array of no words, and what comes after the line.
     Blank(&'a [u8]),
+    /// There are bytes, and no array begins with them.
+    Inline,
     /// The bytes begin such a line, and aren't all of it.
     More,
     /// They can become none.
     Stuck,
 }
 
-/// The first line of a request at the front of the bytes.
+/// The first line of an array at the front of the bytes, if one stands there.
 pub fn line(bytes: &[u8]) -> LineAt<'_>
     ensures { IsLineAt bytes.now result }
 {
@@ -24,7 +26,7 @@ pub fn line(bytes: &[u8]) -> LineAt<'_>
         return LineAt::More;
     };
     if *sign != 42 {
-        return LineAt::Stuck;
+        return LineAt::Inline;
     }
     let Some((first, later)) = after.split_first() else {
         return LineAt::More;

@@ -72,7 +72,7 @@ fn is_alike<A: Allocator + Copy>(
 #[test]
 fn random_requests_are_answered_as_alone(rt: HostRuntime) -> Result<(), Fail> {
     let alloc = rt.alloc();
-    let mut core = new_core(alloc)?;
+    let mut core = new_core(alloc, alloc)?;
     let mut stores = [
         PlainStore::new(alloc, 1_000_000),
         PlainStore::new(alloc, 1_000_000),

@@ -2,7 +2,7 @@
 use crate::Core;
 use crate::tests::new_core;
 use crate::tests::text::{is_text, is_told, words_of};
-use std::alloc::{AllocError, Allocator};
+use std::alloc::{AllocError, Allocator, Global};
 use std::test::Fail;
 use stow_model::words::Words;
 use stow_refusing::{Plan, Refusing};
@@ -17,8 +17,8 @@ struct Case {
 }
 
 /// A core in which tenant 1 has "old" at the key `a`, and tenant 2 "other".
-fn started<A: Allocator + Copy>(alloc: A) -> Result<Core<A>, AllocError> {
-    let mut core = new_core(alloc)?;
+fn started<A: Allocator + Copy>(alloc: A, global: Global) -> Result<Core<A>, AllocError> {
+    let mut core = new_core(alloc, global)?;
     let _done = is_told(&mut core, alloc, 1, "SET a old", "OK")?;
     let _done = is_told(&mut core, alloc, 2, "SET a other", "OK")?;
     Ok(core)
@@ -70,10 +70,11 @@ fn commits<'a, B: Allocator>(
 /// Whether the case withstands the refusal of this request for memory, or `None` if it asks for fewer.
 fn withstands<B: Allocator>(
     heap: &Refusing<B>,
+    global: Global,
     case: Case,
     at: u64,
 ) -> Result<Option<bool>, AllocError> {
-    let mut core = started(heap)?;
+    let mut core = started(heap, global)?;
     let words = words_of(heap, case.line)?;
     if !is_refused(heap, &mut core, &words, at) {
         return Ok(None);
@@ -84,9 +85,13 @@ fn withstands<B: Allocator>(
 }
 
 /// How many requests for memory the case makes, if it withstands the refusal of each.
-fn refusals<B: Allocator>(heap: &Refusing<B>, case: Case) -> Result<Option<u64>, AllocError> {
+fn refusals<B: Allocator>(
+    heap: &Refusing<B>,
+    global: Global,
+    case: Case,
+) -> Result<Option<u64>, AllocError> {
     for at in 0..100u64 {
-        match withstands(heap, case, at)? {
+        match withstands(heap, global, case, at)? {
             None => return Ok(Some(at)),
             Some(true) => {}
             Some(false) => return Ok(None),
@@ -99,7 +104,8 @@ fn refusals<B: Allocator>(heap: &Refusing<B>, case: Case) -> Result<Option<u64>,
 // succeeds once memory is there. Its commit, to which every request is refused, asks for none.
 #[test]
 fn prepares_withstand_each_refusal(rt: HostRuntime) -> Result<(), Fail> {
-    let heap = Refusing::new(rt.alloc());
+    let global = rt.alloc();
+    let heap = Refusing::new(global);
     let used = "ERR value is not an integer or out of range";
     for (line, told, a, b, least) in [
         ("SET a new", "OK", "$new", "nil", 2),
@@ -122,7 +128,7 @@ fn prepares_withstand_each_refusal(rt: HostRuntime) -> Result<(), Fail> {
         ("INCR a", used, "$old", "nil", 1),
         ("DEL b a", ":1", "nil", "nil", 2),
     ] {
-        let needed = refusals(&heap, Case { line, told, a, b })?;
+        let needed = refusals(&heap, global, Case { line, told, a, b })?;
         assert!(rt; matches!(needed, Some(n) if n >= least), "{line}");
     }
     Ok(())

@@ -87,7 +87,7 @@ fn worked_requests(rt: HostRuntime) -> Result<(), Fail> {
     let alloc = rt.alloc();
     let rows: [&[Told]; 4] = [&KEYS, &NUMBERS, &RANGES, &CONDITIONS];
     for row in rows {
-        let mut core = new_core(alloc)?;
+        let mut core = new_core(alloc, alloc)?;
         for (line, want) in row {
             assert!(rt; is_told(&mut core, alloc, 1, line, want)?, "{line}");
         }
@@ -99,7 +99,7 @@ fn worked_requests(rt: HostRuntime) -> Result<(), Fail> {
 #[test]
 fn values_have_a_limit(rt: HostRuntime) -> Result<(), Fail> {
     let alloc = rt.alloc();
-    let mut core = new_core(alloc)?;
+    let mut core = new_core(alloc, alloc)?;
     let mut words = Vec::new(alloc);
     words.push(ByteString::from_slice(alloc, b"SET")?)?;
     words.push(ByteString::from_slice(alloc, b"v")?)?;
@@ -115,7 +115,7 @@ fn values_have_a_limit(rt: HostRuntime) -> Result<(), Fail> {
 #[test]
 fn ranges_end_with_the_tenant(rt: HostRuntime) -> Result<(), Fail> {
     let alloc = rt.alloc();
-    let mut core = new_core(alloc)?;
+    let mut core = new_core(alloc, alloc)?;
     for (tenant, line, want) in [
         (1, "SET LAST A", "OK"),
         (2, "SET '' B", "OK"),

@@ -1,9 +1,10 @@
-use Rattle.std.proofs.Common.{◌≡◌, ℕ, refl, ap, sym, ◌∙◌, List, [], ◌∷◌, ◌++◌, subst}
+use Rattle.std.proofs.Common.{◌≡◌, ℕ, refl, ap, sym, ◌∙◌, List, [], ◌∷◌, ◌++◌, length, subst, arith}
 use Rattle.stow_model.specs.Wire.{array_line, IsBegun, IsFaulty}
 use Rattle.stow_model.specs.declared.stream_fault.StreamFault.TheVariants.{InvalidArrayLength}
 use Rattle.stow_model.specs.Parts.{ends}
 use Rattle.stow_model.proofs.Numbers.{empty}
-use Rattle.stow_model.proofs.Messages.{none_begun, null_begun, number_begun, sign_faulty, number_faulty, blank_whole}
+use Rattle.stow_model.proofs.Messages.{none_begun, null_begun, number_begun, number_faulty, blank_whole}
+use Rattle.stow_model.proofs.Inlines.{not_array}
 use Rattle.stow_resp.proofs.Lines.{array_at}
 use Rattle.stow_resp.proofs.line.line.Goals as goal
 
@@ -11,7 +12,7 @@ pub returns-in_default : goal.returns-in_default
 returns-in_default c = subst IsBegun (sym (empty c.args.bytes.now c.in_default.ensures.cases)) none_begun
 
 pub returns-then-sign-ne42 : goal.returns-then-sign-ne42
-returns-then-sign-ne42 c = subst (λ t. IsFaulty t InvalidArrayLength) (sym c.in-Some.ensures.cases.0) (sign_faulty c.in-Some.sign.now c.in-Some.after.now c.if-sign-ne42.true)
+returns-then-sign-ne42 c = (omega (arith, ap length c.in-Some.ensures.cases.0), not_array c.args.bytes.now c.in-Some.after.now c.in-Some.sign.now c.in-Some.ensures.cases.0 c.if-sign-ne42.true)
 
 pub returns-in_default-split_first : goal.returns-in_default-split_first
 returns-in_default-split_first c =

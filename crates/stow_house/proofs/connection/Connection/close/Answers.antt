@@ -1,23 +1,14 @@
-use Rattle.std.proofs.Common.{rules, ◌≡◌, ◌≢◌, ℕ, List, ◌++◌, Option, Some, None, Bool, true, false, refl, ap, sym, subst, ◌∙◌, arith, cond}
-use Rattle.std.specs.Ordering.{nat_cmp}
-use Rattle.std.specs.BTreeMap.{get}
+use Rattle.std.proofs.Common.{Bool, false, refl, ap, sym}
 use Rattle.stow_model.specs.Event as event
-use Rattle.stow_model.specs.Message as message
-use Rattle.stow_model.specs.Reply.{reply_of}
-use Rattle.stow_model.specs.Reply as reply
-use Rattle.stow_model.specs.Command.{kind_of}
-use Rattle.stow_model.specs.History.{Status, IsOpen, Unused, Took, status_after_kind}
-use Rattle.stow_core.specs.State.{CoreState, is_out_of_memory}
-use Rattle.stow_house.specs.Seen.{Seen, seen, seen_at, status_by, IsServed, never_opened}
-use Rattle.stow_house.specs.StepResult.{step_result_of, Done, More, Blank, Answered, Refused}
-use Rattle.stow_house.specs.Steps.{StepsHere, quoted_refusal}
-use Rattle.stow_house.proofs.Here.{void, refused_piece, refused_serve, refused_close, refused_open, not_open, fed, closed_now, opened_now, waits, broke, blank, quoted, served_on, as_seen, in_house, idle}
+use Rattle.stow_house.specs.Seen.{Seen, status_by}
+use Rattle.stow_house.specs.StepResult.{Done, Refused}
+use Rattle.stow_house.proofs.Here.{refused_close, not_open, closed_now, as_seen}
 use Rattle.stow_house.proofs.connection.Connection.close.Goals as goal
 
 pub returns-then-was_open-clause-step : goal.returns-then-was_open-clause-step
-returns-then-was_open-clause-step g c = λ n core. as_seen n (event.Close n) Done _ _ _ _ core core (ap (λ b. record { status = status_by b; tenant = c.args.self.now.tenant; unread = c.args.self.now.input }) (sym c.if-was_open.true)) refl (closed_now n _ _ core)
+returns-then-was_open-clause-step g c = λ n core. as_seen n (event.Close n) Done _ _ _ _ core core (ap (λ b. record { status = status_by b; tenant = c.args.self.now.session; unread = c.args.self.now.input }) (sym c.if-was_open.true)) refl (closed_now n _ _ core)
 
 pub returns-else-was_open-clause-step : goal.returns-else-was_open-clause-step
 returns-else-was_open-clause-step g c = λ n core.
-    let S : Bool → Seen = λ b. record { status = status_by b; tenant = c.args.self.now.tenant; unread = c.args.self.now.input } in
+    let S : Bool → Seen = λ b. record { status = status_by b; tenant = c.args.self.now.session; unread = c.args.self.now.input } in
     as_seen n (event.Close n) Refused (S false) (S false) (S c.args.self.now.is_open) (S false) core core (ap S (sym c.if-was_open.false)) refl (refused_close n (status_by false) _ _ core (not_open false refl))

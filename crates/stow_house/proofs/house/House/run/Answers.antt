@@ -1,9 +1,9 @@
-use Rattle.std.proofs.Common.{rules, ◌≡◌, ◌+◌, ◌<◌, ◌≤◌, ℕ, List, [], ◌∷◌, ◌++◌, length, map, take, refl, ap, sym, ◌∙◌, subst, arith, add-one}
-use Rattle.stow_model.specs.Event.{Event, event_of}
+use Rattle.std.proofs.Common.{◌≡◌, ◌+◌, ◌<◌, ◌≤◌, [], ◌∷◌, ◌++◌, length, map, take, refl, ap, sym, ◌∙◌, arith, add-one}
+use Rattle.stow_model.specs.Event.{event_of}
 use Rattle.stow_house.specs.StepResult.{step_result_of}
 use Rattle.stow_house.specs.Steps.{core_of, seen_in}
 use Rattle.stow_house.specs.Outputs.{told_in, marks_in, told_to, told_of, mark_of, connection_of}
-use Rattle.stow_house.proofs.Runs.{SoFar, so_far_none, so_far_more, as_told, shown, take_map_more, take_map_all, when_ok}
+use Rattle.stow_house.proofs.Runs.{so_far_none, so_far_more, as_told, shown, take_map_more, take_map_all, when_ok}
 use Rattle.stow_house.proofs.house.House.run.Goals as goal
 
 pub loop-done-init : goal.loop-done-init

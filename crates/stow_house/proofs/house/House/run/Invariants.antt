@@ -1,4 +1,4 @@
-use Rattle.std.proofs.Common.{◌≡◌, map, take}
+use Rattle.std.proofs.Common.{map, take}
 use Rattle.stow_model.specs.Event.{event_of}
 use Rattle.stow_house.specs.Steps.{core_of, seen_in}
 use Rattle.stow_house.specs.Outputs.{told_in, marks_in}

@@ -1,0 +1,6 @@
+use Rattle.std.proofs.Common.{sym, ◌∙◌}
+use Rattle.stow_house.proofs.Marked.{one_run}
+use Rattle.stow_house.proofs.laws.one_run.Goals as goal
+
+pub returns : goal.returns
+returns c = one_run c.one_history.ensures

@@ -1,0 +1,108 @@
+//! The tenants of the service.
+ghost use Rattle.std.specs.Prelude.{◌≡◌, ◌<◌, length, IfSome};
+ghost use Rattle.stow_model.specs.Login.{IsTenant, login, quota_of};
+ghost use Rattle.stow_login.specs.Entries.{entry_of, name_of, index_named, is_own};
+ghost use Rattle.stow_login.specs.TenantFile.{IsReading};
+
+use crate::reading::read_table;
+use crate::tenant::Tenant;
+use crate::tenants_fault::TenantsFault;
+use sha2::{Digest, Sha256};
+use std::alloc::{Allocator, Global};
+use std::marker::Model;
+use stow_model::byte_string::ByteString;
+
+/// Fewer than 65,536 tenants, each with an index that counts from 1.
+#[derive(Drop)]
+pub struct Tenants<A: Allocator = Global> {
+    tenants: Vec<Tenant<A>, A>,
+}
+
+impl<A: Allocator> Model for Tenants<A> {
+    ghost use Rattle.std.specs.Prelude.{◌<◌, List, length, map};
+    ghost use Rattle.stow_model.specs.Login.{Entry};
+    ghost use Rattle.stow_login.specs.Entries.{entry_of};
+
+    ghost Value = { List Entry };
+
+    ghost view = { λ t. map entry_of t.tenants.items };
+
+    ghost invariant = { λ t. length t.tenants.items < 65536 };
+}
+
+impl<A: Allocator + Copy> Tenants<A> {
+    /// The tenants of a tenant file's text, in its order, or the first fault. `heap` is where `toml` keeps the
+    /// file's table for as long as it is read.
+    pub fn read(alloc: A, heap: Global, text: &str) -> Result<Tenants<A>, TenantsFault>
+        ensures { IsReading text.now result }
+    {
+        match toml::table_from_str(heap, text) {
+            Ok(table) => Ok(Tenants {
+                tenants: read_table(alloc, &table)?,
+            }),
+            Err(error) if error.is_memory() => Err(TenantsFault::OutOfMemory),
+            Err(_) => Err(TenantsFault::NotToml),
+        }
+    }
+}
+
+impl<A: Allocator> Tenants<A> {
+    /// The tenant of this name, if the password is its own.
+    pub fn check(&self, name: &[u8], password: &[u8]) -> Option<u32>
+        ensures login { result ≡ login self.now name.now password.now }
+        ensures tenant { IfSome result (λ t. IsTenant self.now t) }
+    {
+        let index = self.find(name)?;
+        if is_password(&self.tenants[index as usize - 1], password) {
+            Some(index)
+        } else {
+            None
+        }
+    }
+
+    /// How many tenants there are.
+    pub fn count(&self) -> u32
+        ensures all { result ≡ length self.now }
+        ensures few { result < 65536 }
+    {
+        self.tenants.len() as u32
+    }
+
+    /// The tenant of this name.
+    pub fn find(&self, name: &[u8]) -> Option<u32>
+        ensures named { result ≡ index_named self.now name.now }
+        ensures tenant { IfSome result (λ t. IsTenant self.now t) }
+    {
+        let mut index = 1;
+        for tenant in &self.tenants {
+            if tenant.name.as_slice() == name {
+                return Some(index);
+            }
+            index += 1;
+        }
+        None
+    }
+
+    pub fn name(&self, index: u32) -> &[u8]
+        requires { IsTenant self.now index }
+        ensures { result.now ≡ name_of self.now index }
+    {
+        self.tenants[index as usize - 1].name.as_slice()
+    }
+
+    pub fn quota(&self, index: u32) -> u64
+        requires { IsTenant self.now index }
+        ensures { result ≡ quota_of self.now index }
+    {
+        self.tenants[index as usize - 1].quota
+    }
+}
+
+fn is_password<A: Allocator>(tenant: &Tenant<A>, password: &[u8]) -> bool
+    ensures { result ≡ is_own (entry_of tenant.now) password.now }
+{
+    let mut hasher = Sha256::new();
+    hasher.update(tenant.salt.as_slice());
+    hasher.update(password);
+    hasher.finalize() == tenant.digest
+}

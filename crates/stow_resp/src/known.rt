@@ -1,0 +1,13 @@
+//! What is known between the pieces of a stream.
+use crate::progress::Progress;
+
+/// What is known of the front of some bytes. `specs/Scans.antt` says it.
+#[derive(Clone, Copy)]
+pub enum Known {
+    /// Nothing.
+    Nothing,
+    /// An array begins there, and so much of it was found.
+    Array(Progress),
+    /// An inline line begins there, and so many of its bytes were looked at and hold no LF.
+    Line(usize),
+}
