@@ -13,7 +13,7 @@ pub fn packed_key<A: Allocator>(
 ) -> Result<ByteString<A>, AllocError>
     ensures { IfOk result (λ k. k ≡ packed tenant key.now) }
 {
-    let mut bytes = Vec::with_capacity(alloc, key.len().saturating_add(4))?;
+    let mut bytes = Vec::new(alloc);
     pack_into(&mut bytes, tenant, key)?;
     Ok(ByteString::from_vec(bytes))
 }
@@ -27,6 +27,7 @@ pub fn pack_into<A: Allocator>(
     ensures { OnOk result (buffer.new.items ≡ packed tenant key.now) }
 {
     buffer.clear();
+    buffer.reserve(key.len().saturating_add(4))?;
     buffer.extend_from_slice(&tenant.to_be_bytes())?;
     buffer.extend_from_slice(key)
 }

@@ -6,8 +6,13 @@
 //! answer to which memory was refused leaves every store as it was. Who the tenants are is said by `Tenants`
 //! of `stow_login`.
 //!
-//! A body that prepares the same words twice is right too, since a prepared answer that is never carried out
-//! changes nothing.
+//! Rows stand in the order of packed keys, each the tenant's index and then its own key, so a tenant's rows
+//! stand together, in the order of its keys. A range begins at its lower end and goes over no other rows
+//! than it answers, but for the one that it stops at, and for places that wait for a value.
+//!
+//! A body of `prepare`, `prepare_command`, `prepare_change`, `prepare_write` or `prepare_del` that prepares
+//! twice is right too, since a prepared answer that is never carried out changes nothing; and so is a read
+//! that is made twice.
 #![tactic(auto)]
 
 ghost use Rattle.std.specs.Prelude.{◌≡◌, ◌≢◌, ℕ, IfOk, IsOkAnd};

@@ -9,14 +9,44 @@ use stow_model::simple_string::SimpleString;
 use stow_model::stream_fault::fault_text;
 use stow_model::words::Words;
 
-/// The words of a line, of which `''` is the empty one.
+/// Bytes of the longest key.
+const KEY_LIMIT: usize = 1024;
+
+/// A byte, so many times.
+pub fn repeated<A: Allocator>(alloc: A, byte: u8, count: usize) -> Result<Vec<u8, A>, AllocError> {
+    let mut bytes = Vec::new(alloc);
+    for _ in 0..count {
+        bytes.push(byte)?;
+    }
+    Ok(bytes)
+}
+
+/// The words of a line, of which `''` is the empty one, and `LAST` the last key that there can be.
 pub fn words_of<A: Allocator + Copy>(alloc: A, line: &str) -> Result<Words<A>, AllocError> {
     let mut words = Vec::new(alloc);
     for word in line.split_whitespace() {
-        let bytes = if word == "''" { b"" } else { word.as_bytes() };
-        words.push(ByteString::from_slice(alloc, bytes)?)?;
+        words.push(word_of(alloc, word)?)?;
     }
     Ok(Words::from_vec(words))
+}
+
+fn word_of<A: Allocator + Copy>(alloc: A, word: &str) -> Result<ByteString<A>, AllocError> {
+    match word {
+        "''" => ByteString::from_slice(alloc, b""),
+        "LAST" => Ok(ByteString::from_vec(repeated(alloc, 0xff, KEY_LIMIT)?)),
+        _ => ByteString::from_slice(alloc, word.as_bytes()),
+    }
+}
+
+/// Adds a bulk string, by its name where it is the last key that there can be.
+fn push_bulk<A: Allocator>(text: &mut Vec<u8, A>, bytes: &[u8]) -> Result<(), AllocError> {
+    text.push(b'$')?;
+    if bytes.len() == KEY_LIMIT && bytes[0] == 0xff && bytes[KEY_LIMIT - 1] == 0xff {
+        text.extend_from_slice(b"LAST")?;
+    } else {
+        text.extend_from_slice(bytes)?;
+    }
+    Ok(())
 }
 
 /// A reply's text: `$` before a bulk string, `:` before an integer, brackets around an array.
@@ -31,10 +61,7 @@ pub fn reply_text<A: Allocator + Copy>(
         Reply::Error(refusal) => text.extend_from_slice(refusal_text(*refusal))?,
         Reply::ProtocolError(fault) => text.extend_from_slice(fault_text(*fault))?,
         Reply::Integer(n) => text.extend_from_slice(format!(in alloc; ":{n}")?.as_bytes())?,
-        Reply::Bulk(bytes) => {
-            text.push(b'$')?;
-            text.extend_from_slice(bytes.as_slice())?;
-        }
+        Reply::Bulk(bytes) => push_bulk(&mut text, bytes.as_slice())?,
         Reply::Null => text.extend_from_slice(b"nil")?,
         Reply::Array(items) => {
             text.push(b'[')?;
@@ -51,10 +78,7 @@ fn item_text<A: Allocator + Copy>(alloc: A, item: &Item<A>) -> Result<Vec<u8, A>
     let mut text = Vec::new(alloc);
     match item {
         Item::Integer(n) => text.extend_from_slice(format!(in alloc; ":{n}")?.as_bytes())?,
-        Item::Bulk(bytes) => {
-            text.push(b'$')?;
-            text.extend_from_slice(bytes.as_slice())?;
-        }
+        Item::Bulk(bytes) => push_bulk(&mut text, bytes.as_slice())?,
         Item::Null => text.extend_from_slice(b"nil")?,
     }
     text.push(b' ')?;

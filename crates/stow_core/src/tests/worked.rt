@@ -1,8 +1,6 @@
 //! Worked requests, with the replies that they are to have.
-use crate::Core;
 use crate::tests::new_core;
-use crate::tests::text::{is_told, reply_text};
-use std::alloc::{AllocError, Allocator};
+use crate::tests::text::{is_text, is_told, repeated};
 use std::test::Fail;
 use stow_model::byte_string::ByteString;
 use stow_model::words::Words;
@@ -97,38 +95,17 @@ fn worked_requests(rt: HostRuntime) -> Result<(), Fail> {
     Ok(())
 }
 
-/// Whether the words are told this. No word of a line can be written for a key of any bytes.
-fn is_answered<A: Allocator + Copy>(
-    core: &mut Core<A>,
-    alloc: A,
-    tenant: u32,
-    words: &[&[u8]],
-    want: &[u8],
-) -> Result<bool, AllocError> {
-    let mut all = Vec::new(alloc);
-    for word in words {
-        all.push(ByteString::from_slice(alloc, word)?)?;
-    }
-    let reply = core.call(alloc, tenant, &Words::from_vec(all));
-    Ok(reply_text(alloc, &reply)?.as_slice() == want)
-}
-
-fn repeated<A: Allocator>(alloc: A, byte: u8, count: usize) -> Result<Vec<u8, A>, AllocError> {
-    let mut bytes = Vec::new(alloc);
-    for _ in 0..count {
-        bytes.push(byte)?;
-    }
-    Ok(bytes)
-}
-
 // A value at its limit, and one byte more.
 #[test]
 fn values_have_a_limit(rt: HostRuntime) -> Result<(), Fail> {
     let alloc = rt.alloc();
     let mut core = new_core(alloc, alloc)?;
-    let value = repeated(alloc, b'x', 65_535)?;
-    let words = [b"SET".as_slice(), b"v", value.as_slice()];
-    assert!(rt; is_answered(&mut core, alloc, 1, &words, b"OK")?);
+    let mut words = Vec::new(alloc);
+    words.push(ByteString::from_slice(alloc, b"SET")?)?;
+    words.push(ByteString::from_slice(alloc, b"v")?)?;
+    words.push(ByteString::from_vec(repeated(alloc, b'x', 65_535)?))?;
+    let reply = core.call(alloc, 1, &Words::from_vec(words));
+    assert!(rt; is_text(alloc, &reply, "OK")?);
     assert!(rt; is_told(&mut core, alloc, 1, "APPEND v x", "ERR value is too long")?);
     assert!(rt; is_told(&mut core, alloc, 1, "STRLEN v", ":65535")?);
     Ok(())
@@ -139,30 +116,23 @@ fn values_have_a_limit(rt: HostRuntime) -> Result<(), Fail> {
 fn ranges_end_with_the_tenant(rt: HostRuntime) -> Result<(), Fail> {
     let alloc = rt.alloc();
     let mut core = new_core(alloc, alloc)?;
-    let last = repeated(alloc, 0xff, 1_024)?;
-    let key = last.as_slice();
-    let mut told = Vec::from_slice(alloc, b"[$")?;
-    told.extend_from_slice(key)?;
-    told.extend_from_slice(b" $A ]")?;
-    let told = told.as_slice();
-    let cases: [(u32, &[&[u8]], &[u8]); 12] = [
-        (1, &[b"SET", key, b"A"], b"OK"),
-        (2, &[b"SET", b"", b"B"], b"OK"),
-        (1, &[b"RANGE", b"", b"", b"1024"], told),
-        (2, &[b"RANGE", b"", b"", b"1024"], b"[$ $B ]"),
-        (3, &[b"RANGE", b"", b"", b"1024"], b"[]"),
-        (1, &[b"RANGE", key, b"", b"1024"], told),
-        (2, &[b"RANGE", key, b"", b"1024"], b"[]"),
-        (1, &[b"RANGE", b"", key, b"1024"], b"[]"),
-        (2, &[b"RANGE", b"", key, b"1024"], b"[$ $B ]"),
-        (3, &[b"SET", b"", b"C"], b"OK"),
-        (2, &[b"DEL", b""], b":1"),
-        (2, &[b"RANGE", b"", b"", b"1024"], b"[]"),
-    ];
-    for (tenant, words, want) in cases {
+    for (tenant, line, want) in [
+        (1, "SET LAST A", "OK"),
+        (2, "SET '' B", "OK"),
+        (1, "RANGE '' '' 1024", "[$LAST $A ]"),
+        (2, "RANGE '' '' 1024", "[$ $B ]"),
+        (3, "RANGE '' '' 1024", "[]"),
+        (1, "RANGE LAST '' 1024", "[$LAST $A ]"),
+        (2, "RANGE LAST '' 1024", "[]"),
+        (1, "RANGE '' LAST 1024", "[]"),
+        (2, "RANGE '' LAST 1024", "[$ $B ]"),
+        (3, "SET '' C", "OK"),
+        (2, "DEL ''", ":1"),
+        (2, "RANGE '' '' 1024", "[]"),
+    ] {
         assert!(rt;
-            is_answered(&mut core, alloc, tenant, words, want)?,
-            "{tenant}"
+            is_told(&mut core, alloc, tenant, line, want)?,
+            "{tenant} {line}"
         );
     }
     Ok(())

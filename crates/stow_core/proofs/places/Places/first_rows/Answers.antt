@@ -1,4 +1,4 @@
-use Rattle.std.proofs.Common.{◌≡◌, ℕ, List, map, cond, Option, Some, None, ◌∷◌, ap, sym, ◌∙◌, subst}
+use Rattle.std.proofs.Common.{map, cond, Some, None, ◌∷◌, ap, sym, ◌∙◌, subst}
 use Rattle.std.specs.List.{flat_map}
 use Rattle.std.specs.Option.{option_copied}
 use Rattle.stow_model.specs.Item.{item_of}
