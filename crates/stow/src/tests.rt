@@ -1,4 +1,5 @@
 //! The program over memory: worked examples whose answers come from the service's description.
+use crate::failure::Failure;
 use crate::folder::Folder;
 use crate::program::program;
 use std::alloc::{AllocError, Global};
@@ -6,6 +7,7 @@ use std::io;
 use std::io::{Read, Write};
 use std::process::Abort;
 use std::test::Fail;
+use stow_login::tenants_fault::TenantsFault;
 
 const LOGIN: &[u8] = b"*3\r\n$4\r\nAUTH\r\n$3\r\nann\r\n$2\r\nbc\r\n";
 
@@ -474,5 +476,37 @@ fn a_refused_tenant_file_is_told(rt: HostRuntime) -> Result<(), Fail> {
             assert!(rt; ended.errors.as_slice() == told.as_bytes(), "{line}");
         }
     }
+    Ok(())
+}
+
+// A tenant file that couldn't be read for want of memory is told as any want of memory.
+#[test]
+fn a_tenant_file_can_want_memory(rt: HostRuntime) -> Result<(), Fail> {
+    assert!(rt; matches!(Failure::from(TenantsFault::OutOfMemory), Failure::Memory));
+    assert!(rt;
+        matches!(
+            Failure::from(TenantsFault::NameUsed),
+            Failure::Tenants(TenantsFault::NameUsed)
+        )
+    );
+    Ok(())
+}
+
+#[test]
+fn logins_are_the_connections_own(rt: HostRuntime) -> Result<(), Fail> {
+    // Nobody is logged in; what comes after a QUIT isn't read.
+    expect(
+        &rt,
+        "pipe",
+        b"*2\r\n$3\r\nGET\r\n$1\r\nk\r\n*1\r\n$3\r\nFOO\r\n*3\r\n$4\r\nAUTH\r\n$3\r\nann\r\n$1\r\nc\r\n*1\r\n$4\r\nQUIT\r\n*1\r\n$4\r\nPING\r\n",
+        b"-NOAUTH Authentication required.\r\n-NOAUTH Authentication required.\r\n-WRONGPASS invalid name or password\r\n+OK\r\n",
+    )?;
+    // A connection changes hands, and a login that fails changes nothing.
+    expect(
+        &rt,
+        "pipe",
+        b"*3\r\n$4\r\nAUTH\r\n$3\r\nann\r\n$2\r\nbc\r\n*3\r\n$3\r\nSET\r\n$1\r\nk\r\n$1\r\na\r\n*3\r\n$4\r\nAUTH\r\n$3\r\nben\r\n$1\r\nc\r\n*3\r\n$3\r\nSET\r\n$1\r\nk\r\n$1\r\nb\r\n*3\r\n$4\r\nAUTH\r\n$3\r\nann\r\n$1\r\nc\r\n*2\r\n$3\r\nGET\r\n$1\r\nk\r\n",
+        b"+OK\r\n+OK\r\n+OK\r\n+OK\r\n-WRONGPASS invalid name or password\r\n$1\r\nb\r\n",
+    )?;
     Ok(())
 }

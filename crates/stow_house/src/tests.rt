@@ -53,10 +53,34 @@ digest = \"ba7816bf8f01cfea414140de5dae2223b00361a396177a9cb410ff61f20015ad\"
 quota = 100
 ";
 
+/// Another tenant, and then ann, with the entry that she has among the three.
+const OTHERS: &str = "[[tenant]]
+name = \"zoe\"
+salt = \"\"
+digest = \"ba7816bf8f01cfea414140de5dae2223b00361a396177a9cb410ff61f20015ad\"
+quota = 7
+[[tenant]]
+name = \"ann\"
+salt = \"61\"
+digest = \"ba7816bf8f01cfea414140de5dae2223b00361a396177a9cb410ff61f20015ad\"
+quota = 1000000
+";
+
 fn new_house<A: Allocator + Copy>(alloc: A, global: Global) -> Result<House<A>, AllocError>
     ensures { IfOk result (λ house. IsNewHouse house) }
 {
-    let tenants = Tenants::read(alloc, global, THREE).map_err(|_| AllocError)?;
+    house_of(alloc, global, THREE)
+}
+
+/// A new house of a tenant file's tenants.
+fn house_of<A: Allocator + Copy>(
+    alloc: A,
+    global: Global,
+    text: &str,
+) -> Result<House<A>, AllocError>
+    ensures { IfOk result (λ house. IsNewHouse house) }
+{
+    let tenants = Tenants::read(alloc, global, text).map_err(|_| AllocError)?;
     let tenants = Arc::new(alloc, tenants).map_err(AllocError::from)?;
     Ok(House::new(alloc, Core::new(alloc, tenants)?))
 }
@@ -431,3 +455,38 @@ const HANDED_OVER: [(u32, Request); 14] = [
     (1, &[b"GET", b"k"]),
     (2, &[b"DEL", b"k"]),
 ];
+
+/// The acts of the first connection alone.
+fn of_first(alloc: Global, acts: &[Act]) -> Result<Vec<Act>, AllocError> {
+    let mut own = Vec::new(alloc);
+    for act in acts {
+        match act {
+            Act::Open(1) | Act::Send(1, _) | Act::Serve(1) => own.push(*act)?,
+            _ => {}
+        }
+    }
+    Ok(own)
+}
+
+// Ann's requests among another's, and alone in a house of other tenants, in which her index is another: she is
+// told the same.
+#[test]
+fn a_tenant_is_told_the_same_in_another_house(rt: HostRuntime) -> Result<(), Fail> {
+    let alloc: Global = rt.alloc();
+    let mut first = new_house(alloc, alloc)?;
+    let mut second = house_of(alloc, alloc, OTHERS)?;
+    assert_eq!(rt; first.core().tenants().find(b"ann"), Some(1));
+    assert_eq!(rt; second.core().tenants().find(b"ann"), Some(2));
+    let events = events_of(alloc, &ACTS)?;
+    let own = events_of(alloc, of_first(alloc, &ACTS)?.as_slice())?;
+    let (Ok(one), Ok(other)) = (
+        first.run(alloc, events.as_slice()),
+        second.run(alloc, own.as_slice()),
+    ) else {
+        assert!(rt; false, "memory was refused");
+        return Ok(());
+    };
+    let told = one.bytes(alloc, 1)?;
+    assert!(rt; told.as_slice() == other.bytes(alloc, 1)?.as_slice() && told.len() > 40);
+    Ok(())
+}

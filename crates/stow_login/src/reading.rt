@@ -19,6 +19,9 @@ const TENANT_LIMIT: usize = 65_535;
 /// The most bytes of a name.
 const NAME_LIMIT: usize = 64;
 
+/// How many fields a tenant has.
+const FIELDS: usize = 4;
+
 /// The most bytes of a salt.
 const SALT_LIMIT: usize = 64;
 
@@ -124,7 +127,7 @@ fn four_fields(value: &Value) -> Option<&Table>
     ensures { option_map (λ table. table_view table.now) result ≡ four_fields (view value.now) }
 {
     match value.as_table() {
-        Some(table) if table.len() == 4 => Some(table),
+        Some(table) if table.len() == FIELDS => Some(table),
         _ => None,
     }
 }
