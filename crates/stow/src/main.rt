@@ -1,8 +1,8 @@
 //! The program `stow`.
 //!
 //! It reads its arguments and the tenant file that they name, makes a new service, and either answers the bytes
-//! of one connection (`pipe`) or carries a script's events out (`script`). Proved of it: it is safe, and it ends where its input does. What
-//! it says is shown by tests; what the service answers is proved in the crates below.
+//! of one connection (`pipe`) or carries a script's events out (`script`). Proved of it: it is safe, and it
+//! returns. What it says is shown by tests; what the service answers is proved in the crates below.
 #![tactic(auto)]
 
 mod arguments;

@@ -1,7 +1,7 @@
 -- What a tenant file says: the tenants' entries in the file's order, or the first fault.
-use Rattle.std.specs.Prelude.{◌≡◌, ◌⊎◌, ℕ, suc, ℤ, pos, negsuc, Bool, true, List, [], ◌∷◌, ◌++◌, length, Option, Some, None, Result, Ok, Err, ok_or, option_and_then, is_some, if◌then◌else◌, ◌==◌, ◌&&◌, ◌||◌, nat_le, codes}
+use Rattle.std.specs.Prelude.{◌≡◌, ◌≤◌, ◌⊎◌, ℕ, suc, ℤ, pos, negsuc, Bool, true, false, List, [], ◌∷◌, ◌++◌, length, Option, Some, None, Result, Ok, Err, ok_or, option_and_then, is_some, if◌then◌else◌, ◌==◌, ◌&&◌, ◌||◌, nat_le, codes}
 use Rattle.std.specs.Char.{is_ascii_alphanumeric}
-use Rattle.std.specs.List.{list_all, list_any}
+use Rattle.std.specs.List.{list_all, list_any, AllByRecursion}
 use Rattle.std.specs.Result.{result_ok}
 use Rattle.std.specs.Str.{bytes_eq}
 use Rattle.hex.specs.Hex.{decode_of, decode_sized}
@@ -164,3 +164,22 @@ entries_of_text text = ok_or (parse_document text) fault.NotToml >>= entries_of
 abbrev pub IsReading : List ℕ → Result (List Entry) TenantsFault → Type 0
 IsReading text (Ok entries) = entries_of_text text ≡ Ok entries
 IsReading text (Err e) = (e ≡ fault.OutOfMemory) ⊎ (entries_of_text text ≡ Err e)
+
+-- ---- laws
+
+-- an entry by the file's rules
+pub record IsByRule (entry : Entry) : Type 0 where
+  pub name : is_name entry.name ≡ true
+  pub salt : length entry.salt ≤ salt_limit
+  pub digest : length entry.digest ≡ digest_length
+
+-- no later entry has an earlier one's name
+abbrev pub HaveOwnNames : List Entry → Type 0
+HaveOwnNames [] = Unit {0}
+HaveOwnNames (entry ∷ entries) = (is_used entries entry.name ≡ false) × HaveOwnNames entries
+
+-- the entries of a text are 1 to 65,535, each by the rules, and each with a name of its own
+abbrev pub EntriesAreByRule : Type 0
+EntriesAreByRule =
+    (text : List ℕ) (entries : List Entry) → entries_of_text text ≡ Ok entries
+    → (1 ≤ length entries) × (length entries ≤ tenant_limit) × AllByRecursion IsByRule entries × HaveOwnNames entries

@@ -91,7 +91,11 @@ fn changed_files_are_told_their_first_fault(rt: HostRuntime) -> Result<(), Fail>
         ("salt =", "name =", 1),
     ] {
         let text = changed(alloc, THREE, from, to)?;
-        assert_eq!(rt; fault_of(alloc, alloc, text.as_str()), number, "{from} {to}");
+        assert_eq!(rt;
+            fault_of(alloc, alloc, text.as_str()),
+            number,
+            "{from} {to}"
+        );
     }
     Ok(())
 }
@@ -117,7 +121,11 @@ fn of_two_faults_the_first_is_told(rt: HostRuntime) -> Result<(), Fail> {
     ] {
         let text = changed(alloc, THREE, first, to)?;
         let text = changed(alloc, text.as_str(), second, also)?;
-        assert_eq!(rt; fault_of(alloc, alloc, text.as_str()), number, "{to} {also}");
+        assert_eq!(rt;
+            fault_of(alloc, alloc, text.as_str()),
+            number,
+            "{to} {also}"
+        );
     }
     Ok(())
 }
@@ -193,10 +201,34 @@ fn read_withstands_each_refusal(rt: HostRuntime) -> Result<(), Fail> {
     assert_eq!(rt; fault_of(&alloc, heap, THREE), 0);
     let needed = alloc.asked();
     for at in 0..needed {
-        assert_eq!(rt; refused_at(&alloc, heap, at), TenantsFault::OutOfMemory.number());
+        assert_eq!(rt;
+            refused_at(&alloc, heap, at),
+            TenantsFault::OutOfMemory.number()
+        );
         assert_eq!(rt; fault_of(&alloc, heap, THREE), 0);
     }
     assert_eq!(rt; refused_at(&alloc, heap, needed), 0);
     assert!(rt; needed >= 6);
+    Ok(())
+}
+
+/// A file of this many tenants, each with no field.
+fn bare_tenants(alloc: Global, count: u64) -> Result<String, AllocError> {
+    let mut text = String::from_str(alloc, "tenant = [")?;
+    for _ in 0..count {
+        text.push_str("{},")?;
+    }
+    text.push_str("]")?;
+    Ok(text)
+}
+
+// At the limit the first tenant is looked at, and above it none is.
+#[test]
+fn the_number_of_tenants_is_limited(rt: HostRuntime) -> Result<(), Fail> {
+    let alloc: Global = rt.alloc();
+    for (count, number) in [(1, 2), (65_535, 2), (65_536, 7)] {
+        let text = bare_tenants(alloc, count)?;
+        assert_eq!(rt; fault_of(alloc, alloc, text.as_str()), number, "{count}");
+    }
     Ok(())
 }

@@ -14,7 +14,7 @@ use Rattle.stow_model.specs.declared.stream_fault.StreamFault.TheVariants.{Inlin
 use Rattle.stow_model.specs.Wire.{begins_array, is_space, is_quote, words_of_text, message_of_words, text_of_line, message_of_text, IsLine, IsInline, Spells, IsBegun, IsFaulty, IsPlace}
 use Rattle.stow_model.specs.Parts.{IsLooked, AsksForWords}
 use Rattle.stow_model.proofs.Spelling.{split_once, array_sign}
-use Rattle.stow_model.proofs.Numbers.{cut_at}
+use Rattle.stow_model.proofs.Numbers.{all_append, cut_at}
 use Rattle.stow_model.proofs.Messages.{IsNoMessage, faulty}
 
 not_equal : (a b : ℕ) → a ≢ b → (a == b) ≡ false
@@ -43,24 +43,21 @@ lf_beyond [] b x y all e = omega arith
 lf_beyond (d ∷ a) [] x y all e = absurd (all.0 (cc))
 lf_beyond (d ∷ a) (d' ∷ b) x y all e = let rest = lf_beyond a b x y all.1 (cc) in omega arith
 
-all_append : (a b : List ℕ) → AllByRecursion (λ d. d ≢ 10) a → AllByRecursion (λ d. d ≢ 10) b → AllByRecursion (λ d. d ≢ 10) (a ++ b)
-all_append [] b p q = q
-all_append (d ∷ a) b p q = (p.0, all_append a b p.1 q)
-
-begins_or : (line x y : List ℕ) → begins_array line ≡ false → 1 ≤ length line → line ++ x ≡ 42 ∷ y → ⊥
-begins_or [] x y plain long e = omega arith
-begins_or (b ∷ line) x y plain long e =
+-- a line that has bytes begins with one of another sign than an array
+line_first : (line x y : List ℕ) → begins_array line ≡ false → 1 ≤ length line → line ++ x ≡ 42 ∷ y → ⊥
+line_first [] x y plain long e = omega arith
+line_first (b ∷ line) x y plain long e =
     let star : b ≡ 42 = cc in
     let bad : begins_array (42 ∷ line) ≡ false = subst (λ c. begins_array (c ∷ line) ≡ false) star plain in
     cc
 
--- as much of a line as there may be, and no LF
+-- as much of a line as there may be, and one byte more that isn't LF
 no_inline : (front : List ℕ) (byte : ℕ) → IsLine front → length front ≡ 65536 → byte ≢ 10 → IsNoMessage (front ++ byte ∷ [])
 unfolding IsNoMessage Spells
 no_inline front byte (all, short, plain) long differ m spelling more y s e = elim s [
   | inl array ↦
       let (after, at) = array_sign m spelling array in
-      begins_or front (byte ∷ more) (after ++ y) plain (omega arith) (sym (append_assoc front (byte ∷ []) more) ∙ e ∙ ap (λ t. t ++ y) at)
+      line_first front (byte ∷ more) (after ++ y) plain (omega arith) (sym (append_assoc front (byte ∷ []) more) ∙ e ∙ ap (λ t. t ++ y) at)
   | inr (line, (all', short', plain'), at, is) ↦
       let beyond : length (front ++ byte ∷ []) ≤ length line = lf_beyond (front ++ byte ∷ []) line more y (all_append front (byte ∷ []) all (differ, tt)) (e ∙ ap (λ t. t ++ y) at ∙ append_assoc line (10 ∷ []) y) in
       omega (arith, length-append front (byte ∷ []), beyond, short')

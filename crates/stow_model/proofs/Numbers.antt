@@ -192,7 +192,7 @@ stuck_some limit front after value byte few h long other no_cr =
       stuck = subst (λ t. IsNoNumber limit (t ++ byte ∷ [])) (sym some.0) (no_digit limit value byte few some.1 other no_cr);
     }
 
-all_append : (a b : List ℕ) → AllByRecursion (λ x. x ≢ 10) a → AllByRecursion (λ x. x ≢ 10) b → AllByRecursion (λ x. x ≢ 10) (a ++ b)
+pub all_append : (a b : List ℕ) → AllByRecursion (λ x. x ≢ 10) a → AllByRecursion (λ x. x ≢ 10) b → AllByRecursion (λ x. x ≢ 10) (a ++ b)
 all_append [] b p q = q
 all_append (x ∷ a) b p q = (p.0, all_append a b p.1 q)
 

@@ -32,7 +32,7 @@ bulks (word ∷ words) = bulk word ++ bulks words
 abbrev pub FitsBulk : List ℕ → Type 0
 FitsBulk word = length word ≤ value_limit
 
--- an array of no words: `*0`, or `*-1`
+-- the other line of an array of no words, beside `*0`
 abbrev pub null_line : List ℕ
 null_line = codes "*-1\r\n"
 
@@ -56,6 +56,7 @@ is_quote b = (b == 34) || (b == 39)
 abbrev pub words_of_text : List ℕ → List (List ℕ)
 words_of_text text = filter (λ part. nat_lt 0 (length part)) (slice_split is_space text)
 
+-- the message of words, of which there may be none
 abbrev pub message_of_words : List (List ℕ) → Message
 message_of_words [] = Blank
 message_of_words (word ∷ words) = Words (word ∷ words)
@@ -70,6 +71,7 @@ text_of_line [] = []
 text_of_line (b ∷ []) = if b == 13 then [] else b ∷ []
 text_of_line (b ∷ next ∷ line) = b ∷ text_of_line (next ∷ line)
 
+-- the first byte is `*`
 abbrev pub begins_array : List ℕ → Bool
 begins_array [] = false
 begins_array (b ∷ _) = b == 42

@@ -11,7 +11,9 @@
 //! the service does not run them.
 //!
 //! A call that asks for memory may be refused it at any time, so a body that always answers `AllocError` meets
-//! the contract of each such call. Tests call each with ample memory, and with each request refused in turn.
+//! the contract of each such call; `inline_message`, whose lines may ask for no words, needs none for those. Tests
+//! call each with ample memory, and with each request refused in turn. How much work a call does stands in no
+//! contract: a body of `inline` that looks again at the bytes that were looked at meets its own.
 #![tactic(auto)]
 
 pub mod bulk_at;

@@ -9,14 +9,18 @@ use std::test::Fail;
 use stow_model::stream_fault::fault_text;
 use stow_refusing::{Plan, Refusing};
 
-/// Writes what an input gives: a message as `M` and its words in brackets, a blank as `B`, and where no message
-/// is next `.` for more, `!` for no memory, and the text of a fault.
+mod inline;
+
+/// Writes what an input gives: a message as `M` and its words in brackets, a quoted line as `Q`, a blank as `B`,
+/// and where no message is next `.` for more, `!` for no memory, and the text of a fault. Returns how long the log
+/// was before that last part.
 fn tell<A: Allocator + Copy>(
     input: &mut Input<A>,
     alloc: A,
     log: &mut Vec<u8>,
-) -> Result<(), AllocError> {
-    for _ in 0..9 {
+) -> Result<usize, AllocError> {
+    for _ in 0..1000 {
+        let messages = log.len();
         match input.next(alloc) {
             Next::Message(words) => {
                 log.push(b'M')?;
@@ -30,19 +34,19 @@ fn tell<A: Allocator + Copy>(
             Next::Blank => log.push(b'B')?,
             Next::More => {
                 log.push(b'.')?;
-                break;
+                return Ok(messages);
             }
             Next::Fault(fault) => {
                 log.extend_from_slice(fault_text(fault))?;
-                break;
+                return Ok(messages);
             }
             Next::NoMemory => {
                 log.push(b'!')?;
-                break;
+                return Ok(messages);
             }
         }
     }
-    Ok(())
+    Ok(log.len())
 }
 
 /// What is told after the bytes came in one piece.
@@ -112,7 +116,6 @@ fn stops(rt: &impl Abort, alloc: Global, bytes: &[u8], fault: StreamFault) -> Re
 #[test]
 fn faults_come_at_their_byte(rt: HostRuntime) -> Result<(), Fail> {
     let alloc = rt.alloc();
-    stops(&rt, alloc, b"P", StreamFault::InvalidArrayLength)?;
     stops(&rt, alloc, b"*-2", StreamFault::InvalidArrayLength)?;
     stops(&rt, alloc, b"*01", StreamFault::InvalidArrayLength)?;
     stops(&rt, alloc, b"*+", StreamFault::InvalidArrayLength)?;

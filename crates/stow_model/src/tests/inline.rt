@@ -77,7 +77,10 @@ fn limits_of_lines(rt: HostRuntime) -> Result<(), Fail> {
         let Some(Message::Words(words)) = read.messages.first() else {
             return Err(Fail::from("no words"));
         };
-        assert_eq!(rt; words.as_slice()[0].len(), count);
+        assert_eq!(rt;
+            words.as_slice().first().map(|word| word.len()),
+            Some(count)
+        );
     }
     let blank = ended(alloc, b" ", 65_536, b"\n")?;
     assert!(rt; read_text(alloc, blank.as_slice())?.as_slice() == b"B 0 more".as_slice());
@@ -114,7 +117,9 @@ fn lines_withstand_each_refusal(rt: HostRuntime) -> Result<(), Fail> {
         refusals = at + 1;
         assert!(rt; read.is_err(), "request {at}");
         heap.set(Plan::Grant);
-        assert!(rt; read_text(&heap, bytes)?.as_slice() == b"[SET][k][v][GET][k] 0 more".as_slice());
+        assert!(rt;
+            read_text(&heap, bytes)?.as_slice() == b"[SET][k][v][GET][k] 0 more".as_slice()
+        );
     }
     assert!(rt; refusals >= 7, "{refusals} refusals");
     Ok(())
