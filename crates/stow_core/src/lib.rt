@@ -10,9 +10,8 @@
 //! stand together, in the order of its keys. A range begins at its lower end and goes over no other rows
 //! than it answers, but for the one that it stops at, and for places that wait for a value.
 //!
-//! A body of `prepare`, `prepare_command`, `prepare_change`, `prepare_write` or `prepare_del` that prepares
-//! twice is right too, since a prepared answer that is never carried out changes nothing; and so is a read
-//! that is made twice.
+//! A body of `prepare`, `prepare_command` or `prepare_change` that prepares the same twice is right too, since
+//! a prepared answer that is never carried out changes nothing.
 #![tactic(auto)]
 
 ghost use Rattle.std.specs.Prelude.{◌≡◌, ◌≢◌, ℕ, IfOk, IsOkAnd};
