@@ -1,3 +1,4 @@
 pub mod Listed
 pub mod Shapes
 pub mod Valid
+pub mod Named

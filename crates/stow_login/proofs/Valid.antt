@@ -59,7 +59,7 @@ whole_digest text digest e =
     let whole = decode_of-ok text digest (sym (decode_sized-twice text digest_length digits) ∙ sized) in
     omega (arith, digits, whole.2)
 
-entry_ok : (earlier : List Entry) (value : Data) (entry : Entry) → entry_in earlier value ≡ Ok entry → IsByRule entry × (is_used earlier entry.name ≡ false)
+pub entry_ok : (earlier : List Entry) (value : Data) (entry : Entry) → entry_in earlier value ≡ Ok entry → IsByRule entry × (is_used earlier entry.name ≡ false)
 entry_ok earlier value entry e =
     let fields = bind_ok (ok_or (four_fields value) fault.WrongShape) _ entry e in
     let name = bind_ok (ok_or (text_at (codes "name") fields.0) fault.WrongShape) _ entry fields.2 in

@@ -10,6 +10,7 @@
 #![tactic(auto)]
 
 pub mod laws;
+mod names;
 mod reading;
 pub mod tenant;
 pub mod tenants;

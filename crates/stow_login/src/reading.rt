@@ -7,6 +7,7 @@ ghost use Rattle.stow_login.specs.Entries.{entry_of};
 ghost use Rattle.stow_login.specs.TenantFile.{items_in, tables_of, are_tables, entries_of, entry_in, four_fields, text_at, number_at, is_name, is_name_byte, is_used, salt_in, digest_in, quota_in};
 
 use crate::tenant::Tenant;
+use crate::tenants::Tenants;
 use crate::tenants_fault::TenantsFault;
 use hex::{FromHex, FromHexError};
 use std::alloc::Allocator;
@@ -29,19 +30,18 @@ const SALT_LIMIT: usize = 64;
 pub(crate) fn read_table<A: Allocator + Copy>(
     alloc: A,
     table: &Table,
-) -> Result<Vec<Tenant<A>, A>, TenantsFault>
-    ensures ok { IfOk result (λ tenants. entries_of (table_view table.now) ≡ Ok (map entry_of tenants.items)) }
-    ensures few { IfOk result (λ tenants. length tenants.items ≤ TENANT_LIMIT) }
+) -> Result<Tenants<A>, TenantsFault>
+    ensures ok { IfOk result (λ tenants. entries_of (table_view table.now) ≡ Ok tenants) }
     ensures err { IfErr result (λ fault. (fault ≡ TenantsFault.OutOfMemory) ⊎ (entries_of (table_view table.now) ≡ Err fault)) }
 {
     let items = items_in(table)?;
     if items.is_empty() || items.len() > TENANT_LIMIT {
         return Err(TenantsFault::WrongCount);
     }
-    let mut tenants = Vec::new(alloc);
+    let mut tenants = Tenants::new(alloc);
     for item in items {
-        let tenant = read_tenant(alloc, tenants.as_slice(), item)?;
-        tenants.push(tenant)?;
+        let tenant = read_tenant(alloc, &tenants, item)?;
+        tenants.add(alloc, tenant)?;
     }
     Ok(tenants)
 }
@@ -93,11 +93,11 @@ fn are_tables(items: &[Value]) -> bool
 /// The tenant of one of the file's tables, after the tenants before it.
 fn read_tenant<A: Allocator + Copy>(
     alloc: A,
-    earlier: &[Tenant<A>],
+    earlier: &Tenants<A>,
     value: &Value,
 ) -> Result<Tenant<A>, TenantsFault>
-    ensures ok { IfOk result (λ tenant. entry_in (map entry_of earlier.now) (view value.now) ≡ Ok (entry_of tenant)) }
-    ensures err { IfErr result (λ fault. (fault ≡ TenantsFault.OutOfMemory) ⊎ (entry_in (map entry_of earlier.now) (view value.now) ≡ Err fault)) }
+    ensures ok { IfOk result (λ tenant. entry_in earlier.now (view value.now) ≡ Ok (entry_of tenant)) }
+    ensures err { IfErr result (λ fault. (fault ≡ TenantsFault.OutOfMemory) ⊎ (entry_in earlier.now (view value.now) ≡ Err fault)) }
 {
     let fields = four_fields(value).ok_or(TenantsFault::WrongShape)?;
     let name = text_at(fields, "name").ok_or(TenantsFault::WrongShape)?;
@@ -107,7 +107,7 @@ fn read_tenant<A: Allocator + Copy>(
     if !is_name(name.as_bytes()) {
         return Err(TenantsFault::BadName);
     }
-    if is_used(earlier, name.as_bytes()) {
+    if earlier.has(name.as_bytes()) {
         return Err(TenantsFault::NameUsed);
     }
     let salt = salt_in(alloc, salt_text)?;
@@ -168,18 +168,6 @@ fn is_name_byte(byte: u8) -> bool
     ensures { result ≡ is_name_byte byte }
 {
     byte.is_ascii_alphanumeric() || matches!(byte, b'-' | b'_' | b'.')
-}
-
-/// Whether one of the tenants has the name.
-fn is_used<A: Allocator>(tenants: &[Tenant<A>], name: &[u8]) -> bool
-    ensures { result ≡ is_used (map entry_of tenants.now) name.now }
-{
-    for tenant in tenants {
-        if tenant.name.as_slice() == name {
-            return true;
-        }
-    }
-    false
 }
 
 /// The bytes of a salt.

@@ -1,14 +1,15 @@
 //! The tenants of the service.
-ghost use Rattle.std.specs.Prelude.{◌≡◌, ◌<◌, length, IfSome};
+ghost use Rattle.std.specs.Prelude.{◌≡◌, ◌<◌, ◌++◌, ◌∷◌, [], false, length, IfSome, OnOk};
 ghost use Rattle.stow_model.specs.Login.{IsTenant, login, quota_of};
 ghost use Rattle.stow_login.specs.Entries.{entry_of, name_of, index_named, is_own};
-ghost use Rattle.stow_login.specs.TenantFile.{IsReading};
+ghost use Rattle.stow_login.specs.TenantFile.{IsReading, is_used};
 
+use crate::names::Names;
 use crate::reading::read_table;
 use crate::tenant::Tenant;
 use crate::tenants_fault::TenantsFault;
 use sha2::{Digest, Sha256};
-use std::alloc::{Allocator, Global};
+use std::alloc::{AllocError, Allocator, Global};
 use std::marker::Model;
 use stow_model::byte_string::ByteString;
 
@@ -16,18 +17,20 @@ use stow_model::byte_string::ByteString;
 #[derive(Drop)]
 pub struct Tenants<A: Allocator = Global> {
     tenants: Vec<Tenant<A>, A>,
+    names: Names<A>,
 }
 
 impl<A: Allocator> Model for Tenants<A> {
-    ghost use Rattle.std.specs.Prelude.{◌<◌, List, length, map};
+    ghost use Rattle.std.specs.Prelude.{List, map};
     ghost use Rattle.stow_model.specs.Login.{Entry};
     ghost use Rattle.stow_login.specs.Entries.{entry_of};
+    ghost use Rattle.stow_login.specs.Names.{AreNamed};
 
     ghost Value = { List Entry };
 
     ghost view = { λ t. map entry_of t.tenants.items };
 
-    ghost invariant = { λ t. length t.tenants.items < 65536 };
+    ghost invariant = { λ t. AreNamed (map entry_of t.tenants.items) t.names };
 }
 
 impl<A: Allocator + Copy> Tenants<A> {
@@ -37,12 +40,33 @@ impl<A: Allocator + Copy> Tenants<A> {
         ensures { IsReading text.now result }
     {
         match toml::table_from_str(heap, text) {
-            Ok(table) => Ok(Tenants {
-                tenants: read_table(alloc, &table)?,
-            }),
+            Ok(table) => read_table(alloc, &table),
             Err(error) if error.is_memory() => Err(TenantsFault::OutOfMemory),
             Err(_) => Err(TenantsFault::NotToml),
         }
+    }
+
+    /// No tenants.
+    pub(crate) fn new(alloc: A) -> Tenants<A>
+        ensures { result ≡ [] }
+    {
+        Tenants {
+            tenants: Vec::new(alloc),
+            names: Names::new(alloc),
+        }
+    }
+
+    /// Adds a tenant whose name no other has.
+    pub(crate) fn add(&mut self, alloc: A, tenant: Tenant<A>) -> Result<(), AllocError>
+        requires few { length self.old < 65535 }
+        requires unused { is_used self.old tenant.name ≡ false }
+        ensures { OnOk result (self.new ≡ self.old ++ entry_of tenant ∷ []) }
+    {
+        let index = self.count() + 1;
+        self.tenants.reserve(1)?;
+        self.names.add(alloc, tenant.name.as_slice(), index)?;
+        let _ = self.tenants.push(tenant);
+        Ok(())
     }
 }
 
@@ -68,19 +92,19 @@ impl<A: Allocator> Tenants<A> {
         self.tenants.len() as u32
     }
 
-    /// The tenant of this name.
+    /// The tenant of this name, in time that grows with the logarithm of how many there are.
     pub fn find(&self, name: &[u8]) -> Option<u32>
         ensures named { result ≡ index_named self.now name.now }
         ensures tenant { IfSome result (λ t. IsTenant self.now t) }
     {
-        let mut index = 1;
-        for tenant in &self.tenants {
-            if tenant.name.as_slice() == name {
-                return Some(index);
-            }
-            index += 1;
-        }
-        None
+        self.names.get(name)
+    }
+
+    /// Whether a tenant has the name.
+    pub(crate) fn has(&self, name: &[u8]) -> bool
+        ensures { result ≡ is_used self.now name.now }
+    {
+        self.find(name).is_some()
     }
 
     pub fn name(&self, index: u32) -> &[u8]

@@ -232,3 +232,35 @@ fn the_number_of_tenants_is_limited(rt: HostRuntime) -> Result<(), Fail> {
     }
     Ok(())
 }
+
+// As many tenants as there may be: each is found by its own name.
+#[test]
+fn the_most_tenants_are_read(rt: HostRuntime) -> Result<(), Fail> {
+    let alloc: Global = rt.alloc();
+    let digest = "ba7816bf8f01cfea414140de5dae2223b00361a396177a9cb410ff61f20015ad";
+    let mut text = String::new(alloc);
+    for index in 1..65_536u32 {
+        let table = format!(in alloc;
+            "[[tenant]]\nname = \"t{index}\"\nsalt = \"\"\ndigest = \"{digest}\"\nquota = {index}\n"
+        )?;
+        text.push_str(table.as_str())?;
+    }
+    let tenants = match Tenants::read(alloc, alloc, text.as_str()) {
+        Ok(tenants) => tenants,
+        Err(fault) => {
+            assert!(rt; false, "fault {}", fault.number());
+            return Ok(());
+        }
+    };
+    assert_eq!(rt; tenants.count(), 65_535);
+    for (name, index) in [("t1", 1u32), ("t40000", 40_000), ("t65535", 65_535)] {
+        assert!(rt; tenants.find(name.as_bytes()) == Some(index), "{name}");
+        assert!(rt;
+            tenants.check(name.as_bytes(), b"abc") == Some(index),
+            "{name}"
+        );
+        assert!(rt; tenants.name(index) == name.as_bytes() && tenants.quota(index) == index as u64);
+    }
+    assert!(rt; tenants.find(b"t0").is_none() && tenants.find(b"t65536").is_none());
+    Ok(())
+}

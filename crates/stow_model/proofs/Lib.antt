@@ -8,3 +8,4 @@ pub mod Alone
 pub mod OneHistory
 pub mod Fronts
 pub mod Examples
+pub mod ByteKeys

@@ -24,8 +24,8 @@ loop-item-init g c =
       left = counted_in (table_view c.args.table.now) (items_view items) c.in_ok-items.ensures.ok
           (λ none. false≢true (c.if-is_empty.ensures ∙ eq-eqb (length items) 0 (sym (count_of_items items) ∙ none)))
           (rw (count_of_items items) c.if-items-gt-TENANT_LIMIT.false)
-          ∙ ap (λ ts. entries_after (map entry_of ts) (items_view items)) (sym c.new-tenants.ensures.items);
-      read = ap length c.new-tenants.ensures.items;
+          ∙ ap (λ ts. entries_after ts (items_view items)) (sym c.new-tenants.ensures);
+      read = ap length c.new-tenants.ensures;
     }
 
 pub returns-in_err-tenant-clause-err : goal.returns-in_err-tenant-clause-err
@@ -33,8 +33,8 @@ returns-in_err-tenant-clause-err g c =
     let fault = c.in_err-tenant.field-0.0 in
     let told : (fault ≡ OutOfMemory) ⊎ (entries_of (table_view c.args.table.now) ≡ Err fault) =
     ⊎_elim inl
-    (λ bad. inr (fault_here (table_view c.args.table.now) (map entry_of c.loop-item.tenants.items) c.in_ok-items.items.now c.loop-item.item-index c.item-item.result fault
+    (λ bad. inr (fault_here (table_view c.args.table.now) c.loop-item.tenants c.in_ok-items.items.now c.loop-item.item-index c.item-item.result fault
     c.loop-item.invariant.left c.loop-item-test.true c.item-item.is
-    (ap (λ ts. entry_in (map entry_of ts) (view c.item-item.result)) (sym c.as_slice.ensures.value) ∙ bad)))
+    bad))
     c.in_err-tenant.ensures.err in
     search (rules, told)

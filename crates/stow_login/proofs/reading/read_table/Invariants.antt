@@ -6,6 +6,6 @@ use Rattle.stow_login.proofs.reading.read_table.Given as goal
 
 abbrev pub invariant-loop-item : goal.invariant-loop-item
 invariant-loop-item g l = record {
-  left : entries_of (table_view l.table) ≡ entries_after (map entry_of l.tenants.items) (items_view (drop l.item-index l.items));
-  read : length l.tenants.items ≡ l.item-index;
+  left : entries_of (table_view l.table) ≡ entries_after (l.tenants) (items_view (drop l.item-index l.items));
+  read : length l.tenants ≡ l.item-index;
 }
