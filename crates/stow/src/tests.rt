@@ -9,6 +9,8 @@ use std::process::Abort;
 use std::test::Fail;
 use stow_login::tenants_fault::TenantsFault;
 
+mod worked;
+
 const LOGIN: &[u8] = b"*3\r\n$4\r\nAUTH\r\n$3\r\nann\r\n$2\r\nbc\r\n";
 
 const HELLO: &[u8] =
@@ -233,7 +235,7 @@ fn a_connection_is_told_what_the_description_says(rt: HostRuntime) -> Result<(),
     expect(
         &rt,
         "pipe",
-        b"PING\r\n",
+        b"*x\r\n",
         b"-ERR Protocol error: invalid multibulk length\r\n",
     )?;
     expect(
