@@ -82,9 +82,20 @@ fn push_array(alloc: Global, bytes: &mut Vec<u8>, line: &str) -> Result<(), Allo
     Ok(())
 }
 
+/// The bytes of a login and of a row's requests, and those of their replies.
+fn row_bytes(alloc: Global, row: &[Told]) -> Result<(Vec<u8>, Vec<u8>), AllocError> {
+    let mut input = Vec::new(alloc);
+    let mut output = Vec::from_slice(alloc, b"+OK\r\n")?;
+    push_array(alloc, &mut input, "AUTH ann bc")?;
+    for (line, told) in row {
+        push_array(alloc, &mut input, line)?;
+        output.extend_from_slice(told.as_bytes())?;
+    }
+    Ok((input, output))
+}
+
 #[test]
 fn worked_requests(rt: HostRuntime) -> Result<(), Fail> {
-    let alloc = rt.alloc();
     let rows: [&[Told]; 6] = [
         &EMPTY_WORDS,
         &REPEATS,
@@ -94,13 +105,7 @@ fn worked_requests(rt: HostRuntime) -> Result<(), Fail> {
         &CONDITIONS,
     ];
     for row in rows {
-        let mut input = Vec::new(alloc);
-        let mut output = Vec::from_slice(alloc, b"+OK\r\n")?;
-        push_array(alloc, &mut input, "AUTH ann bc")?;
-        for (line, told) in row {
-            push_array(alloc, &mut input, line)?;
-            output.extend_from_slice(told.as_bytes())?;
-        }
+        let (input, output) = row_bytes(rt.alloc(), row)?;
         expect(&rt, "pipe", input.as_slice(), output.as_slice())?;
     }
     Ok(())
