@@ -1,8 +1,8 @@
 -- A number by its text.
 use Rattle.std.proofs.Common.{◌≡◌, ◌<◌, ◌^◌, ℕ, ℤ, pos, negsuc, Bool, true, false, cond, List, Option, Some, None, Result, Ok, Err, refl, ap, ◌∙◌, sym, subst, arith, w64, FitsSigned, to_z, of_z}
-use Rattle.std.specs.Prelude.{◌&&◌, nat_le, T}
+use Rattle.std.specs.Prelude.{◌&&◌}
 use Rattle.std.specs.Fmt.{signed_decimal}
-use Rattle.std.specs.Str.{bytes_eq, IsUtf8, IsAscii}
+use Rattle.std.specs.Str.{bytes_eq, IsUtf8}
 use Rattle.std.specs.Str.Parse.{signed_digits_value, ParsesSigned}
 use Rattle.std.specs.Int.Signed.{mag}
 use Rattle.std.proofs.lemmas.Bool.{leb-true, le-leb}
@@ -62,8 +62,8 @@ unfolding number_of IsTextOf
 some_number text z is e =
     ap Some (sym e)
     ∙ some_if _ (signed_digits_value 10 text) (of_both _ _
-        (ap is_integer e ∙ is.0)
-        (ap (λ n. bytes_eq (signed_decimal n) text) e ∙ (bytes_eq-Decides (signed_decimal z) text).1 is.1))
+    (ap is_integer e ∙ is.0)
+    (ap (λ n. bytes_eq (signed_decimal n) text) e ∙ (bytes_eq-Decides (signed_decimal z) text).1 is.1))
 
 -- ---- the parser finds them
 

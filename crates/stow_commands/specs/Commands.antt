@@ -1,5 +1,5 @@
 -- What this crate's own types stand for.
-use Rattle.std.specs.Prelude.{Result, Ok, Err, List, [], ◌∷◌, ℕ}
+use Rattle.std.specs.Prelude.{Result, Ok, Err}
 use Rattle.stow_model.specs.declared.refusal.Refusal.{Refusal}
 use Rattle.stow_model.specs.Command as meant
 use Rattle.stow_model.specs.Command.{Reading, Understood, Refused}

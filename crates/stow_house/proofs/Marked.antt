@@ -1,13 +1,13 @@
 -- What the marks of a run say.
-use Rattle.std.proofs.Common.{◌≡◌, ℕ, Bool, true, false, List, [], ◌∷◌, map, reverse, refl, ap, ◌∙◌, sym}
+use Rattle.std.proofs.Common.{◌≡◌, Bool, true, false, List, [], ◌∷◌, map, reverse, refl, ap, ◌∙◌, sym}
 use Rattle.std.proofs.lemmas.List.{reverse-reverse}
-use Rattle.stow_model.specs.Store.{Store, store_after}
+use Rattle.stow_model.specs.Store.{store_after}
 use Rattle.stow_model.specs.History.{Step, Void, Plain, Took, Broke, is_void, is_refused, line_of, output_of, OneHistory}
 use Rattle.stow_model.specs.Login.{quota_of}
 use Rattle.stow_house.specs.declared.mark.Mark.{Mark}
 use Rattle.stow_house.specs.declared.mark.Mark.TheVariants as mark
 use Rattle.stow_house.specs.Outputs.{replies_to, mark_of_step, mark_if}
-use Rattle.stow_house.specs.Runs.{Shows, OneRun}
+use Rattle.stow_house.specs.Runs.{OneRun}
 
 abbrev says_void : Mark → Bool
 says_void mark.Kept = false
@@ -48,8 +48,7 @@ one_run one entries events told told' marks stores stores' s s' =
     let marked : map mark_of_step s.history ≡ map mark_of_step s'.history = s.marked ∙ sym s'.marked in
     let same : s.history ≡ s'.history = one s.history s'.history s.is_history s'.is_history (s.in_order ∙ sym s'.in_order)
     (by_marks is_void says_void void-mark s.history ∙ ap (map says_void) marked ∙ sym (by_marks is_void says_void void-mark s'.history))
-    (by_marks is_refused says_refused refused-mark s.history ∙ ap (map says_refused) marked ∙ sym (by_marks is_refused says_refused refused-mark s'.history)) in
-    (
+    (by_marks is_refused says_refused refused-mark s.history ∙ ap (map says_refused) marked ∙ sym (by_marks is_refused says_refused refused-mark s'.history)) in (
       (λ c. sym (reverse-reverse (replies_to c told)) ∙ ap reverse (s.output c ∙ ap (output_of entries c) same ∙ sym (s'.output c)) ∙ reverse-reverse (replies_to c told')),
       (λ tenant. s.last tenant ∙ ap (λ history. store_after (quota_of entries tenant) (line_of entries tenant history)) same ∙ sym (s'.last tenant)),
     )

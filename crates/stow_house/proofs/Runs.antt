@@ -1,9 +1,8 @@
 -- A run of events so far.
-use Rattle.std.proofs.Common.{zero, suc, get_or, take, ◌≡◌, ◌≢◌, ℕ, ◌+◌, ◌<◌, ◌≤◌, Bool, true, false, List, [], ◌∷◌, ◌++◌, map, reverse, length, Option, Some, None, refl, ap, ◌∙◌, sym, subst, arith, append-nil}
+use Rattle.std.proofs.Common.{zero, suc, get_or, take, ◌≡◌, ◌≢◌, ℕ, ◌<◌, ◌≤◌, Bool, true, false, List, [], ◌∷◌, ◌++◌, map, reverse, length, Option, Some, None, refl, ap, ◌∙◌, sym, subst, arith, append-nil}
 use Rattle.std.specs.Result.{OnOk, is_err}
 use Rattle.std.specs.declared.alloc.AllocError.{AllocError}
 use Rattle.std.specs.Prelude.{Result, Ok, Err, if◌then◌else◌, ◌==◌}
-use Rattle.std.specs.Str.{bytes_eq}
 use Rattle.std.specs.List.{flat_map}
 use Rattle.std.proofs.lemmas.Grind.{flat_map-append}
 use Rattle.std.proofs.lemmas.Bool.{eq-eqb, ne_eqb}
@@ -11,7 +10,7 @@ use Rattle.stow_model.specs.Reply.{encoding}
 use Rattle.std.proofs.lemmas.Bool.Decides.{nat_tests}
 use Rattle.std.proofs.lemmas.List.{reverse-append}
 use Rattle.stow_model.specs.declared.refusal.Refusal.TheVariants as refusal
-use Rattle.stow_model.specs.Login.{Entry, checked, login, login_from, quota_of}
+use Rattle.stow_model.specs.Login.{Entry, quota_of}
 use Rattle.stow_model.specs.Reply.{Reply}
 use Rattle.stow_model.specs.Reply as reply
 use Rattle.stow_model.specs.Event.{Event}
@@ -21,33 +20,12 @@ use Rattle.stow_model.specs.History.{Step, Void, Plain, Took, Broke, event_of, S
 use Rattle.stow_core.specs.State.{CoreState, store_of, is_out_of_memory}
 use Rattle.stow_house.specs.declared.mark.Mark.{Mark}
 use Rattle.stow_house.specs.declared.mark.Mark.TheVariants as mark
-use Rattle.stow_house.specs.Seen.{Seen, never_opened, IsServed}
+use Rattle.stow_house.specs.Seen.{Seen, never_opened}
 use Rattle.stow_house.specs.StepResult.{StepResult, Done, More, Refused, answer_to_step, answered, when_open, when_unused}
 use Rattle.stow_house.specs.Steps.{Moves, is_refused_request, is_told_out_of_memory, reply_in_core}
 use Rattle.stow_house.specs.Outputs.{Told, replies_to, told_to, told_of, mark_of, mark_of_reply, mark_if, mark_of_step, connection_of}
 use Rattle.stow_house.specs.Runs.{Shows}
 use Rattle.stow_house.proofs.Histories.{Agrees, goes_on, tells}
-
--- ---- whom a login makes a connection's
-
-found_bound : (b : Bool) (index len t : ℕ) → (if b then Some index else None) ≡ Some t → (index ≤ t) × (t < index + (len + 1))
-found_bound true index len t e = let same : index ≡ t = cc in (omega arith, omega arith)
-found_bound false index len t e = absurd (cc)
-
-either_bound : (b : Bool) (index len t : ℕ) (x later : Option ℕ) → (x ≡ Some t → (index ≤ t) × (t < index + (len + 1))) → (later ≡ Some t → (index + 1 ≤ t) × (t < index + 1 + len)) → (if b then x else later) ≡ Some t → (index ≤ t) × (t < index + (len + 1))
-either_bound true index len t x later own rest e = own e
-either_bound false index len t x later own rest e = let b = rest e in (omega (arith, b.0), omega (arith, b.1))
-
-login_from-bound : (index : ℕ) (entries : List Entry) (name password : List ℕ) (t : ℕ) → login_from index entries name password ≡ Some t → (index ≤ t) × (t < index + length entries)
-login_from-bound index [] name password t e = absurd (cc)
-login_from-bound index (entry ∷ entries) name password t e =
-    let b = either_bound (bytes_eq entry.name name) index (length entries) t (checked index entry password) (login_from (index + 1) entries name password)
-    (found_bound _ index (length entries) t) (login_from-bound (index + 1) entries name password t) e in
-    (b.0, omega (arith, b.1))
-
-pub login-IsServed : (entries : List Entry) (name password : List ℕ) → IsServed entries (login entries name password)
-unfolding login
-login-IsServed entries name password = λ t e. let b = login_from-bound 1 entries name password t e in (b.0, omega arith)
 
 -- ---- what is answered, and what is told
 

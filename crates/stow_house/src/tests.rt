@@ -14,9 +14,9 @@ use stow_core::Core;
 use stow_login::tenants::Tenants;
 use stow_model::byte_string::ByteString;
 use stow_model::event::Event;
+use stow_model::words::Words;
 use stow_plain::own_run::own_run;
 use stow_plain::plain_request::PlainRequest;
-use stow_model::words::Words;
 use stow_refusing::{Plan, Refusing};
 use stow_resp::encode::Encode;
 

@@ -1,5 +1,5 @@
 -- Tenants by their names and their indexes.
-use Rattle.std.proofs.Common.{◌≡◌, ℕ, zero, suc, ◌+◌, ◌-◌, ◌<◌, ◌≤◌, true, List, [], ◌∷◌, length, drop, map, get_or, eqb, Some, None, refl, ap, sym, ◌∙◌, subst, arith, drop-cons, is_some, ⊎_elim}
+use Rattle.std.proofs.Common.{◌≡◌, ℕ, zero, suc, ◌+◌, ◌-◌, ◌<◌, ◌≤◌, List, [], ◌∷◌, length, map, get_or, eqb, Some, None, refl, ap, sym, ◌∙◌, subst, arith, is_some, ⊎_elim}
 use Rattle.std.proofs.lemmas.List.{length-map}
 use mathlib.Core.Bool.{false≢true}
 use Rattle.std.specs.Option.{unwrap_or}
@@ -28,25 +28,6 @@ module _ {A : Type 0} where
   -- an index of the entries is one of the tenants
   pub has_index : (ts : List (coded.Tenant A)) (entries : List Entry) (index : ℕ) → map entry_of ts ≡ entries → index ≤ length entries → index ≤ length ts
   has_index ts entries index e high = subst (λ n. index ≤ n) (ap length (sym e) ∙ length-map ts entry_of) high
-
-  pub nobody_left : (ts : List (coded.Tenant A)) (i index : ℕ) (name : List ℕ) → length ts ≤ i → index_from index (map entry_of (drop i ts)) name ≡ None
-  nobody_left [] zero index name past = refl
-  nobody_left [] (suc i) index name past = refl
-  nobody_left (x ∷ ts) zero index name past = absurd (omega arith)
-  nobody_left (x ∷ ts) (suc i) index name past = nobody_left ts i index name (omega arith)
-
-  -- ---- a look-up by name, an entry at a time
-
-  item : (ts : List (coded.Tenant A)) (i : ℕ) (t : coded.Tenant A) → i < length ts → t ≡ get_or ts i t → drop i ts ≡ t ∷ drop (i + 1) ts
-  item ts i t below is =
-      let next : suc i ≡ i + 1 = omega arith in
-      drop-cons ts i t below ∙ ap (λ k. get_or ts i t ∷ drop k ts) next ∙ ap (λ x. x ∷ drop (i + 1) ts) (sym is)
-
-  pub found_here : (ts : List (coded.Tenant A)) (i index : ℕ) (t : coded.Tenant A) (name : List ℕ) → i < length ts → t ≡ get_or ts i t → bytes_eq t.name name ≡ true
-      → index_from index (map entry_of (drop i ts)) name ≡ Some index
-  found_here ts i index t name below is same =
-      ap (λ l. index_from index (map entry_of l) name) (item ts i t below is)
-      ∙ cond-true (bytes_eq t.name name) (Some index) (index_from (index + 1) (map entry_of (drop (i + 1) ts)) name) same
 
   -- ---- an entry by its index
 

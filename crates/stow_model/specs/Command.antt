@@ -58,10 +58,6 @@ with_keys keys command = if list_any is_long_key keys then Refused refusal.KeyTo
 
 -- ---- by the arguments
 
-abbrev pub of_nothing : Command → List (List ℕ) → Reading
-of_nothing command [] = Understood command
-of_nothing command (_ ∷ _) = Refused refusal.WrongArgumentCount
-
 -- a text, of any length
 abbrev pub of_text : (List ℕ → Command) → List (List ℕ) → Reading
 of_text command [] = Refused refusal.WrongArgumentCount

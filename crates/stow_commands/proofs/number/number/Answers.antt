@@ -18,7 +18,7 @@ returns-then-eq c =
     let text = c.as_bytes.ensures.value ∙ c.format.ensures.text ∙ ap signed_decimal n in
     let same : bytes_eq (signed_decimal c.in-Ok-parse.n) c.in-Ok.digits.now ≡ true = (λ i. bytes_eq (sym text i) (c.in-Ok.ensures.cases.0 i)) ∙ sym c.if-eq.ensures in
     ap Some n ∙ subst (λ t. Some c.in-Ok-parse.n ≡ number_of t) c.in-Ok.ensures.cases.0
-        (its_text c.in-Ok.digits.now c.parse.result c.in-Ok-parse.n c.parse.ensures.value.0 c.in-Ok-parse.is same)
+    (its_text c.in-Ok.digits.now c.parse.result c.in-Ok-parse.n c.parse.ensures.value.0 c.in-Ok-parse.is same)
 
 pub returns-else-eq : goal.returns-else-eq
 returns-else-eq c =

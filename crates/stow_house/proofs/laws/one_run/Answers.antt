@@ -1,4 +1,3 @@
-use Rattle.std.proofs.Common.{sym, ◌∙◌}
 use Rattle.stow_house.proofs.Marked.{one_run}
 use Rattle.stow_house.proofs.laws.one_run.Goals as goal
 

@@ -1,9 +1,8 @@
-use Rattle.std.proofs.Common.{◌≡◌, ◌<◌, ◌⊎◌, ⊎_elim, inl, inr, map, sym, ap, subst, ◌∙◌, length, rules, Err}
+use Rattle.std.proofs.Common.{◌≡◌, ◌<◌, ◌⊎◌, ⊎_elim, inl, inr, sym, ap, subst, ◌∙◌, length, rules, Err}
 use mathlib.Core.Bool.{false≢true}
 use Rattle.std.proofs.lemmas.Bool.{eqb-true, eq-eqb}
-use Rattle.toml.specs.View.{view, table_view, items_view}
-use Rattle.stow_login.specs.Entries.{entry_of}
-use Rattle.stow_login.specs.TenantFile.{entry_in, entries_after, entries_of}
+use Rattle.toml.specs.View.{table_view, items_view}
+use Rattle.stow_login.specs.TenantFile.{entries_after, entries_of}
 use Rattle.stow_login.specs.declared.tenants_fault.TenantsFault.TheVariants.{OutOfMemory}
 use Rattle.stow_login.proofs.Shapes.{count_of_items, counted_out, counted_in, fault_here}
 use Rattle.stow_login.proofs.reading.read_table.Goals as goal

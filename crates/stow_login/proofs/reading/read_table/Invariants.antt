@@ -1,6 +1,5 @@
-use Rattle.std.proofs.Common.{◌≡◌, drop, length, map}
+use Rattle.std.proofs.Common.{◌≡◌, drop, length}
 use Rattle.toml.specs.View.{table_view, items_view}
-use Rattle.stow_login.specs.Entries.{entry_of}
 use Rattle.stow_login.specs.TenantFile.{entries_of, entries_after}
 use Rattle.stow_login.proofs.reading.read_table.Given as goal
 

@@ -1,6 +1,6 @@
 use Rattle.std.proofs.Common.{ap, sym, ◌∙◌, map, length, subst, ◌<◌, lit<}
 use Rattle.stow_login.specs.Entries.{entry_of, index_named}
-use Rattle.stow_login.specs.Names.{AreNamed, index_in}
+use Rattle.stow_login.specs.Names.{index_in}
 use Rattle.stow_login.proofs.Named.{nobody_named}
 use Rattle.stow_login.proofs.tenants.Tenants.new.Goals as goal
 

@@ -1,4 +1,4 @@
-use Rattle.std.proofs.Common.{◌≡◌, ap, ◌∙◌}
+use Rattle.std.proofs.Common.{◌≡◌, ◌∙◌}
 use Rattle.stow_model.specs.Command.{reading}
 use Rattle.stow_model.specs.Store as store
 use Rattle.stow_model.specs.Reply.{reply_of}
