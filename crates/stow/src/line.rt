@@ -1,4 +1,11 @@
 //! A script's lines: an event each, and what it led to.
+ghost use Rattle.std.specs.Prelude.{◌≡◌, ◌++◌, OnOk, codes};
+ghost use Rattle.stow_model.specs.Event.{event_of};
+ghost use Rattle.stow_model.specs.Reply.{encoding, reply_of};
+ghost use Rattle.stow_house.specs.StepResult.{step_result_of};
+ghost use Rattle.stow.specs.Lines.{done_text, result_line, result_text};
+ghost use Rattle.stow.specs.Text.{text_of};
+
 use crate::text::{TextFault, escape, unescape};
 use std::alloc::{AllocError, Allocator};
 use stow_house::step_result::StepResult;
@@ -87,21 +94,43 @@ pub fn write_result<A: Allocator + Copy>(
     event: &Event<A>,
     outcome: &StepResult<A>,
     out: &mut Vec<u8, A>,
-) -> Result<(), AllocError> {
-    match outcome {
-        StepResult::Answered(reply) => write_reply(alloc, reply, out)?,
-        StepResult::Done => out.extend_from_slice(done(event))?,
-        other => out.extend_from_slice(word_of(other))?,
-    }
+) -> Result<(), AllocError>
+    ensures { OnOk result (out.new.items ≡ out.old.items ++ result_line (event_of event.now) (step_result_of outcome.now)) }
+{
+    write_outcome(alloc, event, outcome, out)?;
     out.push(b'\n')?;
     Ok(())
+}
+
+fn write_outcome<A: Allocator + Copy>(
+    alloc: A,
+    event: &Event<A>,
+    outcome: &StepResult<A>,
+    out: &mut Vec<u8, A>,
+) -> Result<(), AllocError>
+    ensures { OnOk result (out.new.items ≡ out.old.items ++ result_text (event_of event.now) (step_result_of outcome.now)) }
+{
+    match outcome {
+        StepResult::Done => out.extend_from_slice(done(event)),
+        StepResult::Answered(reply) => write_reply(alloc, reply, out),
+        StepResult::More => out.extend_from_slice(b"more"),
+        StepResult::Blank => out.extend_from_slice(b"blank"),
+        StepResult::Job => out.extend_from_slice(b"job"),
+        StepResult::NoJob => out.extend_from_slice(b"none"),
+        StepResult::Installed => out.extend_from_slice(b"done"),
+        StepResult::Stale => out.extend_from_slice(b"stale"),
+        StepResult::Refused => out.extend_from_slice(b"refused"),
+        StepResult::NoMemory => out.extend_from_slice(b"memory"),
+    }
 }
 
 fn write_reply<A: Allocator + Copy>(
     alloc: A,
     reply: &Reply<A>,
     out: &mut Vec<u8, A>,
-) -> Result<(), AllocError> {
+) -> Result<(), AllocError>
+    ensures { OnOk result (out.new.items ≡ out.old.items ++ codes "reply " ++ text_of (encoding (reply_of reply.now))) }
+{
     let mut bytes = Vec::new(alloc);
     reply.write(&mut bytes)?;
     out.extend_from_slice(b"reply ")?;
@@ -109,7 +138,9 @@ fn write_reply<A: Allocator + Copy>(
 }
 
 /// What is told of an event that was carried out and gives nothing.
-fn done<A: Allocator>(event: &Event<A>) -> &'static [u8] {
+fn done<A: Allocator>(event: &Event<A>) -> &'static [u8]
+    ensures { result.now ≡ done_text (event_of event.now) }
+{
     match event {
         Event::Open(_) => b"open",
         Event::Piece(_, _) => b"taken",
@@ -119,18 +150,5 @@ fn done<A: Allocator>(event: &Event<A>) -> &'static [u8] {
         Event::Merge(_) => b"merged",
         Event::Install(_) => b"done",
         Event::Resize(_) => b"resized",
-    }
-}
-
-fn word_of<A: Allocator>(outcome: &StepResult<A>) -> &'static [u8] {
-    match outcome {
-        StepResult::More => b"more",
-        StepResult::Blank => b"blank",
-        StepResult::Job => b"job",
-        StepResult::NoJob => b"none",
-        StepResult::Installed => b"done",
-        StepResult::Stale => b"stale",
-        StepResult::NoMemory => b"memory",
-        _ => b"refused",
     }
 }

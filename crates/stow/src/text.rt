@@ -1,6 +1,7 @@
 //! Bytes as a script writes them: the printing characters of ASCII stand for themselves, but a backslash
 //! begins `\r`, `\n`, `\\`, or `\xHH` with two hexadecimal digits.
-ghost use Rattle.std.specs.Prelude.{◌<◌, ◌≤◌, IfSome, IfOk, length};
+ghost use Rattle.std.specs.Prelude.{◌≡◌, ◌<◌, ◌++◌, IfSome, OnOk, length};
+ghost use Rattle.stow.specs.Text.{byte_text, text_of};
 
 use std::alloc::{AllocError, Allocator};
 use stow_model::byte_string::ByteString;
@@ -43,47 +44,41 @@ fn escaped(text: &[u8]) -> Option<(u8, &[u8])>
         [b'r', rest @ ..] => Some((b'\r', rest)),
         [b'n', rest @ ..] => Some((b'\n', rest)),
         [b'\\', rest @ ..] => Some((b'\\', rest)),
-        [b'x', high, low, rest @ ..] => Some((digit(*high)? * 16 + digit(*low)?, rest)),
-        _ => None,
-    }
-}
-
-/// The value of a hexadecimal digit of either case.
-fn digit(byte: u8) -> Option<u8>
-    ensures { IfSome result (λ d. d < 16) }
-{
-    match byte {
-        b'0'..=b'9' => Some(byte - b'0'),
-        b'a'..=b'f' => Some(byte - b'a' + 10),
-        b'A'..=b'F' => Some(byte - b'A' + 10),
+        [b'x', high, low, rest @ ..] => {
+            let mut byte = [0u8];
+            hex::decode_to_slice([*high, *low], &mut byte).ok()?;
+            Some((byte[0], rest))
+        }
         _ => None,
     }
 }
 
 /// Adds the text that stands for the bytes, with no longer form than each byte needs.
-pub fn escape<A: Allocator>(bytes: &[u8], out: &mut Vec<u8, A>) -> Result<(), AllocError> {
+pub fn escape<A: Allocator>(bytes: &[u8], out: &mut Vec<u8, A>) -> Result<(), AllocError>
+    ensures { OnOk result (out.new.items ≡ out.old.items ++ text_of bytes.now) }
+{
     for byte in bytes {
-        match *byte {
-            b'\r' => out.extend_from_slice(b"\\r")?,
-            b'\n' => out.extend_from_slice(b"\\n")?,
-            b'\\' => out.extend_from_slice(b"\\\\")?,
-            b' '..=b'~' => out.push(*byte)?,
-            _ => {
-                out.extend_from_slice(b"\\x")?;
-                out.push(hex_digit(*byte / 16))?;
-                out.push(hex_digit(*byte % 16))?;
-            }
-        }
+        escape_byte(*byte, out)?;
     }
     Ok(())
 }
 
-fn hex_digit(value: u8) -> u8
-    requires { value < 16 }
+fn escape_byte<A: Allocator>(byte: u8, out: &mut Vec<u8, A>) -> Result<(), AllocError>
+    ensures { OnOk result (out.new.items ≡ out.old.items ++ byte_text byte) }
 {
-    if value < 10 {
-        b'0' + value
-    } else {
-        b'a' + (value - 10)
+    match byte {
+        b'\r' => out.extend_from_slice(b"\\r"),
+        b'\n' => out.extend_from_slice(b"\\n"),
+        b'\\' => out.extend_from_slice(b"\\\\"),
+        b' '..=b'~' => {
+            out.push(byte)?;
+            Ok(())
+        }
+        _ => {
+            let mut digits = [0u8; 2];
+            let _ = hex::encode_to_slice([byte], &mut digits);
+            out.extend_from_slice(b"\\x")?;
+            out.extend_from_slice(&digits)
+        }
     }
 }
