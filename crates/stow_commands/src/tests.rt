@@ -1,9 +1,14 @@
-//! What no clause says: that no memory is asked for.
+//! What no clause says: that reading asks for no memory, and that an outcome is found where there is memory.
 use crate::command::Command;
+use crate::condition::Condition;
 use crate::kind::{Kind, kind_of};
+use crate::outcome::Outcome;
+use crate::outcome_fault::OutcomeFault;
+use crate::update::Update;
 use std::alloc::{AllocError, Allocator};
 use std::test::Fail;
 use stow_model::byte_string::ByteString;
+use stow_model::refusal::Refusal;
 use stow_model::words::Words;
 use stow_refusing::{Plan, Refusing};
 
@@ -25,5 +30,78 @@ fn words_are_read_without_memory(rt: HostRuntime) -> Result<(), Fail> {
     assert!(rt; matches!(command, Ok(Command::Del(keys)) if keys.len() == 2));
     assert!(rt; matches!(kind_of(login.as_slice()), Kind::Login(b"ann", b"bc")));
     assert_eq!(rt; heap.asked(), 0);
+    Ok(())
+}
+
+/// A change, the row's present value, and the value that it gets, or else the refusal.
+type Case = (
+    Update<'static>,
+    Option<&'static [u8]>,
+    Result<Option<&'static [u8]>, Refusal>,
+);
+
+const CASES: [Case; 13] = [
+    (Update::Set(b"v", Condition::Always), None, Ok(Some(b"v"))),
+    (
+        Update::Set(b"v", Condition::IfMissing),
+        None,
+        Ok(Some(b"v")),
+    ),
+    (
+        Update::Set(b"v", Condition::IfMissing),
+        Some(b"u"),
+        Ok(None),
+    ),
+    (Update::Set(b"v", Condition::IfThere), None, Ok(None)),
+    (
+        Update::Set(b"v", Condition::IfThere),
+        Some(b"u"),
+        Ok(Some(b"v")),
+    ),
+    (Update::Append(b""), None, Ok(Some(b""))),
+    (Update::Append(b"yz"), Some(b"x"), Ok(Some(b"xyz"))),
+    (Update::Add(-1), None, Ok(Some(b"-1"))),
+    (Update::Add(5), Some(b"-5"), Ok(Some(b"0"))),
+    (Update::Add(1), Some(b"007"), Err(Refusal::NotAnInteger)),
+    (Update::Add(1), Some(b"-0"), Err(Refusal::NotAnInteger)),
+    (
+        Update::Add(1),
+        Some(b"9223372036854775807"),
+        Err(Refusal::Overflow),
+    ),
+    (
+        Update::Add(-1),
+        Some(b"-9223372036854775808"),
+        Err(Refusal::Overflow),
+    ),
+];
+
+/// Whether the outcome is the one that is wanted.
+fn is_wanted<A: Allocator>(
+    outcome: &Result<Outcome<A>, OutcomeFault>,
+    want: Result<Option<&[u8]>, Refusal>,
+) -> bool {
+    match (outcome, want) {
+        (Ok(Outcome::Written(value, _)), Ok(Some(bytes))) => value.as_slice() == bytes,
+        (Ok(Outcome::Unchanged(_)), Ok(None)) => true,
+        (Err(OutcomeFault::Refused(refusal)), Err(wanted)) => *refusal == wanted,
+        _ => false,
+    }
+}
+
+// Each change is found with memory; with its one request refused, want of memory is told, and the change is
+// found when it is asked for again.
+#[test]
+fn outcomes_are_found_where_there_is_memory(rt: HostRuntime) -> Result<(), Fail> {
+    let heap = Refusing::new(rt.alloc());
+    for (update, present, want) in CASES {
+        heap.set(Plan::RefuseAll);
+        let refused = update.outcome(&heap, present);
+        let asked = heap.asked();
+        assert!(rt; (asked == 0) == is_wanted(&refused, want));
+        assert!(rt; asked == 0 || matches!(refused, Err(OutcomeFault::OutOfMemory)));
+        heap.set(Plan::Grant);
+        assert!(rt; is_wanted(&update.outcome(&heap, present), want));
+    }
     Ok(())
 }
