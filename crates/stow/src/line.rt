@@ -2,8 +2,9 @@
 ghost use Rattle.std.specs.Prelude.{◌≡◌, ◌++◌, OnOk, codes};
 ghost use Rattle.stow_model.specs.Event.{event_of};
 ghost use Rattle.stow_model.specs.Reply.{encoding, reply_of};
-ghost use Rattle.stow_house.specs.StepResult.{step_result_of};
-ghost use Rattle.stow.specs.Lines.{done_text, result_line, result_text};
+ghost use Rattle.stow_house.specs.StepResult.{step_result_of, CanAnswer};
+ghost use Rattle.stow.specs.Lines.{WritesLine};
+ghost use Rattle.stow.specs.Written.{done_text, written};
 ghost use Rattle.stow.specs.Text.{text_of};
 
 use crate::text::{TextFault, escape, unescape};
@@ -88,14 +89,15 @@ fn number(text: &[u8], low: u32, high: u32) -> Option<u32> {
     Some(value)
 }
 
-/// Adds the line that tells what the event led to.
+/// Adds the line that tells what the event led to, which is something that it can lead to.
 pub fn write_result<A: Allocator + Copy>(
     alloc: A,
     event: &Event<A>,
     outcome: &StepResult<A>,
     out: &mut Vec<u8, A>,
 ) -> Result<(), AllocError>
-    ensures { OnOk result (out.new.items ≡ out.old.items ++ result_line (event_of event.now) (step_result_of outcome.now)) }
+    requires { CanAnswer (event_of event.now) (step_result_of outcome.now) }
+    ensures { OnOk result (WritesLine event.now outcome.now out.old.items out.new.items) }
 {
     write_outcome(alloc, event, outcome, out)?;
     out.push(b'\n')?;
@@ -108,7 +110,7 @@ fn write_outcome<A: Allocator + Copy>(
     outcome: &StepResult<A>,
     out: &mut Vec<u8, A>,
 ) -> Result<(), AllocError>
-    ensures { OnOk result (out.new.items ≡ out.old.items ++ result_text (event_of event.now) (step_result_of outcome.now)) }
+    ensures { OnOk result (out.new.items ≡ out.old.items ++ written event.now outcome.now) }
 {
     match outcome {
         StepResult::Done => out.extend_from_slice(done(event)),

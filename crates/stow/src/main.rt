@@ -1,8 +1,9 @@
 //! The program `stow`.
 //!
 //! It reads its arguments and the tenant file that they name, makes a new service, and either answers the bytes
-//! of one connection (`pipe`) or carries a script's events out (`script`). Proved of it: it is safe, and it
-//! returns. What it says is shown by tests; what the service answers is proved in the crates below.
+//! of one connection (`pipe`) or carries a script's events out (`script`). Proved of it: it is safe, it returns,
+//! and a script's output lines are those of `specs/Lines.antt`. What else it says is shown by tests; what the
+//! service answers is proved in the crates below.
 #![tactic(auto)]
 
 mod arguments;

@@ -4,9 +4,9 @@ ghost use Rattle.std.specs.Prelude.{◌≤◌, IfOk, length};
 use crate::failure::Failure;
 use std::alloc::Allocator;
 use std::io::{ErrorKind, Read, Write};
+use stow_bytes::byte_string::ByteString;
 use stow_house::house::House;
 use stow_house::step_result::StepResult;
-use stow_model::byte_string::ByteString;
 use stow_model::event::Event;
 use stow_resp::encode::Encode;
 

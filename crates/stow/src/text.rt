@@ -4,7 +4,7 @@ ghost use Rattle.std.specs.Prelude.{◌≡◌, ◌<◌, ◌++◌, IfSome, OnOk, 
 ghost use Rattle.stow.specs.Text.{byte_text, text_of};
 
 use std::alloc::{AllocError, Allocator};
-use stow_model::byte_string::ByteString;
+use stow_bytes::byte_string::ByteString;
 
 /// Why there are no bytes.
 #[derive(Clone, Copy, Debug, PartialEq, Eq)]

@@ -11,7 +11,7 @@ use Rattle.std.proofs.lemmas.Int.{to_z-of_z}
 use Rattle.std.proofs.lemmas.Slice.Eq.{bytes_eq-Decides}
 use Rattle.std.proofs.lemmas.Str.{IsUtf8-from_ascii}
 use Rattle.std.proofs.lemmas.Fmt.{IsAscii-signed, parse-signed_decimal}
-use Rattle.stow_model.specs.Limits.{number_limit}
+use Rattle.stow_bytes.specs.Limits.{number_limit}
 use Rattle.stow_model.specs.NumberText.{is_integer, number_of}
 
 -- ---- within 64 bits

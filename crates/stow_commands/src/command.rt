@@ -10,7 +10,7 @@ use crate::name::is_named;
 use crate::number::number;
 use crate::update::Update;
 use std::alloc::{Allocator, Global};
-use stow_model::byte_string::ByteString;
+use stow_bytes::byte_string::ByteString;
 use stow_model::refusal::Refusal;
 use stow_model::words::Words;
 

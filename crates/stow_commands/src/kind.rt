@@ -5,7 +5,7 @@ ghost use Rattle.stow_commands.specs.Commands.{meaning};
 
 use crate::name::is_named;
 use std::alloc::Allocator;
-use stow_model::byte_string::ByteString;
+use stow_bytes::byte_string::ByteString;
 
 /// What words are to a connection.
 #[derive(Clone, Copy)]

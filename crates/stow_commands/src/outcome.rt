@@ -1,6 +1,6 @@
 //! What a change of a row leads to.
 use std::alloc::{Allocator, Global};
-use stow_model::byte_string::ByteString;
+use stow_bytes::byte_string::ByteString;
 use stow_model::reply::Reply;
 
 /// What a change of a row leads to.

@@ -7,7 +7,7 @@ use crate::outcome_fault::OutcomeFault;
 use crate::update::Update;
 use std::alloc::{AllocError, Allocator};
 use std::test::Fail;
-use stow_model::byte_string::ByteString;
+use stow_bytes::byte_string::ByteString;
 use stow_model::refusal::Refusal;
 use stow_model::words::Words;
 use stow_refusing::{Plan, Refusing};

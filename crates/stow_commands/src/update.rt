@@ -10,7 +10,7 @@ use crate::outcome::Outcome;
 use crate::outcome_fault::OutcomeFault;
 use itoa::Buffer;
 use std::alloc::Allocator;
-use stow_model::byte_string::ByteString;
+use stow_bytes::byte_string::ByteString;
 use stow_model::refusal::Refusal;
 use stow_model::reply::Reply;
 use stow_model::simple_string::SimpleString;

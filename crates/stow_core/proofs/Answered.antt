@@ -1,32 +1,21 @@
 -- What a prepared answer is, as the tenant's own step says it.
-use Rattle.std.proofs.Common.{◌≡◌, ◌≢◌, ℕ, ◌-◌, ◌<◌, ◌^◌, Bool, true, false, nat_lt, List, [], ◌∷◌, ◌++◌, length, map, eqb, Option, Some, None, refl, ap, sym, ◌∙◌, ℤ, pos, negsuc, to_z, w64, if◌then◌else◌}
-use Rattle.std.specs.Prelude.{◌+ℤ◌}
-use Rattle.std.specs.Option.{unwrap_or}
-use lib.Chars.{codes}
+use Rattle.std.proofs.Common.{◌≡◌, ◌≢◌, ℕ, ◌<◌, ◌^◌, true, false, nat_lt, List, map, eqb, ap, sym, ◌∙◌, pos, to_z, w64}
 use Rattle.std.specs.Prelude.{Result, Ok, Err, IfOk}
-use Rattle.stow_model.specs.Login.{quota_of}
-use Rattle.std.specs.FinMap as map
 use Rattle.std.proofs.lemmas.Bool.{cond-true, cond-false, eq-eqb, ne_eqb}
 use Rattle.std.proofs.lemmas.Int.{to_z_pos}
-use Rattle.stow_model.specs.Limits.{value_limit, number_limit}
+use Rattle.stow_bytes.specs.Limits.{number_limit}
 use Rattle.stow_model.specs.declared.refusal.Refusal.{Refusal}
 use Rattle.stow_model.specs.declared.refusal.Refusal.TheVariants as refusal
-use Rattle.stow_model.specs.declared.simple_string.SimpleString.TheVariants as simple
 use Rattle.stow_model.specs.Reply.{Reply}
 use Rattle.stow_model.specs.Reply as reply
-use Rattle.stow_model.specs.NumberText.{number_of, count_of, is_integer}
-use Rattle.stow_model.specs.Command.{Command, Ping, Echo, Get, GetMany, Exists, Length, Range, Del, Change, Update, Set, Append, Add, Condition, Always, Reading, Understood, Refused, reading, of_text, of_key, of_keys, reading_ping, reading_set, reading_set_if, condition_named, reading_append, reading_add, reading_add_number, reading_range, reading_range_count, reading_del, is_named, with_keys}
-use Rattle.stow_model.specs.Store.{Store, Answer, Rows, Version, Outcome, Written, Unchanged, Failed, counted, served, answer, answer_to, step, written, del_answer, change_answer, outcome, allows, stored_number, sum_outcome, value_in, value_or_null, rows_without}
+use Rattle.stow_model.specs.Command.{Command, Understood, Refused, reading}
+use Rattle.stow_model.specs.Store.{Store, Answer, counted, served, answer, answer_to, answer_with, del_answer, rows_without}
 use Rattle.stow_core.specs.Keys.{packed, own_key}
-use Rattle.stow_core.specs.Prepared.{after_write, after_remove}
-use Rattle.stow_core.specs.State.{CoreState, store_of, own_step, Answers, is_memory_refusal, is_out_of_memory}
+use Rattle.stow_core.specs.Prepared.{after_write, after_remove, fewer}
+use Rattle.stow_core.specs.State.{CoreState, store_of, Answers}
 use Rattle.stow_core.proofs.Keyed.{own_keys}
 
 -- ---- deletions
-
--- how many rows fewer there are without the keys
-abbrev pub fewer : Store → List (List ℕ) → ℕ
-fewer store keys = map.len store.rows - map.len (rows_without keys store.rows)
 
 pub own_back : (t : ℕ) (keys ks : List (List ℕ)) → keys ≡ map (packed t) ks → map own_key keys ≡ ks
 own_back t keys ks e = ap (map own_key) e ∙ own_keys t ks
@@ -46,194 +35,25 @@ del_done store keys ks n own e some fits can =
     λ i. (after_write (counted store) (rows_without (own i) store.rows), reply.Integer ((to_z_pos w64 n fits ∙ ap pos e) i)) in
     done ∙ sym (cond-false (eqb (fewer store ks) 0) _ _ (ne_eqb (fewer store ks) 0 (λ z. some (e ∙ z))) ∙ cond-true (nat_lt store.last number_limit) _ _ can)
 
--- ---- no answer says that memory was refused
-
-either : (b : Bool) (x y : Answer) → is_out_of_memory x.1 ≡ false → is_out_of_memory y.1 ≡ false → is_out_of_memory (if◌then◌else◌ {A = Answer} b x y).1 ≡ false
-either true x y p q = p
-either false x y p q = q
-
-plain_written : (store : Store) (rows : Rows) (r : Reply) → is_out_of_memory r ≡ false → is_out_of_memory (written store rows r).1 ≡ false
-plain_written store rows r plain = either (nat_lt store.last number_limit) _ _ plain refl
-
-plain_value : (v : Option Version) → is_out_of_memory (value_or_null v) ≡ false
-plain_value None = refl
-plain_value (Some version) = refl
-
--- no outcome says that memory was refused
-is_memory_outcome : Outcome → Bool
-is_memory_outcome (Written value r) = is_out_of_memory r
-is_memory_outcome (Unchanged r) = is_out_of_memory r
-is_memory_outcome (Failed r) = is_memory_refusal r
-
-one_outcome : (b : Bool) (x y : Outcome) → is_memory_outcome x ≡ false → is_memory_outcome y ≡ false → is_memory_outcome (if b then x else y) ≡ false
-one_outcome true x y p q = p
-one_outcome false x y p q = q
-
-plain_sum : (n : Option ℤ) (amount : ℤ) → is_memory_outcome (sum_outcome n amount) ≡ false
-unfolding is_memory_outcome
-plain_sum None amount = refl
-plain_sum (Some n) amount = one_outcome (is_integer (n +ℤ amount)) _ (Failed refusal.Overflow) refl refl
-
-plain_outcome : (update : Update) (present : Option (List ℕ)) → is_memory_outcome (outcome update present) ≡ false
-unfolding outcome is_memory_outcome
-plain_outcome (Set value condition) present =
-    one_outcome (nat_lt value_limit (length value)) (Failed refusal.ValueTooLong) _ refl
-    (one_outcome (allows condition present) (Written value (reply.Simple simple.Ok)) (Unchanged reply.Null) refl refl)
-plain_outcome (Append suffix) present = one_outcome (nat_lt value_limit (length (unwrap_or present [] ++ suffix))) (Failed refusal.ValueTooLong) _ refl refl
-plain_outcome (Add amount) present = plain_sum (stored_number present) amount
-
-plain_change : (store : Store) (key : List ℕ) (o : Outcome) → is_memory_outcome o ≡ false → is_out_of_memory (change_answer store key o).1 ≡ false
-unfolding is_memory_outcome
-plain_change store key (Written value r) plain = plain_written store _ r plain
-plain_change store key (Unchanged r) plain = plain
-plain_change store key (Failed r) plain = plain
-
-plain_served : (store : Store) (c : Command) → is_out_of_memory (served store c).1 ≡ false
-plain_served store Ping = refl
-plain_served store (Echo text) = refl
-plain_served store (Get key) = plain_value (map.get store.rows key)
-plain_served store (GetMany keys) = refl
-plain_served store (Exists keys) = refl
-plain_served store (Length key) = refl
-plain_served store (Range from to count) = refl
-plain_served store (Del keys) = either (eqb (map.len store.rows - map.len (rows_without keys store.rows)) 0) _ _ refl (plain_written store _ (reply.Integer _) refl)
-plain_served store (Change key update) = plain_change store key (outcome update (value_in (map.get store.rows key))) (plain_outcome update (value_in (map.get store.rows key)))
-
--- words never say that memory was refused
-is_memory : Reading → Bool
-is_memory (Understood c) = false
-is_memory (Refused r) = is_memory_refusal r
-
-choice : (b : Bool) (x y : Reading) → is_memory x ≡ false → is_memory y ≡ false → is_memory (if b then x else y) ≡ false
-choice true x y p q = p
-choice false x y p q = q
-
-plain_keys : (keys : List (List ℕ)) (c : Command) → is_memory (with_keys keys c) ≡ false
-unfolding is_memory
-plain_keys keys c = choice _ (Refused refusal.KeyTooLong) (Understood c) refl refl
-
-plain-of_text : (f : List ℕ → Command) (args : List (List ℕ)) → is_memory (of_text f args) ≡ false
-unfolding is_memory
-plain-of_text f [] = refl
-plain-of_text f (a ∷ []) = refl
-plain-of_text f (a ∷ b ∷ args) = refl
-
-plain-of_key : (f : List ℕ → Command) (args : List (List ℕ)) → is_memory (of_key f args) ≡ false
-unfolding is_memory
-plain-of_key f [] = refl
-plain-of_key f (a ∷ []) = plain_keys (a ∷ []) (f a)
-plain-of_key f (a ∷ b ∷ args) = refl
-
-plain-of_keys : (f : List (List ℕ) → Command) (args : List (List ℕ)) → is_memory (of_keys f args) ≡ false
-unfolding is_memory
-plain-of_keys f [] = refl
-plain-of_keys f (a ∷ args) = plain_keys (a ∷ args) (f (a ∷ args))
-
-plain_ping : (args : List (List ℕ)) → is_memory (reading_ping args) ≡ false
-unfolding is_memory
-plain_ping [] = refl
-plain_ping (a ∷ args) = plain-of_text Echo (a ∷ args)
-
-plain_set_if : (key value : List ℕ) (condition : Option Condition) → is_memory (reading_set_if key value condition) ≡ false
-unfolding is_memory
-plain_set_if key value None = refl
-plain_set_if key value (Some condition) = plain_keys (key ∷ []) (Change key (Set value condition))
-
-plain_set : (args : List (List ℕ)) → is_memory (reading_set args) ≡ false
-unfolding is_memory
-plain_set [] = refl
-plain_set (a ∷ []) = refl
-plain_set (a ∷ b ∷ []) = plain_keys (a ∷ []) (Change a (Set b Always))
-plain_set (a ∷ b ∷ c ∷ []) = plain_set_if a b (condition_named c)
-plain_set (a ∷ b ∷ c ∷ d ∷ args) = refl
-
-plain_append : (args : List (List ℕ)) → is_memory (reading_append args) ≡ false
-unfolding is_memory
-plain_append [] = refl
-plain_append (a ∷ []) = refl
-plain_append (a ∷ b ∷ []) = plain_keys (a ∷ []) (Change a (Append b))
-plain_append (a ∷ b ∷ c ∷ args) = refl
-
-plain_add_number : (key : List ℕ) (n : Option ℤ) → is_memory (reading_add_number key n) ≡ false
-unfolding is_memory
-plain_add_number key None = refl
-plain_add_number key (Some n) = plain_keys (key ∷ []) (Change key (Add n))
-
-plain_add : (args : List (List ℕ)) → is_memory (reading_add args) ≡ false
-unfolding is_memory
-plain_add [] = refl
-plain_add (a ∷ []) = refl
-plain_add (a ∷ b ∷ []) = plain_add_number a (number_of b)
-plain_add (a ∷ b ∷ c ∷ args) = refl
-
-plain_range_count : (from to : List ℕ) (n : Option ℕ) → is_memory (reading_range_count from to n) ≡ false
-unfolding is_memory
-plain_range_count from to None = refl
-plain_range_count from to (Some n) = plain_keys (from ∷ to ∷ []) (Range from to n)
-
-plain_range : (args : List (List ℕ)) → is_memory (reading_range args) ≡ false
-unfolding is_memory
-plain_range [] = refl
-plain_range (a ∷ []) = refl
-plain_range (a ∷ b ∷ []) = refl
-plain_range (a ∷ b ∷ c ∷ []) = plain_range_count a b (count_of (number_of c))
-plain_range (a ∷ b ∷ c ∷ d ∷ args) = refl
-
-plain_del : (args : List (List ℕ)) → is_memory (reading_del args) ≡ false
-unfolding is_memory
-plain_del [] = refl
-plain_del (a ∷ args) = choice _ (Refused refusal.TooManyKeys) (with_keys (a ∷ args) (Del (a ∷ args))) refl (plain_keys (a ∷ args) (Del (a ∷ args)))
-
-plain_reading : (words : List (List ℕ)) → is_memory (reading words) ≡ false
-unfolding reading is_memory
-plain_reading [] = refl
-plain_reading (name ∷ args) =
-    choice (is_named name (codes "ping")) _ _ (plain_ping args)
-    (choice (is_named name (codes "echo")) _ _ (plain-of_text Echo args)
-    (choice (is_named name (codes "get")) _ _ (plain-of_key Get args)
-    (choice (is_named name (codes "mget")) _ _ (plain-of_keys GetMany args)
-    (choice (is_named name (codes "exists")) _ _ (plain-of_keys Exists args)
-    (choice (is_named name (codes "strlen")) _ _ (plain-of_key Length args)
-    (choice (is_named name (codes "range")) _ _ (plain_range args)
-    (choice (is_named name (codes "set")) _ _ (plain_set args)
-    (choice (is_named name (codes "append")) _ _ (plain_append args)
-    (choice (is_named name (codes "incr")) _ _ (plain-of_key (λ key. Change key (Add (pos 1))) args)
-    (choice (is_named name (codes "decr")) _ _ (plain-of_key (λ key. Change key (Add (negsuc 0))) args)
-    (choice (is_named name (codes "incrby")) _ _ (plain_add args)
-    (choice (is_named name (codes "del")) _ _ (plain_del args) refl))))))))))))
-
-plain_to : (store : Store) (r : Reading) → is_memory r ≡ false → is_out_of_memory (answer_to store r).1 ≡ false
-unfolding is_memory
-plain_to store (Understood c) plain = plain_served store c
-plain_to store (Refused r) plain = plain
-
-pub plain_answer : (quota : ℕ) (store : Store) (words : List (List ℕ)) → is_out_of_memory (answer quota store words).1 ≡ false
-unfolding answer
-plain_answer quota store words = plain_to (counted store) (reading words) (plain_reading words)
-
 -- ---- answers
 
-pub understood : (quota : ℕ) (store : Store) (words : List (List ℕ)) (c : Command) → Understood c ≡ reading words → served (counted store) c ≡ answer quota store words
+pub understood : (store : Store) (words : List (List ℕ)) (c : Command) → Understood c ≡ reading words → served (counted store) c ≡ answer store words
 unfolding answer
-understood quota store words c e = ap (answer_to (counted store)) e
+understood store words c e = ap (answer_to (counted store)) e
 
-pub refused_words : (quota : ℕ) (store : Store) (words : List (List ℕ)) (r : Refusal) → Refused r ≡ reading words → ◌≡◌ {A = Answer} (counted store, reply.Error r) (answer quota store words)
+pub refused_words : (store : Store) (words : List (List ℕ)) (r : Refusal) → Refused r ≡ reading words → ◌≡◌ {A = Answer} (counted store, reply.Error r) (answer store words)
 unfolding answer
-refused_words quota store words r e = ap (answer_to (counted store)) e
+refused_words store words r e = ap (answer_to (counted store)) e
 
 pub if_ok : {X E : Type 0} (r : Result X E) (P Q : X → Type 0) → ((x : X) → P x → Q x) → IfOk r P → IfOk r Q
 if_ok (Ok x) P Q f h = f x h
 if_ok (Err e) P Q f h = h
 
 pub answered : (old new : CoreState) (t : ℕ) (words : List (List ℕ)) (store : Store) (told : Reply) → store_of new t ≡ store
-    → ◌≡◌ {A = Answer} (store, told) (answer (quota_of old.entries t) (store_of old t) words) → Answers old new t words told
-unfolding step
-answered old new t words store told e is =
-    let quota = quota_of old.entries t in
-    let plain : is_out_of_memory told ≡ false = ap (λ (x : Answer). is_out_of_memory x.1) is ∙ plain_answer quota (store_of old t) words in
-    let whole : ◌≡◌ {A = Answer} (store, told) (own_step old t words told) = is ∙ sym (cond-false (is_out_of_memory told) _ _ plain) in
-    record { store = e ∙ ap (λ (x : Answer). x.0) whole; reply = ap (λ (x : Answer). x.1) whole }
+    → ◌≡◌ {A = Answer} (store, told) (answer (store_of old t) words) → Answers old new t words told
+unfolding answer_with
+answered old new t words store told e is = (false, ap (λ s. (s, told)) e ∙ is)
 
 pub out_of_memory : (old new : CoreState) (t : ℕ) (words : List (List ℕ)) → store_of new t ≡ store_of old t → Answers old new t words (reply.Error refusal.OutOfMemory)
-unfolding step
-out_of_memory old new t words e = record { store = e; reply = refl }
+unfolding answer_with
+out_of_memory old new t words e = (true, ap (λ s. (s, reply.Error refusal.OutOfMemory)) e)

@@ -10,7 +10,7 @@ use Rattle.std.specs.BTreeMap as tree
 use Rattle.std.specs.Str.{bytes_eq}
 use Rattle.std.specs.declared.vec.Vec.{Vec}
 use Rattle.stow_model.specs.Store.{Version}
-use Rattle.stow_model.proofs.ByteKeys.{at_bytes, updates_bytes}
+use Rattle.stow_bytes.proofs.ByteKeys.{at_bytes, updates_bytes}
 use Rattle.stow_core.specs.declared.version.Version as coded
 use Rattle.stow_core.specs.Places.{Places, places_of, place, flat, look_up, version_at}
 
@@ -46,7 +46,7 @@ pub looked_up : {A : Type 0} (q : List ℕ) (es : List (Vec ℕ A × Option (cod
     → places_of es ≡ ps → o ≡ lookup (is_at (λ k. slice_cmp nat_cmp q k.items)) es → flat (option_map version_at o) ≡ look_up ps q
 looked_up q es ps o e h = ap (λ x. flat (option_map version_at x)) h ∙ ap flat (sym (place_of_map q es)) ∙ ap (λ x. look_up x q) e
 
-is_some_mapped : {X Y : Type 0} (f : X → Y) (o : Option X) → is_some o ≡ is_some (option_map f o)
+pub is_some_mapped : {X Y : Type 0} (f : X → Y) (o : Option X) → is_some o ≡ is_some (option_map f o)
 is_some_mapped f None = refl
 is_some_mapped f (Some x) = refl
 

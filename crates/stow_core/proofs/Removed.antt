@@ -6,7 +6,7 @@ use Rattle.std.specs.List.{list_any}
 use Rattle.std.specs.Cmp.Lexicographic.{nat_list_cmp_total}
 use Rattle.std.specs.Str.{bytes_eq}
 use Rattle.std.proofs.lemmas.Grind.{take_at_read}
-use Rattle.stow_model.specs.Bytes.{bytes_cmp}
+use Rattle.stow_bytes.specs.Bytes.{bytes_cmp}
 use Rattle.stow_model.specs.Store.{Rows, Version, rows_without}
 use Rattle.stow_core.specs.Keys.{packed, own_key, AreKeysOf}
 use Rattle.stow_core.proofs.Keyed.{any_own, take_own, key_own}

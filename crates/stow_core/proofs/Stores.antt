@@ -1,5 +1,5 @@
 -- One tenant's store in the places and accounts of all.
-use Rattle.std.proofs.Common.{◌≡◌, ◌≢◌, ℕ, ◌+◌, ◌-◌, ◌<◌, ◌≤◌, ◌^◌, zero, suc, Bool, true, false, cond, nat_lt, List, [], ◌∷◌, ◌++◌, length, map, get_or, set, Option, Some, None, is_some, option_map, refl, ap, sym, ◌∙◌, subst, arith, ⊎_elim}
+use Rattle.std.proofs.Common.{◌≡◌, ◌≢◌, ℕ, ◌+◌, ◌-◌, ◌<◌, ◌≤◌, ◌^◌, zero, suc, Bool, true, false, cond, nat_lt, List, [], ◌∷◌, ◌++◌, length, map, take, get_or, set, add-one, eqb, Option, Some, None, is_some, option_map, refl, ap, sym, ◌∙◌, subst, arith, ⊎_elim}
 use Rattle.std.proofs.Math.Bool.{◌&&◌, ◌||◌}
 use Rattle.std.specs.Prelude.{slice_get}
 use Rattle.std.specs.FinMap as map
@@ -7,18 +7,19 @@ use Rattle.std.specs.Cmp.Lexicographic.{nat_list_cmp_total, nat_list_eq_equiv}
 use Rattle.std.specs.List.{list_any}
 use Rattle.std.specs.Ordering.{eq_by_cmp}
 use Rattle.std.specs.Str.{bytes_eq}
-use Rattle.std.proofs.lemmas.Bool.{cases_lt, ltb-true, cond-false}
+use Rattle.std.proofs.lemmas.Bool.{cases_lt, ltb-true, cond-true, cond-false, eq-eqb, ne_eqb}
 use Rattle.std.proofs.lemmas.Map.Text.{is_eq-slice_cmp}
 use Rattle.std.proofs.lemmas.Option.{slice_get_past, slice_get_read, slice_get-get_or}
-use Rattle.stow_model.specs.Bytes.{bytes_cmp}
-use Rattle.stow_model.specs.Login.{Entry}
-use Rattle.stow_model.specs.Limits.{number_limit}
+use Rattle.stow_bytes.specs.Bytes.{bytes_cmp}
+use Rattle.stow_model.specs.Login.{Entry, quota_from, quota_of}
+use Rattle.stow_bytes.specs.Limits.{number_limit}
 use Rattle.stow_model.specs.Store.{Store, Rows, Version, empty_store, one_more, rows_without}
 use Rattle.stow_core.specs.Prepared.{CanWrite, after_put, after_remove}
 use Rattle.stow_core.specs.declared.account.Account.{Account}
 use Rattle.stow_core.specs.Keys.{packed, is_of, own_key, AreKeysOf}
 use Rattle.stow_core.specs.Places.{Places, place, flat, look_up}
 use Rattle.stow_core.specs.State.{CoreState, with_place, rows_of, new_account, account_of, store_with, store_of}
+use Rattle.stow_core.proofs.Placed.{is_some_mapped}
 use Rattle.stow_core.proofs.Keyed.{packed_ties, packed_eq, packed_apart, any_own, none_own, first_key}
 
 -- ---- rows
@@ -172,28 +173,55 @@ pub store_kept : (entries : List Entry) (accounts : List Account) (places places
 unfolding store_of
 store_kept entries accounts places places' t kept = ap (λ rows. store_with rows (account_of t accounts)) (rows_kept t places places' kept)
 
--- accounts that nothing was counted in
-pub IsNew : List Account → Type 0
-IsNew accounts = (i : ℕ) → store_with map.empty (slice_get accounts i) ≡ empty_store
+-- ---- a new core
 
-pub none_IsNew : IsNew []
-unfolding IsNew
-none_IsNew i = refl
+-- each store has its entry's quota
+new_at : (entries : List Entry) (index i : ℕ) → store_with map.empty (slice_get (map new_account entries) i) ≡ empty_store (quota_from index entries (index + i))
+new_at [] index i = refl
+new_at (entry ∷ entries) index zero = ap empty_store (sym (cond-true (eqb index (index + 0)) _ _ (eq-eqb index (index + 0) (omega arith))))
+new_at (entry ∷ entries) index (suc i) =
+    let next : (index + 1) + i ≡ index + suc i = omega arith in
+    new_at entries (index + 1) i
+    ∙ ap (λ t. empty_store (quota_from (index + 1) entries t)) next
+    ∙ ap empty_store (sym (cond-false (eqb index (index + suc i)) _ _ (ne_eqb index (index + suc i) (omega arith))))
 
-push_new : (accounts : List Account) → IsNew accounts → IsNew (accounts ++ new_account ∷ [])
-unfolding IsNew
-push_new [] h zero = refl
-push_new [] h (suc i) = refl
-push_new (a ∷ accounts) h zero = h 0
-push_new (a ∷ accounts) h (suc i) = push_new accounts (λ k. h (suc k)) i
+no_quota : (entries : List Entry) (index t : ℕ) → t < index → quota_from index entries t ≡ 0
+no_quota [] index t below = refl
+no_quota (entry ∷ entries) index t below = cond-false (eqb index t) _ _ (ne_eqb index t (omega arith)) ∙ no_quota entries (index + 1) t (omega arith)
 
-pub push_IsNew : (accounts : List Account) (a : Account) → a ≡ new_account → IsNew accounts → IsNew (accounts ++ a ∷ [])
-push_IsNew accounts a e h = subst (λ b. IsNew (accounts ++ b ∷ [])) (sym e) (push_new accounts h)
+pub new_stores : (entries : List Entry) (accounts : List Account) → accounts ≡ map new_account entries → (t : ℕ) → store_of (core_of entries accounts []) t ≡ empty_store (quota_of entries t)
+unfolding store_of rows_of quota_of
+new_stores entries accounts e zero = ap empty_store (sym (no_quota entries 1 0 (omega arith)))
+new_stores entries accounts e (suc p) =
+    let index : 1 + p ≡ suc p = omega arith in
+    ap (λ a. store_with map.empty (slice_get a p)) e ∙ new_at entries 1 p ∙ ap (λ t. empty_store (quota_from 1 entries t)) index
 
-pub new_stores : (entries : List Entry) (accounts : List Account) → IsNew accounts → (t : ℕ) → store_of (core_of entries accounts []) t ≡ empty_store
-unfolding store_of rows_of IsNew
-new_stores entries accounts h zero = refl
-new_stores entries accounts h (suc p) = h p
+new_from : (entries : List Entry) (index i : ℕ) → i < length entries
+    → map new_account (take i entries) ++ record { last = 0; commands = 0; quota = quota_from index entries (index + i) } ∷ [] ≡ map new_account (take (suc i) entries)
+new_from [] index i below = absurd (omega arith)
+new_from (entry ∷ entries) index zero below =
+    ap (λ q. record { last = 0; commands = 0; quota = q } ∷ []) (cond-true (eqb index (index + 0)) _ _ (eq-eqb index (index + 0) (omega arith)))
+new_from (entry ∷ entries) index (suc i) below =
+    let next : index + suc i ≡ (index + 1) + i = omega arith in
+    ap (λ q. new_account entry ∷ (map new_account (take i entries) ++ record { last = 0; commands = 0; quota = q } ∷ []))
+    (cond-false (eqb index (index + suc i)) _ _ (ne_eqb index (index + suc i) (omega arith)) ∙ ap (quota_from (index + 1) entries) next)
+    ∙ ap (λ accounts. new_account entry ∷ accounts) (new_from entries (index + 1) i (omega arith))
+
+-- the accounts of the first tenants, and one more
+pub one_more_account : (entries : List Entry) (i quota : ℕ) (accounts : List Account) (a : Account) → i < length entries → quota ≡ quota_of entries (i + 1) → a ≡ record { last = 0; commands = 0; quota = quota }
+    → accounts ≡ map new_account (take i entries) → accounts ++ a ∷ [] ≡ map new_account (take (i + 1) entries)
+unfolding quota_of
+one_more_account entries i quota accounts a below is e so_far =
+    let index : i + 1 ≡ 1 + i = omega arith in
+    (λ k. so_far k ++ (e ∙ ap (λ q. record { last = 0; commands = 0; quota = q }) (is ∙ ap (quota_from 1 entries) index)) k ∷ [])
+    ∙ new_from entries 1 i below
+    ∙ ap (λ n. map new_account (take n entries)) (sym (add-one i))
+
+pub take_all : {X : Type 0} (xs : List X) (n : ℕ) → length xs ≤ n → take n xs ≡ xs
+take_all [] zero le = refl
+take_all [] (suc n) le = refl
+take_all (x ∷ xs) zero le = absurd (omega arith)
+take_all (x ∷ xs) (suc n) le = ap (λ t. x ∷ t) (take_all xs n (omega arith))
 
 -- ---- what is read
 
@@ -203,7 +231,7 @@ stored core t a e = ap (store_with (rows_of t core.places)) e
 
 has_account : (t : ℕ) (accounts : List Account) → 1 ≤ t → t ≤ length accounts → (a : Account) × (account_of t accounts ≡ Some a)
 has_account zero accounts low high = absurd (omega arith)
-has_account (suc p) accounts low high = (get_or accounts p new_account, slice_get-get_or accounts p new_account (omega arith))
+has_account (suc p) accounts low high = let none : Account = record { last = 0; commands = 0; quota = 0 } in (get_or accounts p none, slice_get-get_or accounts p none (omega arith))
 
 pub rows-store_of : (core : CoreState) (t : ℕ) → 1 ≤ t → t ≤ length core.accounts → (store_of core t).rows ≡ rows_of t core.places
 rows-store_of core t low high = let some = has_account t core.accounts low high in ap (λ s. s.rows) (stored core t some.0 some.1)
@@ -224,7 +252,7 @@ pub can_write : (core core' : CoreState) (t : ℕ) (a : Account) → core ≡ co
 can_write core core' t a e low high is can = below_limit core t a low high is (subst (λ s. CanWrite s t) (sym e) can)
 
 abbrev pub WritesAccount : Account → Account → Type 0
-WritesAccount a a' = a' ≡ record { last = a.last + 1; commands = one_more a.commands }
+WritesAccount a a' = a' ≡ record { last = a.last + 1; commands = one_more a.commands; quota = a.quota }
 
 pub put_own : (entries : List Entry) (accounts : List Account) (places places' : Places) (t : ℕ) (a a' : Account) (key value : List ℕ) → 1 ≤ t → t ≤ length accounts → a ≡ get_or accounts (t - 1) a
     → WritesAccount a a' → AreKeysOf t (key ∷ [])
@@ -264,10 +292,6 @@ got core core' t key o e low high is = is ∙ sym (get-store_of core t key low h
 
 pub can_still_write : (core core' : CoreState) (t : ℕ) (b : Bool) → store_of core' t ≡ store_of core t → b ≡ nat_lt (store_of core t).last number_limit → b ≡ true → CanWrite core' t
 can_still_write core core' t b e is can = subst (λ n. n < number_limit) (ap (λ s. s.last) (sym e)) (ltb-true _ _ (sym is ∙ can))
-
-is_some_mapped : {X Y : Type 0} (f : X → Y) (o : Option X) → is_some o ≡ is_some (option_map f o)
-is_some_mapped f None = refl
-is_some_mapped f (Some x) = refl
 
 -- a look-up finds something where the tenant has a row
 pub has_row : {X : Type 0} (core core' : CoreState) (t : ℕ) (key : List ℕ) (f : X → Version) (o : Option X) → core ≡ core' → 1 ≤ t → t ≤ length core.accounts → AreKeysOf t (key ∷ [])

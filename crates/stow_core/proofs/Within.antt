@@ -18,13 +18,12 @@ use Rattle.std.specs.BTreeMap.Range.{entries_between}
 use Rattle.std.proofs.lemmas.List.{append_assoc, append-nil}
 use Rattle.std.proofs.lemmas.List.Elements.{filter-append}
 use Rattle.std.proofs.lemmas.Map.Keys.{sorted_head, sorted_tail}
-use Rattle.stow_model.specs.Bytes.{bytes_cmp}
+use Rattle.stow_bytes.specs.Bytes.{bytes_cmp}
 use Rattle.stow_model.specs.Item.{Item}
-use Rattle.stow_model.specs.Store.{Version, Rows, Shown, is_within, rows_within, row_items}
+use Rattle.stow_model.specs.Store.{Version, Rows, Shown, is_below, is_within, rows_within, row_items}
 use Rattle.stow_core.specs.declared.version.Version as coded
 use Rattle.stow_core.specs.Keys.{packed, is_of, own_key}
 use Rattle.stow_core.specs.Places.{Places, places_of, version_at}
-use Rattle.stow_core.specs.Interval.{is_below}
 use Rattle.stow_core.specs.State.{with_place, rows_of}
 use Rattle.stow_core.proofs.Keyed.{cmp-packed, cmp-own_key, packed-own_key, is_of_between}
 use Rattle.stow_core.proofs.Stores.{same_rows}

@@ -1,9 +1,13 @@
 -- Places in the order of their keys. A place of `None` waits for a value, and has no row.
-use Rattle.std.specs.Prelude.{ℕ, List, [], ◌∷◌, Option, Some, None, IsSome}
+use Rattle.std.specs.Prelude.{◌≡◌, ℕ, List, [], ◌∷◌, ◌++◌, map, if◌then◌else◌, Option, Some, None, option_map, IsSome}
+use Rattle.std.specs.Borrow.{Bor}
+use Rattle.std.specs.List.{list_any}
 use Rattle.std.specs.Map.{lookup}
 use Rattle.std.specs.Str.{bytes_eq}
 use Rattle.std.specs.declared.vec.Vec.{Vec}
-use Rattle.stow_model.specs.Store.{Version}
+use Rattle.stow_model.specs.declared.item.Item.{Item}
+use Rattle.stow_model.specs.Item.{item_of}
+use Rattle.stow_model.specs.Store.{Version, row_items}
 use Rattle.stow_core.specs.declared.version.Version as coded
 
 -- what the code's type stands for, whatever allocator it has its memory from
@@ -40,3 +44,23 @@ look_up places key = flat (place places key)
 -- there is a place at the key
 abbrev pub HasPlace : Places → List ℕ → Type 0
 HasPlace places key = IsSome (place places key)
+
+-- a row that was lent
+abbrev pub row_of : {A : Type 0} → Option (Bor (coded.Version A)) → Option Version
+row_of row = option_map (λ v. version_of v.now) row
+
+-- a reader finds this at the key, and at every other key what there was
+abbrev pub Finds : Places → Places → List ℕ → Option Version → Type 0
+Finds old new key version = (q : List ℕ) → look_up new q ≡ (if bytes_eq key q then version else look_up old q)
+
+-- a reader finds nothing at these keys, and at every other key what there was
+abbrev pub FindsNone : Places → Places → List (List ℕ) → Type 0
+FindsNone old new keys = (q : List ℕ) → look_up new q ≡ (if list_any (bytes_eq q) keys then None else look_up old q)
+
+-- the key has a place with this, and every other key the place that it had
+abbrev pub PutsPlace : Places → Places → List ℕ → Option Version → Type 0
+PutsPlace old new key version = (q : List ℕ) → place new q ≡ (if bytes_eq key q then Some version else place old q)
+
+-- a row's items are told behind the others
+abbrev pub AddsRow : {A : Type 0} → List (Item A) → List (Item A) → List ℕ → coded.Version A → Type 0
+AddsRow old new key version = map item_of new ≡ map item_of old ++ row_items (key, version_of version)

@@ -1,16 +1,25 @@
 -- What a prepared answer does to its tenant's store, and where it has its room.
-use Rattle.std.specs.Prelude.{ℕ, ◌+◌, ◌<◌, List, [], ◌∷◌, map}
+use Rattle.std.specs.Prelude.{◌≡◌, ℕ, ◌+◌, ◌-◌, ◌<◌, Bool, not, ◌&&◌, List, [], ◌∷◌, map, is_some, Result, IfOk, IsOkAnd}
+use Rattle.std.specs.List.{list_any}
+use Rattle.std.specs.Str.{bytes_eq}
+use Rattle.std.specs.declared.alloc.AllocError.{AllocError}
 use Rattle.std.specs.FinMap as rows
-use Rattle.stow_model.specs.Limits.{number_limit}
-use Rattle.stow_model.specs.Reply.{reply_of}
+use Rattle.stow_bytes.specs.Limits.{number_limit}
+use Rattle.stow_model.specs.declared.refusal.Refusal.TheVariants as refusal
+use Rattle.stow_model.specs.Command.{Command, Change, Range}
+use Rattle.stow_commands.specs.Commands.{update_of}
+use Rattle.stow_commands.specs.declared.update.Update.{Update}
+use Rattle.stow_model.specs.Reply.{Reply, reply_of}
+use Rattle.stow_model.specs.Reply as reply
 use Rattle.stow_model.specs.Login.{IsTenant}
-use Rattle.stow_model.specs.Store.{Store, Rows, Answer, counted, rows_without}
+use Rattle.stow_model.specs.Store.{Store, Rows, Answer, Written, counted, served, answer, change_answer, rows_without}
 use Rattle.stow_core.specs.declared.change.Change as coded
 use Rattle.stow_core.specs.declared.change.Change.TheVariants as change
 use Rattle.stow_core.specs.declared.prepared.Prepared.{Prepared}
 use Rattle.stow_core.specs.Keys.{own_key, AreKeysOf}
 use Rattle.stow_core.specs.Places.{HasPlace}
-use Rattle.stow_core.specs.State.{CoreState, store_of}
+use Rattle.stow_core.specs.declared.interval.Interval.{Interval}
+use Rattle.stow_core.specs.State.{CoreState, store_of, row_at}
 
 -- the store with these rows, by its next write
 abbrev pub after_write : Store → Rows → Store
@@ -61,3 +70,47 @@ HasRoom core prepared = HasRoomFor core prepared.tenant prepared.change
 -- what the prepared answer will do to this store, and its reply
 abbrev pub prepared_answer : {A : Type 0} → Prepared A → Store → Answer
 prepared_answer prepared store = (effect prepared store, reply_of prepared.reply)
+
+-- where there was memory, the prepared answer is this one of the tenant's store
+abbrev pub Prepares : {A : Type 0} → CoreState → ℕ → Result (Prepared A) AllocError → (Store → Answer) → Type 0
+Prepares core tenant result answer = IfOk result (λ p. prepared_answer p (store_of core tenant) ≡ answer (store_of core tenant))
+
+-- the answer to a command, once it was counted
+abbrev pub serves : Command → Store → Answer
+serves command store = served (counted store) command
+
+-- the answer to a change of a key's row
+abbrev pub changes : List ℕ → Update → Store → Answer
+changes key update store = serves (Change key (update_of update)) store
+
+-- the answer to a change that writes this value; the key is one among the keys of all
+abbrev pub writes_row : List ℕ → List ℕ → Reply → Store → Answer
+writes_row key value r store = change_answer (counted store) (own_key key) (Written value r)
+
+-- the same of words, where the number is a tenant's
+abbrev pub PreparesOwn : {A : Type 0} → CoreState → ℕ → List (List ℕ) → Result (Prepared A) AllocError → Type 0
+PreparesOwn core tenant words result = IsTenant core.entries tenant → Prepares core tenant result (λ store. answer store words)
+
+-- the answer to whom is no tenant, which changes nothing
+abbrev pub RefusesStranger : {A : Type 0} → Result (Prepared A) AllocError → Type 0
+RefusesStranger result = IsOkAnd result (λ p. (p.change ≡ change.Nothing) × (reply_of p.reply ≡ reply.Error refusal.NotAuthenticated))
+
+-- the tenant's store moved as the prepared answer says
+abbrev pub CarriesOut : {A : Type 0} → CoreState → CoreState → Prepared A → Type 0
+CarriesOut old new prepared = store_of new prepared.tenant ≡ effect prepared (store_of old prepared.tenant)
+
+-- the reply of the tenant's store to a command that reads
+abbrev pub read_reply : CoreState → ℕ → Command → Reply
+read_reply core tenant command = (served (store_of core tenant) command).1
+
+-- how many rows fewer there are without the keys
+abbrev pub fewer : Store → List (List ℕ) → ℕ
+fewer store keys = rows.len store.rows - rows.len (rows_without keys store.rows)
+
+-- a key's row is there, and none of the earlier keys is this one
+abbrev pub takes_out : CoreState → ℕ → List ℕ → List (List ℕ) → Bool
+takes_out core tenant key earlier = is_some (row_at core tenant (own_key key)) && not (list_any (bytes_eq key) earlier)
+
+-- the reply of the tenant's store to the command that reads the interval
+abbrev pub range_reply : CoreState → Interval → ℕ → Reply
+range_reply core interval count = read_reply core interval.tenant (Range interval.from.now interval.to.now count)

@@ -1,12 +1,14 @@
 -- What the core keeps for all tenants together, and one tenant's store in it.
-use Rattle.std.specs.Prelude.{◌≡◌, ℕ, zero, suc, ◌<◌, length, Bool, true, false, List, [], ◌∷◌, Option, Some, None, slice_get, if◌then◌else◌}
+use Rattle.std.specs.Prelude.{◌≡◌, ◌≢◌, ℕ, zero, suc, ◌+◌, ◌<◌, length, Bool, List, [], ◌∷◌, Option, Some, None, slice_get, if◌then◌else◌}
 use Rattle.std.specs.FinMap as map
-use Rattle.stow_model.specs.declared.refusal.Refusal.{Refusal}
 use Rattle.stow_model.specs.declared.refusal.Refusal.TheVariants as refusal
+use Rattle.std.specs.List.{flat_map}
+use Rattle.stow_model.specs.Item.{Item}
+use Rattle.stow_core.specs.declared.interval.Interval.{Interval}
 use Rattle.stow_model.specs.Reply.{Reply}
 use Rattle.stow_model.specs.Reply as reply
-use Rattle.stow_model.specs.Login.{Entry, quota_of}
-use Rattle.stow_model.specs.Store.{Store, Rows, Version, empty_store, step}
+use Rattle.stow_model.specs.Login.{Entry, IsTenant, quota_of}
+use Rattle.stow_model.specs.Store.{Store, Rows, Version, Answer, row_items, rows_within, empty_store, one_more, answer_with}
 use Rattle.stow_core.specs.declared.account.Account.{Account}
 use Rattle.stow_core.specs.Keys.{is_of, own_key}
 use Rattle.stow_core.specs.Places.{Places}
@@ -32,39 +34,58 @@ unfoldable pub rows_of : ℕ → Places → Rows
 rows_of tenant [] = map.empty
 rows_of tenant (place ∷ places) = if is_of tenant place.0 then with_place (rows_of tenant places) (own_key place.0) place.1 else rows_of tenant places
 
--- nothing was counted yet
-abbrev pub new_account : Account
-new_account = record { last = 0; commands = 0 }
+-- a tenant of this entry for which nothing was counted yet
+abbrev pub new_account : Entry → Account
+new_account entry = record { last = 0; commands = 0; quota = entry.quota }
+
+-- one more request was counted
+abbrev pub counted_account : Account → Account
+counted_account a = record a { commands = one_more a.commands }
+
+-- one more request was counted, and one more write
+abbrev pub written_account : Account → Account
+written_account a = record a { last = a.last + 1; commands = one_more a.commands }
 
 -- the account of a tenant, whose index counts from 1
 abbrev pub account_of : ℕ → List Account → Option Account
 account_of zero accounts = None
 account_of (suc place) accounts = slice_get accounts place
 
--- the store of these rows and this account; without an account it is empty
+-- the store of these rows and this account; without an account it is empty, and has no quota
 abbrev pub store_with : Rows → Option Account → Store
-store_with rows None = empty_store
-store_with rows (Some account) = record { rows = rows; last = account.last; snapshots = map.empty; next = 1; commands = account.commands; refusals = 0 }
+store_with rows None = empty_store 0
+store_with rows (Some account) = record { rows = rows; last = account.last; snapshots = map.empty; next = 1; quota = account.quota; commands = account.commands; refusals = 0 }
 
 -- the tenant's own store
 unfoldable pub store_of : CoreState → ℕ → Store
 store_of core tenant = store_with (rows_of tenant core.places) (account_of tenant core.accounts)
 
--- the refusal says that memory was refused
-abbrev pub is_memory_refusal : Refusal → Bool
-is_memory_refusal refusal.OutOfMemory = true
-is_memory_refusal _ = false
+-- nothing has come to any tenant's store, and each has its entry's quota
+abbrev pub IsNewCore : CoreState → Type 0
+IsNewCore core = (tenant : ℕ) → store_of core tenant ≡ empty_store (quota_of core.entries tenant)
 
--- the reply says that memory was refused
-abbrev pub is_out_of_memory : Reply → Bool
-is_out_of_memory (reply.Error r) = is_memory_refusal r
-is_out_of_memory _ = false
+-- the tenant's row of its own key, if there is one
+abbrev pub row_at : CoreState → ℕ → List ℕ → Option Version
+row_at core tenant key = map.get (store_of core tenant).rows key
 
--- the tenant's own step on these words, with memory or, where the reply says that it was refused, without
-abbrev pub own_step : CoreState → ℕ → List (List ℕ) → Reply → Store × Reply
-own_step core tenant words told = step (quota_of core.entries tenant) (store_of core tenant) (record { words = words; is_refused = is_out_of_memory told })
+-- no store but the tenant's moved
+abbrev pub OthersStay : CoreState → CoreState → ℕ → Type 0
+OthersStay old new tenant = (other : ℕ) → other ≢ tenant → store_of new other ≡ store_of old other
 
--- the words were answered in the tenant's store, as they would be if the tenant had it alone
-pub record Answers (old new : CoreState) (tenant : ℕ) (words : List (List ℕ)) (told : Reply) : Type 0 where
-  pub store : store_of new tenant ≡ (own_step old tenant words told).0
-  pub reply : told ≡ (own_step old tenant words told).1
+-- the words were answered in the tenant's store, as they would be if the tenant had it alone, with memory or
+-- without
+abbrev pub Answers : CoreState → CoreState → ℕ → List (List ℕ) → Reply → Type 0
+Answers old new tenant words told =
+    (is_refused : Bool) × ◌≡◌ {A = Answer} (store_of new tenant, told) (answer_with (store_of old tenant) (record { words = words; is_refused = is_refused }))
+
+-- a call: a tenant's words are answered in its own store, or as memory was refused; a number that is no
+-- tenant's is refused; no other store moves
+pub record Calls (old : CoreState) (tenant : ℕ) (words : List (List ℕ)) (told : Reply) (new : CoreState) : Type 0 where
+  pub own : IsTenant old.entries tenant → Answers old new tenant words told
+  pub stranger : ¬ (IsTenant old.entries tenant) → (told ≡ reply.Error refusal.NotAuthenticated) × ((t : ℕ) → store_of new t ≡ store_of old t)
+  pub others : OthersStay old new tenant
+  pub entries : new.entries ≡ old.entries
+
+-- what is told of the first rows of an interval
+abbrev pub told_rows : Places → Interval → ℕ → List Item
+told_rows places interval count = flat_map row_items (rows_within interval.from.now interval.to.now count (rows_of interval.tenant places))

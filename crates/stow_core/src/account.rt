@@ -1,7 +1,8 @@
 //! What is counted for a tenant.
-ghost use Rattle.std.specs.Prelude.{◌≡◌, ◌+◌, ◌<◌};
+ghost use Rattle.std.specs.Prelude.{◌≡◌, ◌<◌};
 ghost use Rattle.stow_model.specs.Store.{one_more};
-ghost use Rattle.stow_model.specs.Limits.{number_limit};
+ghost use Rattle.stow_core.specs.State.{counted_account, written_account};
+ghost use Rattle.stow_bytes.specs.Limits.{number_limit};
 
 /// A tenant's counts.
 #[derive(Clone, Copy)]
@@ -10,39 +11,44 @@ pub struct Account {
     pub last: u64,
     /// How many requests were answered.
     pub commands: u64,
+    /// The most bytes that may be charged.
+    pub quota: u64,
 }
 
 /// The most that a number of a store may be.
 pub(crate) const NUMBER_LIMIT: u64 = 9_223_372_036_854_775_807;
 
 impl Account {
-    pub(crate) fn new() -> Account
-        ensures { result ≡ record { last = 0; commands = 0 } }
+    pub(crate) fn new(quota: u64) -> Account
+        ensures { result ≡ record { last = 0; commands = 0; quota = quota } }
     {
         Account {
             last: 0,
             commands: 0,
+            quota,
         }
     }
 
     /// One more request was answered.
     pub(crate) fn counted(self) -> Account
-        ensures { result ≡ record { last = self.last; commands = one_more self.commands } }
+        ensures { result ≡ counted_account self }
     {
         Account {
             last: self.last,
             commands: one_more(self.commands),
+            quota: self.quota,
         }
     }
 
     /// One more request was answered, by a write.
     pub(crate) fn written(self) -> Account
         requires { self.last < number_limit }
-        ensures { result ≡ record { last = self.last + 1; commands = one_more self.commands } }
+        ensures { result ≡ written_account self }
     {
         Account {
             last: self.last + 1,
             commands: one_more(self.commands),
+            quota: self.quota,
         }
     }
 }

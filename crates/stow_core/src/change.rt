@@ -1,6 +1,6 @@
 //! Changes that have their memory.
 use std::alloc::{Allocator, Global};
-use stow_model::byte_string::ByteString;
+use stow_bytes::byte_string::ByteString;
 use stow_model::words::Words;
 
 /// What an answer changes in its tenant's store. `specs/Prepared.antt` says what each does. The keys are

@@ -1,28 +1,26 @@
 //! Changes of one row.
 ghost use Rattle.std.specs.Prelude.{◌≡◌, ℕ, [], ◌∷◌, IfOk, nat_lt, option_map};
-ghost use Rattle.std.specs.FinMap as rows;
-ghost use Rattle.stow_model.specs.Limits.{number_limit};
+ghost use Rattle.stow_bytes.specs.Limits.{number_limit};
 ghost use Rattle.stow_model.specs.Reply.{reply_of};
 ghost use Rattle.stow_model.specs.Login.{IsTenant};
-ghost use Rattle.stow_model.specs.Store.{counted, outcome, change_answer, value_in, Written};
+ghost use Rattle.stow_model.specs.Store.{value_in};
 ghost use Rattle.stow_core.specs.Keys.{own_key, AreKeysOf};
 ghost use Rattle.stow_core.specs.Places.{version_of};
 ghost use Rattle.stow_core.specs.State.{store_of};
-ghost use Rattle.stow_core.specs.Prepared.{HasRoom, prepared_answer};
-ghost use Rattle.stow_commands.specs.Commands.{update_of};
+ghost use Rattle.stow_core.specs.Prepared.{HasRoom, Prepares, changes, writes_row};
 ghost use Rattle.stow_commands.specs.Outcomes.{value_of};
 
 use crate::Core;
 use crate::account::NUMBER_LIMIT;
 use crate::change::Change;
 use crate::prepared::Prepared;
-use crate::preparing::counted;
+use crate::preparing::only_counted;
 use crate::version::Version;
 use std::alloc::{AllocError, Allocator};
+use stow_bytes::byte_string::ByteString;
 use stow_commands::outcome::Outcome;
 use stow_commands::outcome_fault::OutcomeFault;
 use stow_commands::update::Update;
-use stow_model::byte_string::ByteString;
 use stow_model::refusal::Refusal;
 use stow_model::reply::Reply;
 
@@ -40,7 +38,7 @@ impl<A: Allocator + Copy> Core<A> {
         ensures entries { self.new.entries ≡ self.old.entries }
         ensures room { IfOk result (λ p. HasRoom self.new p) }
         ensures tenant { IfOk result (λ p. p.tenant ≡ tenant) }
-        ensures answer { IfOk result (λ p. prepared_answer p (store_of self.old tenant) ≡ change_answer (counted (store_of self.old tenant)) key.now (outcome (update_of update.entry) (value_in (rows.get (store_of self.old tenant).rows key.now)))) }
+        ensures answer { Prepares self.old tenant result (changes key.now update.entry) }
     {
         let mut buffer = Vec::new(alloc);
         let present = value_in(self.row(&mut buffer, tenant, key)?);
@@ -48,8 +46,8 @@ impl<A: Allocator + Copy> Core<A> {
             Ok(Outcome::Written(value, reply)) => {
                 self.prepare_write(alloc, tenant, ByteString::from_vec(buffer), value, reply)
             }
-            Ok(Outcome::Unchanged(reply)) => Ok(counted(tenant, reply)),
-            Err(OutcomeFault::Refused(refusal)) => Ok(counted(tenant, Reply::Error(refusal))),
+            Ok(Outcome::Unchanged(reply)) => Ok(only_counted(tenant, reply)),
+            Err(OutcomeFault::Refused(refusal)) => Ok(only_counted(tenant, Reply::Error(refusal))),
             Err(OutcomeFault::OutOfMemory) => Err(AllocError),
         }
     }
@@ -69,10 +67,10 @@ impl<A: Allocator + Copy> Core<A> {
         ensures entries { self.new.entries ≡ self.old.entries }
         ensures room { IfOk result (λ p. HasRoom self.new p) }
         ensures tenant { IfOk result (λ p. p.tenant ≡ tenant) }
-        ensures answer { IfOk result (λ p. prepared_answer p (store_of self.old tenant) ≡ change_answer (counted (store_of self.old tenant)) (own_key key) (Written value (reply_of reply))) }
+        ensures answer { Prepares self.old tenant result (writes_row key value (reply_of reply)) }
     {
         if !self.can_write(tenant) {
-            return Ok(counted(tenant, Reply::Error(Refusal::WriteNumbersUsedUp)));
+            return Ok(only_counted(tenant, Reply::Error(Refusal::WriteNumbersUsedUp)));
         }
         self.places.make(alloc, key.as_slice())?;
         Ok(Prepared {

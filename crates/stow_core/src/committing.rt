@@ -1,14 +1,14 @@
 //! Carrying answers out, with the memory that they have.
-ghost use Rattle.std.specs.Prelude.{◌≡◌, ◌≢◌, ℕ};
+ghost use Rattle.std.specs.Prelude.{◌≡◌};
 ghost use Rattle.stow_model.specs.Login.{IsTenant};
 ghost use Rattle.stow_model.specs.Store.{counted};
-ghost use Rattle.stow_core.specs.State.{store_of};
+ghost use Rattle.stow_core.specs.State.{store_of, OthersStay};
 ghost use Rattle.stow_core.specs.Prepared.{after_put, after_remove, CanPut, CanRemove};
 
 use crate::Core;
 use crate::version::Version;
 use std::alloc::Allocator;
-use stow_model::byte_string::ByteString;
+use stow_bytes::byte_string::ByteString;
 use stow_model::words::Words;
 
 impl<A: Allocator + Copy> Core<A> {
@@ -16,38 +16,38 @@ impl<A: Allocator + Copy> Core<A> {
     pub(crate) fn count(&mut self, tenant: u32)
         requires { IsTenant self.old.entries tenant }
         ensures own { store_of self.new tenant ≡ counted (store_of self.old tenant) }
-        ensures others { (other : ℕ) → other ≢ tenant → store_of self.new other ≡ store_of self.old other }
+        ensures others { OthersStay self.old self.new tenant }
         ensures entries { self.new.entries ≡ self.old.entries }
     {
-        let place = tenant as usize - 1;
-        let account = self.accounts[place];
-        self.accounts[place] = account.counted();
+        let index = tenant as usize - 1;
+        let account = self.accounts[index];
+        self.accounts[index] = account.counted();
     }
 
     /// Writes a row of the tenant's.
     pub(crate) fn put(&mut self, tenant: u32, key: ByteString<A>, value: ByteString<A>)
         requires { CanPut self.old tenant key }
         ensures own { store_of self.new tenant ≡ after_put key value (store_of self.old tenant) }
-        ensures others { (other : ℕ) → other ≢ tenant → store_of self.new other ≡ store_of self.old other }
+        ensures others { OthersStay self.old self.new tenant }
         ensures entries { self.new.entries ≡ self.old.entries }
     {
-        let place = tenant as usize - 1;
-        let account = self.accounts[place].written();
+        let index = tenant as usize - 1;
+        let account = self.accounts[index].written();
         let number = account.last;
         self.places.fill(key.into_vec(), Version { number, value });
-        self.accounts[place] = account;
+        self.accounts[index] = account;
     }
 
     /// Takes rows of the tenant's out.
     pub(crate) fn remove(&mut self, tenant: u32, keys: Words<A>)
         requires { CanRemove self.old tenant keys }
         ensures own { store_of self.new tenant ≡ after_remove keys (store_of self.old tenant) }
-        ensures others { (other : ℕ) → other ≢ tenant → store_of self.new other ≡ store_of self.old other }
+        ensures others { OthersStay self.old self.new tenant }
         ensures entries { self.new.entries ≡ self.old.entries }
     {
-        let place = tenant as usize - 1;
-        let account = self.accounts[place].written();
+        let index = tenant as usize - 1;
+        let account = self.accounts[index].written();
         self.places.remove_all(keys.as_slice());
-        self.accounts[place] = account;
+        self.accounts[index] = account;
     }
 }

@@ -1,21 +1,20 @@
 //! Deletions.
-ghost use Rattle.std.specs.Prelude.{◌≡◌, ◌-◌, ◌≤◌, length, map, IfOk, is_some, not, ◌&&◌, [], ◌∷◌};
+ghost use Rattle.std.specs.Prelude.{◌≡◌, ◌≤◌, length, map, IfOk, [], ◌∷◌};
 ghost use Rattle.std.specs.List.{list_any};
-ghost use Rattle.std.specs.FinMap as rows;
 ghost use Rattle.std.specs.Str.{bytes_eq};
 ghost use Rattle.stow_model.specs.Login.{IsTenant};
-ghost use Rattle.stow_model.specs.Store.{counted, del_answer, rows_without};
+ghost use Rattle.stow_model.specs.Command.{Del};
 ghost use Rattle.stow_core.specs.Keys.{own_key, AreKeysOf};
 ghost use Rattle.stow_core.specs.State.{store_of};
-ghost use Rattle.stow_core.specs.Prepared.{HasRoom, prepared_answer};
+ghost use Rattle.stow_core.specs.Prepared.{HasRoom, Prepares, serves, fewer, takes_out};
 
 use crate::Core;
 use crate::change::Change;
 use crate::keys::packed_keys;
 use crate::prepared::Prepared;
-use crate::preparing::counted;
+use crate::preparing::only_counted;
 use std::alloc::{AllocError, Allocator};
-use stow_model::byte_string::ByteString;
+use stow_bytes::byte_string::ByteString;
 use stow_model::refusal::Refusal;
 use stow_model::reply::Reply;
 use stow_model::words::Words;
@@ -31,15 +30,15 @@ impl<A: Allocator + Copy> Core<A> {
         requires { IsTenant self.now.entries tenant }
         ensures room { IfOk result (λ p. HasRoom self.now p) }
         ensures tenant { IfOk result (λ p. p.tenant ≡ tenant) }
-        ensures answer { IfOk result (λ p. prepared_answer p (store_of self.now tenant) ≡ del_answer (counted (store_of self.now tenant)) keys.now) }
+        ensures answer { Prepares self.now tenant result (serves (Del keys.now)) }
     {
         let keys = packed_keys(alloc, tenant, keys)?;
         let removed = self.count_removed(tenant, keys.as_slice());
         if removed == 0 {
-            return Ok(counted(tenant, Reply::Integer(0)));
+            return Ok(only_counted(tenant, Reply::Integer(0)));
         }
         if !self.can_write(tenant) {
-            return Ok(counted(tenant, Reply::Error(Refusal::WriteNumbersUsedUp)));
+            return Ok(only_counted(tenant, Reply::Error(Refusal::WriteNumbersUsedUp)));
         }
         Ok(Prepared {
             tenant,
@@ -52,7 +51,7 @@ impl<A: Allocator + Copy> Core<A> {
     fn count_removed(&self, tenant: u32, keys: &[ByteString<A>]) -> usize
         requires is_tenant { IsTenant self.now.entries tenant }
         requires own_keys { AreKeysOf tenant keys.now }
-        ensures removed { let store = store_of self.now tenant in result ≡ rows.len store.rows - rows.len (rows_without (map own_key keys.now) store.rows) }
+        ensures removed { result ≡ fewer (store_of self.now tenant) (map own_key keys.now) }
         ensures few { result ≤ length keys.now }
     {
         let mut removed = 0;
@@ -68,7 +67,7 @@ impl<A: Allocator + Copy> Core<A> {
     fn removes(&self, tenant: u32, key: &ByteString<A>, earlier: &[ByteString<A>]) -> bool
         requires is_tenant { IsTenant self.now.entries tenant }
         requires own_key { AreKeysOf tenant (key.now ∷ []) }
-        ensures { result ≡ (is_some (rows.get (store_of self.now tenant).rows (own_key key.now)) && not (list_any (bytes_eq key.now) earlier.now)) }
+        ensures { result ≡ takes_out self.now tenant key.now earlier.now }
     {
         self.places.get(key.as_slice()).is_some() && !is_among(key, earlier)
     }

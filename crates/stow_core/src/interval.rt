@@ -2,7 +2,8 @@
 ghost use Rattle.std.specs.Prelude.{◌≡◌, Some, None, if◌then◌else◌};
 ghost use Rattle.std.specs.Option.{option_copied};
 ghost use Rattle.stow_core.specs.Keys.{own_key};
-ghost use Rattle.stow_core.specs.Interval.{is_below, reaches};
+ghost use Rattle.stow_model.specs.Store.{is_below};
+ghost use Rattle.stow_core.specs.Interval.{reached_key};
 
 /// The keys of a tenant's from one on and below another, of which an empty one is no end.
 #[derive(Clone, Copy)]
@@ -15,7 +16,7 @@ pub struct Interval<'a> {
 impl Interval<'_> {
     /// The tenant's own key, if a key among the keys of all is the tenant's and below the upper end.
     pub fn own_key<'k>(&self, key: &'k [u8]) -> Option<&'k [u8]>
-        ensures { option_copied result ≡ (if reaches self.now key.now then Some (own_key key.now) else None) }
+        ensures { option_copied result ≡ reached_key self.now key.now }
     {
         let own = key.strip_prefix(&self.tenant.to_be_bytes())?;
         if is_below(self.to, own) {

@@ -3,7 +3,7 @@ ghost use Rattle.std.specs.Prelude.{◌≡◌, IfOk, OnOk, map};
 ghost use Rattle.stow_core.specs.Keys.{packed};
 
 use std::alloc::{AllocError, Allocator};
-use stow_model::byte_string::ByteString;
+use stow_bytes::byte_string::ByteString;
 
 /// A tenant's key among the keys of all.
 pub fn packed_key<A: Allocator>(

@@ -14,20 +14,18 @@
 //! a prepared answer that is never carried out changes nothing.
 #![tactic(auto)]
 
-ghost use Rattle.std.specs.Prelude.{◌≡◌, ◌≢◌, ℕ, IfOk, IsOkAnd};
+ghost use Rattle.std.specs.Prelude.{◌≡◌, ℕ, IfOk};
 ghost use Rattle.std.specs.Arc.{arc_value};
-ghost use Rattle.stow_model.specs.Reply as told;
 ghost use Rattle.stow_model.specs.Reply.{reply_of};
-ghost use Rattle.stow_model.specs.Login.{IsTenant, quota_of};
-ghost use Rattle.stow_model.specs.Store.{empty_store, answer};
-ghost use Rattle.stow_core.specs.State.{store_of, Answers};
-ghost use Rattle.stow_core.specs.Prepared.{effect, HasRoom, prepared_answer};
+ghost use Rattle.stow_model.specs.Login.{IsTenant};
+ghost use Rattle.stow_core.specs.State.{store_of, IsNewCore, OthersStay, Calls};
+ghost use Rattle.stow_core.specs.Prepared.{HasRoom, PreparesOwn, RefusesStranger, CarriesOut};
 
 use account::Account;
 use change::Change;
 use places::Places;
 use prepared::Prepared;
-use preparing::counted;
+use preparing::only_counted;
 use std::alloc::{AllocError, Allocator, Global};
 use std::marker::Model;
 use std::sync::Arc;
@@ -72,14 +70,14 @@ impl<A: Allocator> Model for Core<A> {
 }
 
 impl<A: Allocator + Copy> Core<A> {
-    /// A core in which each tenant's store is empty.
+    /// A core in which each tenant's store is empty, and has the quota of the tenant's entry.
     pub fn new(alloc: A, tenants: Arc<Tenants<A>, A>) -> Result<Core<A>, AllocError>
         ensures entries { IfOk result (λ core. core.entries ≡ arc_value tenants) }
-        ensures empty { IfOk result (λ core. (tenant : ℕ) → store_of core tenant ≡ empty_store) }
+        ensures empty { IfOk result IsNewCore }
     {
         let mut accounts = Vec::new(alloc);
-        for _index in 0..tenants.count() {
-            accounts.push(Account::new())?;
+        for before in 0..tenants.count() {
+            accounts.push(Account::new(tenants.quota(before + 1)))?;
         }
         Ok(Core {
             tenants,
@@ -98,10 +96,7 @@ impl<A: Allocator + Copy> Core<A> {
     /// Answers a tenant's words in its own store. No other tenant's store changes, and none where memory is
     /// refused.
     pub fn call(&mut self, alloc: A, tenant: u32, words: &Words<A>) -> Reply<A>
-        ensures own { IsTenant self.old.entries tenant → Answers self.old self.new tenant words.now (reply_of result) }
-        ensures stranger { ¬ (IsTenant self.old.entries tenant) → (reply_of result ≡ told.Error Refusal.NotAuthenticated) × ((t : ℕ) → store_of self.new t ≡ store_of self.old t) }
-        ensures others { (other : ℕ) → other ≢ tenant → store_of self.new other ≡ store_of self.old other }
-        ensures entries { self.new.entries ≡ self.old.entries }
+        ensures { Calls self.old tenant words.now (reply_of result) self.new }
     {
         match self.prepare(alloc, tenant, words) {
             Ok(prepared) => self.commit(prepared),
@@ -120,8 +115,8 @@ impl<A: Allocator + Copy> Core<A> {
         ensures entries { self.new.entries ≡ self.old.entries }
         ensures room { IfOk result (λ p. HasRoom self.new p) }
         ensures tenant { IfOk result (λ p. p.tenant ≡ tenant) }
-        ensures own { IsTenant self.old.entries tenant → IfOk result (λ p. prepared_answer p (store_of self.old tenant) ≡ answer (quota_of self.old.entries tenant) (store_of self.old tenant) words.now) }
-        ensures stranger { ¬ (IsTenant self.old.entries tenant) → IsOkAnd result (λ p. (p.change ≡ Change.Nothing) × (reply_of p.reply ≡ told.Error Refusal.NotAuthenticated)) }
+        ensures own { PreparesOwn self.old tenant words.now result }
+        ensures stranger { ¬ (IsTenant self.old.entries tenant) → RefusesStranger result }
     {
         if !self.is_tenant(tenant) {
             return Ok(Prepared {
@@ -132,7 +127,7 @@ impl<A: Allocator + Copy> Core<A> {
         }
         match Command::read(words) {
             Ok(command) => self.prepare_command(alloc, tenant, command),
-            Err(refusal) => Ok(counted(tenant, Reply::Error(refusal))),
+            Err(refusal) => Ok(only_counted(tenant, Reply::Error(refusal))),
         }
     }
 
@@ -140,8 +135,8 @@ impl<A: Allocator + Copy> Core<A> {
     pub fn commit(&mut self, prepared: Prepared<A>) -> Reply<A>
         requires { HasRoom self.old prepared }
         ensures reply { result ≡ prepared.reply }
-        ensures own { store_of self.new prepared.tenant ≡ effect prepared (store_of self.old prepared.tenant) }
-        ensures others { (other : ℕ) → other ≢ prepared.tenant → store_of self.new other ≡ store_of self.old other }
+        ensures own { CarriesOut self.old self.new prepared }
+        ensures others { OthersStay self.old self.new prepared.tenant }
         ensures entries { self.new.entries ≡ self.old.entries }
     {
         let Prepared {

@@ -1,11 +1,10 @@
 //! Places that rows stand in.
-ghost use Rattle.std.specs.Prelude.{◌≡◌, ℕ, List, [], ◌++◌, map, Option, Some, None, IfOk, OnOk, OnErr, IsOk, is_some, option_map, if◌then◌else◌};
-ghost use Rattle.std.specs.List.{list_any, flat_map};
-ghost use Rattle.std.specs.Str.{bytes_eq};
+ghost use Rattle.std.specs.Prelude.{◌≡◌, ℕ, List, [], map, Option, Some, None, IfOk, OnOk, OnErr};
+ghost use Rattle.std.specs.Prelude.{IsOk, is_some, option_map};
 ghost use Rattle.stow_model.specs.Item.{item_of};
-ghost use Rattle.stow_model.specs.Store.{row_items, rows_within};
 ghost use Rattle.stow_core.specs.Places.{place, look_up, HasPlace, version_of, version_at};
-ghost use Rattle.stow_core.specs.State.{rows_of};
+ghost use Rattle.stow_core.specs.Places.{Finds, FindsNone, PutsPlace, AddsRow};
+ghost use Rattle.stow_core.specs.State.{told_rows};
 
 use crate::interval::Interval;
 use crate::keys::packed_key;
@@ -13,7 +12,7 @@ use crate::version::Version;
 use std::alloc::{AllocError, Allocator, Global};
 use std::collections::BTreeMap;
 use std::marker::Model;
-use stow_model::byte_string::ByteString;
+use stow_bytes::byte_string::ByteString;
 use stow_model::item::Item;
 
 /// Rows in the order of their keys, and places that wait for a value, which a write may fill with no
@@ -59,7 +58,7 @@ impl<A: Allocator + Copy> Places<A> {
         interval: Interval<'_>,
         count: u32,
     ) -> Result<Vec<Item<A>, A>, AllocError>
-        ensures { IfOk result (λ items. map item_of items.items ≡ flat_map row_items (rows_within interval.entry.from.now interval.entry.to.now count (rows_of interval.entry.tenant self.now))) }
+        ensures { IfOk result (λ v. map item_of v.items ≡ told_rows self.now interval.entry count) }
     {
         let lower = packed_key(alloc, interval.tenant, interval.from)?.into_vec();
         let mut items = Vec::new(alloc);
@@ -93,14 +92,14 @@ impl<A: Allocator + Copy> Places<A> {
     /// Fills a place. It takes no memory.
     pub fn fill(&mut self, key: Vec<u8, A>, version: Version<A>)
         requires { HasPlace self.old key.items }
-        ensures { (q : List ℕ) → look_up self.new q ≡ (if bytes_eq key.items q then Some (version_of version) else look_up self.old q) }
+        ensures { Finds self.old self.new key.items (Some (version_of version)) }
     {
         let _done = self.put(key, Some(version));
     }
 
     /// Takes out all of these keys. It takes no memory.
     pub fn remove_all(&mut self, keys: &[ByteString<A>])
-        ensures { (q : List ℕ) → look_up self.new q ≡ (if list_any (bytes_eq q) keys.now then None else look_up self.old q) }
+        ensures { FindsNone self.old self.new keys.now }
     {
         for key in keys {
             self.remove(key.as_slice());
@@ -108,7 +107,7 @@ impl<A: Allocator + Copy> Places<A> {
     }
 
     fn remove(&mut self, key: &[u8])
-        ensures { (q : List ℕ) → look_up self.new q ≡ (if bytes_eq key.now q then None else look_up self.old q) }
+        ensures { Finds self.old self.new key.now None }
     {
         let _removed = self.map.remove(key);
     }
@@ -120,7 +119,7 @@ impl<A: Allocator + Copy> Places<A> {
     }
 
     fn put(&mut self, key: Vec<u8, A>, version: Option<Version<A>>) -> Result<(), AllocError>
-        ensures ok { OnOk result ((q : List ℕ) → place self.new q ≡ (if bytes_eq key.items q then Some (version_at version) else place self.old q)) }
+        ensures ok { OnOk result (PutsPlace self.old self.new key.items (version_at version)) }
         ensures err { OnErr result (self.new ≡ self.old) }
         ensures succeeds { HasPlace self.old key.items → IsOk result }
     {
@@ -136,7 +135,7 @@ fn push_row<A: Allocator + Copy>(
     key: &[u8],
     version: &Version<A>,
 ) -> Result<(), AllocError>
-    ensures { OnOk result (map item_of items.new.items ≡ map item_of items.old.items ++ row_items (key.now, version_of version.now)) }
+    ensures { OnOk result (AddsRow items.old.items items.new.items key.now version.now) }
 {
     items.push(Item::Bulk(ByteString::from_slice(alloc, key)?))?;
     let value = ByteString::from_slice(alloc, version.value.as_slice())?;

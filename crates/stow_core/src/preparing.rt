@@ -1,9 +1,8 @@
 //! Finding answers, with all the memory that they take.
 ghost use Rattle.std.specs.Prelude.{◌≡◌, ℕ, IfOk, IsTrue, ◌↔◌};
 ghost use Rattle.stow_model.specs.Login.{IsTenant};
-ghost use Rattle.stow_model.specs.Store.{counted, served};
 ghost use Rattle.stow_core.specs.State.{store_of};
-ghost use Rattle.stow_core.specs.Prepared.{HasRoom, prepared_answer};
+ghost use Rattle.stow_core.specs.Prepared.{HasRoom, Prepares, serves};
 ghost use Rattle.stow_commands.specs.Commands.{command_of};
 
 use crate::Core;
@@ -11,8 +10,8 @@ use crate::change::Change;
 use crate::interval::Interval;
 use crate::prepared::Prepared;
 use std::alloc::{AllocError, Allocator};
+use stow_bytes::byte_string::ByteString;
 use stow_commands::command::Command;
-use stow_model::byte_string::ByteString;
 use stow_model::reply::Reply;
 use stow_model::simple_string::SimpleString;
 
@@ -35,7 +34,7 @@ impl<A: Allocator + Copy> Core<A> {
         ensures entries { self.new.entries ≡ self.old.entries }
         ensures room { IfOk result (λ p. HasRoom self.new p) }
         ensures tenant { IfOk result (λ p. p.tenant ≡ tenant) }
-        ensures answer { IfOk result (λ p. prepared_answer p (store_of self.old tenant) ≡ served (counted (store_of self.old tenant)) (command_of command.entry)) }
+        ensures answer { Prepares self.old tenant result (serves (command_of command.entry)) }
     {
         let reply = match command {
             Command::Ping => Reply::Simple(SimpleString::Pong),
@@ -52,12 +51,12 @@ impl<A: Allocator + Copy> Core<A> {
                 return self.prepare_change(alloc, tenant, key, update);
             }
         };
-        Ok(counted(tenant, reply))
+        Ok(only_counted(tenant, reply))
     }
 }
 
 /// An answer that changes nothing but the count.
-pub(crate) fn counted<A: Allocator>(tenant: u32, reply: Reply<A>) -> Prepared<A>
+pub(crate) fn only_counted<A: Allocator>(tenant: u32, reply: Reply<A>) -> Prepared<A>
     ensures { result ≡ record { tenant = tenant; change = Change.Count; reply = reply } }
 {
     Prepared {

@@ -1,22 +1,21 @@
 //! Replies that are read from a tenant's rows.
-ghost use Rattle.std.specs.Prelude.{◌≡◌, pos, map, IfOk, OnOk, option_map};
-ghost use Rattle.std.specs.List.{flat_map};
-ghost use Rattle.std.specs.FinMap as rows;
+ghost use Rattle.std.specs.Prelude.{◌≡◌, IfOk, OnOk};
 ghost use Rattle.stow_model.specs.Item.{item_of};
-ghost use Rattle.stow_model.specs.Reply as told;
 ghost use Rattle.stow_model.specs.Reply.{reply_of};
 ghost use Rattle.stow_model.specs.Login.{IsTenant};
-ghost use Rattle.stow_model.specs.Store.{value_or_null, item_or_null, length_or_zero, count_rows, row_items, rows_within};
+ghost use Rattle.stow_model.specs.Command.{Get, GetMany, Exists, Length};
+ghost use Rattle.stow_model.specs.Store.{item_or_null};
+ghost use Rattle.stow_core.specs.Prepared.{read_reply, range_reply};
 ghost use Rattle.stow_core.specs.Keys.{packed};
-ghost use Rattle.stow_core.specs.Places.{version_of};
-ghost use Rattle.stow_core.specs.State.{store_of};
+ghost use Rattle.stow_core.specs.Places.{row_of};
+ghost use Rattle.stow_core.specs.State.{row_at};
 
 use crate::Core;
 use crate::interval::Interval;
 use crate::keys::pack_into;
 use crate::version::Version;
 use std::alloc::{AllocError, Allocator};
-use stow_model::byte_string::ByteString;
+use stow_bytes::byte_string::ByteString;
 use stow_model::item::Item;
 use stow_model::items::Items;
 use stow_model::reply::Reply;
@@ -30,7 +29,7 @@ impl<A: Allocator + Copy> Core<A> {
         key: &[u8],
     ) -> Result<Option<&Version<A>>, AllocError>
         requires { IsTenant self.now.entries tenant }
-        ensures row { IfOk result (λ row. option_map (λ v. version_of v.now) row ≡ rows.get (store_of self.now tenant).rows key.now) }
+        ensures row { IfOk result (λ row. row_of row ≡ row_at self.now tenant key.now) }
         ensures buffer { OnOk result (buffer.new.items ≡ packed tenant key.now) }
     {
         pack_into(buffer, tenant, key)?;
@@ -40,7 +39,7 @@ impl<A: Allocator + Copy> Core<A> {
     /// The value of a key, or null.
     pub(crate) fn value(&self, alloc: A, tenant: u32, key: &[u8]) -> Result<Reply<A>, AllocError>
         requires { IsTenant self.now.entries tenant }
-        ensures { IfOk result (λ r. reply_of r ≡ value_or_null (rows.get (store_of self.now tenant).rows key.now)) }
+        ensures { IfOk result (λ r. reply_of r ≡ read_reply self.now tenant (Get key.now)) }
     {
         let mut buffer = Vec::new(alloc);
         match self.row(&mut buffer, tenant, key)? {
@@ -60,7 +59,7 @@ impl<A: Allocator + Copy> Core<A> {
         keys: &[ByteString<A>],
     ) -> Result<Reply<A>, AllocError>
         requires { IsTenant self.now.entries tenant }
-        ensures { IfOk result (λ r. reply_of r ≡ told.Array (map (λ key. item_or_null (rows.get (store_of self.now tenant).rows key)) keys.now)) }
+        ensures { IfOk result (λ r. reply_of r ≡ read_reply self.now tenant (GetMany keys.now)) }
     {
         let mut buffer = Vec::new(alloc);
         let mut items = Vec::new(alloc);
@@ -79,7 +78,7 @@ impl<A: Allocator + Copy> Core<A> {
         keys: &[ByteString<A>],
     ) -> Result<Reply<A>, AllocError>
         requires { IsTenant self.now.entries tenant }
-        ensures { IfOk result (λ r. reply_of r ≡ told.Integer (pos (count_rows (store_of self.now tenant).rows keys.now))) }
+        ensures { IfOk result (λ r. reply_of r ≡ read_reply self.now tenant (Exists keys.now)) }
     {
         let mut buffer = Vec::new(alloc);
         let mut count: usize = 0;
@@ -99,7 +98,7 @@ impl<A: Allocator + Copy> Core<A> {
         key: &[u8],
     ) -> Result<Reply<A>, AllocError>
         requires { IsTenant self.now.entries tenant }
-        ensures { IfOk result (λ r. reply_of r ≡ told.Integer (pos (length_or_zero (rows.get (store_of self.now tenant).rows key.now)))) }
+        ensures { IfOk result (λ r. reply_of r ≡ read_reply self.now tenant (Length key.now)) }
     {
         let mut buffer = Vec::new(alloc);
         match self.row(&mut buffer, tenant, key)? {
@@ -116,7 +115,7 @@ impl<A: Allocator + Copy> Core<A> {
         count: u32,
     ) -> Result<Reply<A>, AllocError>
         requires { IsTenant self.now.entries interval.tenant }
-        ensures { IfOk result (λ r. reply_of r ≡ told.Array (flat_map row_items (rows_within interval.entry.from.now interval.entry.to.now count (store_of self.now interval.entry.tenant).rows))) }
+        ensures { IfOk result (λ r. reply_of r ≡ range_reply self.now interval.entry count) }
     {
         let items = self.places.first_rows(alloc, interval, count)?;
         Ok(Reply::Array(Items::from_vec(items)))
@@ -128,7 +127,7 @@ fn item_of_row<A: Allocator + Copy>(
     alloc: A,
     row: Option<&Version<A>>,
 ) -> Result<Item<A>, AllocError>
-    ensures { IfOk result (λ item. item_of item ≡ item_or_null (option_map (λ v. version_of v.now) row.entry)) }
+    ensures { IfOk result (λ item. item_of item ≡ item_or_null (row_of row.entry)) }
 {
     match row {
         Some(version) => {

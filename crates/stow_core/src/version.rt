@@ -1,6 +1,6 @@
 //! Versions of rows.
 use std::alloc::{Allocator, Global};
-use stow_model::byte_string::ByteString;
+use stow_bytes::byte_string::ByteString;
 
 /// A value, and the number of the write that made it.
 #[derive(Drop)]

@@ -1,76 +1,85 @@
--- What one event does to its own connection.
-use Rattle.std.proofs.Common.{◌≡◌, ◌≢◌, ℕ, Bool, true, false, List, ◌++◌, Option, Some, None, refl, ap, ◌∙◌, sym, subst, ⊎_elim}
-use Rattle.std.proofs.lemmas.Bool.{cases_eq}
-use Rattle.stow_model.specs.declared.stream_fault.StreamFault.{StreamFault}
-use Rattle.stow_model.specs.Login.{Entry}
+-- What an event does on its own connection.
+use Rattle.std.proofs.Common.{◌≡◌, ◌≢◌, ℕ, eqb, Bool, true, false, not, List, ◌++◌, Option, Some, None, is_some, refl, ap, ◌∙◌, sym, subst, ⊎_elim, inl, inr}
+use mathlib.Core.Bool.{false≢true}
+use Rattle.std.proofs.lemmas.Bool.{cases_eq, cond-true, cond-false, eq-eqb, ne_eqb}
+use Rattle.std.specs.Prelude.{IsSome}
+use Rattle.stow_model.specs.Login.{Entry, IsTenant, login}
+use Rattle.stow_model.specs.Message.{Message}
 use Rattle.stow_model.specs.Message as message
+use Rattle.stow_model.specs.Command.{Kind, Login, Quit, Malformed, ForStore, kind_of}
+use Rattle.stow_model.specs.Event.{ConnectionEvent}
+use Rattle.stow_model.specs.Event as event
 use Rattle.stow_model.specs.Reply.{Reply}
 use Rattle.stow_model.specs.Reply as reply
-use Rattle.stow_model.specs.Event.{Event}
-use Rattle.stow_model.specs.Event as event
-use Rattle.stow_model.specs.Wire.{IsBegun, IsFaulty}
-use Rattle.stow_model.specs.History.{Void, Plain, Took, Broke, Status, Unused, IsOpen, Closed, quoted_reply, status_after_event, stream_after_event}
-use Rattle.stow_core.specs.State.{CoreState}
-use Rattle.std.specs.Prelude.{is_some}
+use Rattle.stow_model.specs.Wire.{IsFaulty}
+use Rattle.stow_model.specs.Store.{Answer, answer_with, is_out_of_memory}
+use Rattle.stow_model.specs.History.{ConnectionStep, Plain, Took, Broke, Status, Unused, IsOpen, Closed, Service, status_after_kind, status_after_message, status_after_event, stream_after_event, request_as, request_of_message, login_reply, quoted_reply, kind_reply, message_reply}
+use Rattle.stow_model.proofs.Refused.{want_of_memory_lem}
+use Rattle.stow_resp.specs.declared.next.Next.{Next}
+use Rattle.stow_resp.specs.declared.next.Next.TheVariants as next
+use Rattle.stow_resp.specs.Next.{IsTaken, IsNext}
+use Rattle.stow_core.specs.State.{CoreState, store_of, Calls, Answers}
 use Rattle.stow_house.specs.declared.connection.Connection.{Connection}
-use Rattle.stow_house.specs.Seen.{Seen, seen, IsServed, never_opened, just_opened, status_by}
-use Rattle.stow_house.specs.StepResult.{StepResult, Done, Answered, More, Blank, Refused, NoMemory, answer_to_event}
-use Rattle.stow_house.specs.declared.house.House.{House}
-use Rattle.stow_house.specs.Steps.{TakesOff, IsEventAt, StepsHere, Steps, CanBePlain, core_of, seen_in}
-use Rattle.stow_house.specs.Sessions.{quoted_refusal}
-use Rattle.stow_house.proofs.Everywhere.{everywhere}
+use Rattle.stow_house.specs.declared.connection_event.ConnectionEvent as coded
+use Rattle.stow_house.specs.declared.connection_event.ConnectionEvent.TheVariants as in_code
+use Rattle.stow_house.specs.Seen.{Seen, seen, IsServed, never_opened, status_by}
+use Rattle.stow_house.specs.StepResult.{StepResult, Refused, answered, answer_to_event}
+use Rattle.stow_house.specs.Sessions.{Arrival, Whole, Faulty, Nothing, arrival_of, Told, taking_words, Finishes, Serves}
+use Rattle.stow_house.specs.Connections.{meaning, moved, reply_in_core, CanBePlain, Happens}
 
-pub void : (c : ℕ) (e : Event) (r : StepResult) (s new : Seen) (core : CoreState) → IsEventAt c e → r ≡ NoMemory → new ≡ s → StepsHere c e r s new core core
-void c e r s new core at none same = record {
-  step = Void e;
+-- ---- nothing is taken from the stream
+
+pub plain : (e : ConnectionEvent) (r : StepResult) (old new : Seen) (core : CoreState) → CanBePlain e old → new.status ≡ status_after_event e old.status → new.tenant ≡ old.tenant → new.unread ≡ stream_after_event e old.status old.unread
+    → r ≡ answer_to_event e old.status → Happens e r old new core core
+plain e r old new core can status tenant unread result = inr (record {
+  own = Plain e;
   is_event = refl;
-  moves = record {
-    at = at;
-    status = ap (λ x. x.status) same;
-    tenant = ap (λ x. x.tenant) same;
-    unread = ap (λ x. x.unread) same;
-    can = tt;
-    entries = refl;
-    stores = λ t. refl;
-    told = None;
-    told_is = refl;
-    refused = refl;
-    result = none;
-  };
-}
+  moves = λ is. record { can = can; status = status; tenant = tenant; unread = unread; entries = refl; stores = λ t. refl; result = result };
+})
 
--- ---- on a connection that isn't open
+-- the status is not the one that the event needs
+abbrev pub IsRefused : ConnectionEvent → Status → Type 0
+IsRefused event.Open status = status ≢ Unused
+IsRefused _ status = status ≢ IsOpen
 
-pub refused_piece : (c : ℕ) (bytes : List ℕ) (status : Status) (tenant : Option ℕ) (unread : List ℕ) (core : CoreState) → (status ≡ IsOpen → ⊥) → StepsHere c (event.Piece c bytes) Refused (record { status = status; tenant = tenant; unread = unread }) (record { status = status; tenant = tenant; unread = unread }) core core
-refused_piece c bytes Unused tenant unread core h = record { step = Plain (event.Piece c bytes); is_event = refl; moves = record { at = refl; status = refl; tenant = refl; unread = refl; can = tt; entries = refl; stores = λ t. refl; told = None; told_is = refl; refused = refl; result = refl } }
-refused_piece c bytes IsOpen tenant unread core h = absurd (h refl)
-refused_piece c bytes Closed tenant unread core h = record { step = Plain (event.Piece c bytes); is_event = refl; moves = record { at = refl; status = refl; tenant = refl; unread = refl; can = tt; entries = refl; stores = λ t. refl; told = None; told_is = refl; refused = refl; result = refl } }
+refused_as : (e : ConnectionEvent) (status : Status) (tenant : Option ℕ) (unread : List ℕ) (core : CoreState) → IsRefused e status
+    → Happens e Refused (record { status = status; tenant = tenant; unread = unread }) (record { status = status; tenant = tenant; unread = unread }) core core
+refused_as event.Open Unused tenant unread core h = absurd (h refl)
+refused_as event.Open IsOpen tenant unread core h = plain event.Open Refused _ _ core tt refl refl refl refl
+refused_as event.Open Closed tenant unread core h = plain event.Open Refused _ _ core tt refl refl refl refl
+refused_as (event.Piece bytes) Unused tenant unread core h = plain (event.Piece bytes) Refused _ _ core tt refl refl refl refl
+refused_as (event.Piece bytes) IsOpen tenant unread core h = absurd (h refl)
+refused_as (event.Piece bytes) Closed tenant unread core h = plain (event.Piece bytes) Refused _ _ core tt refl refl refl refl
+refused_as event.Serve Unused tenant unread core h = plain event.Serve Refused _ _ core tt refl refl refl refl
+refused_as event.Serve IsOpen tenant unread core h = absurd (h refl)
+refused_as event.Serve Closed tenant unread core h = plain event.Serve Refused _ _ core tt refl refl refl refl
+refused_as event.Close Unused tenant unread core h = plain event.Close Refused _ _ core tt refl refl refl refl
+refused_as event.Close IsOpen tenant unread core h = absurd (h refl)
+refused_as event.Close Closed tenant unread core h = plain event.Close Refused _ _ core tt refl refl refl refl
 
-pub refused_serve : (c : ℕ) (status : Status) (tenant : Option ℕ) (unread : List ℕ) (core : CoreState) → (status ≡ IsOpen → ⊥) → StepsHere c (event.Serve c) Refused (record { status = status; tenant = tenant; unread = unread }) (record { status = status; tenant = tenant; unread = unread }) core core
-refused_serve c Unused tenant unread core h = record { step = Plain (event.Serve c); is_event = refl; moves = record { at = refl; status = refl; tenant = refl; unread = refl; can = tt; entries = refl; stores = λ t. refl; told = None; told_is = refl; refused = refl; result = refl } }
-refused_serve c IsOpen tenant unread core h = absurd (h refl)
-refused_serve c Closed tenant unread core h = record { step = Plain (event.Serve c); is_event = refl; moves = record { at = refl; status = refl; tenant = refl; unread = refl; can = tt; entries = refl; stores = λ t. refl; told = None; told_is = refl; refused = refl; result = refl } }
+pub refused : (e : ConnectionEvent) (s : Seen) (core : CoreState) → IsRefused e s.status → Happens e Refused s s core core
+refused e s core h = refused_as e s.status s.tenant s.unread core h
 
-pub refused_close : (c : ℕ) (status : Status) (tenant : Option ℕ) (unread : List ℕ) (core : CoreState) → (status ≡ IsOpen → ⊥) → StepsHere c (event.Close c) Refused (record { status = status; tenant = tenant; unread = unread }) (record { status = status; tenant = tenant; unread = unread }) core core
-refused_close c Unused tenant unread core h = record { step = Plain (event.Close c); is_event = refl; moves = record { at = refl; status = refl; tenant = refl; unread = refl; can = tt; entries = refl; stores = λ t. refl; told = None; told_is = refl; refused = refl; result = refl } }
-refused_close c IsOpen tenant unread core h = absurd (h refl)
-refused_close c Closed tenant unread core h = record { step = Plain (event.Close c); is_event = refl; moves = record { at = refl; status = refl; tenant = refl; unread = refl; can = tt; entries = refl; stores = λ t. refl; told = None; told_is = refl; refused = refl; result = refl } }
+refused_unless_open : (e : coded.ConnectionEvent) (s : Seen) (core : CoreState) → s.status ≢ IsOpen → Happens (meaning e) Refused s s core core
+refused_unless_open (in_code.Piece bytes) s core h = refused (event.Piece bytes.now) s core h
+refused_unless_open in_code.Serve s core h = refused event.Serve s core h
+refused_unless_open in_code.Close s core h = refused event.Close s core h
 
-pub refused_open : (c : ℕ) (status : Status) (tenant : Option ℕ) (unread : List ℕ) (core : CoreState) → (status ≡ Unused → ⊥) → StepsHere c (event.Open c) Refused (record { status = status; tenant = tenant; unread = unread }) (record { status = status; tenant = tenant; unread = unread }) core core
-refused_open c Unused tenant unread core h = absurd (h refl)
-refused_open c IsOpen tenant unread core h = record { step = Plain (event.Open c); is_event = refl; moves = record { at = refl; status = refl; tenant = refl; unread = refl; can = tt; entries = refl; stores = λ t. refl; told = None; told_is = refl; refused = refl; result = refl } }
-refused_open c Closed tenant unread core h = record { step = Plain (event.Open c); is_event = refl; moves = record { at = refl; status = refl; tenant = refl; unread = refl; can = tt; entries = refl; stores = λ t. refl; told = None; told_is = refl; refused = refl; result = refl } }
+-- an event on a connection that was closed
+pub refused_closed : {A : Type 0} (e : coded.ConnectionEvent) (connection : Connection A) (core : CoreState) → connection.is_open ≡ false → Happens (meaning e) Refused (seen (Some connection)) (seen (Some connection)) core core
+refused_closed e connection core closed =
+    refused_unless_open e (seen (Some connection)) core (λ e. let bad : status_by false ≡ IsOpen = ap status_by (sym closed) ∙ e in cc)
 
--- a closed connection isn't open
-pub not_open : (is_open : Bool) → is_open ≡ false → status_by is_open ≡ IsOpen → ⊥
-not_open is_open closed e = let bad : status_by false ≡ IsOpen = ap status_by (sym closed) ∙ e in cc
+-- an event on a number that was never opened
+pub refused_unused : (e : coded.ConnectionEvent) (s : Seen) (core : CoreState) → s.status ≡ Unused → Happens (meaning e) Refused s s core core
+refused_unused e s core none = refused_unless_open e s core (λ e. let bad : Unused ≡ IsOpen = sym none ∙ e in cc)
 
-never_unused : (is_open : Bool) → status_by is_open ≡ Unused → ⊥
+never_unused : (is_open : Bool) → status_by is_open ≢ Unused
 never_unused true e = cc
 never_unused false e = cc
 
 -- a connection that is there was opened
-pub used : {A : Type 0} (o : Option (Connection A)) → is_some o ≡ true → (seen o).status ≡ Unused → ⊥
+pub used : {A : Type 0} (o : Option (Connection A)) → is_some o ≡ true → (seen o).status ≢ Unused
 used None some e = cc
 used (Some connection) some e = never_unused connection.is_open e
 
@@ -79,68 +88,138 @@ pub unused : {A : Type 0} (o : Option (Connection A)) → is_some o ≡ false �
 unused None none = refl
 unused (Some connection) none = absurd (cc)
 
--- ---- on an open connection
+-- ---- what came is served
 
-pub fed : (c : ℕ) (bytes : List ℕ) (tenant : Option ℕ) (unread : List ℕ) (core : CoreState) → StepsHere c (event.Piece c bytes) Done (record { status = IsOpen; tenant = tenant; unread = unread }) (record { status = IsOpen; tenant = tenant; unread = unread ++ bytes }) core core
-fed c bytes tenant unread core = record { step = Plain (event.Piece c bytes); is_event = refl; moves = record { at = refl; status = refl; tenant = refl; unread = refl; can = tt; entries = refl; stores = λ t. refl; told = None; told_is = refl; refused = refl; result = refl } }
+lacks_memory : Option Reply → Bool
+lacks_memory None = false
+lacks_memory (Some r) = is_out_of_memory r
 
-pub closed_now : (c : ℕ) (tenant : Option ℕ) (unread : List ℕ) (core : CoreState) → StepsHere c (event.Close c) Done (record { status = IsOpen; tenant = tenant; unread = unread }) (record { status = Closed; tenant = tenant; unread = unread }) core core
-closed_now c tenant unread core = record { step = Plain (event.Close c); is_event = refl; moves = record { at = refl; status = refl; tenant = refl; unread = refl; can = tt; entries = refl; stores = λ t. refl; told = None; told_is = refl; refused = refl; result = refl } }
+-- what serving a message leads to, where the door is the core
+record Serving (after : Status) (request : Option Service) (is_refused : Bool) (r : Option Reply) (old new : CoreState) (said : Option Reply) (ends : Bool) : Type 0 where
+  pub status : status_by (not ends) ≡ after
+  pub entries : new.entries ≡ old.entries
+  pub stores : (t : ℕ) → store_of new t ≡ moved t request (store_of old t)
+  pub told : said ≡ r
+  pub may : is_refused ≡ true → IsSome request
 
-pub opened_now : (c : ℕ) (core : CoreState) → StepsHere c (event.Open c) Done never_opened just_opened core core
-opened_now c core = record { step = Plain (event.Open c); is_event = refl; moves = record { at = refl; status = refl; tenant = refl; unread = refl; can = tt; entries = refl; stores = λ t. refl; told = None; told_is = refl; refused = refl; result = refl } }
-
-pub waits : (c : ℕ) (tenant : Option ℕ) (unread : List ℕ) (core : CoreState) → IsBegun unread → StepsHere c (event.Serve c) More (record { status = IsOpen; tenant = tenant; unread = unread }) (record { status = IsOpen; tenant = tenant; unread = unread }) core core
-waits c tenant unread core begun = record { step = Plain (event.Serve c); is_event = refl; moves = record { at = refl; status = refl; tenant = refl; unread = refl; can = begun; entries = refl; stores = λ t. refl; told = None; told_is = refl; refused = refl; result = refl } }
-
-pub broke : (c : ℕ) (tenant : Option ℕ) (unread : List ℕ) (core : CoreState) (fault : StreamFault) → IsFaulty unread fault → StepsHere c (event.Serve c) (Answered (reply.ProtocolError fault)) (record { status = IsOpen; tenant = tenant; unread = unread }) (record { status = Closed; tenant = tenant; unread = unread }) core core
-broke c tenant unread core fault faulty = record { step = Broke c fault; is_event = refl; moves = record { at = refl; status = refl; tenant = refl; unread = refl; can = (refl, faulty); entries = refl; stores = λ t. refl; told = Some (reply.ProtocolError fault); told_is = refl; refused = refl; result = refl } }
-
-pub blank : (c : ℕ) (tenant : Option ℕ) (unread new : List ℕ) (core : CoreState) → TakesOff message.Blank unread new → StepsHere c (event.Serve c) Blank (record { status = IsOpen; tenant = tenant; unread = unread }) (record { status = IsOpen; tenant = tenant; unread = new }) core core
-blank c tenant unread new core off = record { step = Took c message.Blank false; is_event = refl; moves = record { at = refl; status = refl; tenant = refl; unread = off; can = refl; entries = refl; stores = λ t. refl; told = None; told_is = refl; refused = refl; result = refl } }
-
-pub quoted : (c : ℕ) (tenant : Option ℕ) (unread new : List ℕ) (core : CoreState) → TakesOff message.Quoted unread new → StepsHere c (event.Serve c) (Answered (reply.Error (quoted_refusal tenant))) (record { status = IsOpen; tenant = tenant; unread = unread }) (record { status = IsOpen; tenant = tenant; unread = new }) core core
-quoted c None unread new core off = record { step = Took c message.Quoted false; is_event = refl; moves = record { at = refl; status = refl; tenant = refl; unread = off; can = refl; entries = refl; stores = λ t. refl; told = Some (quoted_reply None); told_is = refl; refused = refl; result = refl } }
-quoted c (Some t) unread new core off = record { step = Took c message.Quoted false; is_event = refl; moves = record { at = refl; status = refl; tenant = refl; unread = off; can = refl; entries = refl; stores = λ t. refl; told = Some (quoted_reply (Some t)); told_is = refl; refused = refl; result = refl } }
-
--- ---- the others
-
--- each connection is served as a tenant still
-pub served_on : (entries entries' : List Entry) (c : ℕ) (old new : ℕ → Seen) → entries' ≡ entries → ((d : ℕ) → IsServed entries (old d).tenant) → IsServed entries (new c).tenant → ((d : ℕ) → d ≢ c → new d ≡ old d) → (d : ℕ) → IsServed entries' (new d).tenant
-served_on entries entries' c old new same before own others d =
-    subst (λ es. IsServed es (new d).tenant) (sym same)
-    (⊎_elim (λ (e : c ≡ d). subst (λ x. IsServed entries (new x).tenant) e own)
-    (λ (differ : c ≢ d). subst (λ x. IsServed entries x.tenant) (sym (others d (λ e. differ (sym e)))) (before d))
-    (cases_eq c d))
-
--- ---- in the house
-
-pub as_seen : (c : ℕ) (e : Event) (r : StepResult) (old new old' new' : Seen) (before after : CoreState) → old ≡ old' → new ≡ new' → StepsHere c e r old new before after → StepsHere c e r old' new' before after
-as_seen c e r old new old' new' before after p q s = subst (λ x. StepsHere c e r x new' before after) p (subst (λ y. StepsHere c e r old y before after) q s)
-
--- a step of one connection is a step of the house
-pub in_house : {A : Type 0} (old new : House A) (c : ℕ) (e : Event) (r : StepResult) → StepsHere c e r (seen_in old c) (seen_in new c) (core_of old) (core_of new) → ((d : ℕ) → d ≢ c → seen_in new d ≡ seen_in old d) → Steps old e r new
-in_house old new c e r s others = record {
-  step = s.step;
-  is_event = s.is_event;
-  moves = everywhere c s.step r (seen_in old) (seen_in new) (core_of old) (core_of new) s.moves others;
+-- the connection answers by itself
+own_answer : (status : Status) (r : Option Reply) (ended : Bool) (old new : CoreState) (told : Option Reply) (ends : Bool) → lacks_memory r ≡ false → status_by (not ended) ≡ status
+    → Finishes Calls (Told r ended) old told ends new → Serving status None (lacks_memory told) r old new told ends
+own_answer status r ended old new told ends plain is f = record {
+  status = ap (λ b. status_by (not b)) f.1 ∙ is;
+  entries = ap (λ c. c.entries) f.2;
+  stores = λ t. ap (λ c. store_of c t) f.2;
+  told = f.0;
+  may = λ e. absurd (false≢true (sym (ap lacks_memory f.0 ∙ plain) ∙ e));
 }
 
--- an event of a flusher changes nothing, and is answered
-pub idle : {A : Type 0} (house : House A) (e : Event) (r : StepResult) → ((c : ℕ) (status : Status) → status_after_event c e status ≡ status) → ((c : ℕ) (status : Status) (unread : List ℕ) → stream_after_event c e status unread ≡ unread) → CanBePlain e (seen_in house) → r ≡ answer_to_event e (λ c. (seen_in house c).status) → Steps house e r house
-idle house e r status stream can is = record {
-  step = Plain e;
+plain_login : (o : Option ℕ) → lacks_memory (Some (login_reply o)) ≡ false
+unfolding lacks_memory
+plain_login None = refl
+plain_login (Some t) = refl
+
+plain_quoted : (o : Option ℕ) → lacks_memory (Some (quoted_reply o)) ≡ false
+unfolding lacks_memory
+plain_quoted None = refl
+plain_quoted (Some t) = refl
+
+-- where memory was refused is told by the reply
+answered_by : (old new : CoreState) (tenant : ℕ) (words : List (List ℕ)) (r : Reply) (b : Bool) → is_out_of_memory r ≡ b → Answers old new tenant words r
+    → ◌≡◌ {A = Answer} (store_of new tenant, r) (answer_with (store_of old tenant) (record { words = words; is_refused = b }))
+answered_by old new tenant words r b says (is_refused, is) =
+    let told : is_refused ≡ b = sym (want_of_memory_lem (store_of old tenant) (record { words = words; is_refused = is_refused })) ∙ sym (ap (λ (a : Answer). is_out_of_memory a.1) is) ∙ says in
+    is ∙ ap (λ x. answer_with (store_of old tenant) (record { words = words; is_refused = x })) told
+
+-- the tenant's store moves, and no other
+moves_own : (old new : CoreState) (tenant : ℕ) (words : List (List ℕ)) (b : Bool) (r : Reply) → ◌≡◌ {A = Answer} (store_of new tenant, r) (answer_with (store_of old tenant) (record { words = words; is_refused = b }))
+    → ((other : ℕ) → other ≢ tenant → store_of new other ≡ store_of old other) → (t : ℕ) → store_of new t ≡ moved t (request_as ForStore words b (Some tenant)) (store_of old t)
+moves_own old new tenant words b r is others t =
+    let request = request_as ForStore words b (Some tenant) in
+    ⊎_elim
+    (λ (e : tenant ≡ t). subst (λ x. store_of new x ≡ moved x request (store_of old x)) e (ap (λ (a : Answer). a.0) is ∙ sym (cond-true (eqb tenant tenant) _ _ (eq-eqb tenant tenant refl))))
+    (λ (differ : tenant ≢ t). others t (λ e. differ (sym e)) ∙ sym (cond-false (eqb tenant t) _ _ (ne_eqb tenant t differ)))
+    (cases_eq tenant t)
+
+of_kind : (kind : Kind) (words : List (List ℕ)) (before : Option ℕ) (old new : CoreState) (told : Option Reply) (ends : Bool) → IsServed old.entries before → Finishes Calls (taking_words old.entries kind words before) old told ends new
+    → Serving (status_after_kind kind IsOpen) (request_as kind words (lacks_memory told) before) (lacks_memory told) (Some (kind_reply old.entries kind before (reply_in_core old (lacks_memory told) words))) old new told ends
+unfolding lacks_memory
+of_kind (Login name password) words before old new told ends is f = own_answer IsOpen (Some (login_reply (login old.entries name password))) false old new told ends (plain_login (login old.entries name password)) refl f
+of_kind Quit words before old new told ends is f = own_answer Closed _ true old new told ends refl refl f
+of_kind Malformed words before old new told ends is f = own_answer IsOpen _ false old new told ends refl refl f
+of_kind ForStore words None old new told ends is f = own_answer IsOpen _ false old new told ends refl refl f
+of_kind ForStore words (Some tenant) old new told ends is (r, called, say, ended) =
+    let answer = answered_by old new tenant words r (lacks_memory told) (sym (ap lacks_memory say)) (called.own (is tenant refl)) in
+    record {
+      status = ap (λ b. status_by (not b)) ended;
+      entries = called.entries;
+      stores = moves_own old new tenant words (lacks_memory told) r answer called.others;
+      told = say ∙ ap (λ (a : Answer). Some a.1) answer;
+      may = λ e. refl;
+    }
+
+of_message : (m : Message) (before : Option ℕ) (old new : CoreState) (after : Option ℕ) (told : Option Reply) (ends : Bool) → IsServed old.entries before → Serves Calls old.entries before after old (Whole m) told ends new
+    → Serving (status_after_message m IsOpen) (request_of_message m (lacks_memory told) before) (lacks_memory told) (message_reply old.entries m before (reply_in_core old (lacks_memory told))) old new told ends
+unfolding lacks_memory
+of_message (message.Words words) before old new after told ends is s = of_kind (kind_of words) words before old new told ends is s.finishes
+of_message message.Quoted before old new after told ends is s = own_answer IsOpen _ false old new told ends (plain_quoted before) refl s.finishes
+of_message message.Blank before old new after told ends is s = own_answer IsOpen None false old new told ends refl refl s.finishes
+
+-- what becomes of the unread bytes
+abbrev pub ReadsArrival : Arrival → List ℕ → List ℕ → Type 0
+ReadsArrival (Whole m) old new = IsTaken m old new
+ReadsArrival (Faulty fault) old new = IsFaulty old fault × (new ≡ old)
+ReadsArrival Nothing old new = ⊥
+
+-- what came on an open connection was served
+pub served : (arrival : Arrival) (old new : Seen) (before after : CoreState) (told : Option Reply) (ends : Bool) (r : StepResult) → old.status ≡ IsOpen → ReadsArrival arrival old.unread new.unread
+    → Serves Calls before.entries old.tenant new.tenant before arrival told ends after → new.status ≡ status_by (not ends) → r ≡ answered told → Happens event.Serve r old new before after
+served (Whole m) old new before after told ends r was_open reads s status result = inr (record {
+  own = Took m (lacks_memory told);
   is_event = refl;
-  moves = record {
-    status = λ c. sym (status c _);
-    tenant = λ c. refl;
-    unread = λ c. sym (stream c _ _);
-    can = can;
-    entries = refl;
-    stores = λ t. refl;
-    told = None;
-    told_is = refl;
-    refused = refl;
-    result = is;
+  moves = λ is. let l = of_message m old.tenant before after new.tenant told ends is s in
+      record {
+        can = (was_open, l.may);
+        status = status ∙ l.status ∙ ap (status_after_message m) (sym was_open);
+        tenant = s.tenant;
+        unread = reads;
+        entries = l.entries;
+        stores = l.stores;
+        result = result ∙ ap answered l.told;
+      };
+})
+served (Faulty fault) old new before after told ends r was_open reads s status result = inr (record {
+  own = Broke fault;
+  is_event = refl;
+  moves = λ is. record {
+    can = (was_open, reads.0);
+    status = status ∙ ap (λ b. status_by (not b)) s.finishes.1;
+    tenant = s.tenant;
+    unread = reads.1;
+    entries = ap (λ c. c.entries) s.finishes.2;
+    stores = λ t. ap (λ c. store_of c t) s.finishes.2;
+    result = result ∙ ap answered s.finishes.0;
   };
-}
+})
+served Nothing old new before after told ends r was_open reads s status result = absurd reads
+
+-- what comes next, where it isn't nothing
+abbrev pub Comes : {A : Type 0} → Next A → Type 0
+Comes next.More = ⊥
+Comes next.NoMemory = ⊥
+Comes _ = Unit {0}
+
+pub reads_next : {A : Type 0} (n : Next A) (old new : List ℕ) → IsNext n old new → Comes n → ReadsArrival (arrival_of n) old new
+reads_next (next.Message words) old new is comes = is
+reads_next next.Quoted old new is comes = is
+reads_next next.Blank old new is comes = is
+reads_next next.More old new is comes = absurd comes
+reads_next (next.Fault fault) old new is comes = is
+reads_next next.NoMemory old new is comes = absurd comes
+
+pub comes : {A : Type 0} (n : Next A) → (n ≡ next.More → ⊥) → (n ≡ next.NoMemory → ⊥) → Comes n
+comes (next.Message words) more memory = tt
+comes next.Quoted more memory = tt
+comes next.Blank more memory = tt
+comes next.More more memory = more refl
+comes (next.Fault fault) more memory = tt
+comes next.NoMemory more memory = memory refl

@@ -1,6 +1,4 @@
-pub mod Everywhere
+pub mod Tenants
+pub mod Stood
 pub mod Here
-pub mod Histories
 pub mod Runs
-pub mod Served
-pub mod Marked

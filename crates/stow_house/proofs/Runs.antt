@@ -1,235 +1,212 @@
 -- A run of events so far.
-use Rattle.std.proofs.Common.{zero, suc, get_or, take, ◌≡◌, ◌≢◌, ℕ, ◌<◌, ◌≤◌, Bool, true, false, List, [], ◌∷◌, ◌++◌, map, reverse, length, Option, Some, None, refl, ap, ◌∙◌, sym, subst, arith, append-nil}
+use Rattle.std.proofs.Common.{zero, suc, get_or, take, ◌≡◌, ◌≢◌, ℕ, ◌<◌, ◌≤◌, Bool, true, false, List, [], ◌∷◌, ◌++◌, map, reverse, length, filter, Option, Some, None, option_map, refl, ap, ◌∙◌, sym, subst, arith, append-nil, ⊎_elim, is_some}
+use mathlib.Core.Bool.{false≢true}
 use Rattle.std.specs.Result.{OnOk, is_err}
 use Rattle.std.specs.declared.alloc.AllocError.{AllocError}
-use Rattle.std.specs.Prelude.{Result, Ok, Err, if◌then◌else◌, ◌==◌}
+use Rattle.std.specs.Prelude.{Result, Ok, Err, IsSome, if◌then◌else◌, ◌==◌}
 use Rattle.std.specs.List.{flat_map}
 use Rattle.std.proofs.lemmas.Grind.{flat_map-append}
 use Rattle.std.proofs.lemmas.Bool.{eq-eqb, ne_eqb}
-use Rattle.stow_model.specs.Reply.{encoding}
 use Rattle.std.proofs.lemmas.Bool.Decides.{nat_tests}
-use Rattle.std.proofs.lemmas.List.{reverse-append}
-use Rattle.stow_model.specs.declared.refusal.Refusal.TheVariants as refusal
+use Rattle.std.proofs.lemmas.List.{reverse-append, reverse-reverse}
 use Rattle.stow_model.specs.Login.{Entry, quota_of}
-use Rattle.stow_model.specs.Reply.{Reply}
-use Rattle.stow_model.specs.Reply as reply
-use Rattle.stow_model.specs.Event.{Event}
+use Rattle.stow_model.specs.Message.{Message}
+use Rattle.stow_model.specs.Message as message
+use Rattle.stow_model.specs.Command.{Kind, Login, Quit, Malformed, ForStore, kind_of}
+use Rattle.stow_model.specs.Reply.{Reply, encoding}
+use Rattle.stow_model.specs.Event.{Event, ConnectionEvent, FlusherEvent}
 use Rattle.stow_model.specs.Event as event
-use Rattle.stow_model.specs.Store.{store_after, empty_store}
-use Rattle.stow_model.specs.History.{Step, Void, Plain, Took, Broke, event_of, Status, Unused, IsOpen, Closed, is_of, with_reply, told_by, reply_of, status_of, served_as, taken_by, stream_of, line_of, output_of, IsHistory}
-use Rattle.stow_core.specs.State.{CoreState, store_of, is_out_of_memory}
+use Rattle.stow_model.specs.Store.{answer_with, store_after, is_out_of_memory}
+use Rattle.stow_model.specs.History.{Step, Void, At, Flushed, ConnectionStep, Plain, Took, Broke, event_of_step, is_void, is_refused, is_refused_own, Status, Unused, IsOpen, Closed, part_of, status_of, served_as, request_as, request_of_message, MayBeRefused, CanLead, Follows, IsStep, IsHistory, login_reply, kind_reply, quoted_reply, message_reply, told_by, reply_in_line, told_at, Telling, telling_of, with_telling, tellings, is_tenant, answers_to, line_of, OneHistory}
+use Rattle.stow_model.proofs.Refused.{want_of_memory_lem}
+use Rattle.stow_core.specs.State.{store_of}
 use Rattle.stow_house.specs.declared.mark.Mark.{Mark}
 use Rattle.stow_house.specs.declared.mark.Mark.TheVariants as mark
-use Rattle.stow_house.specs.Seen.{Seen, never_opened}
-use Rattle.stow_house.specs.StepResult.{StepResult, Done, More, Refused, answer_to_step, answered, when_open, when_unused}
-use Rattle.stow_house.specs.Steps.{Moves, is_refused_request, is_told_out_of_memory, reply_in_core}
-use Rattle.stow_house.specs.Outputs.{Told, replies_to, told_to, told_of, mark_of, mark_of_reply, mark_if, mark_of_step, connection_of}
-use Rattle.stow_house.specs.Runs.{Shows}
-use Rattle.stow_house.proofs.Histories.{Agrees, goes_on, tells}
+use Rattle.stow_house.specs.StepResult.{StepResult, Done, More, NoJob, Refused, NoMemory, answer_to_event, answer_to_own, answered, when_open, when_unused, MayAnswer, IsAnswer}
+use Rattle.stow_house.specs.Steps.{HouseState, Stands, IsStepOf}
+use Rattle.stow_house.specs.Outputs.{Told, replies_to, to_connection, told_of, mark_of, mark_if, mark_of_step, connection_of, told_in_history}
+use Rattle.stow_house.specs.Runs.{Shows, told_in_run, OneRun}
 
 -- ---- what is answered, and what is told
 
-told_of-when_unused : (status : Status) → told_of (when_unused status Done) ≡ None
-told_of-when_unused Unused = refl
-told_of-when_unused IsOpen = refl
-told_of-when_unused Closed = refl
+-- an answer that tells nothing
+record Silent (r : StepResult) : Type 0 where
+  pub told : told_of r ≡ None
+  pub mark : mark_of r ≡ mark.Kept
 
-told_of-when_open_done : (status : Status) → told_of (when_open status Done) ≡ None
-told_of-when_open_done Unused = refl
-told_of-when_open_done IsOpen = refl
-told_of-when_open_done Closed = refl
+silent_unused : (status : Status) → Silent (when_unused status Done)
+silent_unused Unused = record { told = refl; mark = refl }
+silent_unused IsOpen = record { told = refl; mark = refl }
+silent_unused Closed = record { told = refl; mark = refl }
 
-told_of-when_open_more : (status : Status) → told_of (when_open status More) ≡ None
-told_of-when_open_more Unused = refl
-told_of-when_open_more IsOpen = refl
-told_of-when_open_more Closed = refl
+silent_open : (status : Status) (r : StepResult) → Silent r → Silent (when_open status r)
+silent_open Unused r s = record { told = refl; mark = refl }
+silent_open IsOpen r s = s
+silent_open Closed r s = record { told = refl; mark = refl }
 
-told_of-either : (b : Bool) → told_of (if b then Done else Refused) ≡ None
-told_of-either true = refl
-told_of-either false = refl
+silent : (e : ConnectionEvent) (status : Status) → Silent (answer_to_event e status)
+silent event.Open status = silent_unused status
+silent (event.Piece bytes) status = silent_open status Done (record { told = refl; mark = refl })
+silent event.Serve status = silent_open status More (record { told = refl; mark = refl })
+silent event.Close status = silent_open status Done (record { told = refl; mark = refl })
+
+silent_flusher : (e : FlusherEvent) (r : StepResult) → MayAnswer e r → Silent r
+silent_flusher (event.Plan f) r may = subst Silent (sym may) (record { told = refl; mark = refl })
+silent_flusher (event.Merge f) r may = subst Silent (sym may) (record { told = refl; mark = refl })
+silent_flusher (event.Install f) r may = subst Silent (sym may) (record { told = refl; mark = refl })
+silent_flusher (event.Resize n) r may =
+    ⊎_elim (λ done. subst Silent (sym done.1) (record { told = refl; mark = refl })) (λ refused. subst Silent (sym refused.1) (record { told = refl; mark = refl })) may
 
 told_of-answered : (told : Option Reply) → told_of (answered told) ≡ told
 told_of-answered None = refl
 told_of-answered (Some r) = refl
 
 -- what is answered holds what is told
-told_of-answer : (entries : List Entry) (s : Step) (status : ℕ → Status) (told : Option Reply) (served : ℕ → Option ℕ) (of_tenant : Bool → List (List ℕ) → ℕ → Reply) → told ≡ told_by entries s served of_tenant → told_of (answer_to_step s status told) ≡ told
-told_of-answer entries (Void e) status told served of_tenant is = sym is
-told_of-answer entries (Plain (event.Open c)) status told served of_tenant is = told_of-when_unused (status c) ∙ sym is
-told_of-answer entries (Plain (event.Piece c bytes)) status told served of_tenant is = told_of-when_open_done (status c) ∙ sym is
-told_of-answer entries (Plain (event.Serve c)) status told served of_tenant is = told_of-when_open_more (status c) ∙ sym is
-told_of-answer entries (Plain (event.Close c)) status told served of_tenant is = told_of-when_open_done (status c) ∙ sym is
-told_of-answer entries (Plain (event.Plan f)) status told served of_tenant is = sym is
-told_of-answer entries (Plain (event.Merge f)) status told served of_tenant is = sym is
-told_of-answer entries (Plain (event.Install f)) status told served of_tenant is = sym is
-told_of-answer entries (Plain (event.Resize n)) status told served of_tenant is = told_of-either _ ∙ sym is
-told_of-answer entries (Took c m is_refused) status told served of_tenant is = told_of-answered told
-told_of-answer entries (Broke c fault) status told served of_tenant is = told_of-answered told
+told_of-own : (entries : List Entry) (own : ConnectionStep) (status : Status) (tenant : Option ℕ) (of_tenant : Bool → List (List ℕ) → ℕ → Reply) → told_of (answer_to_own own status (told_by entries own tenant of_tenant)) ≡ told_by entries own tenant of_tenant
+told_of-own entries (Plain e) status tenant of_tenant = (silent e status).told
+told_of-own entries (Took m is_refused) status tenant of_tenant = told_of-answered (message_reply entries m tenant (of_tenant is_refused))
+told_of-own entries (Broke fault) status tenant of_tenant = refl
 
-mark_of-when_unused : (status : Status) → mark_of (when_unused status Done) ≡ mark.Kept
-mark_of-when_unused Unused = refl
-mark_of-when_unused IsOpen = refl
-mark_of-when_unused Closed = refl
+-- ---- the mark of what is told
 
-mark_of-when_open_done : (status : Status) → mark_of (when_open status Done) ≡ mark.Kept
-mark_of-when_open_done Unused = refl
-mark_of-when_open_done IsOpen = refl
-mark_of-when_open_done Closed = refl
+not_refused : (b : Bool) → (b ≡ true → ◌≡◌ {A = Bool} false true) → false ≡ b
+not_refused true may = may refl
+not_refused false may = refl
 
-mark_of-when_open_more : (status : Status) → mark_of (when_open status More) ≡ mark.Kept
-mark_of-when_open_more Unused = refl
-mark_of-when_open_more IsOpen = refl
-mark_of-when_open_more Closed = refl
+mark_of-login : (o : Option ℕ) → is_out_of_memory (login_reply o) ≡ false
+mark_of-login None = refl
+mark_of-login (Some t) = refl
 
-mark_of-either : (b : Bool) → mark_of (if b then Done else Refused) ≡ mark.Kept
-mark_of-either true = refl
-mark_of-either false = refl
+mark_of-quoted : (o : Option ℕ) → is_out_of_memory (quoted_reply o) ≡ false
+mark_of-quoted None = refl
+mark_of-quoted (Some t) = refl
 
-mark_of-reply : (r : Reply) → mark_of_reply r ≡ mark_if (is_out_of_memory r)
-mark_of-reply (reply.Simple text) = refl
-mark_of-reply (reply.Error refusal.NotAuthenticated) = refl
-mark_of-reply (reply.Error refusal.WrongPassword) = refl
-mark_of-reply (reply.Error refusal.UnknownCommand) = refl
-mark_of-reply (reply.Error refusal.WrongArgumentCount) = refl
-mark_of-reply (reply.Error refusal.SyntaxError) = refl
-mark_of-reply (reply.Error refusal.NotAnInteger) = refl
-mark_of-reply (reply.Error refusal.Overflow) = refl
-mark_of-reply (reply.Error refusal.KeyTooLong) = refl
-mark_of-reply (reply.Error refusal.ValueTooLong) = refl
-mark_of-reply (reply.Error refusal.TooManyKeys) = refl
-mark_of-reply (reply.Error refusal.TooManySnapshots) = refl
-mark_of-reply (reply.Error refusal.NoSuchSnapshot) = refl
-mark_of-reply (reply.Error refusal.QuotaExceeded) = refl
-mark_of-reply (reply.Error refusal.OutOfMemory) = refl
-mark_of-reply (reply.Error refusal.WriteNumbersUsedUp) = refl
-mark_of-reply (reply.Error refusal.QuotedInline) = refl
-mark_of-reply (reply.ProtocolError fault) = refl
-mark_of-reply (reply.Integer n) = refl
-mark_of-reply (reply.Bulk bytes) = refl
-mark_of-reply reply.Null = refl
-mark_of-reply (reply.Array items) = refl
+mark_of-kind : (entries : List Entry) (kind : Kind) (words : List (List ℕ)) (b : Bool) (tenant : Option ℕ) (earlier : List Step) → (b ≡ true → IsSome (request_as kind words b tenant)) → is_out_of_memory (kind_reply entries kind tenant (reply_in_line entries earlier b words)) ≡ b
+unfolding reply_in_line
+mark_of-kind entries (Login name password) words b tenant earlier may = mark_of-login _ ∙ not_refused b may
+mark_of-kind entries Quit words b tenant earlier may = not_refused b may
+mark_of-kind entries Malformed words b tenant earlier may = not_refused b may
+mark_of-kind entries ForStore words b None earlier may = not_refused b may
+mark_of-kind entries ForStore words b (Some t) earlier may = want_of_memory_lem _ (record { words = words; is_refused = b })
 
-mark_of-answered : (told : Option Reply) → mark_of (answered told) ≡ mark_if (is_told_out_of_memory told)
-mark_of-answered None = refl
-mark_of-answered (Some r) = mark_of-reply r
+mark_of-message : (entries : List Entry) (m : Message) (b : Bool) (tenant : Option ℕ) (earlier : List Step) → MayBeRefused m b tenant → mark_of (answered (message_reply entries m tenant (reply_in_line entries earlier b))) ≡ mark_if b
+mark_of-message entries (message.Words words) b tenant earlier may = ap mark_if (mark_of-kind entries (kind_of words) words b tenant earlier may)
+mark_of-message entries message.Quoted b tenant earlier may = ap mark_if (mark_of-quoted tenant ∙ not_refused b may)
+mark_of-message entries message.Blank b tenant earlier may = ap mark_if (not_refused b may)
 
--- what is answered has the step's mark
-mark_of-answer : (s : Step) (status : ℕ → Status) (told : Option Reply) → is_refused_request s ≡ is_told_out_of_memory told → mark_of (answer_to_step s status told) ≡ mark_of_step s
-mark_of-answer (Void e) status told is = refl
-mark_of-answer (Plain (event.Open c)) status told is = mark_of-when_unused (status c)
-mark_of-answer (Plain (event.Piece c bytes)) status told is = mark_of-when_open_done (status c)
-mark_of-answer (Plain (event.Serve c)) status told is = mark_of-when_open_more (status c)
-mark_of-answer (Plain (event.Close c)) status told is = mark_of-when_open_done (status c)
-mark_of-answer (Plain (event.Plan f)) status told is = refl
-mark_of-answer (Plain (event.Merge f)) status told is = refl
-mark_of-answer (Plain (event.Install f)) status told is = refl
-mark_of-answer (Plain (event.Resize n)) status told is = mark_of-either _
-mark_of-answer (Took c m is_refused) status told is = mark_of-answered told ∙ ap mark_if (sym is)
-mark_of-answer (Broke c fault) status told is = mark_of-answered told ∙ ap mark_if (sym is)
+mark_of-own : (entries : List Entry) (c : ℕ) (own : ConnectionStep) (earlier : List Step) → Follows entries own (part_of c earlier) → mark_of (answer_to_own own (status_of (part_of c earlier)) (told_at entries c own earlier)) ≡ mark_if (is_refused_own own)
+unfolding Follows told_at
+mark_of-own entries c (Plain e) earlier f = (silent e (status_of (part_of c earlier))).mark
+mark_of-own entries c (Took m b) earlier f = mark_of-message entries m b (served_as entries (part_of c earlier)) earlier f.2
+mark_of-own entries c (Broke fault) earlier f = refl
 
--- ---- a run so far
+marked : (entries : List Entry) (step : Step) (earlier : List Step) (r : StepResult) → IsStep entries step earlier → IsAnswer entries step earlier r → mark_of_step step ≡ mark_of r
+unfolding IsStep IsAnswer
+marked entries (Void e) earlier r is a = sym (ap mark_of a)
+marked entries (At c own) earlier r is a = sym (ap mark_of a ∙ mark_of-own entries c own earlier is)
+marked entries (Flushed e) earlier r is a = sym (silent_flusher e r a).mark
 
-pub record SoFar (entries : List Entry) (seen : ℕ → Seen) (core : CoreState) (events : List Event) (told : List Told) (marks : List Mark) : Type 0 where
-  pub history : List Step
-  pub agrees : Agrees seen core history
-  pub in_order : map event_of history ≡ reverse events
-  pub output : (c : ℕ) → reverse (replies_to c told) ≡ output_of entries c history
-  pub marked : map mark_of_step history ≡ reverse marks
-  pub same : core.entries ≡ entries
+-- ---- one step more
 
-pub so_far_none : (seen : ℕ → Seen) (core : CoreState) → ((c : ℕ) → seen c ≡ never_opened) → ((t : ℕ) → store_of core t ≡ empty_store) → SoFar core.entries seen core [] [] []
-unfolding IsHistory status_of served_as taken_by stream_of store_after line_of output_of
-so_far_none seen core none empty = record {
-  history = [];
-  agrees = record {
-    is_history = tt;
-    connections = λ c. record {
-      status = ap (λ s. s.status) (sym (none c));
-      tenant = ap (λ s. s.tenant) (sym (none c));
-      front = [];
-      spelled = refl;
-      stream = ap (λ s. s.unread) (sym (none c));
-    };
-    stores = empty;
-  };
-  in_order = refl;
-  output = λ c. refl;
-  marked = refl;
-  same = refl;
-}
+option_telling : ℕ → Option ℕ → Option Reply → Option Telling
+option_telling c tenant told = option_map (λ r. record { connection = c; tenant = tenant; reply = r }) told
 
-replies_to-append : (c : ℕ) (a b : List Told) → replies_to c (a ++ b) ≡ replies_to c a ++ replies_to c b
-replies_to-append c [] b = refl
-replies_to-append c (t ∷ a) b = grind (arith, nat_tests, replies_to-append c a b)
+told_here : (c : ℕ) (tenant : Option ℕ) (told : Option Reply) (before : List Telling) → map told_in_history (with_telling (option_telling c tenant told) before) ≡ to_connection c told ++ map told_in_history before
+unfolding option_telling
+told_here c tenant None before = refl
+told_here c tenant (Some r) before = refl
 
-either_same : {A : Type 0} (b : Bool) (x : A) → (if b then x else x) ≡ x
-either_same true x = refl
-either_same false x = refl
+tells : (entries : List Entry) (step : Step) (earlier : List Step) (r : StepResult) → IsAnswer entries step earlier r
+    → map told_in_history (tellings entries (step ∷ earlier)) ≡ to_connection (connection_of (event_of_step step)) (told_of r) ++ map told_in_history (tellings entries earlier)
+unfolding IsAnswer tellings telling_of told_at option_telling
+tells entries (Void e) earlier r a = ap (λ x. to_connection (connection_of e) (told_of x) ++ map told_in_history (tellings entries earlier)) (sym a)
+tells entries (At c own) earlier r a =
+    told_here c _ (told_at entries c own earlier) (tellings entries earlier)
+    ∙ ap (λ t. to_connection c t ++ map told_in_history (tellings entries earlier)) (sym (ap told_of a ∙ told_of-own entries own (status_of (part_of c earlier)) (served_as entries (part_of c earlier)) (reply_in_line entries earlier)))
+tells entries (Flushed e) earlier r a = ap (λ t. to_connection 0 t ++ map told_in_history (tellings entries earlier)) (sym (silent_flusher e r a).told)
 
-one_reply : (b : Bool) (t : Told) (output : List Reply) → reverse (map (λ s. s.1) (if b then t ∷ [] else [])) ++ output ≡ (if b then t.1 ∷ output else output)
-one_reply true t output = refl
-one_reply false t output = refl
+reverse_one : (c : ℕ) (told : Option Reply) → to_connection c told ≡ reverse (to_connection c told)
+reverse_one c None = refl
+reverse_one c (Some r) = refl
 
-one_more_reply : (c d : ℕ) (r : Option Reply) (told : List Told) (output : List Reply) → reverse (replies_to d told) ≡ output → reverse (replies_to d (told ++ told_to c r)) ≡ (if c == d then with_reply r output else output)
-one_more_reply c d None told output e = ap (λ t. reverse (replies_to d t)) (append-nil told) ∙ e ∙ sym (either_same (c == d) output)
-one_more_reply c d (Some r) told output e =
-    let t : Told = (c, r) in
-    ap reverse (replies_to-append d told (t ∷ [])) ∙ reverse-append (replies_to d told) (replies_to d (t ∷ [])) ∙ ap (λ o. reverse (replies_to d (t ∷ [])) ++ o) e ∙ one_reply (c == d) t output
+pub shown_none : (entries : List Entry) (house : HouseState) (told : List Told) (marks : List Mark) → Stands entries house [] → told ≡ [] → marks ≡ [] → Shows entries [] told marks house
+unfolding tellings
+shown_none entries house told marks stands none none' = record { history = []; stands = stands; in_order = refl; marked = ap reverse (sym none'); output = ap reverse (sym none) }
 
--- a step of a flusher tells nobody anything
-to_own : (entries : List Entry) (s : Step) (d : ℕ) (told : Option Reply) (served : ℕ → Option ℕ) (of_tenant : Bool → List (List ℕ) → ℕ → Reply) (output : List Reply) → told ≡ told_by entries s served of_tenant
-    → (if connection_of (event_of s) == d then with_reply told output else output) ≡ (if is_of d (event_of s) then with_reply told output else output)
-to_own entries (Void (event.Open c)) d told served of_tenant output is = refl
-to_own entries (Void (event.Piece c bytes)) d told served of_tenant output is = refl
-to_own entries (Void (event.Serve c)) d told served of_tenant output is = refl
-to_own entries (Void (event.Close c)) d told served of_tenant output is = refl
-to_own entries (Void (event.Plan f)) d told served of_tenant output is = ap (λ t. if 0 == d then with_reply t output else output) is ∙ either_same (0 == d) output
-to_own entries (Void (event.Merge f)) d told served of_tenant output is = ap (λ t. if 0 == d then with_reply t output else output) is ∙ either_same (0 == d) output
-to_own entries (Void (event.Install f)) d told served of_tenant output is = ap (λ t. if 0 == d then with_reply t output else output) is ∙ either_same (0 == d) output
-to_own entries (Void (event.Resize n)) d told served of_tenant output is = ap (λ t. if 0 == d then with_reply t output else output) is ∙ either_same (0 == d) output
-to_own entries (Plain (event.Open c)) d told served of_tenant output is = refl
-to_own entries (Plain (event.Piece c bytes)) d told served of_tenant output is = refl
-to_own entries (Plain (event.Serve c)) d told served of_tenant output is = refl
-to_own entries (Plain (event.Close c)) d told served of_tenant output is = refl
-to_own entries (Plain (event.Plan f)) d told served of_tenant output is = ap (λ t. if 0 == d then with_reply t output else output) is ∙ either_same (0 == d) output
-to_own entries (Plain (event.Merge f)) d told served of_tenant output is = ap (λ t. if 0 == d then with_reply t output else output) is ∙ either_same (0 == d) output
-to_own entries (Plain (event.Install f)) d told served of_tenant output is = ap (λ t. if 0 == d then with_reply t output else output) is ∙ either_same (0 == d) output
-to_own entries (Plain (event.Resize n)) d told served of_tenant output is = ap (λ t. if 0 == d then with_reply t output else output) is ∙ either_same (0 == d) output
-to_own entries (Took c m is_refused) d told served of_tenant output is = refl
-to_own entries (Broke c fault) d told served of_tenant output is = refl
-
-pub so_far_more : (entries : List Entry) (old new : ℕ → Seen) (before after : CoreState) (e : Event) (s : Step) (r : StepResult) (events : List Event) (told : List Told) (marks : List Mark)
-    → SoFar entries old before events told marks → event_of s ≡ e → Moves s r old new before after
-    → SoFar entries new after (events ++ e ∷ []) (told ++ told_to (connection_of e) (told_of r)) (marks ++ mark_of r ∷ [])
-unfolding output_of
-so_far_more entries old new before after e s r events told marks f is m =
-    let tells_it : told_of r ≡ m.told = ap told_of m.result ∙ told_of-answer before.entries s (λ c. (old c).status) m.told (λ c. (old c).tenant) (reply_in_core before) m.told_is in
+pub shown_more : (entries : List Entry) (old new : HouseState) (e : Event) (r : StepResult) (events : List Event) (told : List Told) (marks : List Mark) → Shows entries events told marks old → IsStepOf old e r new
+    → Shows entries (events ++ e ∷ []) (told ++ to_connection (connection_of e) (told_of r)) (marks ++ mark_of r ∷ []) new
+unfolding IsHistory
+shown_more entries old new e r events told marks f s =
+    let g = s.goes_on entries f.history f.stands in
+    let own = to_connection (connection_of e) (told_of r) in
     record {
-      history = s ∷ f.history;
-      agrees = goes_on old new before after s r f.history f.agrees m;
-      in_order = (λ i. is i ∷ f.in_order i) ∙ sym (reverse-append events (e ∷ []));
-      output = λ c. ap (λ t. reverse (replies_to c (told ++ told_to (connection_of e) t))) tells_it
-          ∙ one_more_reply (connection_of e) c m.told told (output_of entries c f.history) (f.output c)
-          ∙ ap (λ x. if connection_of x == c then with_reply m.told (output_of entries c f.history) else output_of entries c f.history) (sym is)
-          ∙ to_own before.entries s c m.told (λ d. (old d).tenant) (reply_in_core before) (output_of entries c f.history) m.told_is
-          ∙ (λ i. if is_of c (event_of s) then with_reply ((tells old new before after s r f.history f.agrees m ∙ ap (λ es. reply_of es s f.history) f.same) i) (output_of entries c f.history) else output_of entries c f.history);
-      marked = (λ i. sym (ap mark_of m.result ∙ mark_of-answer s (λ c. (old c).status) m.told m.refused) i ∷ f.marked i) ∙ sym (reverse-append marks (mark_of r ∷ []));
-      same = m.entries ∙ f.same;
+      history = s.step ∷ f.history;
+      stands = g.stands;
+      in_order = (λ i. s.is_event i ∷ f.in_order i) ∙ sym (reverse-append events (e ∷ []));
+      marked = (λ i. marked entries s.step f.history r g.stands.is_history.0 g.answer i ∷ f.marked i) ∙ sym (reverse-append marks (mark_of r ∷ []));
+      output = tells entries s.step f.history r g.answer
+          ∙ ap (λ x. to_connection (connection_of x) (told_of r) ++ map told_in_history (tellings entries f.history)) s.is_event
+          ∙ (λ i. reverse_one (connection_of e) (told_of r) i ++ f.output i)
+          ∙ sym (reverse-append told own);
     }
 
-pub shown : (entries : List Entry) (seen : ℕ → Seen) (core : CoreState) (events : List Event) (told : List Told) (marks : List Mark) → SoFar entries seen core events told marks → Shows entries events told marks (store_of core)
-shown entries seen core events told marks f = record {
-  history = f.history;
-  is_history = f.agrees.is_history;
-  in_order = f.in_order;
-  marked = f.marked;
-  output = f.output;
-  last = λ t. f.agrees.stores t ∙ ap (λ es. store_after (quota_of es t) (line_of es t f.history)) f.same;
-}
+pub as_shown : (entries : List Entry) (house : HouseState) (events events' : List Event) (told told' : List Told) (marks marks' : List Mark) → events ≡ events' → told ≡ told' → marks ≡ marks' → Shows entries events told marks house → Shows entries events' told' marks' house
+as_shown entries house events events' told told' marks marks' p q r f =
+    subst (λ x. Shows entries x told' marks' house) p (subst (λ x. Shows entries events x marks' house) q (subst (λ x. Shows entries events told x house) r f))
 
-pub as_told : (entries : List Entry) (seen : ℕ → Seen) (core : CoreState) (events events' : List Event) (told told' : List Told) (marks marks' : List Mark) → events ≡ events' → told ≡ told' → marks ≡ marks' → SoFar entries seen core events told marks → SoFar entries seen core events' told' marks'
-as_told entries seen core events events' told told' marks marks' p q r f =
-    subst (λ x. SoFar entries seen core x told' marks') p (subst (λ x. SoFar entries seen core events x marks') q (subst (λ x. SoFar entries seen core events told x) r f))
+-- ---- two runs
+
+-- what was told at the places of the tenant's requests
+pub told_in_run-answers : (tenant : ℕ) (told : List Telling) → told_in_run tenant told (map told_in_history told) ≡ answers_to tenant told
+told_in_run-answers tenant [] = refl
+told_in_run-answers tenant (t ∷ told) = by_tag (is_tenant tenant t.tenant) t told (told_in_run-answers tenant told)
+  where
+    by_tag : (b : Bool) (t : Telling) (told : List Telling) → told_in_run tenant told (map told_in_history told) ≡ answers_to tenant told
+        → (if b then t.reply ∷ told_in_run tenant told (map told_in_history told) else told_in_run tenant told (map told_in_history told)) ≡ map (λ x. x.reply) (if b then t ∷ filter (λ x. is_tenant tenant x.tenant) told else filter (λ x. is_tenant tenant x.tenant) told)
+    by_tag true t told e = ap (λ l. t.reply ∷ l) e
+    by_tag false t told e = e
+
+abbrev says_void : Mark → Bool
+says_void mark.Kept = false
+says_void mark.Void = true
+says_void mark.Refused = false
+
+abbrev says_refused : Mark → Bool
+says_refused mark.Kept = false
+says_refused mark.Void = false
+says_refused mark.Refused = true
+
+void-if : (b : Bool) → false ≡ says_void (mark_if b)
+void-if true = refl
+void-if false = refl
+
+refused-if : (b : Bool) → b ≡ says_refused (mark_if b)
+refused-if true = refl
+refused-if false = refl
+
+void-mark : (s : Step) → is_void s ≡ says_void (mark_of_step s)
+void-mark (Void e) = refl
+void-mark (At c own) = void-if (is_refused_own own)
+void-mark (Flushed e) = refl
+
+refused-mark : (s : Step) → is_refused s ≡ says_refused (mark_of_step s)
+refused-mark (Void e) = refl
+refused-mark (At c own) = refused-if (is_refused_own own)
+refused-mark (Flushed e) = refl
+
+by_marks : (f : Step → Bool) (g : Mark → Bool) → ((s : Step) → f s ≡ g (mark_of_step s)) → (history : List Step) → map f history ≡ map g (map mark_of_step history)
+by_marks f g same [] = refl
+by_marks f g same (newest ∷ earlier) = λ i. same newest i ∷ by_marks f g same earlier i
+
+pub one_run : OneHistory → OneRun
+one_run one entries events told told' marks house house' s s' =
+    let marked : map mark_of_step s.history ≡ map mark_of_step s'.history = s.marked ∙ sym s'.marked in
+    let same : s.history ≡ s'.history = one entries s.history s'.history s.stands.is_history s'.stands.is_history (s.in_order ∙ sym s'.in_order)
+    (by_marks is_void says_void void-mark s.history ∙ ap (map says_void) marked ∙ sym (by_marks is_void says_void void-mark s'.history))
+    (by_marks is_refused says_refused refused-mark s.history ∙ ap (map says_refused) marked ∙ sym (by_marks is_refused says_refused refused-mark s'.history)) in (
+      sym (reverse-reverse told) ∙ ap reverse (sym s.output ∙ ap (λ h. map told_in_history (tellings entries h)) same ∙ s'.output) ∙ reverse-reverse told',
+      (λ tenant. s.stands.stores tenant ∙ ap (λ h. store_after (quota_of entries tenant) (line_of entries tenant h)) same ∙ sym (s'.stands.stores tenant)),
+    )
 
 -- ---- the events so far
 
@@ -249,6 +226,10 @@ when_ok (Ok u) p e = p
 when_ok (Err x) p e = absurd (cc)
 
 -- ---- the bytes that a connection is told
+
+replies_to-append : (c : ℕ) (a b : List Told) → replies_to c (a ++ b) ≡ replies_to c a ++ replies_to c b
+replies_to-append c [] b = refl
+replies_to-append c (t ∷ a) b = grind (arith, nat_tests, replies_to-append c a b)
 
 told_bytes : ℕ → List Told → List ℕ
 told_bytes c told = flat_map encoding (replies_to c told)

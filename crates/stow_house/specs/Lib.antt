@@ -1,7 +1,7 @@
 pub mod Seen
 pub mod StepResult
+pub mod Sessions
+pub mod Connections
 pub mod Steps
 pub mod Outputs
 pub mod Runs
-pub mod Doors
-pub mod Sessions

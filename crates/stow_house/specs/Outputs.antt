@@ -1,17 +1,18 @@
 -- What a run led to.
 use Rattle.std.specs.Prelude.{ℕ, ◌<◌, Bool, true, false, List, [], ◌∷◌, map, filter, Option, Some, None, ◌==◌, vec_len}
+use Rattle.std.specs.List.{flat_map}
 use Rattle.std.specs.Vec.{vec_capacity}
-use Rattle.stow_model.specs.declared.refusal.Refusal.TheVariants as refusal
-use Rattle.stow_model.specs.Reply.{Reply, reply_of}
-use Rattle.stow_model.specs.Reply as reply
+use Rattle.stow_model.specs.Reply.{Reply, reply_of, encoding}
+use Rattle.stow_model.specs.Store.{is_out_of_memory}
 use Rattle.stow_model.specs.Event.{Event}
 use Rattle.stow_model.specs.Event as event
-use Rattle.stow_model.specs.History.{Step, Void, Plain, Took, Broke}
+use Rattle.stow_model.specs.History.{Step, Void, At, Flushed, is_refused_own, Telling}
 use Rattle.stow_house.specs.declared.mark.Mark.{Mark}
 use Rattle.stow_house.specs.declared.mark.Mark.TheVariants as mark
+use Rattle.stow_house.specs.declared.step_result.StepResult as result
 use Rattle.stow_house.specs.declared.told.Told as coded
 use Rattle.stow_house.specs.declared.outputs.Outputs.{Outputs}
-use Rattle.stow_house.specs.StepResult.{StepResult, Done, Answered, More, Blank, Job, NoJob, Installed, Stale, Refused, NoMemory}
+use Rattle.stow_house.specs.StepResult.{StepResult, step_result_of, Answered, NoMemory}
 
 -- a reply, and the connection that it goes to
 abbrev pub Told : Type 0
@@ -37,57 +38,47 @@ pub record HasRoom {A : Type 0} (outputs : Outputs A) : Type 0 where
 abbrev pub replies_to : ℕ → List Told → List Reply
 replies_to c told = map (λ t. t.1) (filter (λ t. t.0 == c) told)
 
--- what is told to a connection, if anything
-abbrev pub told_to : ℕ → Option Reply → List Told
-told_to c None = []
-told_to c (Some r) = (c, r) ∷ []
+-- the bytes that a connection is told
+abbrev pub bytes_to : ℕ → List Told → List ℕ
+bytes_to c told = flat_map encoding (replies_to c told)
+
+-- what goes to a connection, if anything
+abbrev pub to_connection : ℕ → Option Reply → List Told
+to_connection c None = []
+to_connection c (Some r) = (c, r) ∷ []
 
 abbrev pub told_of : StepResult → Option Reply
-told_of Done = None
 told_of (Answered r) = Some r
-told_of More = None
-told_of Blank = None
-told_of Job = None
-told_of NoJob = None
-told_of Installed = None
-told_of Stale = None
-told_of Refused = None
-told_of NoMemory = None
+told_of _ = None
 
-abbrev pub mark_of_reply : Reply → Mark
-mark_of_reply (reply.Error refusal.OutOfMemory) = mark.Refused
-mark_of_reply _ = mark.Kept
+-- what an answer tells its connection
+abbrev pub tells : {A : Type 0} → ℕ → result.StepResult A → List Told
+tells c r = to_connection c (told_of (step_result_of r))
 
-abbrev pub mark_of : StepResult → Mark
-mark_of Done = mark.Kept
-mark_of (Answered r) = mark_of_reply r
-mark_of More = mark.Kept
-mark_of Blank = mark.Kept
-mark_of Job = mark.Kept
-mark_of NoJob = mark.Kept
-mark_of Installed = mark.Kept
-mark_of Stale = mark.Kept
-mark_of Refused = mark.Kept
-mark_of NoMemory = mark.Void
-
--- the mark of a step of a history
 abbrev pub mark_if : Bool → Mark
 mark_if true = mark.Refused
 mark_if false = mark.Kept
 
+-- memory was refused to the request that was served just where its reply says so
+abbrev pub mark_of : StepResult → Mark
+mark_of (Answered r) = mark_if (is_out_of_memory r)
+mark_of NoMemory = mark.Void
+mark_of _ = mark.Kept
+
+abbrev pub marks : StepResult → List Mark
+marks r = mark_of r ∷ []
+
+-- the mark of a step of a history
 abbrev pub mark_of_step : Step → Mark
 mark_of_step (Void e) = mark.Void
-mark_of_step (Plain e) = mark.Kept
-mark_of_step (Took c m is_refused) = mark_if is_refused
-mark_of_step (Broke c fault) = mark.Kept
+mark_of_step (At c own) = mark_if (is_refused_own own)
+mark_of_step (Flushed e) = mark.Kept
 
 -- the connection that an event is of; one of a flusher tells nobody anything
 abbrev pub connection_of : Event → ℕ
-connection_of (event.Open c) = c
-connection_of (event.Piece c bytes) = c
-connection_of (event.Serve c) = c
-connection_of (event.Close c) = c
-connection_of (event.Plan f) = 0
-connection_of (event.Merge f) = 0
-connection_of (event.Install f) = 0
-connection_of (event.Resize n) = 0
+connection_of (event.On c e) = c
+connection_of (event.By e) = 0
+
+-- a reply of the history, and the connection that it goes to
+abbrev pub told_in_history : Telling → Told
+told_in_history telling = (telling.connection, telling.reply)

@@ -1,48 +1,62 @@
 -- A run of events on a new house: the isolation theorem.
-use Rattle.std.specs.Prelude.{◌≡◌, ℕ, List, map, reverse}
-use Rattle.stow_model.specs.Login.{Entry, quota_of}
-use Rattle.stow_model.specs.Event.{Event}
-use Rattle.stow_model.specs.Reply.{encoding}
-use Rattle.stow_model.specs.Store.{Store, empty_store, store_after}
-use Rattle.stow_model.specs.History.{Step, event_of, IsHistory, output_of, line_of, told_to, ServesAlike}
-use Rattle.stow_core.specs.State.{store_of}
+use Rattle.std.specs.Prelude.{◌≡◌, ℕ, List, [], ◌∷◌, map, take, reverse, if◌then◌else◌}
+use Rattle.stow_model.specs.Login.{Entry}
+use Rattle.stow_model.specs.Event.{Event, event_of}
+use Rattle.stow_model.specs.declared.event.Event as coded
+use Rattle.stow_model.specs.Reply.{Reply, encoding}
+use Rattle.stow_model.specs.History.{Step, event_of_step, tellings, is_tenant, Telling, ServesAlike}
+use Rattle.stow_core.specs.State.{store_of, IsNewCore}
 use Rattle.stow_house.specs.declared.mark.Mark.{Mark}
 use Rattle.stow_house.specs.declared.house.House.{House}
+use Rattle.stow_house.specs.declared.outputs.Outputs.{Outputs}
 use Rattle.stow_house.specs.Seen.{never_opened}
-use Rattle.stow_house.specs.Steps.{core_of, seen_in}
-use Rattle.stow_house.specs.Outputs.{Told, replies_to, mark_of_step}
+use Rattle.stow_house.specs.Steps.{HouseState, state_of, Stands}
+use Rattle.stow_house.specs.Outputs.{Told, told_in, marks_in, told_in_history, mark_of_step}
 
--- nothing has happened in the house yet: no connection was opened, and every store is empty
-pub record IsNewHouse {A : Type 0} (house : House A) : Type 0 where
-  pub connections : (c : ℕ) → seen_in house c ≡ never_opened
-  pub stores : (tenant : ℕ) → store_of (core_of house) tenant ≡ empty_store
+-- nothing has happened in the house yet: no connection was opened, and every store is new
+pub record IsNewHouse (house : HouseState) : Type 0 where
+  pub connections : (c : ℕ) → house.seen c ≡ never_opened
+  pub stores : IsNewCore house.core
 
--- The events have a history in which memory was refused where the marks say so; each connection was told
--- what the history tells it, which is what each tenant's own run tells; and each tenant's store is the last
--- of its own run.
-pub record Shows (entries : List Entry) (events : List Event) (told : List Told) (marks : List Mark) (stores : ℕ → Store) : Type 0 where
+-- The events have a history at which the house stands, in which memory was refused where the marks say so. All
+-- that was told is what the history tells, in its order and to its connections: a tenant's requests are told
+-- what its own run tells.
+pub record Shows (entries : List Entry) (events : List Event) (told : List Told) (marks : List Mark) (house : HouseState) : Type 0 where
   pub history : List Step
-  pub is_history : IsHistory history
-  pub in_order : map event_of history ≡ reverse events
+  pub stands : Stands entries house history
+  pub in_order : map event_of_step history ≡ reverse events
   pub marked : map mark_of_step history ≡ reverse marks
-  pub output : (c : ℕ) → reverse (replies_to c told) ≡ output_of entries c history
-  pub last : (tenant : ℕ) → stores tenant ≡ store_after (quota_of entries tenant) (line_of entries tenant history)
+  pub output : map told_in_history (tellings entries history) ≡ reverse told
+
+-- a run of the code's house, over all of the events
+abbrev pub Ran : {A : Type 0} → House A → List (coded.Event A) → Outputs A → House A → Type 0
+Ran old events outputs new = Shows (state_of old).core.entries (map event_of events) (told_in outputs) (marks_in outputs) (state_of new)
+
+-- .. and over as many of them
+abbrev pub RanUntil : {A : Type 0} → ℕ → House A → List (coded.Event A) → Outputs A → House A → Type 0
+RanUntil done old events outputs new = Shows (state_of old).core.entries (take done (map event_of events)) (told_in outputs) (marks_in outputs) (state_of new)
+
+-- of what was told, the replies where the history answers the tenant's requests; both newest first
+abbrev pub told_in_run : ℕ → List Telling → List Told → List Reply
+told_in_run tenant [] told = []
+told_in_run tenant (telling ∷ tellings) [] = []
+told_in_run tenant (telling ∷ tellings) (t ∷ told) = if is_tenant tenant telling.tenant then t.1 ∷ told_in_run tenant tellings told else told_in_run tenant tellings told
 
 -- Two runs in which a tenant has the same entry and is served the same requests, whatever else they hold and
 -- whoever else may log in, tell it the same, byte for byte, and leave it the same store.
 abbrev pub TwoRuns : Type 0
 TwoRuns =
-    (entries entries' : List Entry) (events events' : List Event) (told told' : List Told) (marks marks' : List Mark) (stores stores' : ℕ → Store)
-    → (s : Shows entries events told marks stores) → (s' : Shows entries' events' told' marks' stores')
+    (entries entries' : List Entry) (events events' : List Event) (told told' : List Told) (marks marks' : List Mark) (house house' : HouseState)
+    → (s : Shows entries events told marks house) → (s' : Shows entries' events' told' marks' house')
     → (tenant tenant' : ℕ) → ServesAlike entries tenant s.history entries' tenant' s'.history
-    → (told_to entries tenant s.history ≡ told_to entries' tenant' s'.history)
-    × (map encoding (told_to entries tenant s.history) ≡ map encoding (told_to entries' tenant' s'.history))
-    × (stores tenant ≡ stores' tenant')
+    → (told_in_run tenant (tellings entries s.history) (reverse told) ≡ told_in_run tenant' (tellings entries' s'.history) (reverse told'))
+    × (map encoding (told_in_run tenant (tellings entries s.history) (reverse told)) ≡ map encoding (told_in_run tenant' (tellings entries' s'.history) (reverse told')))
+    × (store_of house.core tenant ≡ store_of house'.core tenant')
 
--- The events, and the marks of what memory was refused to, say all: runs with the same marks tell each
--- connection the same and leave each tenant the same store.
+-- The events, and the marks of what memory was refused to, say all: runs with the same marks tell the same, in
+-- the same order and to the same connections, and leave each tenant the same store.
 abbrev pub OneRun : Type 0
 OneRun =
-    (entries : List Entry) (events : List Event) (told told' : List Told) (marks : List Mark) (stores stores' : ℕ → Store)
-    → Shows entries events told marks stores → Shows entries events told' marks stores'
-    → ((c : ℕ) → replies_to c told ≡ replies_to c told') × ((tenant : ℕ) → stores tenant ≡ stores' tenant)
+    (entries : List Entry) (events : List Event) (told told' : List Told) (marks : List Mark) (house house' : HouseState)
+    → Shows entries events told marks house → Shows entries events told' marks house'
+    → (told ≡ told') × ((tenant : ℕ) → store_of house.core tenant ≡ store_of house'.core tenant)

@@ -1,10 +1,11 @@
 -- What an event is answered.
-use Rattle.std.specs.Prelude.{ℕ, Option, Some, None, if◌then◌else◌, nat_le}
+use Rattle.std.specs.Prelude.{◌≡◌, ℕ, ◌<◌, ◌≤◌, List, Option, Some, None, ◌⊎◌}
 use Rattle.stow_model.specs.Limits.{cache_limit}
 use Rattle.stow_model.specs.Reply.{Reply, reply_of}
-use Rattle.stow_model.specs.Event.{Event}
+use Rattle.stow_model.specs.Login.{Entry}
+use Rattle.stow_model.specs.Event.{Event, ConnectionEvent, FlusherEvent}
 use Rattle.stow_model.specs.Event as event
-use Rattle.stow_model.specs.History.{Step, Void, Plain, Took, Broke, Status, Unused, IsOpen, Closed}
+use Rattle.stow_model.specs.History.{Step, Void, At, Flushed, ConnectionStep, Plain, Took, Broke, Status, Unused, IsOpen, Closed, status_of, part_of, told_at}
 use Rattle.stow_house.specs.declared.step_result.StepResult as coded
 use Rattle.stow_house.specs.declared.step_result.StepResult.TheVariants as in_result
 
@@ -45,25 +46,57 @@ when_unused Unused r = r
 when_unused IsOpen r = Refused
 when_unused Closed r = Refused
 
--- the answer to an event that takes nothing from a stream, by the status of each connection before it;
--- no leaf is flushed in two steps yet, so there is never a job
-abbrev pub answer_to_event : Event → (ℕ → Status) → StepResult
-answer_to_event (event.Open c) status = when_unused (status c) Done
-answer_to_event (event.Piece c bytes) status = when_open (status c) Done
-answer_to_event (event.Serve c) status = when_open (status c) More
-answer_to_event (event.Close c) status = when_open (status c) Done
-answer_to_event (event.Plan f) status = NoJob
-answer_to_event (event.Merge f) status = Refused
-answer_to_event (event.Install f) status = Refused
-answer_to_event (event.Resize n) status = if nat_le n cache_limit then Done else Refused
+-- the answer to an event that takes nothing from a stream, by the connection's status before it
+abbrev pub answer_to_event : ConnectionEvent → Status → StepResult
+answer_to_event event.Open status = when_unused status Done
+answer_to_event (event.Piece bytes) status = when_open status Done
+answer_to_event event.Serve status = when_open status More
+answer_to_event event.Close status = when_open status Done
 
 abbrev pub answered : Option Reply → StepResult
 answered None = Blank
 answered (Some reply) = Answered reply
 
--- the answer to a step, by what its connection is told
-abbrev pub answer_to_step : Step → (ℕ → Status) → Option Reply → StepResult
-answer_to_step (Void e) status told = NoMemory
-answer_to_step (Plain e) status told = answer_to_event e status
-answer_to_step (Took c m is_refused) status told = answered told
-answer_to_step (Broke c fault) status told = answered told
+-- the answer to a connection's step, by the status before it and what is told
+abbrev pub answer_to_own : ConnectionStep → Status → Option Reply → StepResult
+answer_to_own (Plain e) status told = answer_to_event e status
+answer_to_own (Took m is_refused) status told = answered told
+answer_to_own (Broke fault) status told = answered told
+
+-- what an event of a flusher may be answered; no leaf is flushed in two steps yet, so there is never a job
+abbrev pub MayAnswer : FlusherEvent → StepResult → Type 0
+MayAnswer (event.Plan f) r = r ≡ NoJob
+MayAnswer (event.Merge f) r = r ≡ Refused
+MayAnswer (event.Install f) r = r ≡ Refused
+MayAnswer (event.Resize n) r = ((n ≤ cache_limit) × (r ≡ Done)) ⊎ ((cache_limit < n) × (r ≡ Refused))
+
+-- the answers that an event of a connection can have at all
+abbrev pub CanAnswerOn : ConnectionEvent → StepResult → Type 0
+CanAnswerOn event.Open Done = Unit {0}
+CanAnswerOn event.Open Refused = Unit {0}
+CanAnswerOn event.Open NoMemory = Unit {0}
+CanAnswerOn event.Open _ = ⊥
+CanAnswerOn (event.Piece bytes) Done = Unit {0}
+CanAnswerOn (event.Piece bytes) Refused = Unit {0}
+CanAnswerOn (event.Piece bytes) NoMemory = Unit {0}
+CanAnswerOn (event.Piece bytes) _ = ⊥
+CanAnswerOn event.Serve (Answered reply) = Unit {0}
+CanAnswerOn event.Serve More = Unit {0}
+CanAnswerOn event.Serve Blank = Unit {0}
+CanAnswerOn event.Serve Refused = Unit {0}
+CanAnswerOn event.Serve NoMemory = Unit {0}
+CanAnswerOn event.Serve _ = ⊥
+CanAnswerOn event.Close Done = Unit {0}
+CanAnswerOn event.Close Refused = Unit {0}
+CanAnswerOn event.Close _ = ⊥
+
+-- the answers that an event can have at all
+abbrev pub CanAnswer : Event → StepResult → Type 0
+CanAnswer (event.On c e) r = CanAnswerOn e r
+CanAnswer (event.By e) r = MayAnswer e r
+
+-- what a step is answered, after the history before it
+unfoldable pub IsAnswer : List Entry → Step → List Step → StepResult → Type 0
+IsAnswer entries (Void e) earlier r = r ≡ NoMemory
+IsAnswer entries (At c own) earlier r = r ≡ answer_to_own own (status_of (part_of c earlier)) (told_at entries c own earlier)
+IsAnswer entries (Flushed e) earlier r = MayAnswer e r

@@ -2,9 +2,9 @@
 use std::alloc::{Allocator, Global};
 use stow_model::reply::Reply;
 
-/// A reply, and whether the connection ends after it.
+/// A reply, if there is one, and whether the connection ends after it.
 #[derive(Drop)]
 pub struct Answer<A: Allocator = Global> {
-    pub reply: Reply<A>,
+    pub reply: Option<Reply<A>>,
     pub ends: bool,
 }

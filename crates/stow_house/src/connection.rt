@@ -1,18 +1,14 @@
 //! One client's stream, and whom it is served as.
-ghost use Rattle.std.specs.Prelude.{◌≡◌, ℕ, [], Some, None, true, false};
+ghost use Rattle.std.specs.Prelude.{◌≡◌, [], None, true};
 ghost use Rattle.stow_model.specs.Event as event;
-ghost use Rattle.stow_model.specs.Reply.{reply_of};
-ghost use Rattle.stow_core.specs.State.{CoreState};
-ghost use Rattle.stow_house.specs.Seen.{seen, IsServed, never_opened};
-ghost use Rattle.stow_house.specs.StepResult.{step_result_of};
-ghost use Rattle.stow_house.specs.Steps.{AnsweredAs, StepsHere};
+ghost use Rattle.stow_house.specs.StepResult.{step_result_of, CanAnswerOn};
+ghost use Rattle.stow_house.specs.Connections.{meaning, Happened, HappenedAlone, IsServedHere};
 
+use crate::connection_event::ConnectionEvent;
 use crate::session::Session;
 use crate::step_result::StepResult;
 use std::alloc::{Allocator, Global};
 use stow_core::Core;
-use stow_model::reply::Reply;
-use stow_model::words::Words;
 use stow_resp::input::Input;
 use stow_resp::next::Next;
 
@@ -38,79 +34,64 @@ impl<A: Allocator + Copy> Connection<A> {
         }
     }
 
-    /// Takes bytes that came.
-    pub fn feed(&mut self, bytes: &[u8]) -> StepResult<A>
-        ensures step { (c : ℕ) (core : CoreState) → StepsHere c (event.Piece c bytes.now) (step_result_of result) (seen (Some self.old)) (seen (Some self.new)) core core }
-        ensures tenant { self.new.session ≡ self.old.session }
+    /// One event.
+    pub fn step(
+        &mut self,
+        alloc: A,
+        core: &mut Core<A>,
+        event: ConnectionEvent<'_>,
+    ) -> StepResult<A>
+        ensures possible { CanAnswerOn (meaning event.entry) (step_result_of result) }
+        ensures does { Happened (meaning event.entry) result self.old self.new core.old core.new }
     {
         if !self.is_open {
             return StepResult::Refused;
         }
+        match event {
+            ConnectionEvent::Piece(bytes) => self.feed(bytes),
+            ConnectionEvent::Serve => self.serve(alloc, core),
+            ConnectionEvent::Close => {
+                self.is_open = false;
+                StepResult::Done
+            }
+        }
+    }
+
+    fn feed(&mut self, bytes: &[u8]) -> StepResult<A>
+        requires { self.old.is_open ≡ true }
+        ensures possible { CanAnswerOn (event.Piece bytes.now) (step_result_of result) }
+        ensures does { HappenedAlone (event.Piece bytes.now) result self.old self.new }
+    {
         match self.input.feed(bytes) {
             Ok(()) => StepResult::Done,
             Err(_) => StepResult::NoMemory,
         }
     }
 
-    /// Closes the connection for the client.
-    pub fn close(&mut self) -> StepResult<A>
-        ensures step { (c : ℕ) (core : CoreState) → StepsHere c (event.Close c) (step_result_of result) (seen (Some self.old)) (seen (Some self.new)) core core }
-        ensures tenant { self.new.session ≡ self.old.session }
-    {
-        let was_open = self.is_open;
-        self.is_open = false;
-        if was_open {
-            StepResult::Done
-        } else {
-            StepResult::Refused
-        }
-    }
-
-    /// Serves the next message of the stream.
-    pub fn serve(&mut self, alloc: A, core: &mut Core<A>) -> StepResult<A>
-        requires { IsServed core.old.entries self.old.session }
-        ensures step { (c : ℕ) → StepsHere c (event.Serve c) (step_result_of result) (seen (Some self.old)) (seen (Some self.new)) core.old core.new }
-        ensures entries { core.new.entries ≡ core.old.entries }
-        ensures served { IsServed core.old.entries self.new.session }
-    {
-        if self.is_open {
-            self.serve_open(alloc, core)
-        } else {
-            StepResult::Refused
-        }
-    }
-
-    /// Serves the next message of the open connection.
-    fn serve_open(&mut self, alloc: A, core: &mut Core<A>) -> StepResult<A>
-        requires open { self.old.is_open ≡ true }
-        requires served { IsServed core.old.entries self.old.session }
-        ensures step { (c : ℕ) → StepsHere c (event.Serve c) (step_result_of result) (seen (Some self.old)) (seen (Some self.new)) core.old core.new }
-        ensures entries { core.new.entries ≡ core.old.entries }
-        ensures served { IsServed core.old.entries self.new.session }
+    fn serve(&mut self, alloc: A, core: &mut Core<A>) -> StepResult<A>
+        requires { self.old.is_open ≡ true }
+        ensures possible { CanAnswerOn event.Serve (step_result_of result) }
+        ensures does { Happened event.Serve result self.old self.new core.old core.new }
     {
         match self.input.next(alloc) {
-            Next::Message(words) => StepResult::Answered(self.answer(alloc, core, &words)),
-            Next::Quoted => StepResult::Answered(Reply::Error(self.session.quoted())),
-            Next::Blank => StepResult::Blank,
             Next::More => StepResult::More,
-            Next::Fault(fault) => {
-                self.is_open = false;
-                StepResult::Answered(Reply::ProtocolError(fault))
-            }
             Next::NoMemory => StepResult::NoMemory,
+            next => self.answer(alloc, core, next),
         }
     }
 
-    /// Answers words that came on the open connection.
-    fn answer(&mut self, alloc: A, core: &mut Core<A>, words: &Words<A>) -> Reply<A>
-        requires open { self.old.is_open ≡ true }
-        requires served { IsServed core.old.entries self.old.session }
-        ensures answered { AnsweredAs self.old self.new core.old core.new words.now (reply_of result) }
-        ensures served { IsServed core.old.entries self.new.session }
+    /// Answers what came on the open connection.
+    fn answer(&mut self, alloc: A, core: &mut Core<A>, next: Next<A>) -> StepResult<A>
+        requires { self.old.is_open ≡ true }
+        ensures possible { CanAnswerOn event.Serve (step_result_of result) }
+        ensures served { IsServedHere next result self.old self.new core.old core.new }
     {
-        let taken = self.session.take(core.tenants(), words);
-        let answer = taken.finish(alloc, core, words);
+        let taken = self.session.take(core.tenants(), next);
+        let answer = taken.finish(alloc, core);
         self.is_open = !answer.ends;
-        answer.reply
+        match answer.reply {
+            Some(reply) => StepResult::Answered(reply),
+            None => StepResult::Blank,
+        }
     }
 }

@@ -1,7 +1,7 @@
 //! What answers tenants' requests.
 ghost use Rattle.std.specs.Prelude.{◌≡◌, ℕ, List};
 ghost use Rattle.stow_model.specs.Reply.{Reply, reply_of};
-ghost use Rattle.stow_house.specs.Doors.{CallsCore};
+ghost use Rattle.stow_core.specs.State.{Calls};
 
 use std::alloc::Allocator;
 use stow_core::Core;
@@ -19,10 +19,10 @@ pub trait Door<A: Allocator> {
 }
 
 impl<A: Allocator + Copy> Door<A> for Core<A> {
-    ghost answers = { CallsCore };
+    ghost answers = { Calls };
 
     fn call(&mut self, alloc: A, tenant: u32, words: &Words<A>) -> Reply<A>
-        ensures { CallsCore self.old tenant words.now (reply_of result) self.new }
+        ensures { Calls self.old tenant words.now (reply_of result) self.new }
     {
         Core::call(self, alloc, tenant, words)
     }

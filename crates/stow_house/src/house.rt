@@ -1,14 +1,14 @@
 //! The house: connections, and the store that they share.
-ghost use Rattle.std.specs.Prelude.{◌≡◌, ◌≢◌, ℕ, None, IfOk, IfErr, OnOk, OnErr, ◌<◌, length, map, take};
+ghost use Rattle.std.specs.Prelude.{◌≡◌, ◌≢◌, ℕ, [], IfOk, IfErr, OnOk, OnErr, ◌<◌, length};
+ghost use Rattle.stow_model.specs.Event as meant;
 ghost use Rattle.stow_model.specs.Event.{event_of};
-ghost use Rattle.stow_core.specs.State.{store_of};
-ghost use Rattle.stow_model.specs.Event as event;
-ghost use Rattle.stow_model.specs.History.{Unused};
-ghost use Rattle.stow_house.specs.Seen.{never_opened, just_opened, IsServed, seen_at};
-ghost use Rattle.stow_house.specs.StepResult.{step_result_of, answer_to_event};
-ghost use Rattle.stow_house.specs.Outputs.{told_in, marks_in, connection_of};
+ghost use Rattle.stow_house.specs.Seen.{never_opened, just_opened, seen_at};
+ghost use Rattle.stow_house.specs.StepResult.{step_result_of, MayAnswer, CanAnswer, CanAnswerOn};
+ghost use Rattle.stow_house.specs.Connections.{meaning};
+ghost use Rattle.stow_house.specs.Outputs.{connection_of};
 
 use crate::connection::Connection;
+use crate::connection_event::ConnectionEvent;
 use crate::outputs::Outputs;
 use crate::run_fault::RunFault;
 use crate::step_result::StepResult;
@@ -25,18 +25,18 @@ const CACHE_LIMIT: usize = 65_536;
 pub struct House<A: Allocator = Global> {
     connections: BTreeMap<u32, Connection<A>, A>,
     core: Core<A>,
-    // whom each connection is served as is a tenant
-    ghost served: { (c : ℕ) → IsServed core.entries (seen_at connections c).tenant },
 }
 
 impl<A: Allocator + Copy> House<A> {
-    ghost use Rattle.stow_house.specs.Steps.{core_of, seen_in, Steps};
-    ghost use Rattle.stow_house.specs.Runs.{IsNewHouse, Shows};
+    ghost use Rattle.stow_core.specs.State.{IsNewCore};
+    ghost use Rattle.stow_house.specs.Steps.{state_of, Stands, Steps};
+    ghost use Rattle.stow_house.specs.Runs.{IsNewHouse, Ran, RanUntil};
 
     /// A house in which nothing has happened.
     pub fn new(alloc: A, core: Core<A>) -> House<A>
-        ensures core { core_of result ≡ core }
-        ensures connections { (c : ℕ) → seen_in result c ≡ never_opened }
+        ensures core { (state_of result).core ≡ core }
+        ensures connections { (c : ℕ) → (state_of result).seen c ≡ never_opened }
+        ensures stands { IsNewCore core → Stands core.entries (state_of result) [] }
     {
         House {
             connections: BTreeMap::new(alloc),
@@ -46,16 +46,16 @@ impl<A: Allocator + Copy> House<A> {
 
     /// The store that the connections share.
     pub fn core(&self) -> &Core<A>
-        ensures { result.now ≡ core_of self.now }
+        ensures { result.now ≡ (state_of self.now).core }
     {
         &self.core
     }
 
     /// Runs events on a new house. At an `Err` the first `done` events took place, and nothing more.
     pub fn run(&mut self, alloc: A, events: &[Event<A>]) -> Result<Outputs<A>, RunFault<A>>
-        requires { IsNewHouse self.old }
-        ensures ok { IfOk result (λ outputs. Shows (core_of self.old).entries (map event_of events.now) (told_in outputs) (marks_in outputs) (store_of (core_of self.new))) }
-        ensures err { IfErr result (λ fault. Shows (core_of self.old).entries (take fault.done (map event_of events.now)) (told_in fault.outputs) (marks_in fault.outputs) (store_of (core_of self.new))) }
+        requires { IsNewHouse (state_of self.old) }
+        ensures ok { IfOk result (λ outputs. Ran self.old events.now outputs self.new) }
+        ensures err { IfErr result (λ f. RanUntil f.done self.old events.now f.outputs self.new) }
         ensures done { IfErr result (λ fault. fault.done < length events.now) }
     {
         let mut outputs = Outputs::new(alloc);
@@ -69,15 +69,18 @@ impl<A: Allocator + Copy> House<A> {
         Ok(outputs)
     }
 
-    /// One event.
+    /// One event: one step, by which each history at which the house stands goes on.
     pub fn step(&mut self, alloc: A, event: &Event<A>) -> StepResult<A>
-        ensures { Steps self.old (event_of event.now) (step_result_of result) self.new }
+        ensures possible { CanAnswer (event_of event.now) (step_result_of result) }
+        ensures steps { Steps self.old (event_of event.now) result self.new }
     {
         match event {
             Event::Open(c) => self.open(alloc, *c),
-            Event::Piece(c, bytes) => self.piece(*c, bytes.as_slice()),
-            Event::Serve(c) => self.serve(alloc, *c),
-            Event::Close(c) => self.close(*c),
+            Event::Piece(c, bytes) => {
+                self.on(alloc, *c, ConnectionEvent::Piece(bytes.as_slice()))
+            }
+            Event::Serve(c) => self.on(alloc, *c, ConnectionEvent::Serve),
+            Event::Close(c) => self.on(alloc, *c, ConnectionEvent::Close),
             Event::Plan(_) => StepResult::NoJob,
             Event::Merge(_) => StepResult::Refused,
             Event::Install(_) => StepResult::Refused,
@@ -86,7 +89,8 @@ impl<A: Allocator + Copy> House<A> {
     }
 
     fn open(&mut self, alloc: A, c: u32) -> StepResult<A>
-        ensures { Steps self.old (event.Open c) (step_result_of result) self.new }
+        ensures possible { CanAnswerOn meant.Open (step_result_of result) }
+        ensures steps { Steps self.old (meant.On c meant.Open) result self.new }
     {
         if self.connections.contains_key(&c) {
             return StepResult::Refused;
@@ -97,29 +101,13 @@ impl<A: Allocator + Copy> House<A> {
         }
     }
 
-    fn piece(&mut self, c: u32, bytes: &[u8]) -> StepResult<A>
-        ensures { Steps self.old (event.Piece c bytes.now) (step_result_of result) self.new }
+    /// An event on a connection of this number, if it was opened.
+    fn on(&mut self, alloc: A, c: u32, event: ConnectionEvent<'_>) -> StepResult<A>
+        ensures possible { CanAnswerOn (meaning event.entry) (step_result_of result) }
+        ensures steps { Steps self.old (meant.On c (meaning event.entry)) result self.new }
     {
         match self.connections.get_mut(&c) {
-            Some(connection) => connection.feed(bytes),
-            None => StepResult::Refused,
-        }
-    }
-
-    fn serve(&mut self, alloc: A, c: u32) -> StepResult<A>
-        ensures { Steps self.old (event.Serve c) (step_result_of result) self.new }
-    {
-        match self.connections.get_mut(&c) {
-            Some(connection) => connection.serve(alloc, &mut self.core),
-            None => StepResult::Refused,
-        }
-    }
-
-    fn close(&mut self, c: u32) -> StepResult<A>
-        ensures { Steps self.old (event.Close c) (step_result_of result) self.new }
-    {
-        match self.connections.get_mut(&c) {
-            Some(connection) => connection.close(),
+            Some(connection) => connection.step(alloc, &mut self.core, event),
             None => StepResult::Refused,
         }
     }
@@ -134,7 +122,6 @@ fn open_at<A: Allocator + Copy>(
     requires { seen_at connections.old c ≡ never_opened }
     ensures ok { OnOk result (seen_at connections.new c ≡ just_opened) }
     ensures err { OnErr result (seen_at connections.new c ≡ never_opened) }
-    ensures tenant { (seen_at connections.new c).tenant ≡ None }
     ensures others { (d : ℕ) → d ≢ c → seen_at connections.new d ≡ seen_at connections.old d }
 {
     connections.insert(c, Connection::new(alloc))?;
@@ -143,7 +130,7 @@ fn open_at<A: Allocator + Copy>(
 
 /// The answer to a cache of this size.
 fn resized<A: Allocator>(leaves: usize) -> StepResult<A>
-    ensures { step_result_of result ≡ answer_to_event (event.Resize leaves) (λ c. Unused) }
+    ensures { MayAnswer (meant.Resize leaves) (step_result_of result) }
 {
     if leaves <= CACHE_LIMIT {
         StepResult::Done

@@ -1,15 +1,18 @@
 //! Connections over the core, in one thread: each event is one step.
 //!
-//! `House::run` carries the isolation theorem: whatever events there are, each connection is told what each
-//! tenant's own run, alone, over its own requests would tell, and each tenant's store is the last of its own
-//! run (`specs/Runs.antt`). `House::step` says what each event does and is answered (`specs/Steps.antt`).
-//! `Session` holds one connection's login and serves its words through any `Door`, whose meaning is a relation
-//! (`specs/Sessions.antt`); the house serves its core so.
+//! The house stands at a history (`specs/Steps.antt`): a new house at the empty one, and `House::step` gives one
+//! step of its event by which each history of the house goes on. So whoever drives `step` has the isolation
+//! theorem of all events so far: each connection is told what each tenant's own run, alone, over its own requests
+//! would tell, and each tenant's store is the last of its own run. `House::run` does so with a list of events
+//! (`specs/Runs.antt`).
+//! `Session` holds one connection's login and serves what comes on its stream through any `Door`, whose meaning
+//! is a relation (`specs/Sessions.antt`); the house serves its core so.
 //! Not said: time, and that memory is there; where memory was refused, the outputs name the event.
 #![tactic(auto)]
 
 pub mod answer;
 pub mod connection;
+pub mod connection_event;
 pub mod door;
 pub mod house;
 pub mod laws;

@@ -1,9 +1,7 @@
 //! What a run led to.
 ghost use Rattle.std.specs.Prelude.{◌≡◌, ◌++◌, ◌∷◌, [], ℕ, length, OnOk, OnErr, IfOk, map};
-ghost use Rattle.std.specs.List.{flat_map};
-ghost use Rattle.stow_model.specs.Reply.{encoding};
 ghost use Rattle.stow_house.specs.StepResult.{step_result_of};
-ghost use Rattle.stow_house.specs.Outputs.{told_in, marks_in, told_as, HasRoom, told_to, told_of, mark_of, replies_to};
+ghost use Rattle.stow_house.specs.Outputs.{told_in, marks_in, told_as, HasRoom, tells, marks, bytes_to};
 
 use crate::mark::Mark;
 use crate::step_result::StepResult;
@@ -46,7 +44,7 @@ impl<A: Allocator + Copy> Outputs<A> {
 
     /// The bytes that a connection is told.
     pub fn bytes(&self, alloc: A, connection: u32) -> Result<Vec<u8, A>, AllocError>
-        ensures { IfOk result (λ bytes. bytes.items ≡ flat_map encoding (replies_to connection (told_in self.now))) }
+        ensures { IfOk result (λ bytes. bytes.items ≡ bytes_to connection (told_in self.now)) }
     {
         let mut bytes = Vec::new(alloc);
         for told in &self.told {
@@ -68,13 +66,13 @@ impl<A: Allocator + Copy> Outputs<A> {
     }
 
     /// Adds what an event of this connection, if it has one, led to.
-    pub fn add(&mut self, connection: u32, outcome: StepResult<A>)
+    pub fn add(&mut self, connection: u32, answer: StepResult<A>)
         requires { HasRoom self.old }
-        ensures told { told_in self.new ≡ told_in self.old ++ told_to connection (told_of (step_result_of outcome)) }
-        ensures marks { marks_in self.new ≡ marks_in self.old ++ mark_of (step_result_of outcome) ∷ [] }
+        ensures told { told_in self.new ≡ told_in self.old ++ tells connection answer }
+        ensures marks { marks_in self.new ≡ marks_in self.old ++ marks (step_result_of answer) }
     {
-        let _ = self.marks.push(outcome.mark());
-        if let StepResult::Answered(reply) = outcome {
+        let _ = self.marks.push(answer.mark());
+        if let StepResult::Answered(reply) = answer {
             let _ = self.told.push(Told { connection, reply });
         }
     }

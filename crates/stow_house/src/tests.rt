@@ -1,5 +1,6 @@
 //! The house over memory: worked examples, random requests beside each tenant's own run, and refused memory.
 ghost use Rattle.std.specs.Prelude.{IfOk};
+ghost use Rattle.stow_house.specs.Steps.{state_of};
 ghost use Rattle.stow_house.specs.Runs.{IsNewHouse};
 
 use crate::house::House;
@@ -10,9 +11,9 @@ use std::alloc::{AllocError, Allocator, Global};
 use std::process::Abort;
 use std::sync::Arc;
 use std::test::Fail;
+use stow_bytes::byte_string::ByteString;
 use stow_core::Core;
 use stow_login::tenants::Tenants;
-use stow_model::byte_string::ByteString;
 use stow_model::event::Event;
 use stow_model::words::Words;
 use stow_plain::own_run::own_run;
@@ -67,7 +68,7 @@ quota = 1000000
 ";
 
 fn new_house<A: Allocator + Copy>(alloc: A, global: Global) -> Result<House<A>, AllocError>
-    ensures { IfOk result (λ house. IsNewHouse house) }
+    ensures { IfOk result (λ house. IsNewHouse (state_of house)) }
 {
     house_of(alloc, global, THREE)
 }
@@ -78,7 +79,7 @@ fn house_of<A: Allocator + Copy>(
     global: Global,
     text: &str,
 ) -> Result<House<A>, AllocError>
-    ensures { IfOk result (λ house. IsNewHouse house) }
+    ensures { IfOk result (λ house. IsNewHouse (state_of house)) }
 {
     let tenants = Tenants::read(alloc, global, text).map_err(|_| AllocError)?;
     let tenants = Arc::new(alloc, tenants).map_err(AllocError::from)?;

@@ -11,7 +11,7 @@ use crate::tenants::Tenants;
 use crate::tenants_fault::TenantsFault;
 use hex::{FromHex, FromHexError};
 use std::alloc::Allocator;
-use stow_model::byte_string::ByteString;
+use stow_bytes::byte_string::ByteString;
 use toml::{Table, Value};
 
 /// The most tenants of a file.

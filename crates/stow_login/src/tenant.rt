@@ -1,6 +1,6 @@
 //! A tenant of the service.
 use std::alloc::{Allocator, Global};
-use stow_model::byte_string::ByteString;
+use stow_bytes::byte_string::ByteString;
 
 /// Who may log in as whom, and how many bytes its rows may be charged.
 #[derive(Drop)]

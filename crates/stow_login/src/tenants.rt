@@ -11,7 +11,7 @@ use crate::tenants_fault::TenantsFault;
 use sha2::{Digest, Sha256};
 use std::alloc::{AllocError, Allocator, Global};
 use std::marker::Model;
-use stow_model::byte_string::ByteString;
+use stow_bytes::byte_string::ByteString;
 
 /// Fewer than 65,536 tenants, each with an index that counts from 1.
 #[derive(Drop)]

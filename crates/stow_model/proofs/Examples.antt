@@ -1,5 +1,6 @@
 -- The examples hold.
 use Rattle.std.proofs.Common.{◌≡◌, ◌≢◌, ℕ, zero, suc, ◌-◌, ◌<◌, ◌≤◌, Bool, true, false, get_or, List, [], ◌∷◌, ◌++◌, length, length-append, replicate, refl, ap, ◌∙◌, sym, subst, arith, lit<, inl, inr}
+use mathlib.Core.Bool.{false≢true}
 use Rattle.std.specs.Prelude.{codes, Option, Some, None, if◌then◌else◌, ◌==◌, ◌||◌}
 use Rattle.std.specs.List.{AllByRecursion, list_any}
 use Rattle.std.specs.Str.{bytes_eq}
@@ -13,7 +14,7 @@ use Rattle.stow_model.specs.Message.{Message, Words, Quoted, Blank}
 use Rattle.stow_model.specs.Wire.{array_line, bulks, message_of_text, text_of_line, begins_array, IsLine, Spells, IsBegun, IsFaulty, IsPlace}
 use Rattle.stow_model.specs.Command.{kind_of}
 use Rattle.stow_model.specs.Login.{Entry, login, entry_at}
-use Rattle.stow_model.specs.History.{IsStep, IsHistory, Takes, Waits, status_of, stream_of, taken_by, served_as, line_of, output_of, reply_of}
+use Rattle.stow_model.specs.History.{IsStep, Follows, MayBeVoid, IsHistory, Takes, TakesWords, Waits, part_of, status_of, stream_of, taken_by, served_as, line_of, service_of, tellings, telling_of, told_at}
 use Rattle.stow_model.specs.Examples.{Encodings, OfWords, OfStreams, OfLines, OfLogins, OfHistories, OfCharges, Examples}
 use Rattle.stow_model.proofs.Spelling.{spelled_once, array_of}
 use Rattle.stow_model.proofs.Places.{fault_once_lem}
@@ -202,16 +203,26 @@ not_waited (front, rest, all, begun, e) =
     let whole : codes "*0\r\n" ≡ rest = e ∙ ap (λ f. f ++ rest) all in
     begun_none (codes "*0\r\n") (subst IsBegun (sym whole) begun) Blank (codes "*0\r\n") [] blank refl
 
+-- what stands there isn't the words of a message
+no_words : TakesWords (codes "*0\r\n") [] → ⊥
+no_words (words, (front, spelling, rest, all, s, e)) =
+    let whole : spelling ++ rest ≡ codes "*0\r\n" ++ [] = sym (ap (λ f. f ++ (spelling ++ rest)) all) ∙ sym e in
+    let same : ◌≡◌ {A = Message} (Words words) Blank = (spelled_once (Words words) Blank spelling (codes "*0\r\n") rest [] s blank whole).0 in cc
+
 abbrev first_of_name : Option Entry → ℕ
 first_of_name None = 0
 first_of_name (Some entry) = get_or entry.name 0 0
 
 of_histories : OfHistories
-unfolding IsHistory IsStep status_of stream_of taken_by served_as line_of output_of reply_of entry_at kind_of
+unfolding IsHistory IsStep Follows MayBeVoid part_of status_of stream_of taken_by served_as line_of service_of tellings telling_of told_at entry_at kind_of
 of_histories = record {
-  history = ((refl, ([], codes "*0\r\n", [], refl, blank, refl)), (tt, (tt, tt)));
+  history = ((refl, ([], codes "*0\r\n", [], refl, blank, refl), λ e. absurd (false≢true e)), (tt, (tt, tt)));
   not_history = λ h. nothing_taken h.0.1;
   not_waiting = λ h. not_waited h.0;
+  void_open = (refl, tt);
+  no_void_close = λ h. h.0;
+  no_void_blank = λ h. no_words h.0.1;
+  no_refused_blank = λ h. absurd (false≢true (h.0.2 refl));
   is_open = refl;
   is_closed = refl;
   stream = refl;

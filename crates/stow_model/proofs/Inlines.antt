@@ -59,7 +59,7 @@ no_inline front byte (all, short, plain) long differ m spelling more y s e = eli
       let (after, at) = array_sign m spelling array in
       line_first front (byte ∷ more) (after ++ y) plain (omega arith) (sym (append_assoc front (byte ∷ []) more) ∙ e ∙ ap (λ t. t ++ y) at)
   | inr (line, (all', short', plain'), at, is) ↦
-      let beyond : length (front ++ byte ∷ []) ≤ length line = lf_beyond (front ++ byte ∷ []) line more y (all_append front (byte ∷ []) all (differ, tt)) (e ∙ ap (λ t. t ++ y) at ∙ append_assoc line (10 ∷ []) y) in
+      let beyond : length (front ++ byte ∷ []) ≤ length line = lf_beyond (front ++ byte ∷ []) line more y (all_append (λ x. x ≢ 10) front (byte ∷ []) all (differ, tt)) (e ∙ ap (λ t. t ++ y) at ∙ append_assoc line (10 ∷ []) y) in
       omega (arith, length-append front (byte ∷ []), beyond, short')
 ]
 
@@ -176,7 +176,7 @@ ended_at bytes looked end more h from to short f =
       rest = rest;
       long = long;
       is = (
-        all_append a (take more S) h.2.0 (all_map (λ b. (b == 10) ≡ false) (λ b. b ≢ 10) (take more S) is_no_lf f.fail),
+        all_append (λ x. x ≢ 10) a (take more S) h.2.0 (all_map (λ b. (b == 10) ≡ false) (λ b. b ≢ 10) (take more S) is_no_lf f.fail),
         omega (arith, f.in_range),
         plain_front line (10 ∷ rest) (subst (λ t. begins_array t ≡ false) at h.0),
       );
@@ -196,7 +196,7 @@ line_found bytes front back looked end more h from to short f at_front at_back =
 
 -- no LF among those that are looked at
 no_lf_yet : (bytes : List ℕ) (looked end : ℕ) → IsLooked looked bytes → AllByRecursion (λ b. (b == 10) ≡ false) (searched bytes looked end) → AllByRecursion (λ b. b ≢ 10) (take looked bytes ++ searched bytes looked end)
-no_lf_yet bytes looked end h none = all_append (take looked bytes) (searched bytes looked end) h.2.0 (all_map (λ b. (b == 10) ≡ false) (λ b. b ≢ 10) (searched bytes looked end) is_no_lf none)
+no_lf_yet bytes looked end h none = all_append (λ x. x ≢ 10) (take looked bytes) (searched bytes looked end) h.2.0 (all_map (λ b. (b == 10) ≡ false) (λ b. b ≢ 10) (searched bytes looked end) is_no_lf none)
 
 pub line_goes_on : (bytes : List ℕ) (looked : ℕ) → IsLooked looked bytes → length bytes ≤ 65536 → AllByRecursion (λ b. (b == 10) ≡ false) (take (length bytes - looked) (drop looked bytes)) → IsLine bytes
 line_goes_on bytes looked h short none =

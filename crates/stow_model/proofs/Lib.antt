@@ -5,7 +5,7 @@ pub mod Messages
 pub mod Inlines
 pub mod Places
 pub mod Alone
+pub mod Refused
 pub mod OneHistory
 pub mod Fronts
 pub mod Examples
-pub mod ByteKeys

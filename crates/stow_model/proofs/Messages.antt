@@ -10,7 +10,7 @@ use Rattle.stow_model.specs.declared.stream_fault.StreamFault.TheVariants.{Inval
 use Rattle.stow_model.specs.Wire.{array_line, null_line, bulk, bulks, FitsBulk, IsArray, Spells, IsBegun, IsFaulty, IsPlace}
 use Rattle.std.proofs.lemmas.Fmt.{decimal_nonempty}
 use Rattle.stow_model.proofs.Spelling.{line_once, bulk_once, IsDigit, array_of}
-use Rattle.stow_model.proofs.Numbers.{digits_of_decimal}
+use Rattle.stow_model.proofs.Numbers.{all_append, digits_of_decimal}
 use Rattle.stow_model.specs.Parts.{ends, IsBegunNumber, IsStuckNumber, IsBegunBulk, IsNoBulk, IsStuckBulk, IsBulkPlace}
 
 -- ---- lists of words
@@ -18,10 +18,6 @@ use Rattle.stow_model.specs.Parts.{ends, IsBegunNumber, IsStuckNumber, IsBegunBu
 bulks-append : (a b : List (List ℕ)) → bulks (a ++ b) ≡ bulks a ++ bulks b
 bulks-append [] b = refl
 bulks-append (w ∷ a) b = ap (λ t. bulk w ++ t) (bulks-append a b) ∙ sym (append_assoc (bulk w) (bulks a) (bulks b))
-
-all_append : (a b : List (List ℕ)) → AllByRecursion FitsBulk a → AllByRecursion FitsBulk b → AllByRecursion FitsBulk (a ++ b)
-all_append [] b p q = q
-all_append (w ∷ a) b p q = (p.0, all_append a b p.1 q)
 
 blanks : ℕ → List (List ℕ)
 blanks n = replicate n []
@@ -163,7 +159,7 @@ array_begun n words part few fewer fits (word, next, more, fit, e) =
       array_spells (message.Words ws) _ (
         omega arith,
         omega arith,
-        all_append words (word ∷ rest) fits (fit, all-blanks (n - length words - 1)),
+        all_append FitsBulk words (word ∷ rest) fits (fit, all-blanks (n - length words - 1)),
         append_assoc (array_line n) (bulks words ++ part) (next ∷ (more ++ bulks rest)) ∙ (λ i. array_line (sym len i) ++ sym all i),
       ),
     )
@@ -221,4 +217,4 @@ pub one_more_word : (words : List (List ℕ)) (word rest left after : List ℕ) 
 one_more_word words word rest left after e f = e ∙ ap (λ t. bulks words ++ t) f ∙ sym (append_assoc (bulks words) (bulk word) after) ∙ ap (λ t. t ++ after) (ap (λ t. bulks words ++ t) (sym (append-nil (bulk word))) ∙ sym (bulks-append words (word ∷ [])))
 
 pub one_more_fits : (words : List (List ℕ)) (word : List ℕ) → AllByRecursion FitsBulk words → FitsBulk word → AllByRecursion FitsBulk (words ++ word ∷ [])
-one_more_fits words word fits fit = all_append words (word ∷ []) fits (fit, tt)
+one_more_fits words word fits fit = all_append FitsBulk words (word ∷ []) fits (fit, tt)

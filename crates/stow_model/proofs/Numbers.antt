@@ -192,9 +192,9 @@ stuck_some limit front after value byte few h long other no_cr =
       stuck = subst (λ t. IsNoNumber limit (t ++ byte ∷ [])) (sym some.0) (no_digit limit value byte few some.1 other no_cr);
     }
 
-pub all_append : (a b : List ℕ) → AllByRecursion (λ x. x ≢ 10) a → AllByRecursion (λ x. x ≢ 10) b → AllByRecursion (λ x. x ≢ 10) (a ++ b)
-all_append [] b p q = q
-all_append (x ∷ a) b p q = (p.0, all_append a b p.1 q)
+pub all_append : {X : Type 0} (P : X → Type 0) (a b : List X) → AllByRecursion P a → AllByRecursion P b → AllByRecursion P (a ++ b)
+all_append P [] b p q = q
+all_append P (x ∷ a) b p q = (p.0, all_append P a b p.1 q)
 
 cr_begun : (limit : ℕ) (front : List ℕ) (value : ℕ) → IsSoFar limit front value → 0 < length front → IsBegunNumber limit (front ++ 13 ∷ [])
 cr_begun limit front value h long = let some = some_so_far limit front value h long in (value, 10, [], some.1, append_assoc front (13 ∷ []) (10 ∷ []) ∙ ap (λ t. t ++ 13 ∷ 10 ∷ []) some.0)
@@ -207,7 +207,7 @@ stuck_cr limit front after value byte few h long no_lf =
       byte = byte;
       more = after;
       at = sym (append_assoc front (13 ∷ []) (byte ∷ after));
-      in_line = all_append front (13 ∷ []) (so_far_in_line limit front value few h) ((λ e. omega arith), tt);
+      in_line = all_append (λ x. x ≢ 10) front (13 ∷ []) (so_far_in_line limit front value few h) ((λ e. omega arith), tt);
       begun = cr_begun limit front value h long;
       stuck = subst (λ t. IsNoNumber limit ((t ++ 13 ∷ []) ++ byte ∷ [])) (sym some.0) (no_line_feed limit value byte few some.1 no_lf);
     }

@@ -1,11 +1,12 @@
 -- What each event led to is told by the events and the marks.
-use Rattle.std.proofs.Common.{◌≡◌, ℕ, List, [], ◌∷◌, ◌++◌, refl, ap, ◌∙◌, sym, subst, append_assoc, append-nil, length, length-append, arith}
+use Rattle.std.proofs.Common.{◌≡◌, ℕ, Option, List, [], ◌∷◌, ◌++◌, refl, ap, ◌∙◌, sym, subst, append_assoc, append-nil, length, length-append, arith}
 use Rattle.stow_model.specs.declared.stream_fault.StreamFault.{StreamFault}
 use Rattle.stow_model.specs.Message.{Message}
-use Rattle.stow_model.specs.Event.{Event}
+use Rattle.stow_model.specs.Event.{ConnectionEvent}
 use Rattle.stow_model.specs.Event as event
 use Rattle.stow_model.specs.Wire.{SpellsAll, HasNoMessage, IsBegun, IsFaulty, FaultyNotBegun}
-use Rattle.stow_model.specs.History.{Step, Void, Plain, Took, Broke, event_of, is_void, is_refused, Status, IsOpen, status_of, stream_of, taken_by, Takes, Waits, Breaks, MayTakeNothing, MayBePlain, CanLead, IsStep, IsHistory, OneHistory}
+use Rattle.stow_model.specs.Login.{Entry}
+use Rattle.stow_model.specs.History.{Step, Void, At, Flushed, ConnectionStep, Plain, Took, Broke, event_of_own, event_of_step, is_void, is_refused_own, is_refused, Status, IsOpen, part_of, status_of, served_as, stream_of, taken_by, Takes, Waits, Breaks, MayTakeNothing, MayBePlain, CanLead, Follows, IsStep, IsHistory, OneHistory}
 use Rattle.stow_model.proofs.Spelling.{spelled_once}
 use Rattle.stow_model.proofs.Places.{begun_front, fault_once_lem}
 
@@ -51,51 +52,51 @@ breaks_once fault fault' stream taken (front, rest, all, faulty, e) (front', res
     fault_once_lem rest' fault fault' (subst (λ t. IsFaulty t fault) (front_once taken front front' rest rest' all all' (sym e ∙ e')) faulty) faulty'
 
 -- a Serve on an open connection that took nothing waits
-plain_waits : (e : Event) (c : ℕ) (status : ℕ → Status) (stream : ℕ → List ℕ) (taken : ℕ → List Message) → e ≡ event.Serve c → MayBePlain e status stream taken → status c ≡ IsOpen → Waits (stream c) (taken c)
-plain_waits e c status stream taken is may opened =
-    let may' : MayBePlain (event.Serve c) status stream taken = subst (λ x. MayBePlain x status stream taken) is may in
-    subst (λ s. MayTakeNothing s (stream c) (taken c)) opened may'
-
-served_once : (c d : ℕ) → event.Serve c ≡ event.Serve d → c ≡ d
-served_once c d e = cc
+plain_waits : (e : ConnectionEvent) (status : Status) (stream : List ℕ) (taken : List Message) → e ≡ event.Serve → MayBePlain e status stream taken → status ≡ IsOpen → Waits stream taken
+plain_waits e status stream taken is may opened =
+    subst (λ s. MayTakeNothing s stream taken) opened (subst (λ x. MayBePlain x status stream taken) is may)
 
 -- ---- steps
 
-step_once : (s t : Step) (status : ℕ → Status) (stream : ℕ → List ℕ) (taken : ℕ → List Message) → CanLead s status stream taken → CanLead t status stream taken → event_of s ≡ event_of t → is_void s ≡ is_void t → is_refused s ≡ is_refused t → s ≡ t
-step_once (Void e) (Void e') status stream taken p q same void refused = ap Void same
-step_once (Void e) (Plain e') status stream taken p q same void refused = cc
-step_once (Void e) (Took c m r) status stream taken p q same void refused = cc
-step_once (Void e) (Broke c f) status stream taken p q same void refused = cc
-step_once (Plain e) (Void e') status stream taken p q same void refused = cc
-step_once (Plain e) (Plain e') status stream taken p q same void refused = ap Plain same
-step_once (Plain e) (Took c m r) status stream taken p q same void refused = absurd (waits_takes m (stream c) (taken c) (plain_waits e c status stream taken same p q.0) q.1)
-step_once (Plain e) (Broke c f) status stream taken p q same void refused = absurd (waits_breaks f (stream c) (taken c) (plain_waits e c status stream taken same p q.0) q.1)
-step_once (Took c m r) (Void e') status stream taken p q same void refused = cc
-step_once (Took c m r) (Plain e') status stream taken p q same void refused = absurd (waits_takes m (stream c) (taken c) (plain_waits e' c status stream taken (sym same) q p.0) p.1)
-step_once (Took c m r) (Took d m' r') status stream taken p q same void refused =
-    let one : c ≡ d = served_once c d same in
-    let both : m ≡ m' = takes_once m m' (stream d) (taken d) (subst (λ x. Takes m (stream x) (taken x)) one p.1) q.1 in
-    λ i. Took (one i) (both i) (refused i)
-step_once (Took c m r) (Broke d f) status stream taken p q same void refused =
-    let one : c ≡ d = served_once c d same in
-    absurd (takes_breaks m f (stream d) (taken d) (subst (λ x. Takes m (stream x) (taken x)) one p.1) q.1)
-step_once (Broke c f) (Void e') status stream taken p q same void refused = cc
-step_once (Broke c f) (Plain e') status stream taken p q same void refused = absurd (waits_breaks f (stream c) (taken c) (plain_waits e' c status stream taken (sym same) q p.0) p.1)
-step_once (Broke c f) (Took d m r) status stream taken p q same void refused =
-    let one : c ≡ d = served_once c d same in
-    absurd (takes_breaks m f (stream d) (taken d) q.1 (subst (λ x. Breaks f (stream x) (taken x)) one p.1))
-step_once (Broke c f) (Broke d f') status stream taken p q same void refused =
-    let one : c ≡ d = served_once c d same in
-    let both : f ≡ f' = breaks_once f f' (stream d) (taken d) (subst (λ x. Breaks f (stream x) (taken x)) one p.1) q.1 in
-    λ i. Broke (one i) (both i)
+own_once : (s t : ConnectionStep) (status : Status) (tenant : Option ℕ) (stream : List ℕ) (taken : List Message) → CanLead s status tenant stream taken → CanLead t status tenant stream taken → event_of_own s ≡ event_of_own t → is_refused_own s ≡ is_refused_own t → s ≡ t
+own_once (Plain e) (Plain e') status tenant stream taken p q same refused = ap Plain same
+own_once (Plain e) (Took m r) status tenant stream taken p q same refused = absurd (waits_takes m stream taken (plain_waits e status stream taken same p q.0) q.1)
+own_once (Plain e) (Broke f) status tenant stream taken p q same refused = absurd (waits_breaks f stream taken (plain_waits e status stream taken same p q.0) q.1)
+own_once (Took m r) (Plain e') status tenant stream taken p q same refused = absurd (waits_takes m stream taken (plain_waits e' status stream taken (sym same) q p.0) p.1)
+own_once (Took m r) (Took m' r') status tenant stream taken p q same refused = λ i. Took (takes_once m m' stream taken p.1 q.1 i) (refused i)
+own_once (Took m r) (Broke f) status tenant stream taken p q same refused = absurd (takes_breaks m f stream taken p.1 q.1)
+own_once (Broke f) (Plain e') status tenant stream taken p q same refused = absurd (waits_breaks f stream taken (plain_waits e' status stream taken (sym same) q p.0) p.1)
+own_once (Broke f) (Took m r) status tenant stream taken p q same refused = absurd (takes_breaks m f stream taken q.1 p.1)
+own_once (Broke f) (Broke f') status tenant stream taken p q same refused = ap Broke (breaks_once f f' stream taken p.1 q.1)
+
+same_connection : (c d : ℕ) (e e' : ConnectionEvent) → event.On c e ≡ event.On d e' → c ≡ d
+same_connection c d e e' same = cc
+
+same_event : (c d : ℕ) (e e' : ConnectionEvent) → event.On c e ≡ event.On d e' → e ≡ e'
+same_event c d e e' same = cc
+
+step_once : (entries : List Entry) (s t : Step) (earlier : List Step) → IsStep entries s earlier → IsStep entries t earlier → event_of_step s ≡ event_of_step t → is_void s ≡ is_void t → is_refused s ≡ is_refused t → s ≡ t
+unfolding IsStep Follows
+step_once entries (Void e) (Void e') earlier p q same void refused = ap Void same
+step_once entries (Void e) (At d t) earlier p q same void refused = cc
+step_once entries (Void e) (Flushed e') earlier p q same void refused = cc
+step_once entries (At c s) (Void e') earlier p q same void refused = cc
+step_once entries (At c s) (At d t) earlier p q same void refused =
+    let one : c ≡ d = same_connection c d (event_of_own s) (event_of_own t) same in
+    let part = part_of d earlier in
+    let both : s ≡ t = own_once s t (status_of part) (served_as entries part) (stream_of part) (taken_by part) (subst (λ x. Follows entries s (part_of x earlier)) one p) q (same_event c d (event_of_own s) (event_of_own t) same) refused in
+    λ i. At (one i) (both i)
+step_once entries (At c s) (Flushed e') earlier p q same void refused = cc
+step_once entries (Flushed e) (Void e') earlier p q same void refused = cc
+step_once entries (Flushed e) (At d t) earlier p q same void refused = cc
+step_once entries (Flushed e) (Flushed e') earlier p q same void refused = cc
 
 pub one_history_lem : OneHistory
-unfolding IsHistory IsStep
-one_history_lem [] [] p q same void refused = refl
-one_history_lem [] (t ∷ later) p q same void refused = cc
-one_history_lem (s ∷ earlier) [] p q same void refused = cc
-one_history_lem (s ∷ earlier) (t ∷ earlier') p q same void refused =
-    let before : earlier ≡ earlier' = one_history_lem earlier earlier' p.1 q.1 (cc) (cc) (cc) in
-    let leads : CanLead s (λ c. status_of c earlier') (λ c. stream_of c earlier') (λ c. taken_by c earlier') = subst (λ h. CanLead s (λ c. status_of c h) (λ c. stream_of c h) (λ c. taken_by c h)) before p.0 in
-    let one : s ≡ t = step_once s t (λ c. status_of c earlier') (λ c. stream_of c earlier') (λ c. taken_by c earlier') leads q.0 (cc) (cc) (cc) in
+unfolding IsHistory
+one_history_lem entries [] [] p q same void refused = refl
+one_history_lem entries [] (t ∷ later) p q same void refused = cc
+one_history_lem entries (s ∷ earlier) [] p q same void refused = cc
+one_history_lem entries (s ∷ earlier) (t ∷ earlier') p q same void refused =
+    let before : earlier ≡ earlier' = one_history_lem entries earlier earlier' p.1 q.1 (cc) (cc) (cc) in
+    let one : s ≡ t = step_once entries s t earlier' (subst (IsStep entries s) before p.0) q.0 (cc) (cc) (cc) in
     λ i. one i ∷ before i

@@ -3,7 +3,8 @@ use Rattle.std.specs.Prelude.{ℕ, ℤ, pos, negsuc, Bool, List, [], ◌∷◌, 
 use Rattle.std.specs.List.{list_any}
 use Rattle.std.specs.Str.{bytes_eq}
 use Rattle.std.specs.Char.{to_ascii_lowercase}
-use Rattle.stow_model.specs.Limits.{key_limit, deleted_limit}
+use Rattle.stow_bytes.specs.Limits.{key_limit}
+use Rattle.stow_model.specs.Limits.{deleted_limit}
 use Rattle.stow_model.specs.NumberText.{number_of, count_of}
 use Rattle.stow_model.specs.declared.refusal.Refusal.{Refusal}
 use Rattle.stow_model.specs.declared.refusal.Refusal.TheVariants as refusal

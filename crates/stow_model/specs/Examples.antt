@@ -1,21 +1,21 @@
 -- Definitions at examples, and at what they leave out.
-use Rattle.std.specs.Prelude.{◌≡◌, ℕ, ◌<◌, ◌≤◌, replicate, pos, false, Some, None, List, [], ◌∷◌, sum_by, codes}
+use Rattle.std.specs.Prelude.{◌≡◌, ℕ, ◌<◌, ◌≤◌, replicate, pos, true, false, Some, None, List, [], ◌∷◌, sum_by, codes}
 use Rattle.std.specs.declared.cmp.Ordering.TheVariants.{Less, Greater}
 use Rattle.stow_model.specs.declared.refusal.Refusal.TheVariants.{NotAuthenticated}
 use Rattle.stow_model.specs.declared.simple_string.SimpleString.TheVariants.{Ok, Pong}
 use Rattle.stow_model.specs.declared.stream_fault.StreamFault.TheVariants.{InvalidArrayLength, ExpectedBulk, InvalidBulkLength, InlineTooLong}
 use Rattle.sha2.specs.Sha256.{sha256}
 use Rattle.stow_model.specs.Limits.{line_limit}
-use Rattle.stow_model.specs.Bytes.{bytes_cmp}
+use Rattle.stow_bytes.specs.Bytes.{bytes_cmp}
 use Rattle.stow_model.specs.Item as item
 use Rattle.stow_model.specs.Message.{Words, Quoted, Blank}
-use Rattle.stow_model.specs.Event.{Open, Piece, Serve}
+use Rattle.stow_model.specs.Event.{On, Open, Piece, Serve, Close}
 use Rattle.stow_model.specs.Reply.{Simple, Error, ProtocolError, Integer, Bulk, Null, Array, encoding}
 use Rattle.stow_model.specs.Wire.{Spells, HasNoMessage, IsBegun, Splits, IsFaulty, IsPlace}
 use Rattle.stow_model.specs.Command.{Login, Quit, Malformed, ForStore, kind_of}
 use Rattle.stow_model.specs.Login.{Entry, IsTenant, login}
-use Rattle.stow_model.specs.Store.{Shown, cost, distinct}
-use Rattle.stow_model.specs.History.{Step, Void, Plain, Took, IsOpen, Closed, IsHistory, IsForAnother, ServesAlike, output_of, status_of, stream_of}
+use Rattle.stow_model.specs.Store.{Asked, Shown, cost, distinct}
+use Rattle.stow_model.specs.History.{Step, Void, At, Plain, Took, part_of, IsOpen, Closed, IsHistory, IsForAnother, ServesAlike, output_of, status_of, stream_of}
 
 -- replies and their bytes (RESP protocol specification, "RESP protocol description")
 pub record Encodings : Type 0 where
@@ -80,11 +80,11 @@ pub record OfLines : Type 0 where
 
 -- connection 1 is opened, a blank comes, and is served
 abbrev pub blank_served : List Step
-blank_served = Took 1 Blank false ∷ Plain (Piece 1 (codes "*0\r\n")) ∷ Plain (Open 1) ∷ []
+blank_served = At 1 (Took Blank false) ∷ At 1 (Plain (Piece (codes "*0\r\n"))) ∷ At 1 (Plain Open) ∷ []
 
 -- connection 1 is opened, asks for a key, and asks to be closed
 abbrev pub not_logged_in : List Step
-not_logged_in = Took 1 (Words (codes "quit" ∷ [])) false ∷ Took 1 (Words (codes "GET" ∷ codes "k" ∷ [])) false ∷ Plain (Open 1) ∷ []
+not_logged_in = At 1 (Took (Words (codes "quit" ∷ [])) false) ∷ At 1 (Took (Words (codes "GET" ∷ codes "k" ∷ [])) false) ∷ At 1 (Plain Open) ∷ []
 
 -- a tenant's entry, whose password is `bc`
 abbrev pub some_entry : Entry
@@ -101,18 +101,22 @@ pub record OfLogins : Type 0 where
 
 -- histories
 pub record OfHistories : Type 0 where
-  pub history : IsHistory blank_served
-  pub not_history : IsHistory (Took 1 Blank false ∷ Plain (Open 1) ∷ []) → ⊥
-  pub not_waiting : IsHistory (Plain (Serve 1) ∷ Plain (Piece 1 (codes "*0\r\n")) ∷ Plain (Open 1) ∷ []) → ⊥
-  pub is_open : status_of 1 blank_served ≡ IsOpen
-  pub is_closed : status_of 1 not_logged_in ≡ Closed
-  pub stream : stream_of 1 blank_served ≡ codes "*0\r\n"
+  pub history : IsHistory [] blank_served
+  pub not_history : IsHistory [] (At 1 (Took Blank false) ∷ At 1 (Plain Open) ∷ []) → ⊥
+  pub not_waiting : IsHistory [] (At 1 (Plain Serve) ∷ At 1 (Plain (Piece (codes "*0\r\n"))) ∷ At 1 (Plain Open) ∷ []) → ⊥
+  pub void_open : IsHistory [] (Void (On 1 Open) ∷ [])
+  pub no_void_close : IsHistory [] (Void (On 1 Close) ∷ At 1 (Plain Open) ∷ []) → ⊥
+  pub no_void_blank : IsHistory [] (Void (On 1 Serve) ∷ At 1 (Plain (Piece (codes "*0\r\n"))) ∷ At 1 (Plain Open) ∷ []) → ⊥
+  pub no_refused_blank : IsHistory [] (At 1 (Took Blank true) ∷ At 1 (Plain (Piece (codes "*0\r\n"))) ∷ At 1 (Plain Open) ∷ []) → ⊥
+  pub is_open : status_of (part_of 1 blank_served) ≡ IsOpen
+  pub is_closed : status_of (part_of 1 not_logged_in) ≡ Closed
+  pub stream : stream_of (part_of 1 blank_served) ≡ codes "*0\r\n"
   pub told : output_of [] 1 not_logged_in ≡ Simple Ok ∷ Error NotAuthenticated ∷ []
-  pub void : output_of [] 1 (Void (Serve 1) ∷ Plain (Open 1) ∷ []) ≡ []
+  pub void : output_of [] 1 (Void (On 1 Serve) ∷ At 1 (Plain Open) ∷ []) ≡ []
   pub alike : ServesAlike (some_entry ∷ []) 1 [] (other_entry ∷ some_entry ∷ []) 2 blank_served
   pub not_alike : ServesAlike (some_entry ∷ []) 1 [] (other_entry ∷ []) 1 [] → ⊥
-  pub another : IsForAnother 1 (Some (record { tenant = 2; request = record { words = []; is_refused = false } }))
-  pub not_another : IsForAnother 2 (Some (record { tenant = 2; request = record { words = []; is_refused = false } })) → ⊥
+  pub another : IsForAnother 1 (Some (record { tenant = 2; event = Asked (record { words = []; is_refused = false }) }))
+  pub not_another : IsForAnother 2 (Some (record { tenant = 2; event = Asked (record { words = []; is_refused = false }) })) → ⊥
   pub tenant : IsTenant (some_entry ∷ []) 1
   pub not_tenant : IsTenant (some_entry ∷ []) 0 → ⊥
 

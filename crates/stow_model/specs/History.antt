@@ -1,51 +1,73 @@
 -- What has happened at the service, told newest first, and what it means to each connection and each tenant.
-use Rattle.std.specs.Prelude.{◌≡◌, ◌≢◌, ℕ, Bool, true, false, List, [], ◌∷◌, ◌++◌, map, Option, Some, None, if◌then◌else◌, ◌==◌}
+use Rattle.std.specs.Prelude.{◌≡◌, ◌≢◌, ℕ, Bool, true, false, List, [], ◌∷◌, ◌++◌, map, filter, option_map, Option, Some, None, IsSome, if◌then◌else◌, ◌==◌}
 use Rattle.stow_model.specs.declared.stream_fault.StreamFault.{StreamFault}
 use Rattle.stow_model.specs.declared.refusal.Refusal.TheVariants as refusal
 use Rattle.stow_model.specs.declared.simple_string.SimpleString.TheVariants as simple
 use Rattle.stow_model.specs.Message.{Message}
 use Rattle.stow_model.specs.Message as message
-use Rattle.stow_model.specs.Event.{Event}
+use Rattle.stow_model.specs.Event.{Event, ConnectionEvent, FlusherEvent}
 use Rattle.stow_model.specs.Event as event
 use Rattle.stow_model.specs.Reply.{Reply, encoding}
 use Rattle.stow_model.specs.Reply as reply
 use Rattle.stow_model.specs.Wire.{Spells, SpellsAll, IsBegun, IsFaulty}
 use Rattle.stow_model.specs.Command.{Kind, Login, Quit, Malformed, ForStore, kind_of}
 use Rattle.stow_model.specs.Login.{Entry, login, quota_of, entry_at}
-use Rattle.stow_model.specs.Store.{Request, step, store_after, replies_after}
+use Rattle.stow_model.specs.Store.{OwnEvent, Asked, answer_with, store_after, replies_after}
+
+-- what an event of a connection led to
+pub data ConnectionStep : Type 0 where
+  -- it took nothing from the stream
+  Plain : ConnectionEvent → ConnectionStep
+  -- a Serve took this message; and whether memory was refused to the request that it is
+  Took : Message → Bool → ConnectionStep
+  -- a Serve met this fault
+  Broke : StreamFault → ConnectionStep
 
 -- an event, and what it led to
 pub data Step : Type 0 where
   -- memory was refused, and it is as if the event had not been
   Void : Event → Step
-  -- the event took nothing from a stream
-  Plain : Event → Step
-  -- a Serve of this connection took this message; and whether memory was refused to the request that it is
-  Took : ℕ → Message → Bool → Step
-  -- a Serve of this connection met this fault
-  Broke : ℕ → StreamFault → Step
+  At : ℕ → ConnectionStep → Step
+  Flushed : FlusherEvent → Step
 
-abbrev pub event_of : Step → Event
-event_of (Void e) = e
-event_of (Plain e) = e
-event_of (Took c m is_refused) = event.Serve c
-event_of (Broke c fault) = event.Serve c
+abbrev pub event_of_own : ConnectionStep → ConnectionEvent
+event_of_own (Plain e) = e
+event_of_own (Took m is_refused) = event.Serve
+event_of_own (Broke fault) = event.Serve
+
+abbrev pub event_of_step : Step → Event
+event_of_step (Void e) = e
+event_of_step (At c own) = event.On c (event_of_own own)
+event_of_step (Flushed e) = event.By e
 
 -- whether memory was refused, so that it is as if the event had not been
 abbrev pub is_void : Step → Bool
 is_void (Void e) = true
-is_void (Plain e) = false
-is_void (Took c m is_refused) = false
-is_void (Broke c fault) = false
+is_void (At c own) = false
+is_void (Flushed e) = false
+
+abbrev pub is_refused_own : ConnectionStep → Bool
+is_refused_own (Plain e) = false
+is_refused_own (Took m is_refused) = is_refused
+is_refused_own (Broke fault) = false
 
 -- whether memory was refused to the request that the event took
 abbrev pub is_refused : Step → Bool
 is_refused (Void e) = false
-is_refused (Plain e) = false
-is_refused (Took c m refused) = refused
-is_refused (Broke c fault) = false
+is_refused (At c own) = is_refused_own own
+is_refused (Flushed e) = false
 
 -- ---- one connection's part of the history
+
+abbrev pub with_own : ℕ → Step → List ConnectionStep → List ConnectionStep
+with_own c (Void e) part = part
+with_own c (At d own) part = if d == c then own ∷ part else part
+with_own c (Flushed e) part = part
+
+-- the connection's own steps, newest first
+unfoldable pub part_of : ℕ → List Step → List ConnectionStep
+part_of c [] = []
+part_of c (newest ∷ earlier) = with_own c newest (part_of c earlier)
 
 pub data Status : Type 0 where
   Unused : Status
@@ -74,20 +96,20 @@ status_after_message (message.Words words) status = status_after_kind (kind_of w
 status_after_message message.Quoted status = status
 status_after_message message.Blank status = status
 
-abbrev pub status_after_event : ℕ → Event → Status → Status
-status_after_event c (event.Open d) status = if d == c then opened status else status
-status_after_event c (event.Close d) status = if d == c then closed status else status
-status_after_event c _ status = status
+abbrev pub status_after_event : ConnectionEvent → Status → Status
+status_after_event event.Open status = opened status
+status_after_event (event.Piece bytes) status = status
+status_after_event event.Serve status = status
+status_after_event event.Close status = closed status
 
-abbrev pub status_after : ℕ → Step → Status → Status
-status_after c (Void e) status = status
-status_after c (Plain e) status = status_after_event c e status
-status_after c (Took d m is_refused) status = if d == c then status_after_message m status else status
-status_after c (Broke d fault) status = if d == c then Closed else status
+abbrev pub status_after : ConnectionStep → Status → Status
+status_after (Plain e) status = status_after_event e status
+status_after (Took m is_refused) status = status_after_message m status
+status_after (Broke fault) status = Closed
 
-unfoldable pub status_of : ℕ → List Step → Status
-status_of c [] = Unused
-status_of c (newest ∷ earlier) = status_after c newest (status_of c earlier)
+unfoldable pub status_of : List ConnectionStep → Status
+status_of [] = Unused
+status_of (newest ∷ earlier) = status_after newest (status_of earlier)
 
 -- the tenant whom a login makes the connection's; one that fails changes nothing
 abbrev pub served_after_login : Option ℕ → Option ℕ → Option ℕ
@@ -105,27 +127,25 @@ served_after_message entries (message.Words words) before = served_after_kind en
 served_after_message entries message.Quoted before = before
 served_after_message entries message.Blank before = before
 
-abbrev pub served_after : List Entry → ℕ → Step → Option ℕ → Option ℕ
-served_after entries c (Void e) before = before
-served_after entries c (Plain e) before = before
-served_after entries c (Took d m is_refused) before = if d == c then served_after_message entries m before else before
-served_after entries c (Broke d fault) before = before
+abbrev pub served_after : List Entry → ConnectionStep → Option ℕ → Option ℕ
+served_after entries (Plain e) before = before
+served_after entries (Took m is_refused) before = served_after_message entries m before
+served_after entries (Broke fault) before = before
 
 -- whom the connection is served as: the tenant of its last login that was accepted, if any
-unfoldable pub served_as : List Entry → ℕ → List Step → Option ℕ
-served_as entries c [] = None
-served_as entries c (newest ∷ earlier) = served_after entries c newest (served_as entries c earlier)
+unfoldable pub served_as : List Entry → List ConnectionStep → Option ℕ
+served_as entries [] = None
+served_as entries (newest ∷ earlier) = served_after entries newest (served_as entries earlier)
 
-abbrev pub taken_after : ℕ → Step → List Message → List Message
-taken_after c (Void e) taken = taken
-taken_after c (Plain e) taken = taken
-taken_after c (Took d m is_refused) taken = if d == c then m ∷ taken else taken
-taken_after c (Broke d fault) taken = taken
+abbrev pub taken_after : ConnectionStep → List Message → List Message
+taken_after (Plain e) taken = taken
+taken_after (Took m is_refused) taken = m ∷ taken
+taken_after (Broke fault) taken = taken
 
 -- the messages taken from the connection's stream, newest first
-unfoldable pub taken_by : ℕ → List Step → List Message
-taken_by c [] = []
-taken_by c (newest ∷ earlier) = taken_after c newest (taken_by c earlier)
+unfoldable pub taken_by : List ConnectionStep → List Message
+taken_by [] = []
+taken_by (newest ∷ earlier) = taken_after newest (taken_by earlier)
 
 -- a piece counts while the connection is open
 abbrev pub stream_with : Status → List ℕ → List ℕ → List ℕ
@@ -133,26 +153,71 @@ stream_with Unused stream bytes = stream
 stream_with IsOpen stream bytes = stream ++ bytes
 stream_with Closed stream bytes = stream
 
-abbrev pub stream_after_event : ℕ → Event → Status → List ℕ → List ℕ
-stream_after_event c (event.Piece d bytes) status stream = if d == c then stream_with status stream bytes else stream
-stream_after_event c _ status stream = stream
+abbrev pub stream_after_event : ConnectionEvent → Status → List ℕ → List ℕ
+stream_after_event event.Open status stream = stream
+stream_after_event (event.Piece bytes) status stream = stream_with status stream bytes
+stream_after_event event.Serve status stream = stream
+stream_after_event event.Close status stream = stream
 
-abbrev pub stream_after : ℕ → Step → Status → List ℕ → List ℕ
-stream_after c (Void e) status stream = stream
-stream_after c (Plain e) status stream = stream_after_event c e status stream
-stream_after c (Took d m is_refused) status stream = stream
-stream_after c (Broke d fault) status stream = stream
+abbrev pub stream_after : ConnectionStep → Status → List ℕ → List ℕ
+stream_after (Plain e) status stream = stream_after_event e status stream
+stream_after (Took m is_refused) status stream = stream
+stream_after (Broke fault) status stream = stream
 
 -- the pieces that came while the connection was open, joined
-unfoldable pub stream_of : ℕ → List Step → List ℕ
-stream_of c [] = []
-stream_of c (newest ∷ earlier) = stream_after c newest (status_of c earlier) (stream_of c earlier)
+unfoldable pub stream_of : List ConnectionStep → List ℕ
+stream_of [] = []
+stream_of (newest ∷ earlier) = stream_after newest (status_of earlier) (stream_of earlier)
+
+-- ---- one tenant's part of the history
+
+-- what comes to a tenant's store, and the tenant
+pub record Service : Type 0 where
+  pub tenant : ℕ
+  pub event : OwnEvent
+
+abbrev pub request_as : Kind → List (List ℕ) → Bool → Option ℕ → Option Service
+request_as (Login name password) words is_refused tenant = None
+request_as Quit words is_refused tenant = None
+request_as Malformed words is_refused tenant = None
+request_as ForStore words is_refused None = None
+request_as ForStore words is_refused (Some tenant) = Some (record { tenant = tenant; event = Asked (record { words = words; is_refused = is_refused }) })
+
+abbrev pub request_of_message : Message → Bool → Option ℕ → Option Service
+request_of_message (message.Words words) is_refused tenant = request_as (kind_of words) words is_refused tenant
+request_of_message message.Quoted is_refused tenant = None
+request_of_message message.Blank is_refused tenant = None
+
+-- the request that a connection's step takes to a tenant's store, if it does, by whom the connection is served as
+abbrev pub request_of : ConnectionStep → Option ℕ → Option Service
+request_of (Plain e) tenant = None
+request_of (Took m is_refused) tenant = request_of_message m is_refused tenant
+request_of (Broke fault) tenant = None
+
+-- what the step brings to a tenant's store, if it does
+unfoldable pub service_of : List Entry → Step → List Step → Option Service
+service_of entries (Void e) earlier = None
+service_of entries (At c own) earlier = request_of own (served_as entries (part_of c earlier))
+service_of entries (Flushed e) earlier = None
+
+abbrev pub with_service : ℕ → Option Service → List OwnEvent → List OwnEvent
+with_service tenant None line = line
+with_service tenant (Some service) line = if service.tenant == tenant then service.event ∷ line else line
+
+-- the tenant's line: its requests over all connections, newest first
+unfoldable pub line_of : List Entry → ℕ → List Step → List OwnEvent
+line_of entries tenant [] = []
+line_of entries tenant (newest ∷ earlier) = with_service tenant (service_of entries newest earlier) (line_of entries tenant earlier)
 
 -- ---- what each step may lead to
 
 -- the message is the next on the stream
 abbrev pub Takes : Message → List ℕ → List Message → Type 0
 Takes m stream taken = (front : List ℕ) × (spelling : List ℕ) × (rest : List ℕ) × SpellsAll taken front × Spells m spelling × (stream ≡ front ++ (spelling ++ rest))
+
+-- the words of a message are the next on the stream
+abbrev pub TakesWords : List ℕ → List Message → Type 0
+TakesWords stream taken = (words : List (List ℕ)) × Takes (message.Words words) stream taken
 
 -- the next message isn't whole yet
 abbrev pub Waits : List ℕ → List Message → Type 0
@@ -168,58 +233,45 @@ MayTakeNothing Unused stream taken = Unit {0}
 MayTakeNothing IsOpen stream taken = Waits stream taken
 MayTakeNothing Closed stream taken = Unit {0}
 
-abbrev pub MayBePlain : Event → (ℕ → Status) → (ℕ → List ℕ) → (ℕ → List Message) → Type 0
-MayBePlain (event.Serve c) status stream taken = MayTakeNothing (status c) (stream c) (taken c)
+abbrev pub MayBePlain : ConnectionEvent → Status → List ℕ → List Message → Type 0
+MayBePlain event.Serve status stream taken = MayTakeNothing status stream taken
 MayBePlain _ status stream taken = Unit {0}
 
-abbrev pub CanLead : Step → (ℕ → Status) → (ℕ → List ℕ) → (ℕ → List Message) → Type 0
-CanLead (Void e) status stream taken = Unit {0}
-CanLead (Plain e) status stream taken = MayBePlain e status stream taken
-CanLead (Took c m is_refused) status stream taken = (status c ≡ IsOpen) × Takes m (stream c) (taken c)
-CanLead (Broke c fault) status stream taken = (status c ≡ IsOpen) × Breaks fault (stream c) (taken c)
+-- memory is refused to a message only where that is a request of a tenant's store
+abbrev pub MayBeRefused : Message → Bool → Option ℕ → Type 0
+MayBeRefused m is_refused tenant = is_refused ≡ true → IsSome (request_of_message m is_refused tenant)
 
-unfoldable pub IsStep : Step → List Step → Type 0
-IsStep newest earlier = CanLead newest (λ c. status_of c earlier) (λ c. stream_of c earlier) (λ c. taken_by c earlier)
+abbrev pub CanLead : ConnectionStep → Status → Option ℕ → List ℕ → List Message → Type 0
+CanLead (Plain e) status tenant stream taken = MayBePlain e status stream taken
+CanLead (Took m is_refused) status tenant stream taken = (status ≡ IsOpen) × Takes m stream taken × MayBeRefused m is_refused tenant
+CanLead (Broke fault) status tenant stream taken = (status ≡ IsOpen) × Breaks fault stream taken
+
+-- memory is refused only to an event that asks for it
+abbrev pub CanBeVoid : ConnectionEvent → Status → List ℕ → List Message → Type 0
+CanBeVoid event.Open status stream taken = status ≡ Unused
+CanBeVoid (event.Piece bytes) status stream taken = status ≡ IsOpen
+CanBeVoid event.Serve status stream taken = (status ≡ IsOpen) × TakesWords stream taken
+CanBeVoid event.Close status stream taken = ⊥
+
+-- the connection's step follows from those before it
+unfoldable pub Follows : List Entry → ConnectionStep → List ConnectionStep → Type 0
+Follows entries newest earlier = CanLead newest (status_of earlier) (served_as entries earlier) (stream_of earlier) (taken_by earlier)
+
+-- an event of a connection with this part may be void
+unfoldable pub MayBeVoid : ConnectionEvent → List ConnectionStep → Type 0
+MayBeVoid e earlier = CanBeVoid e (status_of earlier) (stream_of earlier) (taken_by earlier)
+
+-- the step follows from those before it; no event of a flusher asks for memory yet
+unfoldable pub IsStep : List Entry → Step → List Step → Type 0
+IsStep entries (Void (event.On c e)) earlier = MayBeVoid e (part_of c earlier)
+IsStep entries (Void (event.By e)) earlier = ⊥
+IsStep entries (At c own) earlier = Follows entries own (part_of c earlier)
+IsStep entries (Flushed e) earlier = Unit {0}
 
 -- each step follows from those before it
-unfoldable pub IsHistory : List Step → Type 0
-IsHistory [] = Unit {0}
-IsHistory (newest ∷ earlier) = IsStep newest earlier × IsHistory earlier
-
--- ---- one tenant's part of the history
-
--- a request and the tenant whose store serves it
-pub record Service : Type 0 where
-  pub tenant : ℕ
-  pub request : Request
-
-abbrev pub request_as : Kind → List (List ℕ) → Bool → Option ℕ → Option Service
-request_as (Login name password) words is_refused tenant = None
-request_as Quit words is_refused tenant = None
-request_as Malformed words is_refused tenant = None
-request_as ForStore words is_refused None = None
-request_as ForStore words is_refused (Some tenant) = Some (record { tenant = tenant; request = record { words = words; is_refused = is_refused } })
-
-abbrev pub request_of_message : Message → Bool → Option ℕ → Option Service
-request_of_message (message.Words words) is_refused tenant = request_as (kind_of words) words is_refused tenant
-request_of_message message.Quoted is_refused tenant = None
-request_of_message message.Blank is_refused tenant = None
-
--- the request that the step takes to a tenant's store, if it does, by whom each connection is served as
-abbrev pub request_of : Step → (ℕ → Option ℕ) → Option Service
-request_of (Void e) served = None
-request_of (Plain e) served = None
-request_of (Took c m is_refused) served = request_of_message m is_refused (served c)
-request_of (Broke c fault) served = None
-
-abbrev pub with_request : ℕ → Option Service → List Request → List Request
-with_request tenant None line = line
-with_request tenant (Some service) line = if service.tenant == tenant then service.request ∷ line else line
-
--- the tenant's requests over all connections, newest first
-unfoldable pub line_of : List Entry → ℕ → List Step → List Request
-line_of entries tenant [] = []
-line_of entries tenant (newest ∷ earlier) = with_request tenant (request_of newest (λ c. served_as entries c earlier)) (line_of entries tenant earlier)
+unfoldable pub IsHistory : List Entry → List Step → Type 0
+IsHistory entries [] = Unit {0}
+IsHistory entries (newest ∷ earlier) = IsStep entries newest earlier × IsHistory entries earlier
 
 -- ---- what is told
 
@@ -247,49 +299,57 @@ message_reply entries (message.Words words) tenant of_tenant = Some (kind_reply 
 message_reply entries message.Quoted tenant of_tenant = Some (quoted_reply tenant)
 message_reply entries message.Blank tenant of_tenant = None
 
+-- what a connection's step is told, if anything, by whom the connection is served as; `of_tenant` gives a
+-- tenant's reply to words, with memory or without
+abbrev pub told_by : List Entry → ConnectionStep → Option ℕ → (Bool → List (List ℕ) → ℕ → Reply) → Option Reply
+told_by entries (Plain e) tenant of_tenant = None
+told_by entries (Took m is_refused) tenant of_tenant = message_reply entries m tenant (of_tenant is_refused)
+told_by entries (Broke fault) tenant of_tenant = Some (reply.ProtocolError fault)
+
 -- the reply at the request's place in the tenant's own run
 unfoldable pub reply_in_line : List Entry → List Step → Bool → List (List ℕ) → ℕ → Reply
-reply_in_line entries earlier is_refused words tenant = (step (quota_of entries tenant) (store_after (quota_of entries tenant) (line_of entries tenant earlier)) (record { words = words; is_refused = is_refused })).1
+reply_in_line entries earlier is_refused words tenant = (answer_with (store_after (quota_of entries tenant) (line_of entries tenant earlier)) (record { words = words; is_refused = is_refused })).1
 
--- what is told by the step, if anything; `of_tenant` gives a tenant's reply to words, with memory or without
-abbrev pub told_by : List Entry → Step → (ℕ → Option ℕ) → (Bool → List (List ℕ) → ℕ → Reply) → Option Reply
-told_by entries (Void e) served of_tenant = None
-told_by entries (Plain e) served of_tenant = None
-told_by entries (Took c m is_refused) served of_tenant = message_reply entries m (served c) (of_tenant is_refused)
-told_by entries (Broke c fault) served of_tenant = Some (reply.ProtocolError fault)
+-- what the connection is told by its next step, if anything
+unfoldable pub told_at : List Entry → ℕ → ConnectionStep → List Step → Option Reply
+told_at entries c own earlier = told_by entries own (served_as entries (part_of c earlier)) (reply_in_line entries earlier)
 
--- what the step's connection is told, if anything
-unfoldable pub reply_of : List Entry → Step → List Step → Option Reply
-reply_of entries newest earlier = told_by entries newest (λ c. served_as entries c earlier) (reply_in_line entries earlier)
+-- a reply, the connection that it goes to, and the tenant whose request it answers, if it answers one's
+pub record Telling : Type 0 where
+  pub connection : ℕ
+  pub tenant : Option ℕ
+  pub reply : Reply
 
--- whether the event is this connection's
-abbrev pub is_of : ℕ → Event → Bool
-is_of c (event.Open d) = d == c
-is_of c (event.Piece d bytes) = d == c
-is_of c (event.Serve d) = d == c
-is_of c (event.Close d) = d == c
-is_of c (event.Plan f) = false
-is_of c (event.Merge f) = false
-is_of c (event.Install f) = false
-is_of c (event.Resize n) = false
+-- what is told by the step, if anything
+unfoldable pub telling_of : List Entry → Step → List Step → Option Telling
+telling_of entries (Void e) earlier = None
+telling_of entries (At c own) earlier = option_map (λ r. record { connection = c; tenant = option_map (λ s. s.tenant) (service_of entries (At c own) earlier); reply = r }) (told_at entries c own earlier)
+telling_of entries (Flushed e) earlier = None
 
-abbrev pub with_reply : Option Reply → List Reply → List Reply
-with_reply None replies = replies
-with_reply (Some r) replies = r ∷ replies
+abbrev pub with_telling : Option Telling → List Telling → List Telling
+with_telling None tellings = tellings
+with_telling (Some telling) tellings = telling ∷ tellings
+
+-- all that is told, newest first
+unfoldable pub tellings : List Entry → List Step → List Telling
+tellings entries [] = []
+tellings entries (newest ∷ earlier) = with_telling (telling_of entries newest earlier) (tellings entries earlier)
 
 -- what the connection is told, newest first
-unfoldable pub output_of : List Entry → ℕ → List Step → List Reply
-output_of entries c [] = []
-output_of entries c (newest ∷ earlier) = if is_of c (event_of newest) then with_reply (reply_of entries newest earlier) (output_of entries c earlier) else output_of entries c earlier
+abbrev pub output_of : List Entry → ℕ → List Step → List Reply
+output_of entries c history = map (λ t. t.reply) (filter (λ t. t.connection == c) (tellings entries history))
 
-abbrev pub with_told : ℕ → Option Service → Option Reply → List Reply → List Reply
-with_told tenant None r replies = replies
-with_told tenant (Some service) r replies = if service.tenant == tenant then with_reply r replies else replies
+abbrev pub is_tenant : ℕ → Option ℕ → Bool
+is_tenant tenant None = false
+is_tenant tenant (Some t) = t == tenant
+
+-- of what is told, the replies to the tenant's requests
+abbrev pub answers_to : ℕ → List Telling → List Reply
+answers_to tenant told = map (λ t. t.reply) (filter (λ t. is_tenant tenant t.tenant) told)
 
 -- the replies to the tenant's requests, over all connections, newest first
-unfoldable pub told_to : List Entry → ℕ → List Step → List Reply
-told_to entries tenant [] = []
-told_to entries tenant (newest ∷ earlier) = with_told tenant (request_of newest (λ c. served_as entries c earlier)) (reply_of entries newest earlier) (told_to entries tenant earlier)
+abbrev pub told_to : List Entry → ℕ → List Step → List Reply
+told_to entries tenant history = answers_to tenant (tellings entries history)
 
 -- ---- laws
 
@@ -322,7 +382,7 @@ IsForAnother tenant (Some service) = service.tenant ≢ tenant
 abbrev pub OthersAddNothing : Type 0
 OthersAddNothing =
     (entries : List Entry) (tenant : ℕ) (newest : Step) (earlier : List Step)
-    → IsForAnother tenant (request_of newest (λ c. served_as entries c earlier))
+    → IsForAnother tenant (service_of entries newest earlier)
     → (line_of entries tenant (newest ∷ earlier) ≡ line_of entries tenant earlier)
     × (told_to entries tenant (newest ∷ earlier) ≡ told_to entries tenant earlier)
     × (store_after (quota_of entries tenant) (line_of entries tenant (newest ∷ earlier)) ≡ store_after (quota_of entries tenant) (line_of entries tenant earlier))
@@ -330,9 +390,9 @@ OthersAddNothing =
 -- events with the same marks have one history: what each led to is told by the events and the marks
 abbrev pub OneHistory : Type 0
 OneHistory =
-    (history history' : List Step)
-    → IsHistory history → IsHistory history'
-    → map event_of history ≡ map event_of history'
+    (entries : List Entry) (history history' : List Step)
+    → IsHistory entries history → IsHistory entries history'
+    → map event_of_step history ≡ map event_of_step history'
     → map is_void history ≡ map is_void history'
     → map is_refused history ≡ map is_refused history'
     → history ≡ history'

@@ -1,5 +1,4 @@
 pub mod Limits
-pub mod Bytes
 pub mod Texts
 pub mod Message
 pub mod Item

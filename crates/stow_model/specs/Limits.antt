@@ -1,14 +1,6 @@
 -- The service's limits.
 use Rattle.std.specs.Prelude.{ℕ}
 
--- bytes of a key
-abbrev pub key_limit : ℕ
-key_limit = 1024
-
--- bytes of a value, and of a word of a request
-abbrev pub value_limit : ℕ
-value_limit = 65535
-
 -- words of a request in array form
 abbrev pub words_limit : ℕ
 words_limit = 1024
@@ -24,10 +16,6 @@ line_limit = 65536
 -- keys of one DEL
 abbrev pub deleted_limit : ℕ
 deleted_limit = 64
-
--- write numbers, snapshot ids, quotas and counts
-abbrev pub number_limit : ℕ
-number_limit = 9223372036854775807
 
 -- leaves of the cache
 abbrev pub cache_limit : ℕ

@@ -1,5 +1,5 @@
 -- One tenant's store, alone: what a request means to it.
-use Rattle.std.specs.Prelude.{ℕ, ℤ, pos, ◌+◌, ◌-◌, ◌+ℤ◌, Bool, true, not, List, [], ◌∷◌, ◌++◌, length, filter, take, sum_by, Option, Some, None, is_some, if◌then◌else◌, nat_lt, ◌==◌, ◌&&◌, ◌||◌}
+use Rattle.std.specs.Prelude.{◌≡◌, ℕ, ℤ, pos, ◌+◌, ◌-◌, ◌+ℤ◌, Bool, true, false, not, List, [], ◌∷◌, ◌++◌, length, filter, take, sum_by, Option, Some, None, is_some, if◌then◌else◌, nat_lt, ◌==◌, ◌&&◌, ◌||◌}
 use Rattle.std.specs.Prelude.{map as list_map}
 use Rattle.std.specs.Option.{unwrap_or}
 use Rattle.std.specs.List.{list_any, flat_map}
@@ -8,8 +8,8 @@ use Rattle.std.specs.Ordering.{nat_cmp, is_le, is_lt}
 use Rattle.std.specs.Str.{bytes_eq}
 use Rattle.std.specs.FinMap.{FinMap}
 use Rattle.std.specs.FinMap as map
-use Rattle.stow_model.specs.Bytes.{bytes_cmp}
-use Rattle.stow_model.specs.Limits.{value_limit, number_limit}
+use Rattle.stow_bytes.specs.Bytes.{bytes_cmp}
+use Rattle.stow_bytes.specs.Limits.{value_limit, number_limit}
 use Rattle.stow_model.specs.declared.refusal.Refusal.{Refusal}
 use Rattle.stow_model.specs.declared.refusal.Refusal.TheVariants as refusal
 use Rattle.stow_model.specs.declared.simple_string.SimpleString.TheVariants as simple
@@ -40,11 +40,14 @@ pub record Store : Type 0 where
   pub snapshots : FinMap nat_cmp Rows
   -- the next snapshot's id
   pub next : ℕ
+  -- the most that may be charged
+  pub quota : ℕ
   pub commands : ℕ
   pub refusals : ℕ
 
-abbrev pub empty_store : Store
-empty_store = record { rows = map.empty; last = 0; snapshots = map.empty; next = 1; commands = 0; refusals = 0 }
+-- nothing but a quota
+abbrev pub empty_store : ℕ → Store
+empty_store quota = record { rows = map.empty; last = 0; snapshots = map.empty; next = 1; quota = quota; commands = 0; refusals = 0 }
 
 -- ---- what is charged for it
 
@@ -70,8 +73,8 @@ shown_by store = map.entries store.rows ++ flat_map map.entries (map.values stor
 unfoldable pub charge : Store → ℕ
 charge store = sum_by cost (distinct (shown_by store))
 
-unfoldable pub usage : ℕ → Store → Usage
-usage quota store = record { rows = map.len store.rows; charge = charge store; quota = quota; writes = store.last; commands = store.commands; refusals = store.refusals; snapshots = map.len store.snapshots }
+unfoldable pub usage : Store → Usage
+usage store = record { rows = map.len store.rows; charge = charge store; quota = store.quota; writes = store.last; commands = store.commands; refusals = store.refusals; snapshots = map.len store.snapshots }
 
 -- ---- a change of one row
 
@@ -136,9 +139,13 @@ length_or_zero (Some version) = length version.value
 abbrev pub count_rows : Rows → List (List ℕ) → ℕ
 count_rows rows keys = length (filter (λ key. is_some (map.get rows key)) keys)
 
--- from the lower end on, and below the upper end, of which an empty one is none
+-- below the upper end of an interval, of which an empty one is none
+abbrev pub is_below : List ℕ → List ℕ → Bool
+is_below to key = (length to == 0) || is_lt (bytes_cmp key to)
+
+-- from the lower end on, and below the upper end
 abbrev pub is_within : List ℕ → List ℕ → List ℕ → Bool
-is_within from to key = is_le (bytes_cmp from key) && ((length to == 0) || is_lt (bytes_cmp key to))
+is_within from to key = is_le (bytes_cmp from key) && is_below to key
 
 -- the first rows of an interval, in byte order
 abbrev pub rows_within : List ℕ → List ℕ → ℕ → Rows → List Shown
@@ -199,8 +206,8 @@ answer_to store (Understood command) = served store command
 answer_to store (Refused r) = refused store r
 
 -- one tenant's own step: the next store and the reply
-unfoldable pub answer : ℕ → Store → List (List ℕ) → Answer
-answer quota store words = answer_to (counted store) (reading words)
+unfoldable pub answer : Store → List (List ℕ) → Answer
+answer store words = answer_to (counted store) (reading words)
 
 -- ---- one tenant's own run
 
@@ -209,16 +216,44 @@ pub record Request : Type 0 where
   pub words : List (List ℕ)
   pub is_refused : Bool
 
--- the next store and the reply, with memory or without
-unfoldable pub step : ℕ → Store → Request → Answer
-step quota store request = if request.is_refused then refused store refusal.OutOfMemory else answer quota store request.words
+-- the next store and the reply to a request, with memory or without
+unfoldable pub answer_with : Store → Request → Answer
+answer_with store request = if request.is_refused then refused store refusal.OutOfMemory else answer store request.words
 
--- The tenant's own run over its line of requests, told newest first: the last store ..
-unfoldable pub store_after : ℕ → List Request → Store
-store_after quota [] = empty_store
-store_after quota (request ∷ earlier) = (step quota (store_after quota earlier) request).0
+-- what comes to a tenant's store: an entry of its line
+pub data OwnEvent : Type 0 where
+  Asked : Request → OwnEvent
+
+-- the next store, and the reply if there is one
+abbrev pub step : Store → OwnEvent → Store × Option Reply
+step store (Asked request) = ((answer_with store request).0, Some (answer_with store request).1)
+
+abbrev pub with_reply : Option Reply → List Reply → List Reply
+with_reply None replies = replies
+with_reply (Some r) replies = r ∷ replies
+
+-- The tenant's own run over its line, told newest first, with its quota at first: the last store ..
+unfoldable pub store_after : ℕ → List OwnEvent → Store
+store_after quota [] = empty_store quota
+store_after quota (newest ∷ earlier) = (step (store_after quota earlier) newest).0
 
 -- .. and the replies, newest first
-unfoldable pub replies_after : ℕ → List Request → List Reply
+unfoldable pub replies_after : ℕ → List OwnEvent → List Reply
 replies_after quota [] = []
-replies_after quota (request ∷ earlier) = (step quota (store_after quota earlier) request).1 ∷ replies_after quota earlier
+replies_after quota (newest ∷ earlier) = with_reply (step (store_after quota earlier) newest).1 (replies_after quota earlier)
+
+-- ---- want of memory
+
+-- the refusal says that memory was refused
+abbrev pub is_memory_refusal : Refusal → Bool
+is_memory_refusal refusal.OutOfMemory = true
+is_memory_refusal _ = false
+
+-- the reply says that memory was refused
+abbrev pub is_out_of_memory : Reply → Bool
+is_out_of_memory (reply.Error r) = is_memory_refusal r
+is_out_of_memory _ = false
+
+-- a reply says that memory was refused just where it was
+abbrev pub WantOfMemoryIsTold : Type 0
+WantOfMemoryIsTold = (store : Store) (request : Request) → is_out_of_memory (answer_with store request).1 ≡ request.is_refused

@@ -1,6 +1,6 @@
 //! What happens at the service.
-use crate::byte_string::ByteString;
 use std::alloc::{Allocator, Global};
+use stow_bytes::byte_string::ByteString;
 
 /// An event. Connections and flushers are named by numbers of the caller's.
 #[derive(Drop)]

@@ -4,10 +4,10 @@ ghost use Rattle.stow_model.specs.Message.{message_of};
 ghost use Rattle.stow_model.specs.Wire.{is_space, is_quote, words_of_text, text_of_line, message_of_text};
 ghost use Rattle.stow_model.specs.Parts.{IsInlineAt, IsLooked, AsksForWords, IsNextWord};
 
-use crate::byte_string::ByteString;
 use crate::message::Message;
 use crate::words::Words;
 use std::alloc::{AllocError, Allocator};
+use stow_bytes::byte_string::ByteString;
 
 /// What is found where an inline request's line is to stand.
 pub enum InlineAt<'a> {

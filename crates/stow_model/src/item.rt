@@ -1,6 +1,6 @@
 //! Replies inside an array.
-use crate::byte_string::ByteString;
 use std::alloc::{Allocator, Global};
+use stow_bytes::byte_string::ByteString;
 
 /// A reply inside an array. No command answers an array inside an array.
 #[derive(Drop)]

@@ -1,6 +1,7 @@
 //! Laws over the definitions: functions that do nothing, and whose contracts are the laws.
 ghost use Rattle.stow_model.specs.Wire.{SpelledOnce, SplitsOnce, TakenAreFirst, FaultStays, FaultOnce, FaultyNotBegun};
 ghost use Rattle.stow_model.specs.Examples.{Examples};
+ghost use Rattle.stow_model.specs.Store.{WantOfMemoryIsTold};
 ghost use Rattle.stow_model.specs.History.{ToldAlone, TwoRuns, OthersAddNothing, OneHistory};
 
 /// No spelling of a message begins another.
@@ -51,6 +52,11 @@ pub fn others_add_nothing()
 /// The events, with the marks of what memory was refused to, have one history.
 pub fn one_history()
     ensures { OneHistory }
+{}
+
+/// A reply to a request says that memory was refused just where it was.
+pub fn want_of_memory_is_told()
+    ensures { WantOfMemoryIsTold }
 {}
 
 /// The definitions hold of their examples, and not of what they leave out.

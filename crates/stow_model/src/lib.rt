@@ -17,7 +17,6 @@
 #![tactic(auto)]
 
 pub mod bulk_at;
-pub mod byte_string;
 pub mod event;
 pub mod inline_at;
 pub mod item;

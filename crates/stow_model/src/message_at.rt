@@ -4,13 +4,13 @@ ghost use Rattle.stow_model.specs.Wire.{array_line, begins_array};
 ghost use Rattle.stow_model.specs.Reader.{IsMessageAt};
 
 use crate::bulk_at::{BulkAt, bulk};
-use crate::byte_string::ByteString;
 use crate::inline_at::{InlineAt, inline, inline_message};
 use crate::message::Message;
 use crate::number_at::{NumberAt, number};
 use crate::stream_fault::StreamFault;
 use crate::words::Words;
 use std::alloc::{AllocError, Allocator, Global};
+use stow_bytes::byte_string::ByteString;
 
 /// What is found at the front of a stream's bytes.
 #[derive(Drop)]
@@ -42,7 +42,7 @@ pub fn message_at<A: Allocator + Copy>(
             if *first == b'-' {
                 return Ok(null_line(rest));
             }
-            counted(alloc, after)
+            array(alloc, after)
         }
     }
 }
@@ -85,7 +85,7 @@ fn null_line<A: Allocator>(rest: &[u8]) -> MessageAt<'_, A>
 }
 
 /// What is found after the first byte of an array, where a count is to stand.
-fn counted<A: Allocator + Copy>(alloc: A, after: &[u8]) -> Result<MessageAt<'_, A>, AllocError>
+fn array<A: Allocator + Copy>(alloc: A, after: &[u8]) -> Result<MessageAt<'_, A>, AllocError>
     requires { (later : List ℕ) → after.now ≡ 45 ∷ later → ⊥ }
     ensures { IfOk result (λ found. IsMessageAt (42 ∷ after.now) found) }
 {

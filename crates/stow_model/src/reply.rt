@@ -1,10 +1,10 @@
 //! What a client is told.
-use crate::byte_string::ByteString;
 use crate::items::Items;
 use crate::refusal::Refusal;
 use crate::simple_string::SimpleString;
 use crate::stream_fault::StreamFault;
 use std::alloc::{Allocator, Global};
+use stow_bytes::byte_string::ByteString;
 
 /// A reply. `specs/Reply.antt` has the bytes of each.
 #[derive(Drop)]

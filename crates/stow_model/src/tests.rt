@@ -1,6 +1,5 @@
 //! What no clause says: that the definitions say what was meant, by worked examples with values from outside,
 //! and that the calls succeed where there is memory, and only there.
-use crate::byte_string::ByteString;
 use crate::items::Items;
 use crate::message::Message;
 use crate::reader::read_stream;
@@ -168,9 +167,6 @@ fn withstands_each_refusal(rt: HostRuntime) -> Result<(), Fail> {
 #[test]
 fn values(rt: HostRuntime) -> Result<(), Fail> {
     let alloc = rt.alloc();
-    let word = ByteString::from_slice(alloc, b"ab")?;
-    assert!(rt; word.clone()? == word && word.len() == 2 && !word.is_empty());
-    assert!(rt; ByteString::from_vec(word.into_vec()).as_slice() == b"ab".as_slice());
     let words = Words::from_vec(Vec::new(alloc));
     assert!(rt; words.into_vec().is_empty());
     assert!(rt; Items::from_vec(Vec::new(alloc)).as_slice().is_empty());

@@ -1,9 +1,9 @@
 //! The words of a request.
 ghost use Rattle.std.specs.Prelude.{◌≡◌, ◌++◌, ◌∷◌, ℕ, List, [], length, OnOk, OnErr};
 
-use crate::byte_string::ByteString;
 use std::alloc::{AllocError, Allocator, Global};
 use std::marker::Model;
+use stow_bytes::byte_string::ByteString;
 
 /// A list of byte strings.
 #[derive(Drop)]

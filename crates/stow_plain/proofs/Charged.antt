@@ -10,7 +10,7 @@ use Rattle.std.specs.FinMap as map
 use Rattle.std.specs.FinMap.{is_sorted}
 use Rattle.std.specs.FinMap.Entries.{below_all}
 use Rattle.std.proofs.lemmas.Map.Text.{is_eq-slice_cmp}
-use Rattle.stow_model.specs.Bytes.{bytes_cmp}
+use Rattle.stow_bytes.specs.Bytes.{bytes_cmp}
 use Rattle.stow_model.specs.Store.{Rows, Shown, cost, is_same_version, distinct, charge, usage}
 use Rattle.stow_plain.specs.declared.plain_store.PlainStore.{PlainStore}
 use Rattle.stow_plain.specs.OwnRun.{store_of}
@@ -57,6 +57,6 @@ charge_of_rows s =
     ∙ ap (sum_by cost) (distinct_sorted (map.entries s.rows) (map.entries_sorted s.rows))
 
 pub usage_of_rows : {A : Type 0} (s : PlainStore A) (rows cost : ℕ) → rows ≡ map.len s.rows → cost ≡ charge (store_of s)
-    → record { rows = rows; charge = cost; quota = s.quota; writes = s.last; commands = s.commands; refusals = s.refusals; snapshots = 0 } ≡ usage s.quota (store_of s)
+    → record { rows = rows; charge = cost; quota = s.quota; writes = s.last; commands = s.commands; refusals = s.refusals; snapshots = 0 } ≡ usage (store_of s)
 unfolding usage
 usage_of_rows s rows cost r c = λ i. record { rows = r i; charge = c i; quota = s.quota; writes = s.last; commands = s.commands; refusals = s.refusals; snapshots = sym (map.len-empty nat_cmp Rows) i }

@@ -12,7 +12,7 @@ use Rattle.std.specs.FinMap as map
 use Rattle.std.specs.FinMap.{find, put}
 use Rattle.std.specs.FinMap.Entries.{find-put, by_order}
 use Rattle.std.proofs.lemmas.Map.Keys.{sorted_head, sorted_tail}
-use Rattle.stow_model.specs.Bytes.{bytes_cmp}
+use Rattle.stow_bytes.specs.Bytes.{bytes_cmp}
 use Rattle.stow_model.specs.Store.{Version, Rows, value_in}
 use Rattle.stow_plain.specs.declared.plain_version.PlainVersion.{PlainVersion}
 use Rattle.stow_plain.specs.PlainMap.{version_of, entries_of, rows_of}

@@ -1,11 +1,15 @@
 -- What the types of the plain run stand for.
 use Rattle.std.specs.FinMap as map
-use Rattle.stow_model.specs.Store.{Store, Request}
+use Rattle.stow_model.specs.Store.{Store, Request, OwnEvent, Asked}
 use Rattle.stow_plain.specs.declared.plain_request.PlainRequest.{PlainRequest}
 use Rattle.stow_plain.specs.declared.plain_store.PlainStore.{PlainStore}
 
 abbrev pub request_of : {A : Type 0} → PlainRequest A → Request
 request_of request = record { words = request.words; is_refused = request.is_refused }
 
+-- the request as an entry of the tenant's line
+abbrev pub asked : {A : Type 0} → PlainRequest A → OwnEvent
+asked request = Asked (request_of request)
+
 abbrev pub store_of : {A : Type 0} → PlainStore A → Store
-store_of s = record { rows = s.rows; last = s.last; snapshots = map.empty; next = s.next; commands = s.commands; refusals = s.refusals }
+store_of s = record { rows = s.rows; last = s.last; snapshots = map.empty; next = s.next; quota = s.quota; commands = s.commands; refusals = s.refusals }

@@ -2,7 +2,7 @@
 ghost use Rattle.std.specs.Prelude.{◌≡◌, IfOk, map, reverse};
 ghost use Rattle.stow_model.specs.Store.{store_after, replies_after};
 ghost use Rattle.stow_model.specs.Reply.{reply_of};
-ghost use Rattle.stow_plain.specs.OwnRun.{request_of, store_of};
+ghost use Rattle.stow_plain.specs.OwnRun.{asked, store_of};
 
 use crate::plain_request::PlainRequest;
 use crate::plain_run::PlainRun;
@@ -15,8 +15,8 @@ pub fn own_run<A: Allocator + Copy>(
     quota: u64,
     requests: &[PlainRequest<A>],
 ) -> Result<PlainRun<A>, AllocError>
-    ensures store { IfOk result (λ run. store_of run.store ≡ store_after quota (reverse (map request_of requests.now))) }
-    ensures replies { IfOk result (λ run. reverse (map reply_of run.replies.items) ≡ replies_after quota (reverse (map request_of requests.now))) }
+    ensures store { IfOk result (λ run. store_of run.store ≡ store_after quota (reverse (map asked requests.now))) }
+    ensures replies { IfOk result (λ run. reverse (map reply_of run.replies.items) ≡ replies_after quota (reverse (map asked requests.now))) }
 {
     let mut store = PlainStore::new(alloc, quota);
     let mut replies = Vec::new(alloc);

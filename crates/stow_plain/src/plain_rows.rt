@@ -11,7 +11,7 @@ use crate::plain_version::PlainVersion;
 use std::alloc::{AllocError, Allocator, Global};
 use std::collections::BTreeMap;
 use std::marker::Model;
-use stow_model::byte_string::ByteString;
+use stow_bytes::byte_string::ByteString;
 use stow_model::item::Item;
 
 /// Keys in byte order, each with its version.

@@ -11,11 +11,11 @@ ghost use Rattle.stow_plain.specs.OwnRun.{request_of, store_of};
 use crate::plain_request::PlainRequest;
 use crate::plain_rows::PlainRows;
 use std::alloc::{AllocError, Allocator, Global};
+use stow_bytes::byte_string::ByteString;
 use stow_commands::command::Command;
 use stow_commands::outcome::Outcome;
 use stow_commands::outcome_fault::OutcomeFault;
 use stow_commands::update::Update;
-use stow_model::byte_string::ByteString;
 use stow_model::items::Items;
 use stow_model::refusal::Refusal;
 use stow_model::reply::Reply;
@@ -44,8 +44,7 @@ const NUMBER_LIMIT: u64 = 9_223_372_036_854_775_807;
 impl<A: Allocator + Copy> PlainStore<A> {
     /// An empty store.
     pub fn new(alloc: A, quota: u64) -> PlainStore<A>
-        ensures quota { result.quota ≡ quota }
-        ensures empty { store_of result ≡ store.empty_store }
+        ensures { store_of result ≡ store.empty_store quota }
     {
         PlainStore {
             quota,
@@ -59,7 +58,7 @@ impl<A: Allocator + Copy> PlainStore<A> {
 
     /// The usage report, if what is charged is below 2^64.
     pub fn usage(&self) -> Option<Usage>
-        ensures { SomeIff result (store.charge (store_of self.now) < 2 ^ 64) (store.usage self.now.quota (store_of self.now)) }
+        ensures { SomeIff result (store.charge (store_of self.now) < 2 ^ 64) (store.usage (store_of self.now)) }
     {
         match self.rows.cost() {
             None => None,
@@ -77,8 +76,7 @@ impl<A: Allocator + Copy> PlainStore<A> {
 
     /// Serves one request. An `Err` changes nothing.
     pub fn step(&mut self, alloc: A, request: &PlainRequest<A>) -> Result<Reply<A>, AllocError>
-        ensures ok { IfOk result (λ r. ◌≡◌ {A = store.Answer} (store_of self.new, reply_of r) (store.step self.old.quota (store_of self.old) (request_of request.now))) }
-        ensures quota { self.new.quota ≡ self.old.quota }
+        ensures ok { IfOk result (λ r. ◌≡◌ {A = store.Answer} (store_of self.new, reply_of r) (store.answer_with (store_of self.old) (request_of request.now))) }
         ensures err { OnErr result (self.new ≡ self.old) }
     {
         if request.is_refused {
@@ -102,7 +100,6 @@ impl<A: Allocator + Copy> PlainStore<A> {
         reading: Result<Command<'_, A>, Refusal>,
     ) -> Result<Reply<A>, AllocError>
         ensures ok { IfOk result (λ r. ◌≡◌ {A = store.Answer} (store_of self.new, reply_of r) (store.answer_to (store_of self.old) (reading_of reading.entry))) }
-        ensures quota { self.new.quota ≡ self.old.quota }
         ensures err { OnErr result (self.new ≡ self.old) }
     {
         match reading {
@@ -113,7 +110,6 @@ impl<A: Allocator + Copy> PlainStore<A> {
 
     fn serve(&mut self, alloc: A, command: Command<'_, A>) -> Result<Reply<A>, AllocError>
         ensures ok { IfOk result (λ r. ◌≡◌ {A = store.Answer} (store_of self.new, reply_of r) (store.served (store_of self.old) (command_of command.entry))) }
-        ensures quota { self.new.quota ≡ self.old.quota }
         ensures err { OnErr result (self.new ≡ self.old) }
     {
         match command {
@@ -146,7 +142,6 @@ impl<A: Allocator + Copy> PlainStore<A> {
 
     fn change(&mut self, alloc: A, key: &[u8], update: Update<'_>) -> Result<Reply<A>, AllocError>
         ensures ok { IfOk result (λ r. ◌≡◌ {A = store.Answer} (store_of self.new, reply_of r) (store.served (store_of self.old) (command.Change key.now (update_of update.entry)))) }
-        ensures quota { self.new.quota ≡ self.old.quota }
         ensures err { OnErr result (self.new ≡ self.old) }
     {
         let outcome = update.outcome(alloc, self.rows.value(key));
@@ -161,7 +156,6 @@ impl<A: Allocator + Copy> PlainStore<A> {
         outcome: Result<Outcome<A>, OutcomeFault>,
     ) -> Result<Reply<A>, AllocError>
         ensures ok { (o : store.Outcome) → IsOutcome outcome o → IfOk result (λ r. ◌≡◌ {A = store.Answer} (store_of self.new, reply_of r) (store.change_answer (store_of self.old) key.now o)) }
-        ensures quota { self.new.quota ≡ self.old.quota }
         ensures err { OnErr result (self.new ≡ self.old) }
     {
         match outcome {
@@ -180,7 +174,6 @@ impl<A: Allocator + Copy> PlainStore<A> {
         reply: Reply<A>,
     ) -> Result<Reply<A>, AllocError>
         ensures ok { IfOk result (λ r. ◌≡◌ {A = store.Answer} (store_of self.new, reply_of r) (store.change_answer (store_of self.old) key.now (store.Written value.now (reply_of reply)))) }
-        ensures quota { self.new.quota ≡ self.old.quota }
         ensures err { OnErr result (self.new ≡ self.old) }
     {
         if self.last >= NUMBER_LIMIT {
@@ -194,7 +187,6 @@ impl<A: Allocator + Copy> PlainStore<A> {
 
     fn del(&mut self, keys: &[ByteString<A>]) -> Result<Reply<A>, AllocError>
         ensures ok { IfOk result (λ r. ◌≡◌ {A = store.Answer} (store_of self.new, reply_of r) (store.del_answer (store_of self.old) keys.now)) }
-        ensures quota { self.new.quota ≡ self.old.quota }
         ensures err { OnErr result (self.new ≡ self.old) }
     {
         let rows = self.rows.without(keys)?;

@@ -2,7 +2,7 @@
 ghost use Rattle.std.specs.Prelude.{◌≡◌};
 
 use std::alloc::{AllocError, Allocator, Global};
-use stow_model::byte_string::ByteString;
+use stow_bytes::byte_string::ByteString;
 
 /// A value, and the number of the write that made it.
 #[derive(Drop)]

@@ -5,7 +5,7 @@ use crate::plain_request::PlainRequest;
 use crate::plain_store::PlainStore;
 use std::alloc::{AllocError, Allocator, Global};
 use std::test::Fail;
-use stow_model::byte_string::ByteString;
+use stow_bytes::byte_string::ByteString;
 use stow_model::item::Item;
 use stow_model::refusal::{Refusal, refusal_text};
 use stow_model::reply::Reply;

@@ -23,7 +23,7 @@ mod line;
 pub mod next;
 mod progress;
 
-pub use stow_model::byte_string::ByteString;
+pub use stow_bytes::byte_string::ByteString;
 pub use stow_model::item::Item;
 pub use stow_model::items::Items;
 pub use stow_model::message::Message;

@@ -5,8 +5,8 @@ ghost use Rattle.stow_model.specs.Wire.{array_line, bulks, FitsBulk};
 ghost use Rattle.stow_resp.specs.Scans.{IsProgress, IsScanned};
 
 use std::alloc::{AllocError, Allocator};
+use stow_bytes::byte_string::ByteString;
 use stow_model::bulk_at::{BulkAt, bulk};
-use stow_model::byte_string::ByteString;
 use stow_model::stream_fault::StreamFault;
 use stow_model::words::Words;
 

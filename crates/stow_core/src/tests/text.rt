@@ -1,7 +1,7 @@
 //! Replies as texts, and requests of lines.
 use crate::Core;
 use std::alloc::{AllocError, Allocator};
-use stow_model::byte_string::ByteString;
+use stow_bytes::byte_string::ByteString;
 use stow_model::item::Item;
 use stow_model::refusal::refusal_text;
 use stow_model::reply::Reply;

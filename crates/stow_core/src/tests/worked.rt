@@ -2,7 +2,7 @@
 use crate::tests::new_core;
 use crate::tests::text::{is_text, is_told, repeated};
 use std::test::Fail;
-use stow_model::byte_string::ByteString;
+use stow_bytes::byte_string::ByteString;
 use stow_model::words::Words;
 
 /// A request of tenant 1, and its reply.

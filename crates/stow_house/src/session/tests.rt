@@ -9,13 +9,15 @@ use crate::session::Session;
 use std::alloc::{AllocError, Allocator, Global};
 use std::marker::Model;
 use std::test::Fail;
+use stow_bytes::byte_string::ByteString;
 use stow_login::tenants::Tenants;
-use stow_model::byte_string::ByteString;
 use stow_model::refusal::{Refusal, refusal_text};
 use stow_model::reply::Reply;
 use stow_model::simple_string::SimpleString;
+use stow_model::stream_fault::StreamFault;
 use stow_model::words::Words;
 use stow_refusing::{Plan, Refusing};
+use stow_resp::next::Next;
 
 /// A door over memory: it keeps each call, and tells the tenant its index.
 #[derive(Drop)]
@@ -87,11 +89,15 @@ quota = 1000000
 ";
 
 /// Whether a reply is this text, which is a number where it is an integer.
-fn is_text<A: Allocator>(alloc: Global, reply: &Reply<A>, want: &str) -> Result<bool, AllocError> {
+fn is_text<A: Allocator>(
+    alloc: Global,
+    reply: &Option<Reply<A>>,
+    want: &str,
+) -> Result<bool, AllocError> {
     Ok(match reply {
-        Reply::Simple(SimpleString::Ok) => want == "OK",
-        Reply::Error(refusal) => refusal_text(*refusal) == want.as_bytes(),
-        Reply::Integer(n) => format!(in alloc; "{n}")?.as_str() == want,
+        Some(Reply::Simple(SimpleString::Ok)) => want == "OK",
+        Some(Reply::Error(refusal)) => refusal_text(*refusal) == want.as_bytes(),
+        Some(Reply::Integer(n)) => format!(in alloc; "{n}")?.as_str() == want,
         _ => false,
     })
 }
@@ -124,7 +130,8 @@ fn a_door_is_asked_only_after_a_login(rt: HostRuntime) -> Result<(), Fail> {
     let mut session = Session::new();
     assert!(rt; session.quoted() == Refusal::NotAuthenticated);
     for (line, want, calls) in SERVED {
-        let answer = session.serve(alloc, &tenants, &mut door, &words_of(alloc, line)?);
+        let next = Next::Message(words_of(alloc, line)?);
+        let answer = session.serve(alloc, &tenants, &mut door, next);
         assert!(rt;
             is_text(alloc, &answer.reply, want)? && !answer.ends,
             "{line}"
@@ -132,7 +139,34 @@ fn a_door_is_asked_only_after_a_login(rt: HostRuntime) -> Result<(), Fail> {
         assert_eq!(rt; door.calls.len(), calls, "{line}");
     }
     assert!(rt; session.quoted() == Refusal::QuotedInline);
-    let last = session.serve(alloc, &tenants, &mut door, &words_of(alloc, "QUIT")?);
+    let quoted = session.serve(alloc, &tenants, &mut door, Next::Quoted);
+    assert!(rt;
+        is_text(
+            alloc,
+            &quoted.reply,
+            "ERR quotes in an inline request are not served"
+        )? && !quoted.ends
+    );
+    let blank = session.serve(alloc, &tenants, &mut door, Next::Blank);
+    assert!(rt; blank.reply.is_none() && !blank.ends);
+    let fault = session.serve(
+        alloc,
+        &tenants,
+        &mut door,
+        Next::Fault(StreamFault::ExpectedBulk),
+    );
+    assert!(rt;
+        matches!(
+            fault.reply,
+            Some(Reply::ProtocolError(StreamFault::ExpectedBulk))
+        ) && fault.ends
+    );
+    let last = session.serve(
+        alloc,
+        &tenants,
+        &mut door,
+        Next::Message(words_of(alloc, "QUIT")?),
+    );
     assert!(rt; is_text(alloc, &last.reply, "OK")? && last.ends);
     for (call, (tenant, line)) in door
         .calls
@@ -161,9 +195,9 @@ fn a_session_asks_for_no_memory(rt: HostRuntime) -> Result<(), Fail> {
         ("GET k", "OOM memory was refused"),
         ("QUIT", "OK"),
     ] {
-        let words = words_of(&heap, line)?;
+        let next = Next::Message(words_of(&heap, line)?);
         heap.set(Plan::RefuseAll);
-        let answer = session.serve(&heap, &tenants, &mut door, &words);
+        let answer = session.serve(&heap, &tenants, &mut door, next);
         heap.set(Plan::Grant);
         assert!(rt; is_text(rt.alloc(), &answer.reply, want)?, "{line}");
         assert_eq!(rt; door.calls.len(), 0);

@@ -1,4 +1,4 @@
-use Rattle.std.proofs.Common.{◌≡◌, sym, ap, ◌∙◌}
+use Rattle.std.proofs.Common.{rules, ◌≡◌, sym, ap, ◌∙◌}
 use Rattle.stow_model.specs.Reply.{reply_of}
 use Rattle.stow_model.specs.Store.{Answer}
 use Rattle.stow_core.specs.State.{store_of}
@@ -6,8 +6,8 @@ use Rattle.stow_core.specs.Prepared.{effect, prepared_answer}
 use Rattle.stow_core.proofs.Answered.{answered, out_of_memory}
 use Rattle.stow_core.proofs.Core.call.Goals as goal
 
-pub returns-in-Ok-clause-own : goal.returns-in-Ok-clause-own
-returns-in-Ok-clause-own g c = λ is_tenant.
+pub returns-in-Ok : goal.returns-in-Ok
+returns-in-Ok g c =
     let old = c.args.self.now in
     let tenant = c.args.tenant in
     let prepared = c.in-Ok.prepared in
@@ -17,7 +17,17 @@ returns-in-Ok-clause-own g c = λ is_tenant.
     ∙ ap (effect prepared) (c.prepare.ensures.stores prepared.tenant ∙ ap (store_of old) c.in-Ok.ensures.tenant) in
     let told : ◌≡◌ {A = Answer} (effect prepared (store_of old tenant), reply_of c.commit.result) (prepared_answer prepared (store_of old tenant)) =
     ap (λ r. (effect prepared (store_of old tenant), reply_of r)) c.commit.ensures.reply in
-    answered old c.commit.new.self tenant c.args.words.now (effect prepared (store_of old tenant)) (reply_of c.commit.result) moved (told ∙ c.in-Ok.ensures.own is_tenant)
+    record {
+      own = λ is_tenant. answered old c.commit.new.self tenant c.args.words.now (effect prepared (store_of old tenant)) (reply_of c.commit.result) moved (told ∙ c.in-Ok.ensures.own is_tenant);
+      stranger = search rules;
+      others = search rules;
+      entries = c.commit.ensures.entries ∙ c.prepare.ensures.entries;
+    }
 
-pub returns-in-Err-clause-own : goal.returns-in-Err-clause-own
-returns-in-Err-clause-own g c = λ _. out_of_memory c.args.self.now c.prepare.new.self c.args.tenant c.args.words.now (c.prepare.ensures.stores c.args.tenant)
+pub returns-in-Err : goal.returns-in-Err
+returns-in-Err g c = record {
+  own = λ _. out_of_memory c.args.self.now c.prepare.new.self c.args.tenant c.args.words.now (c.prepare.ensures.stores c.args.tenant);
+  stranger = search rules;
+  others = λ other differ. c.prepare.ensures.stores other;
+  entries = c.prepare.ensures.entries;
+}

@@ -1,5 +1,5 @@
 use Rattle.std.proofs.Common.{rules, ◌≡◌, ◌≤◌, length, nat_lt, ap, ◌∙◌, sym}
-use Rattle.stow_model.specs.Limits.{number_limit}
+use Rattle.stow_bytes.specs.Limits.{number_limit}
 use Rattle.stow_core.specs.State.{store_of}
 use Rattle.stow_core.proofs.Stores.{last-store_of}
 use Rattle.stow_core.proofs.Core.can_write.Goals as goal

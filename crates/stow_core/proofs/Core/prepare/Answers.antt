@@ -1,5 +1,4 @@
 use Rattle.std.proofs.Common.{ap, ◌∙◌}
-use Rattle.stow_model.specs.Login.{quota_of}
 use Rattle.stow_commands.specs.Commands.{command_of}
 use Rattle.stow_core.specs.State.{store_of}
 use Rattle.stow_core.specs.Prepared.{prepared_answer}
@@ -9,11 +8,9 @@ use Rattle.stow_core.proofs.Core.prepare.Goals as goal
 pub returns-in-Ok-clause-own : goal.returns-in-Ok-clause-own
 returns-in-Ok-clause-own g c = λ _.
     let store = store_of c.args.self.now c.args.tenant in
-    let quota = quota_of c.args.self.now.entries c.args.tenant in
-    if_ok c.prepare_command.result _ _ (λ p h. h ∙ understood quota store c.args.words.now (command_of c.in-Ok.command) c.in-Ok.ensures) c.prepare_command.ensures.answer
+    if_ok c.prepare_command.result _ _ (λ p h. h ∙ understood store c.args.words.now (command_of c.in-Ok.command) c.in-Ok.ensures) c.prepare_command.ensures.answer
 
 pub returns-in-Err-clause-own : goal.returns-in-Err-clause-own
 returns-in-Err-clause-own g c = λ _.
     let store = store_of c.args.self.now c.args.tenant in
-    let quota = quota_of c.args.self.now.entries c.args.tenant in
-    ap (λ p. prepared_answer p store) c.counted.ensures ∙ refused_words quota store c.args.words.now c.in-Err.refusal c.in-Err.ensures
+    ap (λ p. prepared_answer p store) c.only_counted.ensures ∙ refused_words store c.args.words.now c.in-Err.refusal c.in-Err.ensures

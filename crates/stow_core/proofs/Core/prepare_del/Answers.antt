@@ -1,9 +1,9 @@
 use Rattle.std.proofs.Common.{rules, ◌≡◌, ◌<◌, ◌^◌, true, false, ap, ◌∙◌, refl, sym, subst, arith}
 use Rattle.stow_core.specs.Keys.{AreKeysOf}
-use Rattle.stow_core.specs.Prepared.{prepared_answer}
+use Rattle.stow_core.specs.Prepared.{prepared_answer, fewer}
 use Rattle.stow_core.specs.State.{store_of}
 use Rattle.stow_core.proofs.Keyed.{packed_AreKeysOf}
-use Rattle.stow_core.proofs.Answered.{fewer, own_back, del_none, del_full, del_done}
+use Rattle.stow_core.proofs.Answered.{own_back, del_none, del_full, del_done}
 use Rattle.stow_core.proofs.Stores.{can_still_write}
 use Rattle.stow_core.proofs.Core.prepare_del.Goals as goal
 
@@ -15,7 +15,7 @@ pub returns-then-removed-eq0-clause-answer : goal.returns-then-removed-eq0-claus
 returns-then-removed-eq0-clause-answer g c =
     let store = store_of c.args.self.now c.args.tenant in
     let own = own_back c.args.tenant c.as_slice.result.now c.args.keys.now (c.as_slice.ensures.value ∙ c.in_ok-keys.ensures) in
-    ap (λ p. prepared_answer p store) c.counted.ensures
+    ap (λ p. prepared_answer p store) c.only_counted.ensures
     ∙ del_none store c.args.keys.now c.count_removed-removed.result (c.count_removed-removed.ensures.removed ∙ ap (fewer store) own) c.if-removed-eq0.true
 
 pub returns-then-not-can_write-clause-answer : goal.returns-then-not-can_write-clause-answer
@@ -23,7 +23,7 @@ returns-then-not-can_write-clause-answer g c =
     let store = store_of c.args.self.now c.args.tenant in
     let own = own_back c.args.tenant c.as_slice.result.now c.args.keys.now (c.as_slice.ensures.value ∙ c.in_ok-keys.ensures) in
     let full : c.can_write.result ≡ false = search rules in
-    ap (λ p. prepared_answer p store) c.counted-then-not-can_write.ensures
+    ap (λ p. prepared_answer p store) c.only_counted-then-not-can_write.ensures
     ∙ del_full store c.args.keys.now c.count_removed-removed.result (c.count_removed-removed.ensures.removed ∙ ap (fewer store) own) c.if-removed-eq0.false (sym c.can_write.ensures ∙ full)
 
 pub returns-clause-room : goal.returns-clause-room

@@ -2,7 +2,7 @@ use Rattle.std.proofs.Common.{refl, ap, sym, ◌∙◌}
 use Rattle.std.proofs.Math.Bool.{◌||◌}
 use Rattle.std.specs.Ordering.{is_lt, is_some_and}
 use Rattle.std.specs.Cmp.Lexicographic.{lists_agrees}
-use Rattle.stow_model.specs.Bytes.{bytes_cmp}
+use Rattle.stow_bytes.specs.Bytes.{bytes_cmp}
 use Rattle.stow_core.proofs.interval.is_below.Goals as goal
 
 pub returns-else-is_empty : goal.returns-else-is_empty

@@ -1,4 +1,4 @@
-use Rattle.stow_house.proofs.Marked.{one_run}
+use Rattle.stow_house.proofs.Runs.{one_run}
 use Rattle.stow_house.proofs.laws.one_run.Goals as goal
 
 pub returns : goal.returns

@@ -3,7 +3,8 @@ use Rattle.std.proofs.Math.Bool.{◌&&◌}
 use Rattle.std.proofs.lemmas.Bool.{cond-true, cond-false}
 use Rattle.std.specs.Option.{option_copied}
 use Rattle.stow_core.specs.Keys.{own_key, is_of}
-use Rattle.stow_core.specs.Interval.{is_below, reaches}
+use Rattle.stow_model.specs.Store.{is_below}
+use Rattle.stow_core.specs.Interval.{reaches}
 use Rattle.stow_core.proofs.Keyed.{is_of_front, own_rest}
 use Rattle.stow_core.proofs.interval.Interval.own_key.Goals as goal
 

@@ -1,17 +1,17 @@
 use Rattle.std.proofs.Common.{refl}
 use Rattle.stow_model.specs.Event as event
 use Rattle.stow_house.specs.StepResult.{Refused, NoJob}
-use Rattle.stow_house.proofs.Here.{idle}
+use Rattle.stow_house.proofs.Stood.{flushed}
 use Rattle.stow_house.proofs.house.House.step.Goals as goal
 
-pub returns-in-Plan : goal.returns-in-Plan
-returns-in-Plan g c = rw c.in-Plan.is (idle _ (event.Plan _) NoJob (λ n status. refl) (λ n status unread. refl) tt refl)
+pub returns-in-Plan-clause-steps : goal.returns-in-Plan-clause-steps
+returns-in-Plan-clause-steps g c = rw c.in-Plan.is (flushed _ (event.Plan _) NoJob refl)
 
-pub returns-in-Merge : goal.returns-in-Merge
-returns-in-Merge g c = rw c.in-Merge.is (idle _ (event.Merge _) Refused (λ n status. refl) (λ n status unread. refl) tt refl)
+pub returns-in-Merge-clause-steps : goal.returns-in-Merge-clause-steps
+returns-in-Merge-clause-steps g c = rw c.in-Merge.is (flushed _ (event.Merge _) Refused refl)
 
-pub returns-in-Install : goal.returns-in-Install
-returns-in-Install g c = rw c.in-Install.is (idle _ (event.Install _) Refused (λ n status. refl) (λ n status unread. refl) tt refl)
+pub returns-in-Install-clause-steps : goal.returns-in-Install-clause-steps
+returns-in-Install-clause-steps g c = rw c.in-Install.is (flushed _ (event.Install _) Refused refl)
 
-pub returns-in-Resize : goal.returns-in-Resize
-returns-in-Resize g c = rw c.in-Resize.is (idle _ (event.Resize _) _ (λ n status. refl) (λ n status unread. refl) tt c.resized.ensures)
+pub returns-in-Resize-clause-steps : goal.returns-in-Resize-clause-steps
+returns-in-Resize-clause-steps g c = rw c.in-Resize.is (flushed _ (event.Resize _) _ c.resized.ensures)

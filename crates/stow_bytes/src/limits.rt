@@ -1,0 +1,13 @@
+//! The limits of keys, values and numbers; in clauses they are those of `specs/Limits.antt`.
+
+/// Bytes of a key, at most.
+pub const KEY_LIMIT: usize = 1024;
+
+/// Bytes of a value, at most.
+pub const VALUE_LIMIT: usize = 65_535;
+
+/// The highest write number, snapshot id, quota and count.
+pub const NUMBER_LIMIT: u64 = 9_223_372_036_854_775_807;
+
+/// Tenants, at most, whose indexes are numbered from 1.
+pub const TENANT_LIMIT: u32 = 65_535;

@@ -1,0 +1,200 @@
+-- A history goes on by what happened on one connection, or on none.
+use Rattle.std.proofs.Common.{◌≡◌, ◌≢◌, ℕ, eqb, Bool, List, [], ◌∷◌, ◌++◌, Option, Some, None, refl, ap, ◌∙◌, sym, subst, ⊎_elim, arith, append_assoc}
+use Rattle.std.proofs.lemmas.Bool.{cases_eq, cond-true, cond-false, eq-eqb, ne_eqb}
+use Rattle.std.proofs.lemmas.Bool.Decides.{nat_tests}
+use Rattle.stow_model.specs.Login.{Entry, quota_of}
+use Rattle.stow_model.specs.Message.{Message}
+use Rattle.stow_model.specs.Event.{Event, ConnectionEvent, FlusherEvent}
+use Rattle.stow_model.specs.Event as event
+use Rattle.stow_model.specs.Wire.{SpellsAll}
+use Rattle.stow_model.specs.Store.{OwnEvent, answer_with, empty_store, store_after}
+use Rattle.stow_model.specs.History.{Step, Void, At, Flushed, ConnectionStep, Plain, Took, Broke, Status, Unused, IsOpen, Closed, with_own, part_of, status_of, status_after, served_as, served_after, taken_by, taken_after, stream_of, stream_after, stream_with, stream_after_event, Service, request_of, with_service, service_of, line_of, told_by, reply_in_line, told_at, CanLead, MayTakeNothing, CanBeVoid, MayBeVoid, Follows, IsStep, IsHistory}
+use Rattle.stow_core.specs.State.{CoreState, store_of, IsNewCore}
+use Rattle.stow_house.specs.Seen.{Seen, IsServed, never_opened}
+use Rattle.stow_house.specs.StepResult.{StepResult, NoMemory, answer_to_own, MayAnswer, IsAnswer}
+use Rattle.stow_house.specs.Connections.{moved, reply_in_core, Reads, CanWait, Can, Moves, Leads, AsksMemory, IsVoid, Happens}
+use Rattle.stow_house.specs.Steps.{HouseState, StandsAt, Stands, GoesOn, IsStepOf}
+use Rattle.stow_house.proofs.Tenants.{served_tenant}
+
+-- ---- what is unread tells what the whole stream tells
+
+-- what is known of one connection's stream
+record Read (taken : List Message) (stream unread : List ℕ) : Type 0 where
+  pub front : List ℕ
+  pub spelled : SpellsAll taken front
+  pub whole : stream ≡ front ++ unread
+
+may_wait : (status : Status) (stream unread : List ℕ) (taken : List Message) → Read taken stream unread → CanWait status unread → MayTakeNothing status stream taken
+may_wait Unused stream unread taken r can = tt
+may_wait IsOpen stream unread taken r can = (r.front, unread, r.spelled, can, r.whole)
+may_wait Closed stream unread taken r can = tt
+
+can_lead : (own : ConnectionStep) (status : Status) (tenant : Option ℕ) (stream unread new : List ℕ) (taken : List Message) → Read taken stream unread → Reads own status unread new
+    → Can own (record { status = status; tenant = tenant; unread = unread }) → CanLead own status tenant stream taken
+can_lead (Plain event.Open) status tenant stream unread new taken r reads can = tt
+can_lead (Plain (event.Piece bytes)) status tenant stream unread new taken r reads can = tt
+can_lead (Plain event.Serve) status tenant stream unread new taken r reads can = may_wait status stream unread taken r can
+can_lead (Plain event.Close) status tenant stream unread new taken r reads can = tt
+can_lead (Took m is_refused) status tenant stream unread new taken r reads can = (can.0, (r.front, reads.0, new, r.spelled, reads.1, r.whole ∙ ap (λ t. r.front ++ t) reads.2), can.1)
+can_lead (Broke fault) status tenant stream unread new taken r reads can = (can.0, (r.front, unread, r.spelled, can.1, r.whole))
+
+can_be_void : (e : ConnectionEvent) (status : Status) (tenant : Option ℕ) (stream unread : List ℕ) (taken : List Message) → Read taken stream unread
+    → AsksMemory e (record { status = status; tenant = tenant; unread = unread }) → CanBeVoid e status stream taken
+can_be_void event.Open status tenant stream unread taken r asks = asks
+can_be_void (event.Piece bytes) status tenant stream unread taken r asks = asks
+can_be_void event.Serve status tenant stream unread taken r asks =
+    let words = asks.1 in
+    (asks.0, (words.0, (r.front, words.2.0, words.1, r.spelled, words.2.1, r.whole ∙ ap (λ t. r.front ++ t) words.2.2)))
+can_be_void event.Close status tenant stream unread taken r asks = asks
+
+-- ---- a connection's stream goes on
+
+with_piece : (status : Status) (front unread bytes : List ℕ) → stream_with status (front ++ unread) bytes ≡ front ++ stream_with status unread bytes
+with_piece Unused front unread bytes = refl
+with_piece IsOpen front unread bytes = append_assoc front unread bytes
+with_piece Closed front unread bytes = refl
+
+piece : (e : ConnectionEvent) (status : Status) (front unread : List ℕ) → stream_after_event e status (front ++ unread) ≡ front ++ stream_after_event e status unread
+piece event.Open status front unread = refl
+piece (event.Piece bytes) status front unread = with_piece status front unread bytes
+piece event.Serve status front unread = refl
+piece event.Close status front unread = refl
+
+reads_on : (own : ConnectionStep) (status : Status) (taken : List Message) (front unread new : List ℕ) → SpellsAll taken front → Reads own status unread new → Read (taken_after own taken) (stream_after own status (front ++ unread)) new
+reads_on (Plain e) status taken front unread new s r = record { front = front; spelled = s; whole = piece e status front unread ∙ ap (λ t. front ++ t) (sym r) }
+reads_on (Took m is_refused) status taken front unread new s r = record { front = front ++ r.0; spelled = (front, r.0, s, r.1, refl); whole = ap (λ t. front ++ t) r.2 ∙ sym (append_assoc front r.0 new) }
+reads_on (Broke fault) status taken front unread new s r = record { front = front; spelled = s; whole = ap (λ t. front ++ t) (sym r) }
+
+follows : (entries : List Entry) (own : ConnectionStep) (old new : Seen) (part : List ConnectionStep) → StandsAt entries old part → Reads own old.status old.unread new.unread → Can own old → Follows entries own part
+unfolding Follows
+follows entries own old new part a reads can =
+    let stream = stream_of part in
+    let taken = taken_by part in
+    subst (λ status. CanLead own status (served_as entries part) stream taken) a.status
+    (subst (λ tenant. CanLead own old.status tenant stream taken) a.tenant
+    (can_lead own old.status old.tenant stream old.unread new.unread taken (record { front = a.front; spelled = a.taken; whole = a.stream }) reads can))
+
+void_follows : (entries : List Entry) (e : ConnectionEvent) (old : Seen) (part : List ConnectionStep) → StandsAt entries old part → AsksMemory e old → MayBeVoid e part
+unfolding MayBeVoid
+void_follows entries e old part a asks =
+    subst (λ status. CanBeVoid e status (stream_of part) (taken_by part)) a.status
+    (can_be_void e old.status old.tenant (stream_of part) old.unread (taken_by part) (record { front = a.front; spelled = a.taken; whole = a.stream }) asks)
+
+stands_here : (entries : List Entry) (own : ConnectionStep) (old new : Seen) (part : List ConnectionStep) → StandsAt entries old part
+    → new.status ≡ status_after own old.status → new.tenant ≡ served_after entries own old.tenant → Reads own old.status old.unread new.unread → StandsAt entries new (own ∷ part)
+unfolding status_of served_as taken_by stream_of
+stands_here entries own old new part a status tenant reads =
+    let read = reads_on own old.status (taken_by part) a.front old.unread new.unread a.taken reads in
+    record {
+      status = status ∙ ap (status_after own) a.status;
+      tenant = tenant ∙ ap (served_after entries own) a.tenant;
+      front = read.front;
+      taken = read.spelled;
+      stream = (λ i. stream_after own (sym a.status i) (a.stream i)) ∙ read.whole;
+    }
+
+-- ---- a tenant
+
+one_more : (tenant quota : ℕ) (service : Option Service) (line : List OwnEvent) → moved tenant service (store_after quota line) ≡ store_after quota (with_service tenant service line)
+unfolding store_after
+one_more tenant quota None line = refl
+one_more tenant quota (Some service) line = grind (arith, nat_tests)
+
+-- ---- the house
+
+-- what happened at one connection is its own, and every other's part is as it was
+stands_at : (entries : List Entry) (old new : HouseState) (c : ℕ) (own : ConnectionStep) (history : List Step) → Stands entries old history → StandsAt entries (new.seen c) (own ∷ part_of c history)
+    → ((d : ℕ) → d ≢ c → new.seen d ≡ old.seen d) → (d : ℕ) → StandsAt entries (new.seen d) (part_of d (At c own ∷ history))
+unfolding part_of
+stands_at entries old new c own history s here others d =
+    ⊎_elim
+    (λ (e : c ≡ d). subst (λ x. StandsAt entries (new.seen x) (with_own x (At c own) (part_of x history))) e
+    (subst (λ part. StandsAt entries (new.seen c) part) (sym (cond-true (eqb c c) (own ∷ part_of c history) (part_of c history) (eq-eqb c c refl))) here))
+    (λ (differ : c ≢ d). subst (λ part. StandsAt entries (new.seen d) part) (sym (cond-false (eqb c d) (own ∷ part_of d history) (part_of d history) (ne_eqb c d differ)))
+    (subst (λ seen. StandsAt entries seen (part_of d history)) (sym (others d (λ e. differ (sym e)))) (s.connections d)))
+    (cases_eq c d)
+
+-- a connection's step
+led : (old new : HouseState) (c : ℕ) (own : ConnectionStep) (r : StepResult) (history : List Step) → Moves own r (old.seen c) (new.seen c) old.core new.core
+    → ((d : ℕ) → d ≢ c → new.seen d ≡ old.seen d) → Stands old.core.entries old history → GoesOn old.core.entries (At c own) history r new
+unfolding IsHistory IsStep IsAnswer line_of service_of told_at reply_in_line
+led old new c own r history m others s =
+    let entries = old.core.entries in
+    let at = s.connections c in
+    let seen = old.seen c in
+    let who : seen.tenant ≡ served_as entries (part_of c history) = at.tenant in
+    record {
+      stands = record {
+        is_history = (follows entries own seen (new.seen c) (part_of c history) at m.unread m.can, s.is_history);
+        tenants = m.entries;
+        connections = stands_at entries old new c own history s (stands_here entries own seen (new.seen c) (part_of c history) at m.status m.tenant m.unread) others;
+        stores = λ t. m.stores t ∙ (λ i. moved t (request_of own (who i)) (s.stores t i)) ∙ one_more t (quota_of entries t) (request_of own (served_as entries (part_of c history))) (line_of entries t history);
+      };
+      answer = m.result
+          ∙ (λ i. answer_to_own own (at.status i) (told_by entries own (who i) (λ is_refused words t. (answer_with (s.stores t i) (record { words = words; is_refused = is_refused })).1)));
+    }
+
+-- nothing changed
+stayed : (entries : List Entry) (old new : HouseState) (step : Step) (history : List Step) → Stands entries old history → ((d : ℕ) → new.seen d ≡ old.seen d) → new.core ≡ old.core
+    → IsStep entries step history → ((d : ℕ) → part_of d (step ∷ history) ≡ part_of d history) → ((t : ℕ) → line_of entries t (step ∷ history) ≡ line_of entries t history) → Stands entries new (step ∷ history)
+unfolding IsHistory
+stayed entries old new step history s seen core is part line = record {
+  is_history = (is, s.is_history);
+  tenants = ap (λ x. x.entries) core ∙ s.tenants;
+  connections = λ d. subst (λ p. StandsAt entries (new.seen d) p) (sym (part d)) (subst (λ x. StandsAt entries x (part_of d history)) (sym (seen d)) (s.connections d));
+  stores = λ t. ap (λ x. store_of x t) core ∙ s.stores t ∙ ap (store_after (quota_of entries t)) (sym (line t));
+}
+
+voided : (entries : List Entry) (old new : HouseState) (c : ℕ) (e : ConnectionEvent) (r : StepResult) (history : List Step) → IsVoid e r (old.seen c) (new.seen c) old.core new.core
+    → ((d : ℕ) → d ≢ c → new.seen d ≡ old.seen d) → Stands entries old history → GoesOn entries (Void (event.On c e)) history r new
+unfolding IsStep IsAnswer part_of line_of service_of
+voided entries old new c e r history v others s = record {
+  stands = stayed entries old new (Void (event.On c e)) history s
+      (λ d. ⊎_elim (λ (same : c ≡ d). subst (λ x. new.seen x ≡ old.seen x) same v.connection) (λ (differ : c ≢ d). others d (λ same. differ (sym same))) (cases_eq c d))
+      v.core (void_follows entries e (old.seen c) (part_of c history) (s.connections c) v.asks) (λ d. refl) (λ t. refl);
+  answer = v.result;
+}
+
+-- what happened at its own connection is a step of the house
+pub at_connection : (old new : HouseState) (c : ℕ) (e : ConnectionEvent) (r : StepResult) → Happens e r (old.seen c) (new.seen c) old.core new.core
+    → ((d : ℕ) → d ≢ c → new.seen d ≡ old.seen d) → IsStepOf old (event.On c e) r new
+at_connection old new c e r happens others =
+    ⊎_elim
+    (λ (v : IsVoid e r (old.seen c) (new.seen c) old.core new.core). record {
+      step = Void (event.On c e);
+      is_event = refl;
+      goes_on = λ entries history s. voided entries old new c e r history v others s;
+    })
+    (λ (l : Leads e r (old.seen c) (new.seen c) old.core new.core). record {
+      step = At c l.own;
+      is_event = ap (event.On c) l.is_event;
+      goes_on = λ entries history s.
+          subst (λ es. Stands es old history → GoesOn es (At c l.own) history r new) s.tenants
+          (λ own. led old new c l.own r history (l.moves (subst (λ o. IsServed old.core.entries o) (sym (own.connections c).tenant) (served_tenant old.core.entries (part_of c history)))) others own) s;
+    })
+    happens
+
+-- an event of a flusher changes nothing yet
+pub flushed : (house : HouseState) (e : FlusherEvent) (r : StepResult) → MayAnswer e r → IsStepOf house (event.By e) r house
+unfolding IsStep IsAnswer part_of line_of service_of
+flushed house e r may = record {
+  step = Flushed e;
+  is_event = refl;
+  goes_on = λ entries history s. record { stands = stayed entries house house (Flushed e) history s (λ d. refl) refl tt (λ d. refl) (λ t. refl); answer = may };
+}
+
+-- a new house stands at the empty history
+pub stands_new : (house : HouseState) → ((c : ℕ) → house.seen c ≡ never_opened) → IsNewCore house.core → Stands house.core.entries house []
+unfolding IsHistory part_of status_of served_as taken_by stream_of store_after line_of
+stands_new house none empty = record {
+  is_history = tt;
+  tenants = refl;
+  connections = λ c. record {
+    status = ap (λ s. s.status) (none c);
+    tenant = ap (λ s. s.tenant) (none c);
+    front = [];
+    taken = refl;
+    stream = ap (λ s. s.unread) (sym (none c));
+  };
+  stores = empty;
+}

@@ -1,0 +1,51 @@
+-- Leaves that are held unpacked, the last used first.
+use Rattle.std.specs.Prelude.{◌≡◌, ◌⊎◌, ℕ, zero, suc, List, [], ◌∷◌, map, take, Option, Some, None}
+use Rattle.std.specs.Map.{lookup, remove_entry}
+use Rattle.std.specs.Option.{option_map_or}
+use Rattle.std.specs.Str.{bytes_eq}
+use Rattle.std.specs.declared.vec.Vec.{Vec}
+use Rattle.lru.specs.LruCache.{LruCache}
+use Rattle.stow_tree_model.specs.Version.{Version}
+
+-- a leaf's low fence, with its rows
+abbrev pub Leaf : Type 0
+Leaf = List ℕ × List Version
+
+pub record Cache : Type 0 where
+  -- the last used first
+  pub leaves : List Leaf
+  -- how many there may be
+  pub limit : ℕ
+
+-- the rows under a fence
+abbrev pub rows_under : List ℕ → List Leaf → Option (List Version)
+rows_under fence leaves = lookup (bytes_eq fence) leaves
+
+-- all leaves but the one under the fence
+abbrev pub leaves_without : List ℕ → List Leaf → List Leaf
+leaves_without fence leaves = remove_entry (bytes_eq fence) leaves
+
+-- the leaf under the fence goes first, if there is one
+abbrev pub leaves_used : List ℕ → List Leaf → List Leaf
+leaves_used fence leaves = option_map_or (λ rows. (fence, rows) ∷ leaves_without fence leaves) (rows_under fence leaves) leaves
+
+-- these rows stand under the fence in front; the last leaves fall out that are more than the limit
+abbrev pub leaves_kept : ℕ → List ℕ → List Version → List Leaf → List Leaf
+leaves_kept limit fence rows leaves = take limit ((fence, rows) ∷ leaves_without fence leaves)
+
+-- the rows are kept, or, where memory is refused, nothing is held under the fence
+abbrev pub IsOffered : ℕ → List ℕ → List Version → List Leaf → List Leaf → Type 0
+IsOffered limit fence rows old new = (new ≡ leaves_kept limit fence rows old) ⊎ (new ≡ leaves_without fence old)
+
+-- ---- what the code's type stands for
+
+abbrev pub leaf_of : {A : Type 0} → Vec ℕ A × List Version → Leaf
+leaf_of e = (e.0.items, e.1)
+
+abbrev pub leaves_of : {A : Type 0} → LruCache (Vec ℕ A) (List Version) → List Leaf
+leaves_of held = map leaf_of held.entries
+
+-- a cache of no leaves is kept as one of a single leaf, which it never gets
+abbrev pub IsLimited : {A : Type 0} → ℕ → LruCache (Vec ℕ A) (List Version) → Type 0
+IsLimited zero held = held.entries ≡ []
+IsLimited (suc n) held = held.cap ≡ suc n

@@ -1,0 +1,4 @@
+pub mod PinLists
+pub mod Pins
+pub mod Kept
+pub mod Cuts

@@ -1,0 +1,66 @@
+//! Where a merged leaf is cut into pages.
+ghost use Rattle.std.specs.Bool.{OnFalse};
+ghost use Rattle.std.specs.Prelude.{◌≡◌, ◌⊎◌, ℕ, ◌+◌, ◌^◌, ◌<◌, ◌≤◌, length, IfOk};
+ghost use Rattle.stow_merge.specs.Cuts.{ArePages};
+
+use std::alloc::{AllocError, Allocator};
+
+/// Where pages end, by the sizes of the keys in order, in bytes: each page has a key at least, and a page above the
+/// room has one alone. There are no pages where there are no keys. Pages are about even.
+pub fn cut<A: Allocator + Copy>(
+    alloc: A,
+    sizes: &[u32],
+    room: u32,
+) -> Result<Vec<usize, A>, AllocError>
+    ensures { IfOk result (λ ends. ArePages sizes.now room 0 ends.items (length sizes.now)) }
+{
+    let aim = even_size(total(sizes), u64::from(room));
+    let mut ends = Vec::new(alloc);
+    let mut from = 0;
+    let mut page = 0u64;
+    for i in 0..sizes.len() {
+        let size = u64::from(sizes[i]);
+        if from < i && is_end(page, size, u64::from(room), aim) {
+            ends.push(i)?;
+            from = i;
+            page = 0;
+        }
+        page += size;
+    }
+    if from < sizes.len() {
+        ends.push(sizes.len())?;
+    }
+    Ok(ends)
+}
+
+/// The sum, at most the highest number that there is.
+fn total(sizes: &[u32]) -> u64 {
+    let mut total = 0u64;
+    for size in sizes {
+        total = total.saturating_add(u64::from(*size));
+    }
+    total
+}
+
+/// The size of each page where pages of at most `room` bytes are even.
+fn even_size(total: u64, room: u64) -> u64 {
+    if total <= room || room == 0 {
+        u64::MAX
+    } else {
+        let pages = total.div_ceil(room);
+        total.div_ceil(pages)
+    }
+}
+
+/// Whether a page ends before one more key.
+fn is_end(page: u64, size: u64, room: u64, aim: u64) -> bool
+    requires { page + size < 2 ^ 64 }
+    ensures { OnFalse result (page + size ≤ room) }
+{
+    page + size > room || is_full(page, size, aim)
+}
+
+/// Whether the page is nearer to the size without one more key than with it.
+fn is_full(page: u64, size: u64, aim: u64) -> bool {
+    page >= aim || page.saturating_add(size).saturating_sub(aim) > aim - page
+}

@@ -1,0 +1,126 @@
+//! What a merge keeps of the joined messages.
+ghost use Rattle.std.specs.Prelude.{◌≡◌, ◌+◌, ◌<◌, ◌≤◌, ◌&&◌, ◌++◌, ◌∷◌, [], List, map, reverse, length, slice_get, IfOk, OnOk, if◌then◌else◌, nat_le, nat_lt};
+ghost use Rattle.std.specs.List.{list_any};
+ghost use Rattle.std.specs.Option.{option_map};
+ghost use Rattle.stow_merge.specs.Kept.{kept_version, start_after};
+ghost use Rattle.stow_merge.specs.Pins.{pins_in};
+ghost use Rattle.stow_tree_model.specs.Merged.{same_key, begins_with, is_pin_within, is_kept, merged_history};
+ghost use Rattle.stow_tree_model.specs.Op.{op_of};
+ghost use Rattle.stow_tree_model.specs.Order.{MessagesRise};
+ghost use Rattle.stow_tree_model.specs.TreeMessage.{message_of};
+
+use crate::kept::Kept;
+use crate::pins::Pins;
+use std::alloc::{AllocError, Allocator};
+use stow_tree_model::message::Message;
+use stow_tree_model::op::Op;
+use stow_tree_model::tenant_key::TenantKey;
+
+/// What stays of messages in order under pins, in order.
+pub fn keep<'a, A: Allocator + Copy, B: Allocator + Copy>(
+    alloc: A,
+    joined: &[Message<'a>],
+    pins: &Pins<B>,
+) -> Result<Vec<Kept<'a>, A>, AllocError>
+    requires { MessagesRise (map message_of joined.now) }
+    ensures { IfOk result (λ ks. map (kept_version (map message_of joined.now)) ks.items
+        ≡ reverse (merged_history (pins_in pins.now) (reverse (map message_of joined.now)))) }
+{
+    let mut kept = Vec::new(alloc);
+    let mut start = None;
+    let mut has_older = false;
+    for i in 0..joined.len() {
+        let message = joined[i];
+        let follows = begins(&joined[..i], message.key);
+        let before = if follows { start } else { None };
+        start = after(i, message.op, before);
+        let has = follows && has_older;
+        let is_kept = keeps(pins, nth(joined, i + 1), message);
+        let is_added = is_kept && (has || start.is_some());
+        let version = Kept {
+            key: message.key,
+            number: message.number,
+            from: start,
+            to: i + 1,
+        };
+        add(&mut kept, is_added, version)?;
+        has_older = is_kept || has;
+    }
+    Ok(kept)
+}
+
+/// Adds a version, if it is to be.
+fn add<'a, A: Allocator + Copy>(
+    kept: &mut Vec<Kept<'a>, A>,
+    is_added: bool,
+    version: Kept<'a>,
+) -> Result<(), AllocError>
+    ensures { OnOk result (kept.new.items
+        ≡ (if is_added then kept.old.items ++ version.entry ∷ [] else kept.old.items)) }
+{
+    if is_added {
+        kept.push(version)?;
+    }
+    Ok(())
+}
+
+/// Where the bytes of a key's value begin after one more operation.
+fn after(at: usize, op: Op<'_>, before: Option<usize>) -> Option<usize>
+    ensures { result ≡ start_after at (op_of op.entry) before }
+{
+    match op {
+        Op::Put(_) => Some(at),
+        Op::Gone => None,
+        Op::Append(_) => Some(before.unwrap_or(at)),
+    }
+}
+
+fn nth<'a>(messages: &[Message<'a>], i: usize) -> Option<Message<'a>>
+    ensures { option_map message_of result ≡ slice_get (map message_of messages.now) i }
+{
+    if i < messages.len() {
+        Some(messages[i])
+    } else {
+        None
+    }
+}
+
+fn is_same(a: TenantKey<'_>, b: TenantKey<'_>) -> bool
+    ensures { result ≡ same_key a.entry.bytes.now b.entry.bytes.now }
+{
+    a.bytes.cmp(b.bytes).is_eq()
+}
+
+/// Whether the last message is of the key.
+fn begins(done: &[Message<'_>], key: TenantKey<'_>) -> bool
+    ensures { result ≡ begins_with key.entry.bytes.now (reverse (map message_of done.now)) }
+{
+    match done.last() {
+        None => false,
+        Some(last) => is_same(key, last.key),
+    }
+}
+
+/// Whether a message is the newest of its key, or a pin shows it.
+fn keeps<B: Allocator + Copy>(
+    pins: &Pins<B>,
+    newer: Option<Message<'_>>,
+    message: Message<'_>,
+) -> bool
+    ensures { result ≡ is_kept (pins_in pins.now) (option_map message_of newer.entry) (message_of message.entry) }
+{
+    match newer {
+        None => true,
+        Some(newer) => {
+            !is_same(newer.key, message.key)
+                || pin_within(pins.of(message.key.tenant()), message.number, newer.number)
+        }
+    }
+}
+
+/// Whether a pin stands from one number on and below another.
+fn pin_within(pins: &[u64], from: u64, to: u64) -> bool
+    ensures { result ≡ is_pin_within pins.now from to }
+{
+    pins.iter().any(|p| from <= *p && *p < to)
+}

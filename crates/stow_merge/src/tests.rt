@@ -1,0 +1,256 @@
+//! What no clause says: that the calls succeed where there is memory, that each request for it may be refused, and
+//! that random merges are those of the plain program.
+ghost use Rattle.std.specs.Prelude.{◌<◌};
+
+use crate::cutting::cut;
+use crate::pins::Pins;
+use crate::survey::{Survey, survey_of};
+use std::alloc::{AllocError, Allocator, Global};
+use std::process::Abort;
+use std::test::Fail;
+use stow_refusing::{Plan, Refusing};
+use stow_tree_model::message::Message;
+use stow_tree_model::op::Op;
+use stow_tree_model::pin::Pin;
+use stow_tree_model::plain::{merge, message, messages_rise, version, versions_rise};
+use stow_tree_model::tenant_key_buf::TenantKeyBuf;
+use stow_tree_model::version::Version;
+use stow_tree_model::version_buf::VersionBuf;
+
+/// Adds a pin, if it may be added.
+fn pinned<A: Allocator + Copy>(
+    pins: &mut Pins<A>,
+    tenant: u32,
+    number: u64,
+) -> Result<bool, AllocError> {
+    pins.room(tenant)?;
+    let held = pins.of(tenant);
+    let fits = held.len() < 64 && held.iter().all(|p| *p < number);
+    if fits {
+        pins.add(tenant, number);
+    }
+    Ok(fits)
+}
+
+#[test]
+fn pins_come_and_go(rt: HostRuntime) -> Result<(), Fail> {
+    let heap = Refusing::new(rt.alloc());
+    let mut pins = Pins::new(&heap);
+    assert!(rt; pins.of(7).is_empty() && heap.asked() == 0);
+    assert!(rt; pinned(&mut pins, 2, 5)? && pinned(&mut pins, 2, 9)? && pinned(&mut pins, 1, 3)?);
+    assert!(rt; !pinned(&mut pins, 2, 9)?);
+    assert!(rt; pins.of(2) == [5, 9].as_slice() && pins.of(1) == [3].as_slice());
+    assert!(rt; pins.of(0).is_empty() && pins.of(3).is_empty());
+    heap.set(Plan::RefuseAll);
+    pins.remove(2, 6);
+    pins.remove(7, 5);
+    pins.remove(1, 5);
+    assert!(rt; pins.of(2) == [5, 9].as_slice() && pins.of(1) == [3].as_slice());
+    pins.remove(2, 5);
+    assert!(rt; pins.of(2) == [9].as_slice() && pins.of(1) == [3].as_slice());
+    assert!(rt; heap.asked() == 0);
+    Ok(())
+}
+
+#[test]
+fn sixty_four_pins_at_most(rt: HostRuntime) -> Result<(), Fail> {
+    let mut pins = Pins::new(rt.alloc());
+    for number in 1..65u64 {
+        assert!(rt; pinned(&mut pins, 1, number)?, "pin {number}");
+    }
+    assert!(rt; !pinned(&mut pins, 1, 65)? && pinned(&mut pins, 2, 65)?);
+    pins.remove(1, 7);
+    assert!(rt; pins.of(1).len() == 63 && pinned(&mut pins, 1, 65)?);
+    Ok(())
+}
+
+#[test]
+fn room_withstands_each_refusal(rt: HostRuntime) -> Result<(), Fail> {
+    let heap = Refusing::new(rt.alloc());
+    let mut refusals = 0u64;
+    for round in 0..100u64 {
+        heap.set(Plan::Grant);
+        let mut pins = Pins::new(&heap);
+        assert!(rt; pinned(&mut pins, 1, 5)?);
+        heap.set(Plan::RefuseAt(round));
+        let room = pins.room(9);
+        if heap.asked() <= round {
+            break;
+        }
+        refusals = round + 1;
+        assert!(rt; room.is_err(), "request {round}");
+        assert!(rt; pins.of(1) == [5].as_slice() && pins.of(9).is_empty());
+        heap.set(Plan::Grant);
+        assert!(rt; pinned(&mut pins, 9, 1)? && pins.of(9) == [1].as_slice());
+    }
+    assert!(rt; refusals >= 2, "{refusals} refusals");
+    Ok(())
+}
+
+#[test]
+fn leaves_are_cut_between_keys(rt: HostRuntime) -> Result<(), Fail> {
+    let alloc = rt.alloc();
+    assert!(rt; cut(alloc, &[], 10)?.is_empty());
+    assert!(rt; cut(alloc, [4, 4].as_slice(), 10)?.as_slice() == [2].as_slice());
+    let above = cut(alloc, [5, 5, 5, 5, 30, 1].as_slice(), 10)?;
+    assert!(rt; above.as_slice() == [2, 4, 5, 6].as_slice());
+    let even = cut(alloc, [6, 2, 2, 2].as_slice(), 10)?;
+    assert!(rt; even.as_slice() == [1, 4].as_slice());
+    Ok(())
+}
+
+/// A number below `bound` that follows from the state.
+fn below(state: &mut u64, bound: u64) -> u64
+    requires { 0 < bound }
+{
+    *state = state
+        .wrapping_mul(6_364_136_223_846_793_005)
+        .wrapping_add(1_442_695_040_888_963_407);
+    (*state >> 33) % bound
+}
+
+fn some_bytes(state: &mut u64) -> &'static [u8] {
+    match below(state, 3) {
+        0 => b"",
+        1 => b"x",
+        _ => b"yz",
+    }
+}
+
+fn random_rows<'a>(
+    alloc: Global,
+    keys: &'a [TenantKeyBuf],
+    state: &mut u64,
+) -> Result<Vec<Version<'a>>, AllocError> {
+    let mut rows = Vec::new(alloc);
+    for key in keys {
+        for number in 1..9u64 {
+            if below(state, 3) == 0 {
+                let value = if below(state, 3) == 0 {
+                    None
+                } else {
+                    Some(some_bytes(state))
+                };
+                if let Some(row) = version(key.as_key(), number, value) {
+                    rows.push(row)?;
+                }
+            }
+        }
+    }
+    Ok(rows)
+}
+
+fn random_batch<'a>(
+    alloc: Global,
+    keys: &'a [TenantKeyBuf],
+    state: &mut u64,
+) -> Result<Vec<Message<'a>>, AllocError> {
+    let mut batch = Vec::new(alloc);
+    for key in keys {
+        for number in 3..12u64 {
+            if below(state, 3) == 0 {
+                let op = match below(state, 4) {
+                    0 => Op::Put(some_bytes(state)),
+                    1 => Op::Gone,
+                    _ => Op::Append(some_bytes(state)),
+                };
+                if let Some(added) = message(key.as_key(), number, op) {
+                    batch.push(added)?;
+                }
+            }
+        }
+    }
+    Ok(batch)
+}
+
+/// Whether the survey's versions are those of the plain merge.
+fn are_same(alloc: Global, survey: &Survey<'_>, plain: &[VersionBuf]) -> Result<bool, AllocError> {
+    let kept = survey.kept.as_slice();
+    if kept.len() != plain.len() {
+        return Ok(false);
+    }
+    for i in 0..kept.len() {
+        if i >= plain.len() {
+            return Ok(false);
+        }
+        let mut bytes = Vec::new(alloc);
+        survey.append_value(kept[i], &mut bytes)?;
+        let same_value = match &plain[i].value {
+            None => kept[i].from.is_none(),
+            Some(value) => kept[i].from.is_some() && value.as_slice() == bytes.as_slice(),
+        };
+        let same_place = kept[i].key.bytes == plain[i].key.as_key().bytes
+            && kept[i].number == plain[i].number;
+        if !same_value || !same_place {
+            return Ok(false);
+        }
+    }
+    Ok(true)
+}
+
+fn is_as_plain(
+    rt: &impl Abort,
+    alloc: Global,
+    keys: &[TenantKeyBuf],
+    state: &mut u64,
+) -> Result<bool, AllocError> {
+    let rows = random_rows(alloc, keys, state)?;
+    let batch = random_batch(alloc, keys, state)?;
+    let mut pins = Pins::new(alloc);
+    let mut listed = Vec::new(alloc);
+    for tenant in 1..3u32 {
+        for number in 1..13u64 {
+            if below(state, 4) == 0 && pinned(&mut pins, tenant, number)? {
+                listed.push(Pin { tenant, number })?;
+            }
+        }
+    }
+    let plain = merge(alloc, rows.as_slice(), batch.as_slice(), listed.as_slice())?;
+    assert!(rt; versions_rise(rows.as_slice()));
+    assert!(rt; messages_rise(batch.as_slice()));
+    let survey = survey_of(alloc, rows.as_slice(), batch.as_slice(), &pins)?;
+    are_same(alloc, &survey, plain.as_slice())
+}
+
+#[test]
+fn random_surveys_are_plain_merges(rt: HostRuntime) -> Result<(), Fail> {
+    let alloc = rt.alloc();
+    let keys = [
+        TenantKeyBuf::new(alloc, 1, b"a")?,
+        TenantKeyBuf::new(alloc, 1, b"ab")?,
+        TenantKeyBuf::new(alloc, 2, b"a")?,
+    ];
+    let mut state = 1;
+    for round in 0..200u64 {
+        assert!(rt;
+            is_as_plain(&rt, alloc, keys.as_slice(), &mut state)?,
+            "round {round}"
+        );
+    }
+    Ok(())
+}
+
+#[test]
+fn survey_withstands_each_refusal(rt: HostRuntime) -> Result<(), Fail> {
+    let alloc = rt.alloc();
+    let heap = Refusing::new(alloc);
+    let keys = [TenantKeyBuf::new(alloc, 1, b"a")?];
+    let mut state = 5;
+    let rows = random_rows(alloc, keys.as_slice(), &mut state)?;
+    let batch = random_batch(alloc, keys.as_slice(), &mut state)?;
+    let pins = Pins::new(alloc);
+    assert!(rt; versions_rise(rows.as_slice()));
+    assert!(rt; messages_rise(batch.as_slice()));
+    let mut refusals = 0u64;
+    for round in 0..100u64 {
+        heap.set(Plan::RefuseAt(round));
+        let survey = survey_of(&heap, rows.as_slice(), batch.as_slice(), &pins);
+        if heap.asked() <= round {
+            break;
+        }
+        refusals = round + 1;
+        assert!(rt; survey.is_err(), "request {round}");
+    }
+    assert!(rt; refusals >= 2, "{refusals} refusals");
+    Ok(())
+}

@@ -1,0 +1,125 @@
+-- A block whose messages stand one after another.
+use Rattle.std.proofs.Common.{◌≡◌, ℕ, zero, suc, ◌+◌, ◌*◌, ◌<◌, ◌≤◌, List, [], ◌∷◌, ◌++◌, map, length, take, drop, set, get_or, refl, sym, ap, subst, ◌∙◌, arith, length-append, length-take, length-drop, append_assoc, take_all}
+use Rattle.std.proofs.lemmas.List.{append-nil, drop_at, set_at, take_more, drop_more, get_or_at, drop_all}
+use Rattle.std.proofs.lemmas.List.Sums.{sum_by-cons}
+use Rattle.std.specs.List.{AllByRecursion, sum_by}
+use Rattle.stow_tree_model.specs.TreeMessage.{TreeMessage}
+use Rattle.stow_tree_model.specs.Order.{MessagesRise}
+use Rattle.stow_raw.specs.RawBuf.{RawLists, raw_lists, raw_used}
+use Rattle.stow_message.specs.Packed.{message_bytes, message_size, IsMessage, message_at, BeginsWith, all_bytes, places_from}
+use Rattle.stow_message.specs.MessageBuf.{messages_in, IsFilled}
+use Rattle.stow_message.proofs.Reading.{length-message_bytes, message_read}
+use Rattle.stow_message.proofs.Stored.{filled_at, message_there, read_is}
+use Rattle.stow_message.proofs.Pushed.{slots_of_messages}
+
+pub length-places : (at : ℕ) (ms : List TreeMessage) → length (places_from at ms) ≡ length ms
+length-places at [] = refl
+length-places at (m ∷ ms) = ap suc (length-places (at + length (message_bytes m)) ms)
+
+-- the place of the k-th is after those before it
+pub place_is : (at : ℕ) (ms : List TreeMessage) (k d : ℕ) → k < length ms → get_or (places_from at ms) k d ≡ at + length (all_bytes (take k ms))
+place_is at [] k d lt = absurd (omega arith)
+place_is at (m ∷ ms) zero d lt = omega arith
+place_is at (m ∷ ms) (suc k) d lt = let on = place_is (at + length (message_bytes m)) ms k d (omega arith) in omega (arith, on, length-append (message_bytes m) (all_bytes (take k ms)))
+
+pub all_bytes-push : (ms : List TreeMessage) (m : TreeMessage) → all_bytes (ms ++ m ∷ []) ≡ all_bytes ms ++ message_bytes m
+all_bytes-push [] m = append-nil (message_bytes m)
+all_bytes-push (n ∷ ns) m = ap (λ l. message_bytes n ++ l) (all_bytes-push ns m) ∙ sym (append_assoc (message_bytes n) (all_bytes ns) (message_bytes m))
+
+pub all_sizes : (ms : List TreeMessage) → length (all_bytes ms) + 4 * length ms ≡ sum_by message_size ms
+all_sizes [] = refl
+all_sizes (m ∷ ms) = omega (arith, all_sizes ms, length-append (message_bytes m) (all_bytes ms), length-message_bytes m, sum_by-cons message_size m ms)
+
+module _ (pre : List ℕ) (m : TreeMessage) (ms : List TreeMessage) where
+  here : drop (length pre) (pre ++ all_bytes (m ∷ ms)) ≡ message_bytes m ++ all_bytes ms
+  here = drop_at pre (all_bytes (m ∷ ms)) (length pre) refl
+
+  next_front : pre ++ all_bytes (m ∷ ms) ≡ (pre ++ message_bytes m) ++ all_bytes ms
+  next_front = sym (append_assoc pre (message_bytes m) (all_bytes ms))
+
+  next_place : length pre + length (message_bytes m) ≡ length (pre ++ message_bytes m)
+  next_place = sym (length-append pre (message_bytes m))
+
+pub places_read : (pre : List ℕ) (ms : List TreeMessage) → AllByRecursion IsMessage ms → map (λ slot. message_at (drop slot (pre ++ all_bytes ms))) (places_from (length pre) ms) ≡ ms
+places_read pre [] ok = refl
+places_read pre (m ∷ ms) ok = λ i.
+    (ap message_at (here pre m ms) ∙ message_read m (all_bytes ms) ok.0) i
+    ∷ ((λ j. map (λ slot. message_at (drop slot (next_front pre m ms j))) (places_from (next_place pre m ms j) ms)) ∙ places_read (pre ++ message_bytes m) ms ok.1) i
+
+pub places_begin : (pre : List ℕ) (ms : List TreeMessage) → AllByRecursion IsMessage ms → AllByRecursion (λ slot. BeginsWith (drop slot (pre ++ all_bytes ms))) (places_from (length pre) ms)
+places_begin pre [] ok = tt
+places_begin pre (m ∷ ms) ok = (
+  record { message = m; rest = all_bytes ms; is_message = ok.0; is = here pre m ms },
+  subst (λ (p : List ℕ × ℕ). AllByRecursion (λ slot. BeginsWith (drop slot p.0)) (places_from p.1 ms)) (sym (λ j. (next_front pre m ms j, next_place pre m ms j))) (places_begin (pre ++ message_bytes m) ms ok.1),
+)
+
+-- the block that holds these messages and no dead byte
+abbrev pub squeezed : List TreeMessage → ℕ → RawLists
+squeezed ms capacity = raw_lists (all_bytes ms) (places_from 0 ms) capacity
+
+pub squeezed_messages : (ms : List TreeMessage) (capacity : ℕ) → AllByRecursion IsMessage ms → messages_in (squeezed ms capacity) ≡ ms
+squeezed_messages ms capacity ok = places_read [] ms ok
+
+pub squeezed_used : (ms : List TreeMessage) (capacity : ℕ) → raw_used (squeezed ms capacity) ≡ sum_by message_size ms
+squeezed_used ms capacity = omega (arith, all_sizes ms, length-places 0 ms)
+
+pub squeezed_filled : (ms : List TreeMessage) (capacity : ℕ) → AllByRecursion IsMessage ms → MessagesRise ms → sum_by message_size ms ≤ capacity → capacity < 4294967296 → IsFilled (squeezed ms capacity)
+squeezed_filled ms capacity ok up fits small = record {
+  whole = places_begin [] ms ok;
+  rising = subst MessagesRise (sym (squeezed_messages ms capacity ok)) up;
+  live = omega (arith, ap (sum_by message_size) (squeezed_messages ms capacity ok), squeezed_used ms capacity);
+  within = (omega (arith, squeezed_used ms capacity), small);
+}
+
+-- one more slot is at its new place
+pub slot_moved : (ps ss : List ℕ) (k p : ℕ) → length ps ≡ length ss → k < length ss → p ≡ get_or ps k p → set (take k ps ++ drop k ss) k p ≡ take (k + 1) ps ++ drop (k + 1) ss
+slot_moved ps ss k p long lt e = let rest = drop (k + 1) ss in
+    ap (λ l. set (take k ps ++ l) k p) (drop_more ss k 0 lt) ∙ set_at (take k ps) (get_or ss k 0) rest p k (omega (arith, length-take k ps))
+    ∙ sym (append_assoc (take k ps) (p ∷ []) rest) ∙ ap (λ l. l ++ rest) (ap (λ q. take k ps ++ q ∷ []) e ∙ sym (take_more ps k p (omega arith)))
+
+-- the slot that comes next is still at its old place
+pub slot_still : (ps ss : List ℕ) (k d : ℕ) → length ps ≡ length ss → k < length ss → get_or (take k ps ++ drop k ss) k d ≡ get_or ss k d
+slot_still ps ss k d long lt = ap (λ l. get_or (take k ps ++ l) k d) (drop_more ss k d lt) ∙ get_or_at (take k ps) (get_or ss k d) (drop (k + 1) ss) d k (omega (arith, length-take k ps))
+
+pub taken_within : (ms : List TreeMessage) (k : ℕ) → length (all_bytes (take k ms)) ≤ length (all_bytes ms)
+taken_within ms zero = omega arith
+taken_within [] (suc k) = omega arith
+taken_within (m ∷ ms) (suc k) = omega (arith, taken_within ms k, length-append (message_bytes m) (all_bytes (take k ms)), length-append (message_bytes m) (all_bytes ms))
+
+-- while a block of the messages ms is squeezed: k of them are in the spare block, and their slots name their new places
+module _ (raw : RawLists) (h : IsFilled raw) (ms : List TreeMessage) (are : messages_in raw ≡ ms) (k : ℕ) where
+  counts : length ms ≡ length raw.slots
+  counts = ap length (sym are) ∙ slots_of_messages raw
+
+  abbrev halfway : RawLists
+  halfway = raw_lists raw.front (take k (places_from 0 ms) ++ drop k raw.slots) raw.capacity
+
+  pub bytes_fit : length (all_bytes ms) + 4 * length ms ≤ raw.capacity
+  bytes_fit = omega (arith, all_sizes ms, ap (sum_by message_size) are, h.live, h.within)
+
+  module _ (now : RawLists) (e : now ≡ halfway) where
+    pub slots_long : k ≤ length raw.slots → length now.slots ≡ length raw.slots
+    slots_long le = omega (arith, ap (λ (r : RawLists). length r.slots) e, length-append (take k (places_from 0 ms)) (drop k raw.slots), length-take k (places_from 0 ms), length-drop k raw.slots, length-places 0 ms, counts)
+
+    module _ (lt : k < length raw.slots) where
+      pub next_slot : (at : ℕ) → at ≡ get_or now.slots k 0 → at ≡ get_or raw.slots k 0
+      next_slot at f = f ∙ ap (λ (r : RawLists). get_or r.slots k 0) e ∙ slot_still (places_from 0 ms) raw.slots k 0 (length-places 0 ms ∙ counts) lt
+
+      pub next_begins : (at : ℕ) → at ≡ get_or now.slots k 0 → BeginsWith (drop at now.front)
+      next_begins at f = subst (λ (r : RawLists). BeginsWith (drop at r.front)) (sym e) (filled_at raw h k lt at (next_slot at f))
+
+      pub next_message : (at : ℕ) → at ≡ get_or now.slots k 0 → (m : TreeMessage) → m ≡ message_at (drop at now.front) → m ≡ get_or ms k m
+      next_message at f m g = let slot = next_slot at f in
+          g ∙ ap (λ (r : RawLists). message_at (drop at r.front)) e ∙ read_is raw.front at (filled_at raw h k lt at slot) ∙ sym (message_there raw h k lt at slot m) ∙ ap (λ l. get_or l k m) are
+
+      pub more_bytes : (m : TreeMessage) → m ≡ get_or ms k m → all_bytes (take k ms) ++ message_bytes m ≡ all_bytes (take (k + 1) ms)
+      more_bytes m g = sym (all_bytes-push (take k ms) m) ∙ ap all_bytes (ap (λ n. take k ms ++ n ∷ []) g ∙ sym (take_more ms k m (omega (arith, counts))))
+
+      pub more_slots : (next : RawLists) (at : ℕ) → next ≡ raw_lists now.front (set now.slots k at) now.capacity → at ≡ length (all_bytes (take k ms))
+          → next ≡ raw_lists raw.front (take (k + 1) (places_from 0 ms) ++ drop (k + 1) raw.slots) raw.capacity
+      more_slots next at f g = let here : at ≡ get_or (places_from 0 ms) k at = omega (arith, g, place_is 0 ms k at (omega (arith, counts))) in
+          f ∙ (λ j. raw_lists (e j).front (set (e j).slots k at) (e j).capacity) ∙ ap (λ l. raw_lists raw.front l raw.capacity) (slot_moved (places_from 0 ms) raw.slots k at (length-places 0 ms ∙ counts) lt here)
+
+    pub all_moved : length raw.slots ≤ k → now.slots ≡ places_from 0 ms
+    all_moved le = ap (λ (r : RawLists). r.slots) e
+        ∙ (λ j. take_all k (places_from 0 ms) (omega (arith, length-places 0 ms, counts)) j ++ drop_all k raw.slots le j) ∙ append-nil (places_from 0 ms)

@@ -1,0 +1,24 @@
+use Rattle.std.proofs.Common.{◌≡◌, ◌+◌, ◌-◌, ◌*◌, ◌≤◌, length, ap, sym, subst, ◌∙◌, arith}
+use Rattle.std.specs.List.{remove_range}
+use Rattle.stow_raw.specs.RawBuf.{RawLists, raw_used}
+use Rattle.stow_message.specs.MessageBuf.{MessageList, message_list, messages_in, IsFilled}
+use Rattle.stow_message.proofs.Pushed.{slots_of_messages}
+use Rattle.stow_message.proofs.Removed.{removed, removed_messages, removed_used, removed_filled}
+use Rattle.stow_message.proofs.message_buf.MessageBuf.remove.Goals as goal
+
+pub remove_slots-requires : goal.remove_slots-requires
+remove_slots-requires g c = omega (arith, c.requires, slots_of_messages c.self.inside.raw, ap (λ (w : MessageList). length w.messages) c.self.view_is)
+
+pub invariant_of-self : goal.invariant_of-self
+invariant_of-self g c =
+    let raw = c.self.inside.raw in let h = c.self.invariant in let i = c.args.index in let k = c.args.count in
+    let le : i + k ≤ length raw.slots = omega (arith, c.requires, slots_of_messages raw, ap (λ (w : MessageList). length w.messages) c.self.view_is) in
+    subst IsFilled (sym c.remove_slots.ensures) (removed_filled raw h i k le)
+
+pub returns : goal.returns
+returns g c =
+    let raw = c.self.inside.raw in let h = c.self.invariant in let i = c.args.index in let k = c.args.count in
+    let le : i + k ≤ length raw.slots = omega (arith, c.requires, slots_of_messages raw, ap (λ (w : MessageList). length w.messages) c.self.view_is) in
+    let less : raw_used (removed raw h i k le) ≡ raw_used raw - 4 * k = omega (arith, removed_used raw h i k le) in
+    ap (λ (r : RawLists). message_list (messages_in r) (raw_used r) r.capacity) c.remove_slots.ensures ∙ (λ j. message_list (removed_messages raw h i k le j) (less j) raw.capacity)
+    ∙ ap (λ (w : MessageList). message_list (remove_range w.messages i (i + k)) (w.used - 4 * k) w.capacity) c.self.view_is

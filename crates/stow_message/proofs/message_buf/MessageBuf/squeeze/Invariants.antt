@@ -1,0 +1,10 @@
+use Rattle.std.proofs.Common.{◌≡◌, [], ◌++◌, take, drop}
+use Rattle.stow_raw.specs.RawBuf.{raw_lists}
+use Rattle.stow_message.specs.Packed.{all_bytes, places_from}
+use Rattle.stow_message.proofs.message_buf.MessageBuf.squeeze.Given as goal
+
+abbrev pub invariant-loop-i : goal.invariant-loop-i
+invariant-loop-i g l = let old = l.initial.self-inside.raw in let ms = l.fn.self.messages in record {
+  raw : l.self-inside.raw ≡ raw_lists old.front (take l.i (places_from 0 ms) ++ drop l.i old.slots) old.capacity;
+  spare : l.spare ≡ raw_lists (all_bytes (take l.i ms)) [] l.fn.spare.capacity;
+}

@@ -1,0 +1,7 @@
+use Rattle.std.proofs.Common.{sym, subst}
+use Rattle.stow_message.specs.MessageBuf.{IsFilled}
+use Rattle.stow_message.proofs.Pushed.{empty_filled}
+use Rattle.stow_message.proofs.message_buf.MessageBuf.with_capacity.Goals as goal
+
+pub invariant_of-result : goal.invariant_of-result
+invariant_of-result g c = subst IsFilled (sym c.in_ok-raw.ensures) (empty_filled c.args.capacity c.requires)

@@ -1,0 +1,3 @@
+pub mod MessageBuf
+pub mod Packed
+pub mod Rising

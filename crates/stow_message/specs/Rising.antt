@@ -1,0 +1,49 @@
+-- Lists of messages that rise by key and number.
+use Rattle.std.specs.Prelude.{◌≡◌, ℕ, suc, List, [], ◌∷◌, Bool, if◌then◌else◌, not, ◌&&◌, false}
+use Rattle.std.specs.Ordering.{is_lt, is_eq}
+use Rattle.std.specs.List.{All, filter}
+use Rattle.stow_bytes.specs.Bytes.{bytes_cmp}
+use Rattle.stow_tree_model.specs.TreeMessage.{TreeMessage}
+use Rattle.stow_tree_model.specs.Order.{Place, place_cmp, place_of}
+
+-- the message stands below the place
+abbrev pub is_below : Place → TreeMessage → Bool
+is_below p m = is_lt (place_cmp (place_of m) p)
+
+-- how many messages at the front stand below the place
+abbrev pub below : Place → List TreeMessage → ℕ
+below p [] = 0
+below p (m ∷ ms) = if is_below p m then suc (below p ms) else 0
+
+-- the list with one more message, at its place
+abbrev pub placed : TreeMessage → List TreeMessage → List TreeMessage
+placed m [] = m ∷ []
+placed m (n ∷ ns) = if is_below (place_of m) n then n ∷ placed m ns else m ∷ n ∷ ns
+
+-- no message of this one's key and number is there
+abbrev pub IsNew : TreeMessage → List TreeMessage → Type 0
+IsNew m ms = All (λ n. is_eq (place_cmp (place_of n) (place_of m)) ≡ false) ms
+
+-- the messages of the key
+abbrev pub of_key : List ℕ → List TreeMessage → List TreeMessage
+of_key key ms = filter (λ m. is_eq (bytes_cmp m.key key)) ms
+
+-- the key is from the lower end on and below the upper end
+abbrev pub is_between : List ℕ → List ℕ → TreeMessage → Bool
+is_between from to m = not (is_lt (bytes_cmp m.key from)) && is_lt (bytes_cmp m.key to)
+
+abbrev pub in_range : List ℕ → List ℕ → List TreeMessage → List TreeMessage
+in_range from to ms = filter (is_between from to) ms
+
+-- the messages of the other keys
+abbrev pub out_of_range : List ℕ → List ℕ → List TreeMessage → List TreeMessage
+out_of_range from to ms = filter (λ m. not (is_between from to m)) ms
+
+-- the list with more messages, each at its place
+abbrev pub all_placed : List TreeMessage → List TreeMessage → List TreeMessage
+all_placed [] ns = ns
+all_placed (m ∷ ms) ns = all_placed ms (placed m ns)
+
+-- none of these messages' keys and numbers are there
+abbrev pub AreNew : List TreeMessage → List TreeMessage → Type 0
+AreNew ms ns = All (λ m. IsNew m ns) ms

@@ -1,0 +1,19 @@
+//! Messages on their way to a leaf, packed in one block: a buffer of an inner node of the tree.
+//!
+//! A `MessageBuf` is seen as a list of messages that rises by key and number, with its capacity and the bytes in use.
+//! Messages are lent out of the block and not copied. Every call but `with_capacity` takes no memory.
+//! A body that always answers `AllocError` meets the contract of `with_capacity`: tests call it with ample memory.
+#![tactic(auto)]
+
+pub mod head;
+pub mod message_buf;
+pub mod newest;
+pub mod run;
+#[cfg(test)]
+mod tests;
+
+pub use stow_tree_model::message::Message;
+pub use stow_tree_model::op::Op;
+pub use stow_tree_model::tenant_key::TenantKey;
+pub use stow_tree_model::tenant_key_buf::TenantKeyBuf;
+pub use stow_tree_model::version::Version;

@@ -1,0 +1,268 @@
+//! A buffer of packed messages.
+ghost use Rattle.std.specs.Prelude.{◌≡◌, ◌+◌, ◌-◌, ◌*◌, ◌^◌, ◌<◌, ◌≤◌, ◌==◌, [], ◌++◌, length, map, take, drop, reverse, slice_index_or, IfOk, IsTrue, ◌↔◌};
+ghost use Rattle.std.specs.Ordering.{is_lt, is_eq};
+ghost use Rattle.stow_tree_model.specs.TreeMessage.{message_of};
+ghost use Rattle.stow_tree_model.specs.Order.{place_cmp, place_of, MessagesRise};
+ghost use Rattle.stow_raw.specs.RawBuf.{raw_lists, RawFits};
+ghost use Rattle.stow_message.specs.MessageBuf.{message_list, Fits};
+ghost use Rattle.stow_message.specs.Packed.{message_bytes, message_size, message_at, IsMessage, BeginsWith};
+ghost use Rattle.stow_message.specs.Rising.{is_below, below, placed, IsNew, of_key, in_range, out_of_range, all_placed, AreNew};
+ghost use Rattle.std.specs.List.{All, sum_by, remove_range};
+
+use crate::head::{HEAD, carried, op_with, read_head, size, write_head};
+use crate::newest::Newest;
+use crate::run::Run;
+use std::alloc::{AllocError, Allocator, Global};
+use std::cmp::Ordering;
+use std::marker::Model;
+use stow_raw::raw_buf::RawBuf;
+use stow_tree_model::message::Message;
+use stow_tree_model::tenant_key::TenantKey;
+
+/// Messages in one block, in the order of their keys and numbers.
+#[derive(Drop)]
+pub struct MessageBuf<A: Allocator = Global> {
+    raw: RawBuf<A>,
+}
+
+impl<A: Allocator> Model for MessageBuf<A> {
+    ghost use Rattle.stow_raw.specs.RawBuf.{raw_used};
+    ghost use Rattle.stow_message.specs.MessageBuf.{MessageList, message_list, message_list_code, messages_in, IsFilled};
+
+    ghost Value = { MessageList };
+
+    ghost coded = { message_list_code };
+
+    ghost view = { λ b. message_list (messages_in b.raw) (raw_used b.raw) b.raw.capacity };
+
+    ghost invariant = { λ b. IsFilled b.raw };
+}
+
+/// Whether the message stands below the key and number.
+fn is_message_below(message: Message<'_>, key: &[u8], number: u64) -> bool
+    ensures { result ≡ is_below (key.now, number) (message_of message.entry) }
+{
+    match message.key.bytes.cmp(key) {
+        Ordering::Less => true,
+        Ordering::Equal => message.number < number,
+        Ordering::Greater => false,
+    }
+}
+
+/// Whether the message stands at the key and number.
+fn is_message_at(message: Message<'_>, key: &[u8], number: u64) -> bool
+    ensures { result ≡ is_eq (place_cmp (place_of (message_of message.entry)) (key.now, number)) }
+{
+    match message.key.bytes.cmp(key) {
+        Ordering::Equal => message.number == number,
+        _ => false,
+    }
+}
+
+/// The message that begins `at` bytes into the front.
+fn read_message<A: Allocator>(raw: &RawBuf<A>, at: usize) -> Message<'_>
+    requires begins { BeginsWith (drop at raw.now.front) }
+    requires small { length raw.now.front < 2 ^ 32 }
+    ensures { message_of result ≡ message_at (drop at raw.now.front) }
+{
+    let head = read_head(raw.bytes(at, HEAD));
+    let key = raw.bytes(at + HEAD, head.key_len);
+    let value = raw.bytes(at + HEAD + head.key_len, head.value_len);
+    Message {
+        key: TenantKey::from_packed(key),
+        number: head.number,
+        op: op_with(head.kind, value),
+    }
+}
+
+/// Packs the message after the bytes at the front.
+fn append<A: Allocator>(raw: &mut RawBuf<A>, message: Message<'_>)
+    requires { RawFits raw.old (length (message_bytes (message_of message))) }
+    ensures { raw.new ≡ raw_lists (raw.old.front ++ message_bytes (message_of message.entry)) raw.old.slots raw.old.capacity }
+{
+    raw.push_front(&write_head(message));
+    raw.push_front(message.key.bytes);
+    raw.push_front(carried(message.op));
+}
+
+impl<A: Allocator> MessageBuf<A> {
+    /// A buffer of `capacity` bytes with no message. A capacity of 0 asks for no memory.
+    pub fn with_capacity(alloc: A, capacity: usize) -> Result<Self, AllocError>
+        requires { capacity < 4294967296 }
+        ensures { IfOk result (λ b. b ≡ message_list [] 0 capacity) }
+    {
+        let raw = RawBuf::with_capacity(alloc, capacity)?;
+        Ok(MessageBuf { raw })
+    }
+
+    /// How many bytes the block has.
+    pub fn capacity(&self) -> usize
+        ensures { result ≡ self.now.capacity }
+    {
+        self.raw.capacity()
+    }
+
+    /// How many bytes are in use, dead ones among them.
+    pub fn used(&self) -> usize
+        ensures used { result ≡ self.now.used }
+        ensures within { result ≤ self.now.capacity }
+        ensures live { sum_by message_size self.now.messages ≤ result }
+    {
+        self.raw.capacity() - self.raw.room()
+    }
+
+    /// How many messages there are.
+    pub fn len(&self) -> usize
+        ensures len { result ≡ length self.now.messages }
+        ensures rising { MessagesRise self.now.messages }
+        ensures valid { All IsMessage self.now.messages }
+        ensures small { result < 4294967296 }
+    {
+        self.raw.slot_count()
+    }
+
+    /// Whether there is room for the message, its slot among it.
+    pub fn fits(&self, message: Message<'_>) -> bool
+        ensures { IsTrue result ↔ Fits self.now (message_of message.entry) }
+    {
+        size(message) <= self.raw.room()
+    }
+
+    /// The message at `index`, lent out of the block.
+    pub fn message(&self, index: usize) -> Message<'_>
+        requires { index < length self.now.messages }
+        ensures { message_of result ≡ slice_index_or self.now.messages index (message_of result) }
+    {
+        read_message(&self.raw, self.raw.slot(index) as usize)
+    }
+
+    /// How many messages stand below the key and number.
+    fn search(&self, key: &[u8], number: u64) -> usize
+        ensures count { result ≡ below (key.now, number) self.now.messages }
+        ensures rising { MessagesRise self.now.messages }
+        ensures valid { All IsMessage self.now.messages }
+        ensures small { length self.now.messages < 4294967296 }
+    {
+        let (mut low, mut high) = (0, self.len());
+        while low < high {
+            let middle = low + (high - low) / 2;
+            if is_message_below(self.message(middle), key, number) {
+                low = middle + 1;
+            } else {
+                high = middle;
+            }
+        }
+        low
+    }
+
+    /// Whether no message of this one's key and number is held.
+    pub fn is_new(&self, message: Message<'_>) -> bool
+        ensures { IsTrue result ↔ IsNew (message_of message.entry) self.now.messages }
+    {
+        let index = self.search(message.key.bytes, message.number);
+        if index == self.len() {
+            return true;
+        }
+        !is_message_at(self.message(index), message.key.bytes, message.number)
+    }
+
+    /// Puts a message to its place.
+    pub fn push(&mut self, message: Message<'_>)
+        requires { Fits self.old (message_of message) × IsNew (message_of message) self.old.messages }
+        ensures { self.new ≡ message_list (placed (message_of message.entry) self.old.messages) (self.old.used + message_size (message_of message.entry)) self.old.capacity }
+    {
+        let index = self.search(message.key.bytes, message.number);
+        let at = self.raw.front_len() as u32;
+        append(&mut self.raw, message);
+        self.raw.insert_slot(index, at);
+    }
+
+    /// The messages of a key, the newest first, lent.
+    pub fn of_key(&self, key: TenantKey<'_>) -> Newest<'_, A>
+        ensures { result ≡ reverse (of_key key.entry.bytes.now self.now.messages) }
+    {
+        let from = self.search(key.bytes, 0);
+        let to = self.search(key.bytes, u64::MAX);
+        Newest {
+            run: Run {
+                buf: self,
+                from,
+                to: to.max(from),
+            },
+        }
+    }
+
+    /// The messages of the keys from `from` on and below `to`, in their order, lent.
+    pub fn in_range(&self, from: TenantKey<'_>, to: TenantKey<'_>) -> Run<'_, A>
+        ensures messages { result ≡ in_range from.entry.bytes.now to.entry.bytes.now self.now.messages }
+        ensures small { length result < 4294967296 }
+    {
+        let low = self.search(from.bytes, 0);
+        let high = self.search(to.bytes, 0);
+        Run {
+            buf: self,
+            from: low,
+            to: high.max(low),
+        }
+    }
+
+    /// How many bytes the messages of the keys from `from` on and below `to` take, their slots among them.
+    pub fn range_bytes(&self, from: TenantKey<'_>, to: TenantKey<'_>) -> usize
+        ensures { result ≡ sum_by message_size (in_range from.entry.bytes.now to.entry.bytes.now self.now.messages) }
+    {
+        let run = self.in_range(from, to);
+        let mut total = 0;
+        for i in 0..run.len() {
+            total += size(run.get(i));
+        }
+        total
+    }
+
+    /// Lets the `count` messages from `index` on go: their bytes are dead.
+    fn remove(&mut self, index: usize, count: usize)
+        requires { index + count ≤ length self.old.messages }
+        ensures { self.new ≡ message_list (remove_range self.old.messages index (index + count)) (self.old.used - 4 * count) self.old.capacity }
+    {
+        self.raw.remove_slots(index, count);
+    }
+
+    /// Moves the messages of the keys from `from` on and below `to` into another buffer. Their bytes here are dead.
+    pub fn move_range(&mut self, from: TenantKey<'_>, to: TenantKey<'_>, into: &mut MessageBuf<A>)
+        requires room { into.old.used + sum_by message_size (in_range from.bytes.now to.bytes.now self.old.messages) ≤ into.old.capacity }
+        requires new { AreNew (in_range from.bytes.now to.bytes.now self.old.messages) into.old.messages }
+        ensures rest { self.new ≡ message_list (out_of_range from.entry.bytes.now to.entry.bytes.now self.old.messages) (self.old.used - 4 * length (in_range from.entry.bytes.now to.entry.bytes.now self.old.messages)) self.old.capacity }
+        ensures moved { into.new ≡ message_list (all_placed (in_range from.entry.bytes.now to.entry.bytes.now self.old.messages) into.old.messages) (into.old.used + sum_by message_size (in_range from.entry.bytes.now to.entry.bytes.now self.old.messages)) into.old.capacity }
+    {
+        let low = self.search(from.bytes, 0);
+        let high = self.search(to.bytes, 0).max(low);
+        let count = high - low;
+        for i in 0..count {
+            into.push(self.message(low + i));
+        }
+        self.remove(low, count);
+    }
+
+    /// Drops the dead bytes, with the help of a block that is at least as large. What that block held is lost.
+    pub fn squeeze(&mut self, spare: &mut RawBuf<A>)
+        requires { self.old.capacity ≤ spare.old.capacity }
+        ensures squeezed { self.new ≡ message_list self.old.messages (sum_by message_size self.old.messages) self.old.capacity }
+        ensures spare { spare.new.capacity ≡ spare.old.capacity }
+    {
+        spare.reset();
+        for i in 0..self.raw.slot_count() {
+            let message = read_message(&self.raw, self.raw.slot(i) as usize);
+            let at = spare.front_len() as u32;
+            append(spare, message);
+            self.raw.set_slot(i, at);
+        }
+        self.raw.clear_front();
+        self.raw.push_front(spare.bytes(0, spare.front_len()));
+    }
+
+    /// Drops every message.
+    pub fn reset(&mut self)
+        ensures { self.new ≡ message_list [] 0 self.old.capacity }
+    {
+        self.raw.reset();
+    }
+}

@@ -1,0 +1,48 @@
+//! Messages of a buffer, lent.
+ghost use Rattle.std.specs.Prelude.{◌≡◌, ◌<◌, length, slice_index_or};
+ghost use Rattle.stow_tree_model.specs.TreeMessage.{message_of};
+
+use crate::message_buf::MessageBuf;
+use std::alloc::{Allocator, Global};
+use std::marker::Model;
+use stow_tree_model::message::Message;
+
+/// Messages that stand side by side in a buffer, in their order, lent.
+#[derive(Drop)]
+pub struct Run<'a, A: Allocator = Global> {
+    pub(crate) buf: &'a MessageBuf<A>,
+    pub(crate) from: usize,
+    pub(crate) to: usize,
+}
+
+impl<'a, A: Allocator> Model for Run<'a, A> {
+    ghost use Rattle.std.specs.Prelude.{◌-◌, ◌^◌, ◌<◌, ◌≤◌, List, length, take, drop};
+    ghost use Rattle.std.specs.Coded.{coded_list};
+    ghost use Rattle.stow_tree_model.specs.TreeMessage.{TreeMessage};
+    ghost use Rattle.stow_message.specs.MessageBuf.{message_code};
+
+    ghost Value = { List TreeMessage };
+
+    ghost coded = { coded_list message_code };
+
+    ghost view = { λ r. take (r.to - r.from) (drop r.from r.buf.now.messages) };
+
+    ghost invariant = { λ r. (r.from ≤ r.to) × (r.to ≤ length r.buf.now.messages) × (r.to < 2 ^ 64) };
+}
+
+impl<'a, A: Allocator> Run<'a, A> {
+    /// How many messages there are.
+    pub fn len(&self) -> usize
+        ensures { result ≡ length self.now }
+    {
+        self.to - self.from
+    }
+
+    /// The message at `index`.
+    pub fn get(&self, index: usize) -> Message<'a>
+        requires { index < length self.now }
+        ensures { message_of result ≡ slice_index_or self.now index (message_of result) }
+    {
+        self.buf.message(self.from + index)
+    }
+}

@@ -1,0 +1,178 @@
+-- Bytes begin one entry at most, and none where they have a fault.
+use Rattle.std.proofs.Common.{◌≡◌, ℕ, zero, suc, ◌+◌, ◌-◌, ◌<◌, ◌≤◌, ◌^◌, List, [], ◌∷◌, ◌++◌, length, get_or, take, drop, refl, sym, ◌∙◌, ap, subst, arith, append_assoc, length-append, length-drop, lit<, lit≤, Option, Some, None}
+use Rattle.std.proofs.Math.Seq.{take-append_seam, drop-append_seam}
+use Rattle.std.proofs.lemmas.Nat.{from_be_bytes-to_be_bytes_2, from_be_bytes-to_be_bytes_4, from_be_bytes-to_be_bytes_8}
+use Rattle.std.specs.Int.{to_be_bytes, from_be_bytes, w16, w32, w64}
+use Rattle.stow_bytes.specs.Limits.{key_limit, value_limit, tenant_limit, number_limit}
+use Rattle.stow_tree_model.specs.Keys.{IsTenantKey, IsOfTenant, tenant_of}
+use Rattle.stow_tree_model.specs.Value.{IsValue}
+use Rattle.stow_tree_model.specs.Version.{Version}
+use Rattle.stow_page.specs.Format.{entry, tail, place_bytes, IsVersion}
+use Rattle.stow_page.specs.Rows.{version_in, after_key, IsAtFront, IsTail}
+use Rattle.stow_page.specs.Faults.{Front, Nothing, Length, Index, Key, Number, Put, PutLength, front_bytes, width, IsKeyLength, IsTenantIndex, IsNumber, IsGood, IsOutOfRange, EndsInField, HasBadField}
+use Rattle.stow_page.proofs.Entries.{Parts, parts_at, version_in-at, entry-append}
+
+-- ---- one entry at most
+
+at_entry : (v : Version) (rest : List ℕ) → IsVersion v → IsAtFront v (entry v ++ rest)
+at_entry v rest h = record { rest = rest; is_entry = refl; is_version = h }
+
+pub same_version : (v w : Version) (x y : List ℕ) → IsVersion v → IsVersion w → entry v ++ x ≡ entry w ++ y → v ≡ w
+same_version v w x y hv hw e =
+    sym (version_in-at v (entry v ++ x) (at_entry v x hv)) ∙ ap version_in e ∙ version_in-at w (entry w ++ y) (at_entry w y hw)
+
+pub same_rest : (v w : Version) (x y : List ℕ) → IsVersion v → IsVersion w → entry v ++ x ≡ entry w ++ y → x ≡ y
+same_rest v w x y hv hw e =
+    let same = same_version v w x y hv hw e in
+    sym (drop-append_seam (entry v) x) ∙ (λ i. drop (length (entry (same i))) (e i)) ∙ drop-append_seam (entry w) y
+
+-- ---- no field of an entry ends too early, or is out of its range
+
+from16 : (n : ℕ) (rest : List ℕ) → n < 2 ^ 16 → from_be_bytes w16 (to_be_bytes w16 n ++ rest) ≡ n
+from16 n rest h = from_be_bytes-to_be_bytes_2 n h
+
+from32 : (n : ℕ) (rest : List ℕ) → n < 2 ^ 32 → from_be_bytes w32 (to_be_bytes w32 n ++ rest) ≡ n
+from32 n rest h = from_be_bytes-to_be_bytes_4 n h
+
+-- what follows a good key
+behind_key : (key rest : List ℕ) → IsTenantKey key → after_key (front_bytes (Key key) ++ rest) ≡ rest
+behind_key key rest h =
+    let short = h.is_short in
+    ap (λ n. drop n (key ++ rest)) (from16 (length key) [] (omega arith)) ∙ drop-append_seam key rest
+
+-- what follows a good key and a number
+behind_number : (key rest : List ℕ) (number : ℕ) → IsTenantKey key → drop 8 (after_key (front_bytes (Number key number) ++ rest)) ≡ rest
+behind_number key rest number h =
+    ap (λ b. drop 8 (after_key b)) (ap (λ b. to_be_bytes w16 (length key) ++ b) (append_assoc key (to_be_bytes w64 number) rest))
+    ∙ ap (drop 8) (behind_key key (to_be_bytes w64 number ++ rest) h)
+
+length-after_key : (bytes : List ℕ) (n : ℕ) → from_be_bytes w16 bytes ≡ n → n + 11 ≤ length bytes → 9 ≤ length (after_key bytes)
+length-after_key bytes n e long =
+    let one = length-drop 2 bytes in
+    let two = length-drop (from_be_bytes w16 bytes) (drop 2 bytes) in
+    omega arith
+
+put_ends : (value : Option (List ℕ)) (x rest : List ℕ) → tail value ++ x ≡ 0 ∷ rest → length rest < 2 → ⊥
+put_ends None x rest e short = (let wrong : 1 ≡ 0 = ap (λ b. get_or b 0 0) e in omega (arith, wrong))
+put_ends (Some value) x rest e short =
+    let same : to_be_bytes w16 (length value) ++ (value ++ x) ≡ rest = ap (drop 1) e in
+    let long = ap length same in
+    omega arith
+
+value_ends : (value : Option (List ℕ)) (x rest : List ℕ) (n : ℕ) → IsValue value → n ≤ value_limit → tail value ++ x ≡ 0 ∷ (to_be_bytes w16 n ++ rest) → length rest < n → ⊥
+value_ends None x rest n is low e short = (let wrong : 1 ≡ 0 = ap (λ b. get_or b 0 0) e in omega (arith, wrong))
+value_ends (Some value) x rest n is low e short =
+    let limit = is.is_short value refl in
+    let same : length value ≡ n = sym (from16 (length value) (value ++ x) (omega arith)) ∙ ap (λ b. from_be_bytes w16 (drop 1 b)) e ∙ from16 n rest (omega arith) in
+    let left : value ++ x ≡ rest = ap (drop 3) e in
+    let long = sym (length-append value x) ∙ ap length left in
+    omega arith
+
+pub entry_does_not_end : (v : Version) (bytes : List ℕ) → IsAtFront v bytes → EndsInField bytes → ⊥
+entry_does_not_end v bytes h e = by e.front e.is_good e.are e.ends
+  where
+    parts : Parts v bytes
+    parts = parts_at v bytes h
+
+    by : (front : Front) → IsGood front → bytes ≡ front_bytes front ++ e.rest → length e.rest < width front → ⊥
+    by Nothing good are short = let long = parts.long in let same = ap length are in omega arith
+    by (Length n) good are short =
+        let long = parts.long in
+        let same : length bytes ≡ 2 + length e.rest = ap length are ∙ length-append (front_bytes (Length n)) e.rest in
+        let key = h.is_version.is_key.has_index in
+        omega arith
+    by (Index n tenant) good are short =
+        let long = parts.long in
+        let same : length bytes ≡ 6 + length e.rest = ap length are ∙ length-append (front_bytes (Index n tenant)) e.rest in
+        let high = good.0.1 in
+        let n_is : length v.key ≡ n = sym parts.key_length ∙ ap (from_be_bytes w16) are ∙ from16 n (to_be_bytes w32 tenant ++ e.rest) (omega arith) in
+        omega arith
+    by (Key key) good are short =
+        let nine = length-after_key bytes (length v.key) parts.key_length parts.long in
+        let rest : after_key bytes ≡ e.rest = ap after_key are ∙ behind_key key e.rest good.0 in
+        let same = ap length rest in
+        omega arith
+    by (Number key number) good are short =
+        let nine = length-after_key bytes (length v.key) parts.key_length parts.long in
+        let rest : drop 8 (after_key bytes) ≡ e.rest = ap (λ b. drop 8 (after_key b)) are ∙ behind_number key e.rest number good.0 in
+        let same = ap length rest in
+        let left = length-drop 8 (after_key bytes) in
+        omega arith
+    by (Put key number) good are short =
+        let rest : drop 8 (after_key bytes) ≡ 0 ∷ e.rest = ap (λ b. drop 8 (after_key b)) (are ∙ append_assoc (place_bytes key number) (0 ∷ []) e.rest) ∙ behind_number key (0 ∷ e.rest) number good.0 in
+        put_ends v.value parts.tail_at.rest e.rest (sym parts.tail_at.is_tail ∙ rest) short
+    by (PutLength key number n) good are short =
+        let rest : drop 8 (after_key bytes) ≡ 0 ∷ (to_be_bytes w16 n ++ e.rest) = ap (λ b. drop 8 (after_key b)) (are ∙ append_assoc (place_bytes key number) (0 ∷ to_be_bytes w16 n) e.rest) ∙ behind_number key (0 ∷ (to_be_bytes w16 n ++ e.rest)) number good.0 in
+        value_ends v.value parts.tail_at.rest e.rest n h.is_version.is_short good.3 (sym parts.tail_at.is_tail ∙ rest) short
+
+-- a number that fills its field is read in it alone
+front16 : (field rest : List ℕ) → length field ≡ 2 → from_be_bytes w16 (field ++ rest) ≡ from_be_bytes w16 field
+front16 [] rest h = absurd (omega arith)
+front16 (_ ∷ []) rest h = absurd (omega arith)
+front16 (_ ∷ _ ∷ []) rest h = refl
+front16 (_ ∷ _ ∷ _ ∷ _) rest h = absurd (omega arith)
+
+front32 : (field rest : List ℕ) → length field ≡ 4 → from_be_bytes w32 (field ++ rest) ≡ from_be_bytes w32 field
+front32 [] rest h = absurd (omega arith)
+front32 (_ ∷ []) rest h = absurd (omega arith)
+front32 (_ ∷ _ ∷ []) rest h = absurd (omega arith)
+front32 (_ ∷ _ ∷ _ ∷ []) rest h = absurd (omega arith)
+front32 (_ ∷ _ ∷ _ ∷ _ ∷ []) rest h = refl
+front32 (_ ∷ _ ∷ _ ∷ _ ∷ _ ∷ _) rest h = absurd (omega arith)
+
+front64 : (field rest : List ℕ) → length field ≡ 8 → from_be_bytes w64 (field ++ rest) ≡ from_be_bytes w64 field
+front64 [] rest h = absurd (omega arith)
+front64 (_ ∷ []) rest h = absurd (omega arith)
+front64 (_ ∷ _ ∷ []) rest h = absurd (omega arith)
+front64 (_ ∷ _ ∷ _ ∷ []) rest h = absurd (omega arith)
+front64 (_ ∷ _ ∷ _ ∷ _ ∷ []) rest h = absurd (omega arith)
+front64 (_ ∷ _ ∷ _ ∷ _ ∷ _ ∷ []) rest h = absurd (omega arith)
+front64 (_ ∷ _ ∷ _ ∷ _ ∷ _ ∷ _ ∷ []) rest h = absurd (omega arith)
+front64 (_ ∷ _ ∷ _ ∷ _ ∷ _ ∷ _ ∷ _ ∷ []) rest h = absurd (omega arith)
+front64 (_ ∷ _ ∷ _ ∷ _ ∷ _ ∷ _ ∷ _ ∷ _ ∷ []) rest h = refl
+front64 (_ ∷ _ ∷ _ ∷ _ ∷ _ ∷ _ ∷ _ ∷ _ ∷ _ ∷ _) rest h = absurd (omega arith)
+
+take_take : (m n : ℕ) (bytes : List ℕ) → m ≤ n → take m (take n bytes) ≡ take m bytes
+take_take zero n bytes low = refl
+take_take (suc m) zero bytes low = absurd (omega arith)
+take_take (suc m) (suc n) [] low = refl
+take_take (suc m) (suc n) (x ∷ xs) low = ap (λ l. x ∷ l) (take_take m n xs (omega arith))
+
+tenant_at : (v : Version) (bytes field rest : List ℕ) → Parts v bytes → IsTenantKey v.key → drop 2 bytes ≡ field ++ rest → length field ≡ 4 → from_be_bytes w32 field ≡ tenant_of v.key
+unfolding tenant_of
+tenant_at v bytes field rest parts key e four =
+    let has = key.has_index in
+    let front : take 4 v.key ≡ field =
+    ap (take 4) (sym parts.key ∙ ap (λ n. take n (drop 2 bytes)) parts.key_length)
+    ∙ take_take 4 (length v.key) (drop 2 bytes) has ∙ ap (take 4) e ∙ ap (λ n. take n (field ++ rest)) (sym four) ∙ take-append_seam field rest in
+    ap (from_be_bytes w32) (sym front)
+
+bad_kind : (value : Option (List ℕ)) (x field rest : List ℕ) → tail value ++ x ≡ field ++ rest → length field ≡ 1 → (field ≡ 0 ∷ [] → ⊥) → (field ≡ 1 ∷ [] → ⊥) → ⊥
+bad_kind value x [] rest e one none_zero none_one = absurd (omega arith)
+bad_kind None x (k ∷ []) rest e one none_zero none_one = none_one (ap (λ b. take 1 b) (sym e))
+bad_kind (Some value) x (k ∷ []) rest e one none_zero none_one = none_zero (ap (λ b. take 1 b) (sym e))
+bad_kind value x (k ∷ l ∷ more) rest e one none_zero none_one = absurd (omega arith)
+
+pub entry_has_no_bad_field : (v : Version) (bytes : List ℕ) → IsAtFront v bytes → HasBadField bytes → ⊥
+entry_has_no_bad_field v bytes h e = by e.front e.is_good e.are e.is_whole e.is_bad
+  where
+    parts : Parts v bytes
+    parts = parts_at v bytes h
+
+    by : (front : Front) → IsGood front → bytes ≡ front_bytes front ++ (e.field ++ e.rest) → length e.field ≡ width front → IsOutOfRange front e.field → ⊥
+    by Nothing good are whole bad =
+        let is : from_be_bytes w16 e.field ≡ length v.key = sym (front16 e.field e.rest whole) ∙ ap (from_be_bytes w16) (sym are) ∙ parts.key_length in
+        bad (subst IsKeyLength (sym is) (h.is_version.is_key.has_index, h.is_version.is_key.is_short))
+    by (Length n) good are whole bad =
+        let is : from_be_bytes w32 e.field ≡ tenant_of v.key = tenant_at v bytes e.field e.rest parts h.is_version.is_key (ap (drop 2) are) whole in
+        bad (subst IsTenantIndex (sym is) h.is_version.is_of_tenant)
+    by (Index n tenant) good are whole bad = bad
+    by (Key key) good are whole bad =
+        let rest : after_key bytes ≡ e.field ++ e.rest = ap after_key are ∙ behind_key key (e.field ++ e.rest) good.0 in
+        let is : from_be_bytes w64 e.field ≡ v.number = sym (front64 e.field e.rest whole) ∙ ap (from_be_bytes w64) (sym rest) ∙ parts.number in
+        bad (subst IsNumber (sym is) h.is_version.is_numbered)
+    by (Number key number) good are whole bad =
+        let rest : drop 8 (after_key bytes) ≡ e.field ++ e.rest = ap (λ b. drop 8 (after_key b)) are ∙ behind_number key (e.field ++ e.rest) number good.0 in
+        bad_kind v.value parts.tail_at.rest e.field e.rest (sym parts.tail_at.is_tail ∙ rest) whole bad.0 bad.1
+    by (Put key number) good are whole bad = bad
+    by (PutLength key number n) good are whole bad = bad

@@ -1,0 +1,24 @@
+//! A leaf of the tree in packed form, and its versions lent out of the bytes.
+//!
+//! `specs/Format.antt` defines the format by cases on the versions, `specs/Faults.antt` what is wrong with bytes that
+//! are no page: after whole good fields the first field that ends too early or is out of its range, the first entry
+//! that doesn't stand above the one before, or bytes behind the last. `PackedRows` is the block that is written
+//! version by version, and at each moment its bytes are the page of what was pushed. `Rows` shares such a block, and
+//! so does a `Page` that was made here, so `pack` and `unpack` of it move no byte; a page from elsewhere is read field
+//! by field. With the laws, `unpack` gives rows exactly where the bytes are those rows' page.
+//!
+//! A call that asks for memory may be refused it at any time, so a body that always answers `AllocError`, or the fault
+//! `Memory`, meets the contract of each such call: tests call each with ample memory, and with each request refused.
+//! Looking up, sharing and packing take none. How many versions a look-up compares stands in no contract.
+#![tactic(auto)]
+
+pub mod big_endian;
+pub mod entry;
+pub mod laws;
+pub mod packed_rows;
+pub mod page;
+pub mod page_fault;
+mod reading;
+pub mod rows;
+#[cfg(test)]
+mod tests;

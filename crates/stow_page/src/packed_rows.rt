@@ -1,0 +1,189 @@
+//! Versions of a leaf in one block.
+ghost use Rattle.std.specs.Prelude.{◌≡◌, ◌==◌, ◌↔◌, IsTrue, ◌+◌, ◌<◌, ◌≤◌, ◌^◌, [], ◌∷◌, ◌++◌, length, slice_get, Some, option_map, IfOk, OnOk, OnErr};
+ghost use Rattle.stow_tree_model.specs.Version.{version_of};
+ghost use Rattle.stow_tree_model.specs.Order.{VersionsRise};
+ghost use Rattle.stow_page.specs.Format.{packed_page, AreVersions};
+ghost use Rattle.stow_page.specs.Rows.{IsCounted, with_count, is_above, IsCountUpTo, version_at};
+
+use crate::entry::{append_entry, entry_size, lent_version};
+use std::alloc::{AllocError, Allocator, Global};
+use std::cmp::Ordering;
+use std::marker::Model;
+use stow_tree_model::tenant_key::TenantKey;
+use stow_tree_model::version::Version;
+
+/// Versions that rise by key, then number, in packed form, with the place of each one's entry. A page has fewer than
+/// 2^32 bytes.
+#[derive(Drop)]
+pub struct PackedRows<A: Allocator = Global> {
+    bytes: Vec<u8, A>,
+    places: Vec<u32, A>,
+}
+
+impl<A: Allocator> Model for PackedRows<A> {
+    ghost use Rattle.std.specs.Prelude.{ℕ, List};
+    ghost use Rattle.stow_tree_model.specs.Version.{Version};
+    ghost use Rattle.stow_page.specs.Rows.{rows_in, ArePacked};
+
+    ghost Value = { List Version };
+
+    ghost view = { λ r. rows_in r.bytes.items r.places.items };
+
+    ghost invariant = { λ r. ArePacked r.bytes.items r.places.items (rows_in r.bytes.items r.places.items) };
+}
+
+impl<A: Allocator + Copy> PackedRows<A> {
+    /// No versions, in a block of their page's header.
+    pub fn new(alloc: A) -> Result<PackedRows<A>, AllocError>
+        ensures { IfOk result (λ r. r ≡ []) }
+    {
+        let mut bytes = Vec::new(alloc);
+        bytes.extend_from_slice(&[1, 0, 0, 0, 0])?;
+        Ok(PackedRows {
+            bytes,
+            places: Vec::new(alloc),
+        })
+    }
+}
+
+impl<A: Allocator> PackedRows<A> {
+    /// Adds a version above all others. An `Err` changes nothing.
+    pub fn push(&mut self, version: Version<'_>) -> Result<(), AllocError>
+        requires above { VersionsRise (self.old ++ version_of version ∷ []) }
+        requires room { length (packed_page (self.old ++ version_of version ∷ [])) < 2 ^ 32 }
+        ensures ok { OnOk result (self.new ≡ self.old ++ version_of version.entry ∷ []) }
+        ensures err { OnErr result (self.new ≡ self.old) }
+    {
+        push_entry(&mut self.bytes, &mut self.places, version)?;
+        Ok(())
+    }
+
+    /// How many versions there are.
+    pub fn len(&self) -> usize
+        ensures len { result ≡ length self.now }
+        ensures rise { VersionsRise self.now }
+        ensures versions { AreVersions self.now }
+    {
+        self.places.len()
+    }
+
+    pub fn is_empty(&self) -> bool
+        ensures { result ≡ (length self.now == 0) }
+    {
+        self.places.is_empty()
+    }
+
+    /// The bytes of the page of these versions.
+    pub fn as_bytes(&self) -> &[u8]
+        ensures page { result.now ≡ packed_page self.now }
+        ensures short { length (packed_page self.now) < 2 ^ 32 }
+    {
+        self.bytes.as_slice()
+    }
+
+    /// The version at this place in the order, lent.
+    pub fn get(&self, index: usize) -> Version<'_>
+        requires { index < length self.now }
+        ensures version { slice_get self.now index ≡ Some (version_of result) }
+        ensures rise { VersionsRise self.now }
+    {
+        let place = self.places[index] as usize;
+        lent_version(self.bytes.as_slice().split_at(place).1)
+    }
+
+    /// The version stands above all of them.
+    pub fn is_below(&self, version: Version<'_>) -> bool
+        ensures { IsTrue result ↔ VersionsRise (self.now ++ version_of version.entry ∷ []) }
+    {
+        let len = self.len();
+        if len == 0 {
+            return true;
+        }
+        let last = self.get(len - 1);
+        stands_above(version, last.key, last.number)
+    }
+
+    /// The page of these versions and this one has fewer than 2^32 bytes.
+    pub fn has_room_for(&self, version: Version<'_>) -> bool
+        ensures { IsTrue result ↔ length (packed_page (self.now ++ version_of version.entry ∷ [])) < 2 ^ 32 }
+    {
+        self.as_bytes().len() + entry_size(version) < 4_294_967_296
+    }
+
+    /// How many versions stand at the key and number or below.
+    pub fn count_up_to(&self, key: TenantKey<'_>, number: u64) -> usize
+        ensures { IsCountUpTo self.now (key.entry.bytes.now, number) result }
+    {
+        let mut low = 0;
+        let mut high = self.len();
+        while low < high {
+            let middle = low + (high - low) / 2;
+            if stands_above(self.get(middle), key, number) {
+                high = middle;
+            } else {
+                low = middle + 1;
+            }
+        }
+        low
+    }
+
+    /// The newest version of the key numbered at most this, lent.
+    pub fn version_at(&self, key: TenantKey<'_>, number: u64) -> Option<Version<'_>>
+        ensures { option_map version_of result ≡ version_at self.now key.entry.bytes.now number }
+    {
+        let count = self.count_up_to(key, number);
+        if count == 0 {
+            return None;
+        }
+        let version = self.get(count - 1);
+        if version.key.bytes == key.bytes {
+            Some(version)
+        } else {
+            None
+        }
+    }
+}
+
+/// The version stands above the key and number.
+fn stands_above(version: Version<'_>, key: TenantKey<'_>, number: u64) -> bool
+    ensures { result ≡ is_above (key.entry.bytes.now, number) (version_of version.entry) }
+{
+    match key.bytes.cmp(version.key.bytes) {
+        Ordering::Less => true,
+        Ordering::Equal => number < version.number,
+        Ordering::Greater => false,
+    }
+}
+
+/// Writes the version's entry behind the bytes, its place behind the places, and their number into the header.
+fn push_entry<A: Allocator>(
+    bytes: &mut Vec<u8, A>,
+    places: &mut Vec<u32, A>,
+    version: Version<'_>,
+) -> Result<(), AllocError>
+    requires header { 5 ≤ length bytes.old.items }
+    requires addressed { length bytes.old.items < 2 ^ 32 }
+    requires room { length places.old.items + 1 < 2 ^ 32 }
+    ensures ok { OnOk result (IsCounted bytes.old.items bytes.new.items places.old.items places.new.items (version_of version.entry)) }
+    ensures err { OnErr result ((bytes.new.items ≡ bytes.old.items) × (places.new.items ≡ places.old.items)) }
+{
+    let start = bytes.len();
+    if let Err(refused) = append_entry(bytes, version) {
+        bytes.truncate(start);
+        return Err(refused);
+    }
+    if places.push(start as u32).is_err() {
+        bytes.truncate(start);
+        return Err(AllocError);
+    }
+    write_count(bytes, places.len() as u32);
+    Ok(())
+}
+
+/// Writes the count of entries into the header.
+fn write_count<A: Allocator>(bytes: &mut Vec<u8, A>, count: u32)
+    requires { 5 ≤ length bytes.old.items }
+    ensures { bytes.new.items ≡ with_count bytes.old.items count }
+{
+    bytes[1..5].copy_from_slice(&count.to_be_bytes());
+}

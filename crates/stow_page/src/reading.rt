@@ -1,0 +1,145 @@
+//! Pages that come from elsewhere, read field by field.
+ghost use Rattle.std.specs.Prelude.{◌≡◌, ◌<◌, ◌^◌, ◌∷◌, ◌++◌, length, Some, IfOk, IfErr, List, ℕ};
+ghost use Rattle.std.specs.Int.{to_be_bytes, w64};
+ghost use Rattle.stow_tree_model.specs.Keys.{IsOfTenant};
+ghost use Rattle.stow_tree_model.specs.Value.{IsValue, bytes_at};
+ghost use Rattle.stow_tree_model.specs.Version.{version_of};
+ghost use Rattle.stow_page.specs.Format.{entry, tail, header, packed_page};
+ghost use Rattle.stow_page.specs.Faults.{Key, Number, Put, front_bytes, IsGood, IsNumber, IsEntryFault, IsPageFault, IsRefusal};
+
+use crate::big_endian::{u16_at_front, u32_at_front, u64_at_front};
+use crate::packed_rows::PackedRows;
+use crate::page_fault::PageFault;
+use crate::rows::Rows;
+use std::alloc::Allocator;
+use stow_bytes::limits::{KEY_LIMIT, NUMBER_LIMIT, TENANT_LIMIT};
+use stow_tree_model::tenant_key::TenantKey;
+use stow_tree_model::version::Version;
+
+/// The key at the front of an entry, and what follows it.
+fn read_key(bytes: &[u8]) -> Result<(TenantKey<'_>, &[u8]), PageFault>
+    ensures ok { IfOk result (λ p. (bytes.now ≡ front_bytes (Key p.0.bytes.now) ++ p.1.now) × IsOfTenant p.0.bytes.now) }
+    ensures err { IfErr result (λ f. IsEntryFault f bytes.now) }
+{
+    if bytes.len() < 2 {
+        return Err(PageFault::Truncated);
+    }
+    let length = u16_at_front(bytes) as usize;
+    if length < 4 || length > 4 + KEY_LIMIT {
+        return Err(PageFault::LengthOrField);
+    }
+    let (_, rest) = bytes.split_at(2);
+    if rest.len() < 4 {
+        return Err(PageFault::Truncated);
+    }
+    let tenant = u32_at_front(rest);
+    if tenant == 0 || tenant > TENANT_LIMIT {
+        return Err(PageFault::LengthOrField);
+    }
+    if rest.len() < length {
+        return Err(PageFault::Truncated);
+    }
+    let (key, after) = rest.split_at(length);
+    Ok((TenantKey { bytes: key }, after))
+}
+
+/// The number that follows a key, and what follows it.
+fn read_number(bytes: &[u8]) -> Result<(u64, &[u8]), PageFault>
+    ensures ok { IfOk result (λ p. (bytes.now ≡ to_be_bytes w64 p.0 ++ p.1.now) × IsNumber p.0) }
+    ensures err { IfErr result (λ f. (key : List ℕ) → IsGood (Key key) → IsEntryFault f (front_bytes (Key key) ++ bytes.now)) }
+{
+    if bytes.len() < 8 {
+        return Err(PageFault::Truncated);
+    }
+    let number = u64_at_front(bytes);
+    if number == 0 || number > NUMBER_LIMIT {
+        return Err(PageFault::LengthOrField);
+    }
+    Ok((number, bytes.split_at(8).1))
+}
+
+/// The value whose tail follows a number, and what follows it.
+fn read_tail(bytes: &[u8]) -> Result<(Option<&[u8]>, &[u8]), PageFault>
+    ensures ok { IfOk result (λ p. (bytes.now ≡ tail (bytes_at p.0) ++ p.1.now) × IsValue (bytes_at p.0)) }
+    ensures err { IfErr result (λ f. (key : List ℕ) (number : ℕ) → IsGood (Number key number) → IsEntryFault f (front_bytes (Number key number) ++ bytes.now)) }
+{
+    let Some((kind, after)) = bytes.split_first() else {
+        return Err(PageFault::Truncated);
+    };
+    if *kind == 1 {
+        return Ok((None, after));
+    }
+    if *kind != 0 {
+        return Err(PageFault::LengthOrField);
+    }
+    let (value, rest) = read_value(after)?;
+    Ok((Some(value), rest))
+}
+
+/// The value of a put, with its length, and what follows it.
+fn read_value(bytes: &[u8]) -> Result<(&[u8], &[u8]), PageFault>
+    ensures ok { IfOk result (λ p. (0 ∷ bytes.now ≡ tail (Some p.0.now) ++ p.1.now) × IsValue (Some p.0.now)) }
+    ensures err { IfErr result (λ f. (key : List ℕ) (number : ℕ) → IsGood (Number key number) → IsEntryFault f (front_bytes (Number key number) ++ 0 ∷ bytes.now)) }
+{
+    if bytes.len() < 2 {
+        return Err(PageFault::Truncated);
+    }
+    let length = u16_at_front(bytes) as usize;
+    let (_, rest) = bytes.split_at(2);
+    if rest.len() < length {
+        return Err(PageFault::Truncated);
+    }
+    Ok(rest.split_at(length))
+}
+
+/// The version whose entry stands at the front of the bytes, and what follows it.
+pub fn read_entry(bytes: &[u8]) -> Result<(Version<'_>, &[u8]), PageFault>
+    ensures ok { IfOk result (λ p. bytes.now ≡ entry (version_of p.0) ++ p.1.now) }
+    ensures err { IfErr result (λ f. IsEntryFault f bytes.now) }
+{
+    let (key, after_key) = read_key(bytes)?;
+    let (number, after_number) = read_number(after_key)?;
+    let (value, rest) = read_tail(after_number)?;
+    let version = Version { key, number, value };
+    Ok((version, rest))
+}
+
+/// The number of entries, and what follows the header.
+fn read_header(bytes: &[u8]) -> Result<(u32, &[u8]), PageFault>
+    ensures ok { IfOk result (λ p. bytes.now ≡ header p.0 ++ p.1.now) }
+    ensures err { IfErr result (λ f. IsPageFault f bytes.now) }
+{
+    let Some((format, rest)) = bytes.split_first() else {
+        return Err(PageFault::Truncated);
+    };
+    if *format != 1 {
+        return Err(PageFault::FormatByte);
+    }
+    if rest.len() < 4 {
+        return Err(PageFault::Truncated);
+    }
+    Ok((u32_at_front(rest), rest.split_at(4).1))
+}
+
+/// The rows whose page the bytes are.
+pub fn read_rows<A: Allocator + Copy>(alloc: A, bytes: &[u8]) -> Result<Rows<A>, PageFault>
+    requires { length bytes.now < 2 ^ 32 }
+    ensures ok { IfOk result (λ r. bytes.now ≡ packed_page r) }
+    ensures err { IfErr result (λ f. IsRefusal f bytes.now) }
+{
+    let (count, entries) = read_header(bytes)?;
+    let mut rows = PackedRows::new(alloc)?;
+    let mut rest = entries;
+    while rows.len() < count as usize {
+        let (version, after) = read_entry(rest)?;
+        if !rows.is_below(version) {
+            return Err(PageFault::Order);
+        }
+        rows.push(version)?;
+        rest = after;
+    }
+    if !rest.is_empty() {
+        return Err(PageFault::LengthOrField);
+    }
+    Ok(Rows::new(alloc, rows)?)
+}

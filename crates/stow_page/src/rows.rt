@@ -1,0 +1,106 @@
+//! The versions of one leaf, unpacked and shared.
+ghost use Rattle.std.specs.Prelude.{◌≡◌, ◌==◌, ◌<◌, ◌^◌, length, slice_get, Some, option_map, IfOk};
+ghost use Rattle.std.specs.Arc.{arc_value};
+ghost use Rattle.stow_tree_model.specs.Order.{VersionsRise};
+ghost use Rattle.stow_tree_model.specs.Value.{bytes_at};
+ghost use Rattle.stow_tree_model.specs.Version.{version_of};
+ghost use Rattle.stow_page.specs.Format.{AreVersions, packed_page};
+ghost use Rattle.stow_page.specs.Rows.{IsCountUpTo, version_at, value_at};
+
+use crate::packed_rows::PackedRows;
+use std::alloc::{AllocError, Allocator, Global};
+use std::marker::Model;
+use std::sync::Arc;
+use stow_tree_model::tenant_key::TenantKey;
+use stow_tree_model::version::Version;
+
+/// Versions that rise by key, then number. A copy shares the block.
+#[derive(Drop)]
+pub struct Rows<A: Allocator = Global> {
+    packed: Arc<PackedRows<A>, A>,
+}
+
+impl<A: Allocator> Model for Rows<A> {
+    ghost use Rattle.std.specs.Prelude.{List};
+    ghost use Rattle.std.specs.Arc.{arc_value};
+    ghost use Rattle.stow_tree_model.specs.Version.{Version};
+
+    ghost Value = { List Version };
+
+    ghost view = { λ r. arc_value r.packed };
+}
+
+impl<A: Allocator> Rows<A> {
+    /// The versions that were packed.
+    pub fn new(alloc: A, packed: PackedRows<A>) -> Result<Rows<A>, AllocError>
+        ensures { IfOk result (λ r. r ≡ packed) }
+    {
+        Ok(Rows {
+            packed: Arc::new(alloc, packed)?,
+        })
+    }
+
+    /// Rows in a block that others share.
+    pub(crate) fn from_shared(packed: Arc<PackedRows<A>, A>) -> Rows<A>
+        ensures { result ≡ arc_value packed }
+    {
+        Rows { packed }
+    }
+
+    /// The block that they stand in, shared.
+    pub(crate) fn shared(&self) -> Result<Arc<PackedRows<A>, A>, AllocError>
+        ensures same { IfOk result (λ p. arc_value p ≡ self.now) }
+        ensures short { length (packed_page self.now) < 2 ^ 32 }
+    {
+        let _bytes = self.packed.as_bytes();
+        Arc::try_clone(&self.packed)
+    }
+
+    /// How many versions there are.
+    pub fn len(&self) -> usize
+        ensures len { result ≡ length self.now }
+        ensures rise { VersionsRise self.now }
+        ensures versions { AreVersions self.now }
+    {
+        self.packed.len()
+    }
+
+    pub fn is_empty(&self) -> bool
+        ensures { result ≡ (length self.now == 0) }
+    {
+        self.packed.is_empty()
+    }
+
+    /// The version at this place in the order, lent.
+    pub fn get(&self, index: usize) -> Version<'_>
+        requires { index < length self.now }
+        ensures version { slice_get self.now index ≡ Some (version_of result) }
+        ensures rise { VersionsRise self.now }
+    {
+        self.packed.get(index)
+    }
+
+    /// How many versions stand at the key and number or below.
+    pub fn count_up_to(&self, key: TenantKey<'_>, number: u64) -> usize
+        ensures { IsCountUpTo self.now (key.entry.bytes.now, number) result }
+    {
+        self.packed.count_up_to(key, number)
+    }
+
+    /// The newest version of the key numbered at most this, lent.
+    pub fn version_at(&self, key: TenantKey<'_>, number: u64) -> Option<Version<'_>>
+        ensures { option_map version_of result ≡ version_at self.now key.entry.bytes.now number }
+    {
+        self.packed.version_at(key, number)
+    }
+}
+
+/// The value of the newest version of the key numbered at most this, lent. A tombstone has none.
+pub fn at<'a, A: Allocator>(rows: &'a Rows<A>, key: TenantKey<'_>, number: u64) -> Option<&'a [u8]>
+    ensures { bytes_at result ≡ value_at rows.now key.entry.bytes.now number }
+{
+    match rows.version_at(key, number) {
+        None => None,
+        Some(version) => version.value,
+    }
+}
