@@ -19,10 +19,12 @@ pub struct Arguments<'a> {
     pub task: Task,
     /// The path of the tenant file.
     pub tenants: &'a str,
+    /// Whether a second line tells more of what goes wrong.
+    pub explain: bool,
 }
 
 /// What the words say, of which the first is the program's own name.
-pub fn read_arguments(alloc: Global, words: &[String]) -> Result<Arguments<'_>, Failure> {
+pub fn read_arguments(alloc: Global, words: &[String]) -> Result<Arguments<'_>, Failure<'static>> {
     match found(alloc, words) {
         Ok(Some(arguments)) => Ok(arguments),
         Ok(None) => Err(Failure::Arguments(String::new(alloc))),
@@ -33,10 +35,12 @@ pub fn read_arguments(alloc: Global, words: &[String]) -> Result<Arguments<'_>, 
 fn found(alloc: Global, words: &[String]) -> Result<Option<Arguments<'_>>, Error> {
     let pipe = Command::new(alloc, "pipe")
         .about("Answers the requests on standard input, as one connection")
-        .arg(tenants(alloc))?;
+        .arg(tenants(alloc))?
+        .arg(explain(alloc))?;
     let script = Command::new(alloc, "script")
         .about("Carries out the events of a script on standard input")
-        .arg(tenants(alloc))?;
+        .arg(tenants(alloc))?
+        .arg(explain(alloc))?;
     let command = Command::new(alloc, "stow")
         .about("An ordered key-value service for many tenants, spoken to in RESP2")
         .subcommand_required(true)
@@ -56,6 +60,14 @@ fn tenants<'a>(alloc: Global) -> Arg<'a> {
         .action(ArgAction::Set)
 }
 
+/// The flag that each task takes.
+fn explain<'a>(alloc: Global) -> Arg<'a> {
+    Arg::new(alloc, "explain")
+        .long("explain")
+        .help("Tells more of what goes wrong, in a second line on standard error")
+        .action(ArgAction::SetTrue)
+}
+
 /// What was matched; each task that is matched has its file.
 fn arguments_of<'a>(matches: &ArgMatches<'a>) -> Option<Arguments<'a>> {
     let (name, matches) = matches.subcommand()?;
@@ -67,11 +79,12 @@ fn arguments_of<'a>(matches: &ArgMatches<'a>) -> Option<Arguments<'a>> {
     Some(Arguments {
         task,
         tenants: matches.get_str("tenants")?,
+        explain: matches.get_flag("explain"),
     })
 }
 
 /// What is told where the parser gives no task.
-fn refused(alloc: Global, error: &Error) -> Failure {
+fn refused(alloc: Global, error: &Error) -> Failure<'static> {
     if error.kind() == ErrorKind::OutOfMemory {
         return Failure::Memory;
     }

@@ -1,5 +1,6 @@
 //! Why the program ends early.
-use std::alloc::AllocError;
+use crate::stumble::Stumble;
+use std::alloc::{AllocError, Global};
 use std::io;
 use stow_login::tenants_fault::TenantsFault;
 
@@ -12,42 +13,115 @@ pub const INPUT_OUTPUT: u8 = 4;
 /// The status after want of memory.
 pub const MEMORY: u8 = 5;
 
+/// Where bytes are read or written.
+#[derive(Clone, Copy, Debug)]
+pub enum Place<'a> {
+    /// The file of this path.
+    File(&'a str),
+    Input,
+    Output,
+}
+
 /// Why the program ends early.
 #[derive(Debug, Drop)]
-pub enum Failure {
+pub enum Failure<'a> {
     /// Help was asked for: the text for standard output.
     Help(String),
     /// The arguments are refused: the parser's text for standard error.
     Arguments(String),
-    /// The tenant file is refused.
-    Tenants(TenantsFault),
-    /// The script's line of this number, counted from 1, is none.
-    BadLine(usize),
-    InputOutput,
+    /// The tenant file is refused, and where, if there was memory to tell it.
+    Tenants(TenantsFault, Option<String>),
+    /// The script's line of this number, counted from 1, is none, and what it stumbles on.
+    BadLine(usize, Stumble),
+    /// Bytes can't be read or written there, for this reason.
+    InputOutput(Place<'a>, io::Error),
     Memory,
 }
 
-impl From<AllocError> for Failure {
-    fn from(_error: AllocError) -> Failure {
-        Failure::Memory
-    }
-}
-
-impl From<io::Error> for Failure {
-    fn from(error: io::Error) -> Failure {
+impl<'a> Failure<'a> {
+    /// Reading or writing failed there.
+    pub fn at(place: Place<'a>, error: io::Error) -> Failure<'a> {
         if error.kind() == io::ErrorKind::OutOfMemory {
             Failure::Memory
         } else {
-            Failure::InputOutput
+            Failure::InputOutput(place, error)
+        }
+    }
+
+    /// The tenant file is refused, and where.
+    pub fn tenants(fault: TenantsFault, place: Option<String>) -> Failure<'a> {
+        match fault {
+            TenantsFault::OutOfMemory => Failure::Memory,
+            _ => Failure::Tenants(fault, place),
+        }
+    }
+
+    /// Standard input failed.
+    pub fn input(error: io::Error) -> Failure<'a> {
+        Failure::at(Place::Input, error)
+    }
+
+    /// Standard output failed.
+    pub fn output(error: io::Error) -> Failure<'a> {
+        Failure::at(Place::Output, error)
+    }
+
+    /// The status that the program ends with.
+    pub fn status(&self) -> u8 {
+        match self {
+            Failure::Help(_) => 0,
+            Failure::Arguments(_) | Failure::BadLine(_, _) => REFUSED,
+            Failure::Tenants(_, _) => TENANTS,
+            Failure::InputOutput(_, _) => INPUT_OUTPUT,
+            Failure::Memory => MEMORY,
+        }
+    }
+
+    /// What is told of it: the help, the argument parser's text, or one line.
+    pub fn text(&self, alloc: Global) -> Result<String, AllocError> {
+        match self {
+            Failure::Help(text) | Failure::Arguments(text) => String::from_str(
+                alloc,
+                text.as_str(),
+            ),
+            Failure::Tenants(fault, _) => {
+                format!(in alloc; "stow: tenant file refused: fault {}\n", fault.number())
+            }
+            Failure::BadLine(number, _) => format!(in alloc; "stow: bad line {number}\n"),
+            Failure::InputOutput(_, _) => String::from_str(alloc, "stow: input or output failed\n"),
+            Failure::Memory => String::from_str(alloc, "stow: memory was refused\n"),
+        }
+    }
+
+    /// The second line, for whoever asks why; none where nothing more is known.
+    pub fn explanation(&self, alloc: Global) -> Result<Option<String>, AllocError> {
+        match self {
+            Failure::Tenants(_, Some(text)) => Ok(Some(format!(in alloc; "stow: {text}\n")?)),
+            Failure::BadLine(_, stumble) => {
+                let word = stumble.text(alloc)?;
+                Ok(Some(format!(in alloc; "stow: it stumbles on \"{word}\"\n")?))
+            }
+            Failure::InputOutput(place, error) => {
+                let place = place.name();
+                Ok(Some(format!(in alloc; "stow: {place}: {error}\n")?))
+            }
+            _ => Ok(None),
         }
     }
 }
 
-impl From<TenantsFault> for Failure {
-    fn from(fault: TenantsFault) -> Failure {
-        match fault {
-            TenantsFault::OutOfMemory => Failure::Memory,
-            _ => Failure::Tenants(fault),
+impl<'a> Place<'a> {
+    fn name(self) -> &'a str {
+        match self {
+            Place::File(path) => path,
+            Place::Input => "standard input",
+            Place::Output => "standard output",
         }
+    }
+}
+
+impl From<AllocError> for Failure<'_> {
+    fn from(_error: AllocError) -> Self {
+        Failure::Memory
     }
 }

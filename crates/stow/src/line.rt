@@ -25,20 +25,20 @@ const LEAVES: u32 = 65_536;
 pub fn read_line<A: Allocator + Copy>(
     alloc: A,
     line: &[u8],
-) -> Result<Option<Event<A>>, TextFault> {
+) -> Result<Option<Event<A>>, TextFault<'_>> {
     if line.is_empty() || line[0] == b'#' {
         return Ok(None);
     }
     let (word, rest) = first_field(line);
     let Some(rest) = rest else {
-        return Err(TextFault::Malformed);
+        return Err(TextFault::Malformed(word));
     };
     if word == b"piece".as_slice() {
         return read_piece(alloc, rest);
     }
     match read_numbered(word, rest) {
-        Some(event) => Ok(Some(event)),
-        None => Err(TextFault::Malformed),
+        Ok(event) => Ok(Some(event)),
+        Err(word) => Err(TextFault::Malformed(word)),
     }
 }
 
@@ -50,27 +50,33 @@ fn first_field(line: &[u8]) -> (&[u8], Option<&[u8]>) {
     }
 }
 
-fn read_piece<A: Allocator + Copy>(alloc: A, rest: &[u8]) -> Result<Option<Event<A>>, TextFault> {
+fn read_piece<A: Allocator + Copy>(
+    alloc: A,
+    rest: &[u8],
+) -> Result<Option<Event<A>>, TextFault<'_>> {
     let (number_text, text) = first_field(rest);
     let (Some(c), Some(text)) = (number(number_text, 1, CONNECTIONS), text) else {
-        return Err(TextFault::Malformed);
+        return Err(TextFault::Malformed(number_text));
     };
     Ok(Some(Event::Piece(c, unescape(alloc, text)?)))
 }
 
-/// An event of a word and a number.
-fn read_numbered<A: Allocator>(word: &[u8], rest: &[u8]) -> Option<Event<A>> {
-    let connection = number(rest, 1, CONNECTIONS);
-    let flusher = number(rest, 1, FLUSHERS);
+/// An event of a word and a number, or the one of the two that is none.
+fn read_numbered<'a, A: Allocator>(word: &'a [u8], rest: &'a [u8]) -> Result<Event<A>, &'a [u8]> {
+    let connection = number(rest, 1, CONNECTIONS).ok_or(rest);
+    let flusher = number(rest, 1, FLUSHERS).ok_or(rest);
     match word {
-        b"open" => Some(Event::Open(connection?)),
-        b"serve" => Some(Event::Serve(connection?)),
-        b"close" => Some(Event::Close(connection?)),
-        b"plan" => Some(Event::Plan(flusher?)),
-        b"merge" => Some(Event::Merge(flusher?)),
-        b"install" => Some(Event::Install(flusher?)),
-        b"resize" => Some(Event::Resize(number(rest, 0, LEAVES)? as usize)),
-        _ => None,
+        b"open" => Ok(Event::Open(connection?)),
+        b"serve" => Ok(Event::Serve(connection?)),
+        b"close" => Ok(Event::Close(connection?)),
+        b"plan" => Ok(Event::Plan(flusher?)),
+        b"merge" => Ok(Event::Merge(flusher?)),
+        b"install" => Ok(Event::Install(flusher?)),
+        b"resize" => match number(rest, 0, LEAVES) {
+            Some(size) => Ok(Event::Resize(size as usize)),
+            None => Err(rest),
+        },
+        _ => Err(word),
     }
 }
 

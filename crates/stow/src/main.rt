@@ -13,6 +13,7 @@ mod line;
 mod pipe;
 mod program;
 mod script;
+mod stumble;
 #[cfg(test)]
 mod tests;
 mod text;

@@ -3,6 +3,7 @@ ghost use Rattle.std.specs.Prelude.{◌≤◌, IfOk, length};
 
 use crate::failure::Failure;
 use std::alloc::Allocator;
+use std::io;
 use std::io::{ErrorKind, Read, Write};
 use stow_bytes::byte_string::ByteString;
 use stow_house::house::House;
@@ -29,12 +30,12 @@ enum Served {
 
 /// Serves the reader's bytes in pieces, as they come, and writes the replies after each piece. It ends at the
 /// end of input, after a QUIT, and after a fault of the stream.
-pub fn pipe<A: Allocator + Copy, R: Read, W: Write>(
+pub fn pipe<'a, A: Allocator + Copy, R: Read, W: Write>(
     alloc: A,
     house: &mut House<A>,
     input: &mut R,
     output: &mut W,
-) -> Result<(), Failure> {
+) -> Result<(), Failure<'a>> {
     if let StepResult::NoMemory = house.step(alloc, &Event::Open(CONNECTION)) {
         return Err(Failure::Memory);
     }
@@ -47,7 +48,9 @@ pub fn pipe<A: Allocator + Copy, R: Read, W: Write>(
         }
         feed(alloc, house, &piece[..count])?;
         let served = serve(alloc, house, &mut replies);
-        output.write_all(replies.as_slice())?;
+        output
+            .write_all(replies.as_slice())
+            .map_err(Failure::output)?;
         replies.clear();
         match served {
             Served::Waiting => {}
@@ -55,25 +58,29 @@ pub fn pipe<A: Allocator + Copy, R: Read, W: Write>(
             Served::NoMemory => return Err(Failure::Memory),
         }
     }
-    output.flush()?;
+    output.flush().map_err(Failure::output)?;
     Ok(())
 }
 
 /// Reads what is there, once the reader isn't interrupted.
-fn read_some<R: Read>(input: &mut R, piece: &mut [u8]) -> Result<usize, Failure>
+fn read_some<'a, R: Read>(input: &mut R, piece: &mut [u8]) -> Result<usize, Failure<'a>>
     ensures { IfOk result (λ n. n ≤ length piece.new) }
 {
     for _ in 0..u64::MAX {
         match input.read(piece) {
             Ok(count) => return Ok(count),
             Err(error) if error.kind() == ErrorKind::Interrupted => {}
-            Err(error) => return Err(Failure::from(error)),
+            Err(error) => return Err(Failure::input(error)),
         }
     }
-    Err(Failure::InputOutput)
+    Err(Failure::input(io::Error::from(ErrorKind::Interrupted)))
 }
 
-fn feed<A: Allocator + Copy>(alloc: A, house: &mut House<A>, bytes: &[u8]) -> Result<(), Failure> {
+fn feed<'a, A: Allocator + Copy>(
+    alloc: A,
+    house: &mut House<A>,
+    bytes: &[u8],
+) -> Result<(), Failure<'a>> {
     let piece = Event::Piece(CONNECTION, ByteString::from_slice(alloc, bytes)?);
     match house.step(alloc, &piece) {
         StepResult::NoMemory => Err(Failure::Memory),

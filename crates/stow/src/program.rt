@@ -1,14 +1,16 @@
 //! What the program does, over any reader and writers.
-use crate::arguments::{Task, read_arguments};
-use crate::failure::{Failure, INPUT_OUTPUT, MEMORY, REFUSED, TENANTS};
+use crate::arguments::{Arguments, Task, read_arguments};
+use crate::failure::{Failure, INPUT_OUTPUT, Place};
 use crate::folder::Folder;
 use crate::pipe::pipe;
 use crate::script::script;
 use std::alloc::{AllocError, Allocator, Global};
+use std::io;
 use std::io::{Read, Write};
 use std::sync::Arc;
 use stow_core::Core;
 use stow_house::house::House;
+use stow_login::explaining::explain;
 use stow_login::tenants::Tenants;
 use stow_login::tenants_fault::TenantsFault;
 
@@ -23,47 +25,63 @@ pub fn program<D: Folder, R: Read, W: Write, E: Write>(
     output: &mut W,
     errors: &mut E,
 ) -> u8 {
-    match run(alloc, folder, words, input, output) {
+    let arguments = match read_arguments(alloc, words) {
+        Ok(arguments) => arguments,
+        Err(Failure::Help(text)) => return help(&text, output),
+        Err(failure) => return tell(alloc, &failure, false, errors),
+    };
+    match run(alloc, folder, &arguments, input, output) {
         Ok(()) => 0,
-        Err(failure) => tell(alloc, failure, output, errors),
+        Err(failure) => tell(alloc, &failure, arguments.explain, errors),
     }
 }
 
-fn run<D: Folder, R: Read, W: Write>(
+fn run<'a, D: Folder, R: Read, W: Write>(
     alloc: Global,
     folder: &D,
-    words: &[String],
+    arguments: &Arguments<'a>,
     input: &mut R,
     output: &mut W,
-) -> Result<(), Failure> {
-    let arguments = read_arguments(alloc, words)?;
+) -> Result<(), Failure<'a>> {
     let tenants = read_tenants(alloc, folder, arguments.tenants)?;
     serve(alloc, tenants, arguments.task, input, output)
 }
 
 /// The tenants of the file of this path. A file that isn't UTF-8 is no TOML text.
-fn read_tenants<D: Folder>(
+fn read_tenants<'a, D: Folder>(
     alloc: Global,
     folder: &D,
-    path: &str,
-) -> Result<Tenants<Global>, Failure> {
-    let mut bytes = Vec::new(alloc);
-    let mut file = folder.open(path)?;
-    file.read_to_end(&mut bytes)?;
-    match std::str::from_utf8(bytes.as_slice()) {
-        Ok(text) => Ok(Tenants::read(alloc, alloc, text)?),
-        Err(_) => Err(Failure::Tenants(TenantsFault::NotToml)),
+    path: &'a str,
+) -> Result<Tenants<Global>, Failure<'a>> {
+    let bytes = read_file(alloc, folder, path).map_err(|error| Failure::at(
+        Place::File(path),
+        error,
+    ))?;
+    let Ok(text) = std::str::from_utf8(bytes.as_slice()) else {
+        let reason = String::from_str(alloc, "the file is no UTF-8 text")?;
+        return Err(Failure::tenants(TenantsFault::NotToml, Some(reason)));
+    };
+    match Tenants::read(alloc, alloc, text) {
+        Ok(tenants) => Ok(tenants),
+        Err(fault) => Err(Failure::tenants(fault, explain(alloc, text, fault).ok())),
     }
 }
 
+fn read_file<D: Folder>(alloc: Global, folder: &D, path: &str) -> io::Result<Vec<u8>> {
+    let mut bytes = Vec::new(alloc);
+    let mut file = folder.open(path)?;
+    file.read_to_end(&mut bytes)?;
+    Ok(bytes)
+}
+
 /// Makes a new service of the tenants and does the task over it.
-pub fn serve<A: Allocator + Copy, R: Read, W: Write>(
+pub fn serve<'a, A: Allocator + Copy, R: Read, W: Write>(
     alloc: A,
     tenants: Tenants<A>,
     task: Task,
     input: &mut R,
     output: &mut W,
-) -> Result<(), Failure> {
+) -> Result<(), Failure<'a>> {
     let tenants = Arc::new(alloc, tenants).map_err(AllocError::from)?;
     let mut house = House::new(alloc, Core::new(alloc, tenants)?);
     match task {
@@ -72,37 +90,23 @@ pub fn serve<A: Allocator + Copy, R: Read, W: Write>(
     }
 }
 
-/// Tells why the program ends early. A text that can't be written is dropped.
-fn tell<W: Write, E: Write>(alloc: Global, failure: Failure, output: &mut W, errors: &mut E) -> u8 {
-    match failure {
-        Failure::Help(text) => match output.write_all(text.as_bytes()) {
-            Ok(()) => 0,
-            Err(_) => INPUT_OUTPUT,
-        },
-        Failure::Arguments(text) => {
+/// Writes the help.
+fn help<W: Write>(text: &String, output: &mut W) -> u8 {
+    match output.write_all(text.as_bytes()) {
+        Ok(()) => 0,
+        Err(_) => INPUT_OUTPUT,
+    }
+}
+
+/// Tells why the program ends early, and more of it where that was asked for. A text that can't be written is dropped.
+fn tell<E: Write>(alloc: Global, failure: &Failure<'_>, explain: bool, errors: &mut E) -> u8 {
+    if let Ok(text) = failure.text(alloc) {
+        let _ = errors.write_all(text.as_bytes());
+    }
+    if explain {
+        if let Ok(Some(text)) = failure.explanation(alloc) {
             let _ = errors.write_all(text.as_bytes());
-            REFUSED
-        }
-        Failure::Tenants(fault) => {
-            let number = fault.number();
-            if let Ok(text) = format!(in alloc; "stow: tenant file refused: fault {number}\n") {
-                let _ = errors.write_all(text.as_bytes());
-            }
-            TENANTS
-        }
-        Failure::BadLine(number) => {
-            if let Ok(text) = format!(in alloc; "stow: bad line {number}\n") {
-                let _ = errors.write_all(text.as_bytes());
-            }
-            REFUSED
-        }
-        Failure::InputOutput => {
-            let _ = errors.write_all(b"stow: input or output failed\n");
-            INPUT_OUTPUT
-        }
-        Failure::Memory => {
-            let _ = errors.write_all(b"stow: memory was refused\n");
-            MEMORY
         }
     }
+    failure.status()
 }

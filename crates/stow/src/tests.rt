@@ -484,13 +484,128 @@ fn a_refused_tenant_file_is_told(rt: HostRuntime) -> Result<(), Fail> {
 // A tenant file that couldn't be read for want of memory is told as any want of memory.
 #[test]
 fn a_tenant_file_can_want_memory(rt: HostRuntime) -> Result<(), Fail> {
-    assert!(rt; matches!(Failure::from(TenantsFault::OutOfMemory), Failure::Memory));
     assert!(rt;
         matches!(
-            Failure::from(TenantsFault::NameUsed),
-            Failure::Tenants(TenantsFault::NameUsed)
+            Failure::tenants(TenantsFault::OutOfMemory, None),
+            Failure::Memory
         )
     );
+    assert!(rt;
+        matches!(
+            Failure::tenants(TenantsFault::NameUsed, None),
+            Failure::Tenants(TenantsFault::NameUsed, None)
+        )
+    );
+    Ok(())
+}
+
+// With `--explain` a second line follows the first, and without it nothing does.
+#[test]
+fn what_went_wrong_is_explained(rt: HostRuntime) -> Result<(), Fail> {
+    let alloc = rt.alloc();
+    let three = "script --tenants three.toml";
+    for (task, input, first, second) in [
+        (
+            "pipe --tenants missing.toml",
+            "",
+            "input or output failed",
+            "missing.toml: entity not found",
+        ),
+        (
+            "pipe --tenants broken.toml",
+            "",
+            "input or output failed",
+            "broken.toml: other error",
+        ),
+        (
+            "pipe --tenants empty.toml",
+            "",
+            "tenant file refused: fault 7",
+            "a file has 1 to 65,535 tenants",
+        ),
+        (
+            "pipe --tenants latin.toml",
+            "",
+            "tenant file refused: fault 1",
+            "the file is no UTF-8 text",
+        ),
+        (
+            three,
+            "open 1\nopne 1\n",
+            "bad line 2",
+            "it stumbles on \"opne\"",
+        ),
+        (three, "open", "bad line 1", "it stumbles on \"open\""),
+        (
+            three,
+            "# 1\n\nserve 65536",
+            "bad line 3",
+            "it stumbles on \"65536\"",
+        ),
+        (
+            three,
+            "resize 065536",
+            "bad line 1",
+            "it stumbles on \"065536\"",
+        ),
+        (three, "piece 1", "bad line 1", "it stumbles on \"1\""),
+        (three, "piece 0 a", "bad line 1", "it stumbles on \"0\""),
+        (
+            three,
+            "piece 1 PING\\x0g*",
+            "bad line 1",
+            "it stumbles on \"\\\\x0g*\"",
+        ),
+        (
+            three,
+            "0123456789012345678901234567890123456789 ",
+            "bad line 1",
+            "it stumbles on \"0123456789012345678901234567890123456789\"",
+        ),
+        (
+            three,
+            "0123456789012345678901234567890123456789x ",
+            "bad line 1",
+            "it stumbles on \"0123456789012345678901234567890123456789...\"",
+        ),
+    ] {
+        let mut left = input.as_bytes();
+        let plain = run_line(alloc, task, &mut left)?;
+        let once = format!(in alloc; "stow: {first}\n")?;
+        assert!(rt; plain.errors.as_slice() == once.as_bytes(), "{input}");
+        let mut left = input.as_bytes();
+        let asked = format!(in alloc; "{task} --explain")?;
+        let ended = run_line(alloc, asked.as_str(), &mut left)?;
+        let twice = format!(in alloc; "stow: {first}\nstow: {second}\n")?;
+        assert!(rt;
+            ended.status == plain.status && ended.output.is_empty(),
+            "{input}"
+        );
+        assert!(rt; ended.errors.as_slice() == twice.as_bytes(), "{input}");
+    }
+    Ok(())
+}
+
+// What is told where standard input and standard output fail.
+#[test]
+fn a_stream_that_fails_is_explained(rt: HostRuntime) -> Result<(), Fail> {
+    let alloc = rt.alloc();
+    let ended = run_line(alloc, "pipe --explain --tenants three.toml", &mut Broken)?;
+    let told: &[u8] = b"stow: input or output failed\nstow: standard input: other error\n";
+    assert!(rt; ended.status == 4 && ended.errors.as_slice() == told);
+    let words = words_of(alloc, "script --tenants three.toml --explain")?;
+    let mut errors = Vec::new(alloc);
+    let mut input: &[u8] = b"open 1\n";
+    let status = program(
+        alloc,
+        &Shelf,
+        words.as_slice(),
+        &mut input,
+        &mut Full,
+        &mut errors,
+    );
+    let told: &[u8] = b"stow: input or output failed\nstow: standard output: other error\n";
+    assert!(rt; status == 4 && errors.as_slice() == told);
     Ok(())
 }
 

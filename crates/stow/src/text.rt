@@ -8,27 +8,30 @@ use stow_bytes::byte_string::ByteString;
 
 /// Why there are no bytes.
 #[derive(Clone, Copy, Debug, PartialEq, Eq)]
-pub enum TextFault {
-    /// The text is none.
-    Malformed,
+pub enum TextFault<'a> {
+    /// The text is none: from here on.
+    Malformed(&'a [u8]),
     Memory,
 }
 
-impl From<AllocError> for TextFault {
-    fn from(_error: AllocError) -> TextFault {
+impl From<AllocError> for TextFault<'_> {
+    fn from(_error: AllocError) -> Self {
         TextFault::Memory
     }
 }
 
 /// The bytes that the text stands for.
-pub fn unescape<A: Allocator + Copy>(alloc: A, text: &[u8]) -> Result<ByteString<A>, TextFault> {
+pub fn unescape<A: Allocator + Copy>(
+    alloc: A,
+    text: &[u8],
+) -> Result<ByteString<A>, TextFault<'_>> {
     let mut bytes = Vec::with_capacity(alloc, text.len())?;
     let mut left = text;
     while let Some((first, rest)) = left.split_first() {
         let (byte, after) = match *first {
-            b'\\' => escaped(rest).ok_or(TextFault::Malformed)?,
+            b'\\' => escaped(rest).ok_or(TextFault::Malformed(left))?,
             b' '..=b'~' => (*first, rest),
-            _ => return Err(TextFault::Malformed),
+            _ => return Err(TextFault::Malformed(left)),
         };
         bytes.push(byte).map_err(|_| TextFault::Memory)?;
         left = after;

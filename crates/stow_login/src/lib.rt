@@ -9,6 +9,7 @@
 //! `OutOfMemory` without asking meets the contract too: the tests show that each call with memory succeeds.
 #![tactic(auto)]
 
+pub mod explaining;
 pub mod laws;
 mod names;
 mod reading;

@@ -15,7 +15,7 @@ use stow_bytes::byte_string::ByteString;
 use toml::{Table, Value};
 
 /// The most tenants of a file.
-const TENANT_LIMIT: usize = 65_535;
+pub(crate) const TENANT_LIMIT: usize = 65_535;
 
 /// The most bytes of a name.
 const NAME_LIMIT: usize = 64;
@@ -47,7 +47,7 @@ pub(crate) fn read_table<A: Allocator + Copy>(
 }
 
 /// The tables under the file's only key, `tenant`.
-fn items_in(table: &Table) -> Result<&[Value], TenantsFault>
+pub(crate) fn items_in(table: &Table) -> Result<&[Value], TenantsFault>
     ensures ok { IfOk result (λ items. items_in (table_view table.now) ≡ Ok (items_view items.now)) }
     ensures err { IfErr result (λ fault. items_in (table_view table.now) ≡ Err fault) }
 {
@@ -91,7 +91,7 @@ fn are_tables(items: &[Value]) -> bool
 }
 
 /// The tenant of one of the file's tables, after the tenants before it.
-fn read_tenant<A: Allocator + Copy>(
+pub(crate) fn read_tenant<A: Allocator + Copy>(
     alloc: A,
     earlier: &Tenants<A>,
     value: &Value,
@@ -133,7 +133,7 @@ fn four_fields(value: &Value) -> Option<&Table>
 }
 
 /// The text of a field.
-fn text_at<'a>(table: &'a Table, key: &str) -> Option<&'a str>
+pub(crate) fn text_at<'a>(table: &'a Table, key: &str) -> Option<&'a str>
     ensures { option_map (λ text. text.now) result ≡ text_at key.now (table_view table.now) }
 {
     match table.get(key) {
@@ -143,7 +143,7 @@ fn text_at<'a>(table: &'a Table, key: &str) -> Option<&'a str>
 }
 
 /// The number of a field.
-fn number_at(table: &Table, key: &str) -> Option<i64>
+pub(crate) fn number_at(table: &Table, key: &str) -> Option<i64>
     ensures { result ≡ number_at key.now (table_view table.now) }
 {
     match table.get(key) {
@@ -171,7 +171,7 @@ fn is_name_byte(byte: u8) -> bool
 }
 
 /// The bytes of a salt.
-fn salt_in<A: Allocator>(alloc: A, text: &str) -> Result<ByteString<A>, TenantsFault>
+pub(crate) fn salt_in<A: Allocator>(alloc: A, text: &str) -> Result<ByteString<A>, TenantsFault>
     ensures ok { IfOk result (λ salt. salt_in text.now ≡ Ok salt) }
     ensures err { IfErr result (λ fault. (fault ≡ TenantsFault.OutOfMemory) ⊎ (salt_in text.now ≡ Err fault)) }
 {

@@ -1,11 +1,12 @@
 //! The tenants of the service.
+ghost use Rattle.std.specs.Bool.{OnTrue};
 ghost use Rattle.std.specs.Prelude.{◌≡◌, ◌<◌, ◌++◌, ◌∷◌, [], false, length, IfSome, OnOk};
 ghost use Rattle.stow_model.specs.Login.{IsTenant, login, quota_of};
 ghost use Rattle.stow_login.specs.Entries.{entry_of, name_of, index_named, is_own};
 ghost use Rattle.stow_login.specs.TenantFile.{IsReading, is_used};
 
 use crate::names::Names;
-use crate::reading::read_table;
+use crate::reading::{TENANT_LIMIT, read_table};
 use crate::tenant::Tenant;
 use crate::tenants_fault::TenantsFault;
 use sha2::{Digest, Sha256};
@@ -98,6 +99,13 @@ impl<A: Allocator> Tenants<A> {
         ensures tenant { IfSome result (λ t. IsTenant self.now t) }
     {
         self.names.get(name)
+    }
+
+    /// Whether one tenant more may be added.
+    pub(crate) fn has_room(&self) -> bool
+        ensures { OnTrue result (length self.now < 65535) }
+    {
+        self.tenants.len() < TENANT_LIMIT
     }
 
     /// Whether a tenant has the name.

@@ -1,4 +1,5 @@
 //! What no clause says: that the calls succeed where there is memory, and what changed files are told.
+use crate::explaining::explain;
 use crate::tenants::Tenants;
 use crate::tenants_fault::TenantsFault;
 use std::alloc::{AllocError, Allocator, Global};
@@ -262,5 +263,61 @@ fn the_most_tenants_are_read(rt: HostRuntime) -> Result<(), Fail> {
         assert!(rt; tenants.name(index) == name.as_bytes() && tenants.quota(index) == index as u64);
     }
     assert!(rt; tenants.find(b"t0").is_none() && tenants.find(b"t65536").is_none());
+    Ok(())
+}
+
+// What `explain` tells of the three tenants' file, changed: the place, the name, the field and the rule.
+#[test]
+fn a_fault_is_explained(rt: HostRuntime) -> Result<(), Fail> {
+    let alloc = rt.alloc();
+    for (from, to, told) in [
+        (
+            "\"ben\"",
+            "\"ann\"",
+            "tenant 2 \"ann\", field \"name\": the name is used by an earlier tenant",
+        ),
+        (
+            "15ad\"",
+            "15\"",
+            "tenant 1 \"ann\", field \"digest\": a salt is 0 to 64 bytes in hexadecimal digits, a digest 32",
+        ),
+        (
+            "\"61\"",
+            "\"6\"",
+            "tenant 1 \"ann\", field \"salt\": a salt is 0 to 64 bytes in hexadecimal digits, a digest 32",
+        ),
+        (
+            "salt = \"\"\n",
+            "",
+            "tenant 3 \"cap\", field \"salt\": a key is missing, unknown or of another type",
+        ),
+        (
+            "salt = \"\"\n",
+            "salt = \"\"\nx = 1\n",
+            "tenant 3 \"cap\", field \"x\": a key is missing, unknown or of another type",
+        ),
+        (
+            "quota = 100\n",
+            "quota = -1\n",
+            "tenant 3 \"cap\", field \"quota\": a quota is 0 or more",
+        ),
+    ] {
+        let text = changed(alloc, THREE, from, to)?;
+        let fault = Tenants::read(alloc, alloc, text.as_str())
+            .err()
+            .ok_or("no fault")?;
+        assert!(rt;
+            explain(alloc, text.as_str(), fault)?.as_str() == told,
+            "{told}"
+        );
+    }
+    let none = explain(alloc, "", TenantsFault::WrongCount)?;
+    assert!(rt; none.as_str() == "a file has 1 to 65,535 tenants");
+    let broken = explain(alloc, "tenant = 1\nx =\n", TenantsFault::NotToml)?;
+    assert!(rt;
+        broken
+            .as_str()
+            .starts_with("TOML parse error at line 2, column ")
+    );
     Ok(())
 }
