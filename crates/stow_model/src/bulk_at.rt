@@ -23,7 +23,7 @@ pub fn bulk(bytes: &[u8]) -> BulkAt<'_>
     let Some((sign, after)) = bytes.split_first() else {
         return BulkAt::More;
     };
-    if *sign != 36 {
+    if *sign != b'$' {
         return BulkAt::Stuck(StreamFault::ExpectedBulk);
     }
     match number(after, 65535) {
@@ -45,13 +45,13 @@ fn body(rest: &[u8], len: u32) -> BulkAt<'_>
     let Some((carriage_return, after_return)) = after.split_first() else {
         return BulkAt::More;
     };
-    if *carriage_return != 13 {
+    if *carriage_return != b'\r' {
         return BulkAt::Stuck(StreamFault::BulkNotEnded);
     }
     let Some((line_feed, later)) = after_return.split_first() else {
         return BulkAt::More;
     };
-    if *line_feed != 10 {
+    if *line_feed != b'\n' {
         return BulkAt::Stuck(StreamFault::BulkNotEnded);
     }
     BulkAt::Bulk(word, later)

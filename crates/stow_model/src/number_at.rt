@@ -42,13 +42,13 @@ fn end_of_line(byte: u8, after: &[u8], value: u32, some: bool) -> NumberAt<'_>
     ensures { (front : List ℕ) (limit : ℕ) → limit < 100000 → IsSoFar limit front value
         → (some ≡ true → 0 < length front) → (some ≡ false → front ≡ []) → IsNumberAt limit (front ++ byte ∷ after.now) result }
 {
-    if !some || byte != 13 {
+    if !some || byte != b'\r' {
         return NumberAt::Stuck;
     }
     match after.split_first() {
         None => NumberAt::More,
         Some((line_feed, rest)) => {
-            if *line_feed != 10 {
+            if *line_feed != b'\n' {
                 return NumberAt::Stuck;
             }
             NumberAt::Number(value, rest)

@@ -25,13 +25,13 @@ pub fn line(bytes: &[u8]) -> LineAt<'_>
     let Some((sign, after)) = bytes.split_first() else {
         return LineAt::More;
     };
-    if *sign != 42 {
+    if *sign != b'*' {
         return LineAt::Inline;
     }
     let Some((first, later)) = after.split_first() else {
         return LineAt::More;
     };
-    if *first == 45 {
+    if *first == b'-' {
         return null_line(later);
     }
     match number(after, 1024) {
