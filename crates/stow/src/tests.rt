@@ -8,6 +8,7 @@ use std::io::{Read, Write};
 use std::process::Abort;
 use std::test::Fail;
 use stow_login::tenants_fault::TenantsFault;
+use stow_testing::tenants::THREE;
 
 mod worked;
 
@@ -73,24 +74,6 @@ struct Ended {
     output: Vec<u8>,
     errors: Vec<u8>,
 }
-
-/// The tenant file's text.
-const THREE: &str = "[[tenant]]
-name = \"ann\"
-salt = \"61\"
-digest = \"ba7816bf8f01cfea414140de5dae2223b00361a396177a9cb410ff61f20015ad\"
-quota = 1000000
-[[tenant]]
-name = \"ben\"
-salt = \"6162\"
-digest = \"ba7816bf8f01cfea414140de5dae2223b00361a396177a9cb410ff61f20015ad\"
-quota = 1000000
-[[tenant]]
-name = \"cap\"
-salt = \"\"
-digest = \"ba7816bf8f01cfea414140de5dae2223b00361a396177a9cb410ff61f20015ad\"
-quota = 100
-";
 
 /// A file over memory: its bytes, or one whose reads fail.
 #[derive(Drop)]

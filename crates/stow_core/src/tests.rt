@@ -6,29 +6,12 @@ use std::alloc::{AllocError, Allocator, Global};
 use std::sync::Arc;
 use std::test::Fail;
 use stow_login::tenants::Tenants;
+use stow_testing::tenants::THREE;
 
 mod alone;
 mod refusals;
 mod text;
 mod worked;
-
-/// Three tenants.
-const THREE: &str = "[[tenant]]
-name = \"ann\"
-salt = \"61\"
-digest = \"ba7816bf8f01cfea414140de5dae2223b00361a396177a9cb410ff61f20015ad\"
-quota = 1000000
-[[tenant]]
-name = \"ben\"
-salt = \"6162\"
-digest = \"ba7816bf8f01cfea414140de5dae2223b00361a396177a9cb410ff61f20015ad\"
-quota = 1000000
-[[tenant]]
-name = \"cap\"
-salt = \"\"
-digest = \"ba7816bf8f01cfea414140de5dae2223b00361a396177a9cb410ff61f20015ad\"
-quota = 100
-";
 
 /// A core of the three tenants; their file's table is kept in `global` for as long as it is read.
 fn new_core<A: Allocator + Copy>(alloc: A, global: Global) -> Result<Core<A>, AllocError> {

@@ -20,6 +20,10 @@ use stow_plain::own_run::own_run;
 use stow_plain::plain_request::PlainRequest;
 use stow_refusing::{Plan, Refusing};
 use stow_resp::encode::Encode;
+use stow_testing::random::Random;
+use stow_testing::tenants::{OTHERS, QUOTA, THREE};
+
+mod worked;
 
 /// A request's words.
 type Request = &'static [&'static [u8]];
@@ -35,37 +39,6 @@ enum Act {
     Send(u32, Request),
     Serve(u32),
 }
-
-/// Three tenants.
-const THREE: &str = "[[tenant]]
-name = \"ann\"
-salt = \"61\"
-digest = \"ba7816bf8f01cfea414140de5dae2223b00361a396177a9cb410ff61f20015ad\"
-quota = 1000000
-[[tenant]]
-name = \"ben\"
-salt = \"6162\"
-digest = \"ba7816bf8f01cfea414140de5dae2223b00361a396177a9cb410ff61f20015ad\"
-quota = 1000000
-[[tenant]]
-name = \"cap\"
-salt = \"\"
-digest = \"ba7816bf8f01cfea414140de5dae2223b00361a396177a9cb410ff61f20015ad\"
-quota = 100
-";
-
-/// Another tenant, and then ann, with the entry that she has among the three.
-const OTHERS: &str = "[[tenant]]
-name = \"zoe\"
-salt = \"\"
-digest = \"ba7816bf8f01cfea414140de5dae2223b00361a396177a9cb410ff61f20015ad\"
-quota = 7
-[[tenant]]
-name = \"ann\"
-salt = \"61\"
-digest = \"ba7816bf8f01cfea414140de5dae2223b00361a396177a9cb410ff61f20015ad\"
-quota = 1000000
-";
 
 fn new_house<A: Allocator + Copy>(alloc: A, global: Global) -> Result<House<A>, AllocError>
     ensures { IfOk result (λ house. IsNewHouse (state_of house)) }
@@ -192,7 +165,7 @@ impl<A: Allocator + Copy> Client<A> {
 
     /// The bytes that the connection is to be told, the tenant's own part by its own run.
     fn bytes(&self, alloc: A) -> Result<Vec<u8, A>, AllocError> {
-        let own = own_run(alloc, 1_000_000, self.line.as_slice())?;
+        let own = own_run(alloc, QUOTA, self.line.as_slice())?;
         let mut replies = own.replies.iter();
         let mut bytes = Vec::new(alloc);
         for expected in &self.expected {
@@ -328,17 +301,8 @@ const REQUESTS: [Request; 12] = [
     &[b"HELLO", b"3"],
 ];
 
-/// The next number of a fixed row of numbers that looks random.
-fn random(state: &mut u64) -> u64 {
-    *state = (*state)
-        .wrapping_mul(6_364_136_223_846_793_005)
-        .wrapping_add(1_442_695_040_888_963_407);
-    let value = *state;
-    value / 8_589_934_592
-}
-
 fn random_acts<A: Allocator + Copy>(alloc: A, count: u64) -> Result<Vec<Act, A>, AllocError> {
-    let mut state = 7u64;
+    let mut random = Random::new(7);
     let mut acts = Vec::new(alloc);
     for act in [
         Act::Open(1),
@@ -349,8 +313,8 @@ fn random_acts<A: Allocator + Copy>(alloc: A, count: u64) -> Result<Vec<Act, A>,
         acts.push(act)?;
     }
     for _ in 0..count {
-        let connection = if random(&mut state) % 2 == 0 { 1 } else { 2 };
-        let chosen = random(&mut state) % 24;
+        let connection = 1 + random.below(2);
+        let chosen = random.below(24);
         match REQUESTS.get(chosen as usize) {
             Some(request) => acts.push(Act::Send(connection, request))?,
             None => acts.push(Act::Serve(connection))?,

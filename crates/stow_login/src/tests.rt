@@ -5,25 +5,7 @@ use crate::tenants_fault::TenantsFault;
 use std::alloc::{AllocError, Allocator, Global};
 use std::test::Fail;
 use stow_refusing::{Plan, Refusing};
-
-/// Three tenants, whose salts and passwords join to "abc" each. The digests are SHA-256 of "abc", FIPS 180-4's
-/// first example.
-const THREE: &str = "[[tenant]]
-name = \"ann\"
-salt = \"61\"
-digest = \"ba7816bf8f01cfea414140de5dae2223b00361a396177a9cb410ff61f20015ad\"
-quota = 1000000
-[[tenant]]
-name = \"ben\"
-salt = \"6162\"
-digest = \"ba7816bf8f01cfea414140de5dae2223b00361a396177a9cb410ff61f20015ad\"
-quota = 1000000
-[[tenant]]
-name = \"cap\"
-salt = \"\"
-digest = \"ba7816bf8f01cfea414140de5dae2223b00361a396177a9cb410ff61f20015ad\"
-quota = 100
-";
+use stow_testing::tenants::THREE;
 
 /// 64 bytes.
 const LONG: &str = "abcdefghijklmnopqrstuvwxyzABCDEFGHIJKLMNOPQRSTUVWXYZ0123456789-_";

@@ -1,112 +1,20 @@
 //! Worked requests through the program, in array form and in lines.
 use crate::tests::expect;
-use std::alloc::{AllocError, Global};
 use std::test::Fail;
-
-/// A line of words, and its reply.
-type Told = (&'static str, &'static str);
-
-const USED: &str = "-ERR value is not an integer or out of range\r\n";
-
-const OVER: &str = "-ERR increment or decrement would overflow\r\n";
-
-const EMPTY_WORDS: [Told; 3] = [
-    ("SET '' ''", "+OK\r\n"),
-    ("GET ''", "$0\r\n\r\n"),
-    ("RANGE '' '' 10", "*2\r\n$0\r\n\r\n$0\r\n\r\n"),
-];
-
-const REPEATS: [Told; 5] = [
-    ("SET k v", "+OK\r\n"),
-    ("EXISTS k k", ":2\r\n"),
-    ("DEL k k", ":1\r\n"),
-    ("EXISTS k", ":0\r\n"),
-    ("DEL k", ":0\r\n"),
-];
-
-const NUMBERS: [Told; 9] = [
-    ("SET n 9223372036854775807", "+OK\r\n"),
-    ("INCRBY n 1", OVER),
-    ("GET n", "$19\r\n9223372036854775807\r\n"),
-    ("SET n 007", "+OK\r\n"),
-    ("INCR n", USED),
-    ("GET n", "$3\r\n007\r\n"),
-    ("INCRBY m -0", USED),
-    ("GET m", "$-1\r\n"),
-    ("DECR m", ":-1\r\n"),
-];
-
-const LOWEST_NUMBERS: [Told; 7] = [
-    ("DECR m", ":-1\r\n"),
-    ("INCRBY m -9223372036854775808", OVER),
-    ("GET m", "$2\r\n-1\r\n"),
-    ("INCRBY z -9223372036854775808", ":-9223372036854775808\r\n"),
-    ("DECR z", OVER),
-    ("APPEND e ''", ":0\r\n"),
-    ("EXISTS e", ":1\r\n"),
-];
-
-const RANGES: [Told; 8] = [
-    ("SET b 1", "+OK\r\n"),
-    ("SET a 2", "+OK\r\n"),
-    ("SET c 3", "+OK\r\n"),
-    (
-        "RANGE a c 5",
-        "*4\r\n$1\r\na\r\n$1\r\n2\r\n$1\r\nb\r\n$1\r\n1\r\n",
-    ),
-    ("RANGE c a 5", "*0\r\n"),
-    ("RANGE b '' 1", "*2\r\n$1\r\nb\r\n$1\r\n1\r\n"),
-    ("RANGE a '' 0", "*0\r\n"),
-    ("RANGE a '' 1025", USED),
-];
-
-const CONDITIONS: [Told; 7] = [
-    ("SET k v XX", "$-1\r\n"),
-    ("SET k v NX", "+OK\r\n"),
-    ("SET k w nx", "$-1\r\n"),
-    ("SET k w NY", "-ERR syntax error\r\n"),
-    ("SET k", "-ERR wrong number of arguments\r\n"),
-    ("HELLO 3", "-ERR unknown command\r\n"),
-    ("MGET k z k", "*3\r\n$1\r\nv\r\n$-1\r\n$1\r\nv\r\n"),
-];
-
-/// Adds a line's words in array form. `''` is the empty word.
-fn push_array(alloc: Global, bytes: &mut Vec<u8>, line: &str) -> Result<(), AllocError> {
-    let count = line.split_whitespace().count();
-    bytes.extend_from_slice(format!(in alloc; "*{count}\r\n")?.as_bytes())?;
-    for word in line.split_whitespace() {
-        let word = if word == "''" { "" } else { word };
-        let len = word.len();
-        bytes.extend_from_slice(format!(in alloc; "${len}\r\n{word}\r\n")?.as_bytes())?;
-    }
-    Ok(())
-}
-
-/// The bytes of a login and of a row's requests, and those of their replies.
-fn row_bytes(alloc: Global, row: &[Told]) -> Result<(Vec<u8>, Vec<u8>), AllocError> {
-    let mut input = Vec::new(alloc);
-    let mut output = Vec::from_slice(alloc, b"+OK\r\n")?;
-    push_array(alloc, &mut input, "AUTH ann bc")?;
-    for (line, told) in row {
-        push_array(alloc, &mut input, line)?;
-        output.extend_from_slice(told.as_bytes())?;
-    }
-    Ok((input, output))
-}
+use stow_testing::rows::{ROWS, asked, told};
 
 #[test]
 fn worked_requests(rt: HostRuntime) -> Result<(), Fail> {
-    let rows: [&[Told]; 6] = [
-        &EMPTY_WORDS,
-        &REPEATS,
-        &NUMBERS,
-        &LOWEST_NUMBERS,
-        &RANGES,
-        &CONDITIONS,
-    ];
-    for row in rows {
-        let (input, output) = row_bytes(rt.alloc(), row)?;
-        expect(&rt, "pipe", input.as_slice(), output.as_slice())?;
+    let alloc = rt.alloc();
+    for row in ROWS {
+        let mut output = Vec::from_slice(alloc, b"+OK\r\n")?;
+        output.extend_from_slice(told(alloc, row)?.as_slice())?;
+        expect(
+            &rt,
+            "pipe",
+            asked(alloc, row)?.as_slice(),
+            output.as_slice(),
+        )?;
     }
     Ok(())
 }

@@ -7,31 +7,23 @@ use std::string::String;
 use std::test::Fail;
 use stow_plain::plain_request::PlainRequest;
 use stow_plain::plain_store::PlainStore;
+use stow_testing::random::Random;
+use stow_testing::tenants::QUOTA;
 
 const KEYS: [&str; 6] = ["''", "a", "ab", "b", "b0", "c"];
 
 const VALUES: [&str; 6] = ["''", "7", "-3", "x", "9223372036854775807", "007"];
 
-/// The next number of a fixed row of numbers that looks random.
-fn random(state: &mut u64) -> u64 {
-    *state = (*state)
-        .wrapping_mul(6_364_136_223_846_793_005)
-        .wrapping_add(1_442_695_040_888_963_407);
-    let value = *state;
-    value / 8_589_934_592
-}
-
-fn one_of(state: &mut u64, words: &[&'static str; 6]) -> &'static str {
-    words[(random(state) % 6) as usize]
-}
-
 /// A random request's line.
-fn random_line<A: Allocator + Copy>(alloc: A, state: &mut u64) -> Result<String<A>, AllocError> {
-    let k = one_of(state, &KEYS);
-    let l = one_of(state, &KEYS);
-    let v = one_of(state, &VALUES);
-    let n = random(state) % 5;
-    match random(state) % 16 {
+fn random_line<A: Allocator + Copy>(
+    alloc: A,
+    random: &mut Random,
+) -> Result<String<A>, AllocError> {
+    let k = random.one_of(&KEYS);
+    let l = random.one_of(&KEYS);
+    let v = random.one_of(&VALUES);
+    let n = random.below(5);
+    match random.below(16) {
         0 => format!(in alloc; "GET {k}"),
         1 => format!(in alloc; "MGET {k} {l} {k}"),
         2 => format!(in alloc; "EXISTS {k} {l} {k}"),
@@ -74,17 +66,17 @@ fn random_requests_are_answered_as_alone(rt: HostRuntime) -> Result<(), Fail> {
     let alloc = rt.alloc();
     let mut core = new_core(alloc, alloc)?;
     let mut stores = [
-        PlainStore::new(alloc, 1_000_000),
-        PlainStore::new(alloc, 1_000_000),
-        PlainStore::new(alloc, 1_000_000),
+        PlainStore::new(alloc, QUOTA),
+        PlainStore::new(alloc, QUOTA),
+        PlainStore::new(alloc, QUOTA),
     ];
-    let mut state = 7u64;
+    let mut random = Random::new(7);
     for _ in 0..3_000 {
-        let place = random(&mut state) % 3;
-        let line = random_line(alloc, &mut state)?;
+        let place = random.below(3);
+        let line = random_line(alloc, &mut random)?;
         let alone = &mut stores[place as usize];
         assert!(rt;
-            is_alike(&mut core, alone, alloc, place as u32 + 1, line.as_str())?,
+            is_alike(&mut core, alone, alloc, place + 1, line.as_str())?,
             "{line}"
         );
     }

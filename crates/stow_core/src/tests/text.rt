@@ -8,6 +8,7 @@ use stow_model::reply::Reply;
 use stow_model::simple_string::SimpleString;
 use stow_model::stream_fault::fault_text;
 use stow_model::words::Words;
+use stow_testing::spelling;
 
 /// Bytes of the longest key.
 const KEY_LIMIT: usize = 1024;
@@ -32,9 +33,8 @@ pub fn words_of<A: Allocator + Copy>(alloc: A, line: &str) -> Result<Words<A>, A
 
 fn word_of<A: Allocator + Copy>(alloc: A, word: &str) -> Result<ByteString<A>, AllocError> {
     match word {
-        "''" => ByteString::from_slice(alloc, b""),
         "LAST" => Ok(ByteString::from_vec(repeated(alloc, 0xff, KEY_LIMIT)?)),
-        _ => ByteString::from_slice(alloc, word.as_bytes()),
+        _ => ByteString::from_slice(alloc, spelling::word_of(word).as_bytes()),
     }
 }
 

@@ -18,6 +18,7 @@ use stow_model::stream_fault::StreamFault;
 use stow_model::words::Words;
 use stow_refusing::{Plan, Refusing};
 use stow_resp::next::Next;
+use stow_testing::tenants::THREE;
 
 /// A door over memory: it keeps each call, and tells the tenant its index.
 #[derive(Drop)]
@@ -75,19 +76,6 @@ fn words_of<A: Allocator + Copy>(alloc: A, line: &str) -> Result<Words<A>, Alloc
     Ok(Words::from_vec(words))
 }
 
-/// Two tenants.
-const TWO: &str = "[[tenant]]
-name = \"ann\"
-salt = \"61\"
-digest = \"ba7816bf8f01cfea414140de5dae2223b00361a396177a9cb410ff61f20015ad\"
-quota = 1000000
-[[tenant]]
-name = \"ben\"
-salt = \"6162\"
-digest = \"ba7816bf8f01cfea414140de5dae2223b00361a396177a9cb410ff61f20015ad\"
-quota = 1000000
-";
-
 /// Whether a reply is this text, which is a number where it is an integer.
 fn is_text<A: Allocator>(
     alloc: Global,
@@ -123,7 +111,7 @@ const SERVED: [(&str, &str, usize); 14] = [
 #[test]
 fn a_door_is_asked_only_after_a_login(rt: HostRuntime) -> Result<(), Fail> {
     let alloc: Global = rt.alloc();
-    let tenants = Tenants::read(alloc, alloc, TWO).map_err(|_| AllocError)?;
+    let tenants = Tenants::read(alloc, alloc, THREE).map_err(|_| AllocError)?;
     let mut door = Fake {
         calls: Vec::new(alloc),
     };
@@ -183,7 +171,7 @@ fn a_door_is_asked_only_after_a_login(rt: HostRuntime) -> Result<(), Fail> {
 #[test]
 fn a_session_asks_for_no_memory(rt: HostRuntime) -> Result<(), Fail> {
     let heap = Refusing::new(rt.alloc());
-    let tenants = Tenants::read(&heap, rt.alloc(), TWO).map_err(|_| AllocError)?;
+    let tenants = Tenants::read(&heap, rt.alloc(), THREE).map_err(|_| AllocError)?;
     let mut door = Fake {
         calls: Vec::new(&heap),
     };

@@ -1,0 +1,36 @@
+//! Tenant files. The salts and passwords join to "abc" each, and the digests are SHA-256 of "abc", FIPS 180-4's
+//! first example.
+
+/// Three tenants: ann with the password "bc", ben with "c", cap with "abc".
+pub const THREE: &str = "[[tenant]]
+name = \"ann\"
+salt = \"61\"
+digest = \"ba7816bf8f01cfea414140de5dae2223b00361a396177a9cb410ff61f20015ad\"
+quota = 1000000
+[[tenant]]
+name = \"ben\"
+salt = \"6162\"
+digest = \"ba7816bf8f01cfea414140de5dae2223b00361a396177a9cb410ff61f20015ad\"
+quota = 1000000
+[[tenant]]
+name = \"cap\"
+salt = \"\"
+digest = \"ba7816bf8f01cfea414140de5dae2223b00361a396177a9cb410ff61f20015ad\"
+quota = 100
+";
+
+/// The quota of ann and ben.
+pub const QUOTA: u64 = 1_000_000;
+
+/// Another tenant, and then ann, with the entry that she has among the three.
+pub const OTHERS: &str = "[[tenant]]
+name = \"zoe\"
+salt = \"\"
+digest = \"ba7816bf8f01cfea414140de5dae2223b00361a396177a9cb410ff61f20015ad\"
+quota = 7
+[[tenant]]
+name = \"ann\"
+salt = \"61\"
+digest = \"ba7816bf8f01cfea414140de5dae2223b00361a396177a9cb410ff61f20015ad\"
+quota = 1000000
+";
