@@ -18,7 +18,8 @@ IsConnectionText (event.Piece bytes) Done text = text ≡ codes "taken"
 IsConnectionText (event.Piece bytes) Refused text = text ≡ codes "refused"
 IsConnectionText (event.Piece bytes) NoMemory text = text ≡ codes "memory"
 IsConnectionText (event.Piece bytes) _ text = ⊥
-IsConnectionText event.Serve (Answered reply) text = text ≡ codes "reply " ++ text_of (encoding reply)
+IsConnectionText event.Serve (Answered reply) text = text
+    ≡ codes "reply " ++ text_of (encoding reply)
 IsConnectionText event.Serve More text = text ≡ codes "more"
 IsConnectionText event.Serve Blank text = text ≡ codes "blank"
 IsConnectionText event.Serve Refused text = text ≡ codes "refused"
@@ -45,5 +46,7 @@ IsText (event.On c e) r text = IsConnectionText e r text
 IsText (event.By e) r text = IsFlusherText e r text
 
 -- the text and a line's end are written behind what there was
-abbrev pub WritesLine : {A : Type 0} → coded.Event A → result.StepResult A → List ℕ → List ℕ → Type 0
-WritesLine e r old new = (text : List ℕ) × IsText (event_of e) (step_result_of r) text × (new ≡ old ++ (text ++ 10 ∷ []))
+abbrev pub WritesLine : {A : Type 0} → coded.Event A → result.StepResult A → List ℕ → List ℕ
+    → Type 0
+WritesLine e r old new = (text : List ℕ) × IsText (event_of e) (step_result_of r) text
+    × (new ≡ old ++ (text ++ 10 ∷ []))

@@ -137,7 +137,8 @@ fn write_reply<A: Allocator + Copy>(
     reply: &Reply<A>,
     out: &mut Vec<u8, A>,
 ) -> Result<(), AllocError>
-    ensures { OnOk result (out.new.items ≡ out.old.items ++ codes "reply " ++ text_of (encoding (reply_of reply.now))) }
+    ensures { OnOk result (out.new.items
+        ≡ out.old.items ++ codes "reply " ++ text_of (encoding (reply_of reply.now))) }
 {
     let mut bytes = Vec::new(alloc);
     reply.write(&mut bytes)?;

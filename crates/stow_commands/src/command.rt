@@ -164,7 +164,8 @@ fn with_ends<'a, A: Allocator>(
     to: &'a ByteString<A>,
     count: u32,
 ) -> Result<Command<'a, A>, Refusal>
-    ensures { reading_of result ≡ meant.with_keys (from.now ∷ to.now ∷ []) (meant.Range from.now to.now count) }
+    ensures { reading_of result
+        ≡ meant.with_keys (from.now ∷ to.now ∷ []) (meant.Range from.now to.now count) }
 {
     if is_long_key(from) || is_long_key(to) {
         return Err(Refusal::KeyTooLong);
@@ -200,7 +201,8 @@ fn set<'a, A: Allocator>(
     value: &'a ByteString<A>,
     condition: Condition,
 ) -> Result<Command<'a, A>, Refusal>
-    ensures { reading_of result ≡ meant.with_keys (key.now ∷ []) (meant.Change key.now (meant.Set value.now (condition_of condition))) }
+    ensures { reading_of result
+        ≡ meant.with_keys (key.now ∷ []) (meant.Change key.now (meant.Set value.now (condition_of condition))) }
 {
     let update = Update::Set(value.as_slice(), condition);
     with_key(key, Command::Change(key.as_slice(), update))
@@ -230,7 +232,8 @@ fn read_append<A: Allocator>(arguments: &[ByteString<A>]) -> Result<Command<'_, 
 }
 
 fn read_increment<A: Allocator>(arguments: &[ByteString<A>]) -> Result<Command<'_, A>, Refusal>
-    ensures { reading_of result ≡ meant.of_key (λ key. meant.Change key (meant.Add (pos 1))) arguments.now }
+    ensures { reading_of result
+        ≡ meant.of_key (λ key. meant.Change key (meant.Add (pos 1))) arguments.now }
 {
     match arguments {
         [key] => with_key(key, Command::Change(key.as_slice(), Update::Add(1))),
@@ -239,7 +242,8 @@ fn read_increment<A: Allocator>(arguments: &[ByteString<A>]) -> Result<Command<'
 }
 
 fn read_decrement<A: Allocator>(arguments: &[ByteString<A>]) -> Result<Command<'_, A>, Refusal>
-    ensures { reading_of result ≡ meant.of_key (λ key. meant.Change key (meant.Add (negsuc 0))) arguments.now }
+    ensures { reading_of result
+        ≡ meant.of_key (λ key. meant.Change key (meant.Add (negsuc 0))) arguments.now }
 {
     match arguments {
         [key] => with_key(key, Command::Change(key.as_slice(), Update::Add(-1))),

@@ -54,7 +54,8 @@ fn set<A: Allocator + Copy>(
     condition: Condition,
     present: Option<&[u8]>,
 ) -> Result<Outcome<A>, OutcomeFault>
-    ensures { IsOutcome result (meant.set_outcome value.now (condition_of condition) (value_of present.entry)) }
+    ensures { IsOutcome result
+        (meant.set_outcome value.now (condition_of condition) (value_of present.entry)) }
 {
     if value.len() > VALUE_LIMIT {
         return Err(OutcomeFault::Refused(Refusal::ValueTooLong));
@@ -113,7 +114,8 @@ fn add<A: Allocator + Copy>(
     amount: i64,
     present: Option<&[u8]>,
 ) -> Result<Outcome<A>, OutcomeFault>
-    ensures { IsOutcome result (meant.sum_outcome (meant.stored_number (value_of present.entry)) amount) }
+    ensures { IsOutcome result
+        (meant.sum_outcome (meant.stored_number (value_of present.entry)) amount) }
 {
     let Some(stored) = stored_number(present) else {
         return Err(OutcomeFault::Refused(Refusal::NotAnInteger));

@@ -51,16 +51,21 @@ row_of row = option_map (λ v. version_of v.now) row
 
 -- a reader finds this at the key, and at every other key what there was
 abbrev pub Finds : Places → Places → List ℕ → Option Version → Type 0
-Finds old new key version = (q : List ℕ) → look_up new q ≡ (if bytes_eq key q then version else look_up old q)
+Finds old new key version = (q : List ℕ)
+    → look_up new q ≡ (if bytes_eq key q then version else look_up old q)
 
 -- a reader finds nothing at these keys, and at every other key what there was
 abbrev pub FindsNone : Places → Places → List (List ℕ) → Type 0
-FindsNone old new keys = (q : List ℕ) → look_up new q ≡ (if list_any (bytes_eq q) keys then None else look_up old q)
+FindsNone old new keys = (q : List ℕ)
+    → look_up new q ≡ (if list_any (bytes_eq q) keys then None else look_up old q)
 
 -- the key has a place with this, and every other key the place that it had
 abbrev pub PutsPlace : Places → Places → List ℕ → Option Version → Type 0
-PutsPlace old new key version = (q : List ℕ) → place new q ≡ (if bytes_eq key q then Some version else place old q)
+PutsPlace old new key version = (q : List ℕ)
+    → place new q ≡ (if bytes_eq key q then Some version else place old q)
 
 -- a row's items are told behind the others
-abbrev pub AddsRow : {A : Type 0} → List (Item A) → List (Item A) → List ℕ → coded.Version A → Type 0
-AddsRow old new key version = map item_of new ≡ map item_of old ++ row_items (key, version_of version)
+abbrev pub AddsRow : {A : Type 0} → List (Item A) → List (Item A) → List ℕ → coded.Version A
+    → Type 0
+AddsRow old new key version = map item_of new
+    ≡ map item_of old ++ row_items (key, version_of version)

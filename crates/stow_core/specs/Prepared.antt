@@ -27,7 +27,9 @@ after_write store rows = record store { rows = rows; last = store.last + 1 }
 
 -- the store after a request that gives the key a value
 abbrev pub after_put : List ℕ → List ℕ → Store → Store
-after_put key value store = after_write (counted store) (rows.insert store.rows (own_key key) (record { number = store.last + 1; value = value }))
+after_put key value store =
+    after_write (counted store)
+    (rows.insert store.rows (own_key key) (record { number = store.last + 1; value = value }))
 
 -- the store after a request that takes the keys out
 abbrev pub after_remove : List (List ℕ) → Store → Store
@@ -50,11 +52,13 @@ CanWrite core tenant = (store_of core tenant).last < number_limit
 
 -- a write to the key, among the keys of all, needs no more memory
 abbrev pub CanPut : CoreState → ℕ → List ℕ → Type 0
-CanPut core tenant key = IsTenant core.entries tenant × CanWrite core tenant × AreKeysOf tenant (key ∷ []) × HasPlace core.places key
+CanPut core tenant key = IsTenant core.entries tenant × CanWrite core tenant
+    × AreKeysOf tenant (key ∷ []) × HasPlace core.places key
 
 -- these are keys of the tenant's, and a write number is left
 abbrev pub CanRemove : CoreState → ℕ → List (List ℕ) → Type 0
-CanRemove core tenant keys = IsTenant core.entries tenant × CanWrite core tenant × AreKeysOf tenant keys
+CanRemove core tenant keys = IsTenant core.entries tenant × CanWrite core tenant
+    × AreKeysOf tenant keys
 
 -- the change is one in a tenant's store, and needs no more memory
 abbrev pub HasRoomFor : {A : Type 0} → CoreState → ℕ → coded.Change A → Type 0
@@ -72,8 +76,10 @@ abbrev pub prepared_answer : {A : Type 0} → Prepared A → Store → Answer
 prepared_answer prepared store = (effect prepared store, reply_of prepared.reply)
 
 -- where there was memory, the prepared answer is this one of the tenant's store
-abbrev pub Prepares : {A : Type 0} → CoreState → ℕ → Result (Prepared A) AllocError → (Store → Answer) → Type 0
-Prepares core tenant result answer = IfOk result (λ p. prepared_answer p (store_of core tenant) ≡ answer (store_of core tenant))
+abbrev pub Prepares : {A : Type 0} → CoreState → ℕ → Result (Prepared A) AllocError
+    → (Store → Answer) → Type 0
+Prepares core tenant result answer = IfOk result (λ p. prepared_answer p (store_of core tenant)
+    ≡ answer (store_of core tenant))
 
 -- the answer to a command, once it was counted
 abbrev pub serves : Command → Store → Answer
@@ -88,16 +94,20 @@ abbrev pub writes_row : List ℕ → List ℕ → Reply → Store → Answer
 writes_row key value r store = change_answer (counted store) (own_key key) (Written value r)
 
 -- the same of words, where the number is a tenant's
-abbrev pub PreparesOwn : {A : Type 0} → CoreState → ℕ → List (List ℕ) → Result (Prepared A) AllocError → Type 0
-PreparesOwn core tenant words result = IsTenant core.entries tenant → Prepares core tenant result (λ store. answer store words)
+abbrev pub PreparesOwn : {A : Type 0} → CoreState → ℕ → List (List ℕ)
+    → Result (Prepared A) AllocError → Type 0
+PreparesOwn core tenant words result = IsTenant core.entries tenant
+    → Prepares core tenant result (λ store. answer store words)
 
 -- the answer to whom is no tenant, which changes nothing
 abbrev pub RefusesStranger : {A : Type 0} → Result (Prepared A) AllocError → Type 0
-RefusesStranger result = IsOkAnd result (λ p. (p.change ≡ change.Nothing) × (reply_of p.reply ≡ reply.Error refusal.NotAuthenticated))
+RefusesStranger result = IsOkAnd result (λ p. (p.change ≡ change.Nothing)
+    × (reply_of p.reply ≡ reply.Error refusal.NotAuthenticated))
 
 -- the tenant's store moved as the prepared answer says
 abbrev pub CarriesOut : {A : Type 0} → CoreState → CoreState → Prepared A → Type 0
-CarriesOut old new prepared = store_of new prepared.tenant ≡ effect prepared (store_of old prepared.tenant)
+CarriesOut old new prepared = store_of new prepared.tenant
+    ≡ effect prepared (store_of old prepared.tenant)
 
 -- the reply of the tenant's store to a command that reads
 abbrev pub read_reply : CoreState → ℕ → Command → Reply
@@ -109,8 +119,10 @@ fewer store keys = rows.len store.rows - rows.len (rows_without keys store.rows)
 
 -- a key's row is there, and none of the earlier keys is this one
 abbrev pub takes_out : CoreState → ℕ → List ℕ → List (List ℕ) → Bool
-takes_out core tenant key earlier = is_some (row_at core tenant (own_key key)) && not (list_any (bytes_eq key) earlier)
+takes_out core tenant key earlier =
+    is_some (row_at core tenant (own_key key)) && not (list_any (bytes_eq key) earlier)
 
 -- the reply of the tenant's store to the command that reads the interval
 abbrev pub range_reply : CoreState → Interval → ℕ → Reply
-range_reply core interval count = read_reply core interval.tenant (Range interval.from.now interval.to.now count)
+range_reply core interval count =
+    read_reply core interval.tenant (Range interval.from.now interval.to.now count)

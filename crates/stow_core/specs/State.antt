@@ -32,7 +32,9 @@ with_place rows key (Some version) = map.insert rows key version
 -- the tenant's rows, by its own keys
 unfoldable pub rows_of : ℕ → Places → Rows
 rows_of tenant [] = map.empty
-rows_of tenant (place ∷ places) = if is_of tenant place.0 then with_place (rows_of tenant places) (own_key place.0) place.1 else rows_of tenant places
+rows_of tenant (place ∷ places) =
+    if is_of tenant place.0 then with_place (rows_of tenant places) (own_key place.0) place.1
+    else rows_of tenant places
 
 -- a tenant of this entry for which nothing was counted yet
 abbrev pub new_account : Entry → Account
@@ -54,7 +56,16 @@ account_of (suc place) accounts = slice_get accounts place
 -- the store of these rows and this account; without an account it is empty, and has no quota
 abbrev pub store_with : Rows → Option Account → Store
 store_with rows None = empty_store 0
-store_with rows (Some account) = record { rows = rows; last = account.last; snapshots = map.empty; next = 1; quota = account.quota; commands = account.commands; refusals = 0 }
+store_with rows (Some account) =
+    record {
+      rows = rows;
+      last = account.last;
+      snapshots = map.empty;
+      next = 1;
+      quota = account.quota;
+      commands = account.commands;
+      refusals = 0;
+    }
 
 -- the tenant's own store
 unfoldable pub store_of : CoreState → ℕ → Store
@@ -76,16 +87,22 @@ OthersStay old new tenant = (other : ℕ) → other ≢ tenant → store_of new 
 -- without
 abbrev pub Answers : CoreState → CoreState → ℕ → List (List ℕ) → Reply → Type 0
 Answers old new tenant words told =
-    (is_refused : Bool) × ◌≡◌ {A = Answer} (store_of new tenant, told) (answer_with (store_of old tenant) (record { words = words; is_refused = is_refused }))
+    (is_refused : Bool)
+    × ◌≡◌ {A = Answer} (store_of new tenant, told)
+    (answer_with (store_of old tenant) (record { words = words; is_refused = is_refused }))
 
 -- a call: a tenant's words are answered in its own store, or as memory was refused; a number that is no
 -- tenant's is refused; no other store moves
-pub record Calls (old : CoreState) (tenant : ℕ) (words : List (List ℕ)) (told : Reply) (new : CoreState) : Type 0 where
+pub record Calls (old : CoreState) (tenant : ℕ) (words : List (List ℕ)) (told : Reply)
+    (new : CoreState) : Type 0 where
   pub own : IsTenant old.entries tenant → Answers old new tenant words told
-  pub stranger : ¬ (IsTenant old.entries tenant) → (told ≡ reply.Error refusal.NotAuthenticated) × ((t : ℕ) → store_of new t ≡ store_of old t)
+  pub stranger : ¬ (IsTenant old.entries tenant)
+      → (told ≡ reply.Error refusal.NotAuthenticated) × ((t : ℕ) → store_of new t ≡ store_of old t)
   pub others : OthersStay old new tenant
   pub entries : new.entries ≡ old.entries
 
 -- what is told of the first rows of an interval
 abbrev pub told_rows : Places → Interval → ℕ → List Item
-told_rows places interval count = flat_map row_items (rows_within interval.from.now interval.to.now count (rows_of interval.tenant places))
+told_rows places interval count =
+    flat_map row_items
+    (rows_within interval.from.now interval.to.now count (rows_of interval.tenant places))

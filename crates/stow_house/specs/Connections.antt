@@ -26,11 +26,13 @@ meaning in_code.Close = event.Close
 -- a tenant's store after what comes to it or to another's
 abbrev pub moved : ℕ → Option Service → Store → Store
 moved tenant None store = store
-moved tenant (Some service) store = if service.tenant == tenant then (step store service.event).0 else store
+moved tenant (Some service) store =
+    if service.tenant == tenant then (step store service.event).0 else store
 
 -- the reply that the core's stores give
 abbrev pub reply_in_core : CoreState → Bool → List (List ℕ) → ℕ → Reply
-reply_in_core core is_refused words tenant = (answer_with (store_of core tenant) (record { words = words; is_refused = is_refused })).1
+reply_in_core core is_refused words tenant =
+    (answer_with (store_of core tenant) (record { words = words; is_refused = is_refused })).1
 
 -- ---- a step
 
@@ -57,17 +59,20 @@ Can (Took m is_refused) seen = (seen.status ≡ IsOpen) × MayBeRefused m is_ref
 Can (Broke fault) seen = (seen.status ≡ IsOpen) × IsFaulty seen.unread fault
 
 -- a step: what it does to its connection and to each store, and what is answered
-pub record Moves (own : ConnectionStep) (r : StepResult) (old new : Seen) (before after : CoreState) : Type 0 where
+pub record Moves (own : ConnectionStep) (r : StepResult) (old new : Seen)
+    (before after : CoreState) : Type 0 where
   pub can : Can own old
   pub status : new.status ≡ status_after own old.status
   pub tenant : new.tenant ≡ served_after before.entries own old.tenant
   pub unread : Reads own old.status old.unread new.unread
   pub entries : after.entries ≡ before.entries
   pub stores : (t : ℕ) → store_of after t ≡ moved t (request_of own old.tenant) (store_of before t)
-  pub result : r ≡ answer_to_own own old.status (told_by before.entries own old.tenant (reply_in_core before))
+  pub result : r
+      ≡ answer_to_own own old.status (told_by before.entries own old.tenant (reply_in_core before))
 
 -- a step of this event, as far as whoever is served is a tenant
-pub record Leads (e : ConnectionEvent) (r : StepResult) (old new : Seen) (before after : CoreState) : Type 0 where
+pub record Leads (e : ConnectionEvent) (r : StepResult) (old new : Seen)
+    (before after : CoreState) : Type 0 where
   pub own : ConnectionStep
   pub is_event : event_of_own own ≡ e
   pub moves : IsServed before.entries old.tenant → Moves own r old new before after
@@ -82,7 +87,8 @@ AsksMemory event.Serve seen = (seen.status ≡ IsOpen) × HasWords seen.unread
 AsksMemory event.Close seen = ⊥
 
 -- memory was refused, and nothing changed
-pub record IsVoid (e : ConnectionEvent) (r : StepResult) (old new : Seen) (before after : CoreState) : Type 0 where
+pub record IsVoid (e : ConnectionEvent) (r : StepResult) (old new : Seen)
+    (before after : CoreState) : Type 0 where
   pub asks : AsksMemory e old
   pub result : r ≡ NoMemory
   pub connection : new ≡ old
@@ -94,18 +100,23 @@ Happens e r old new before after = IsVoid e r old new before after ⊎ Leads e r
 
 -- ---- of the code's connections
 
-abbrev pub Happened : {A : Type 0} → ConnectionEvent → result.StepResult A → Connection A → Connection A → CoreState → CoreState → Type 0
-Happened e r old new before after = Happens e (step_result_of r) (seen (Some old)) (seen (Some new)) before after
+abbrev pub Happened : {A : Type 0} → ConnectionEvent → result.StepResult A → Connection A
+    → Connection A → CoreState → CoreState → Type 0
+Happened e r old new before after =
+    Happens e (step_result_of r) (seen (Some old)) (seen (Some new)) before after
 
 -- the core isn't asked
-abbrev pub HappenedAlone : {A : Type 0} → ConnectionEvent → result.StepResult A → Connection A → Connection A → Type 0
+abbrev pub HappenedAlone : {A : Type 0} → ConnectionEvent → result.StepResult A → Connection A
+    → Connection A → Type 0
 HappenedAlone e r old new = (core : CoreState) → Happened e r old new core core
 
 -- what came on an open connection was served through the core, and answered
-pub record IsServedHere {A : Type 0} (next : Next A) (r : result.StepResult A) (old new : Connection A) (before after : CoreState) : Type 0 where
+pub record IsServedHere {A : Type 0} (next : Next A) (r : result.StepResult A)
+    (old new : Connection A) (before after : CoreState) : Type 0 where
   pub input : new.input ≡ old.input
   pub told : Option Reply
   pub ends : Bool
-  pub serves : Serves Calls before.entries old.session new.session before (arrival_of next) told ends after
+  pub serves : Serves Calls before.entries old.session new.session before
+      (arrival_of next) told ends after
   pub status : new.is_open ≡ not ends
   pub answer : step_result_of r ≡ answered told

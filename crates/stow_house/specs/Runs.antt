@@ -21,7 +21,8 @@ pub record IsNewHouse (house : HouseState) : Type 0 where
 -- The events have a history at which the house stands, in which memory was refused where the marks say so. All
 -- that was told is what the history tells, in its order and to its connections: a tenant's requests are told
 -- what its own run tells.
-pub record Shows (entries : List Entry) (events : List Event) (told : List Told) (marks : List Mark) (house : HouseState) : Type 0 where
+pub record Shows (entries : List Entry) (events : List Event) (told : List Told) (marks : List Mark)
+    (house : HouseState) : Type 0 where
   pub history : List Step
   pub stands : Stands entries house history
   pub in_order : map event_of_step history ≡ reverse events
@@ -30,33 +31,45 @@ pub record Shows (entries : List Entry) (events : List Event) (told : List Told)
 
 -- a run of the code's house, over all of the events
 abbrev pub Ran : {A : Type 0} → House A → List (coded.Event A) → Outputs A → House A → Type 0
-Ran old events outputs new = Shows (state_of old).core.entries (map event_of events) (told_in outputs) (marks_in outputs) (state_of new)
+Ran old events outputs new =
+    Shows (state_of old).core.entries (map event_of events) (told_in outputs) (marks_in outputs)
+    (state_of new)
 
 -- .. and over as many of them
-abbrev pub RanUntil : {A : Type 0} → ℕ → House A → List (coded.Event A) → Outputs A → House A → Type 0
-RanUntil done old events outputs new = Shows (state_of old).core.entries (take done (map event_of events)) (told_in outputs) (marks_in outputs) (state_of new)
+abbrev pub RanUntil : {A : Type 0} → ℕ → House A → List (coded.Event A) → Outputs A → House A
+    → Type 0
+RanUntil done old events outputs new =
+    Shows (state_of old).core.entries (take done (map event_of events)) (told_in outputs)
+    (marks_in outputs) (state_of new)
 
 -- of what was told, the replies where the history answers the tenant's requests; both newest first
 abbrev pub told_in_run : ℕ → List Telling → List Told → List Reply
 told_in_run tenant [] told = []
 told_in_run tenant (telling ∷ tellings) [] = []
-told_in_run tenant (telling ∷ tellings) (t ∷ told) = if is_tenant tenant telling.tenant then t.1 ∷ told_in_run tenant tellings told else told_in_run tenant tellings told
+told_in_run tenant (telling ∷ tellings) (t ∷ told) =
+    if is_tenant tenant telling.tenant then t.1 ∷ told_in_run tenant tellings told
+    else told_in_run tenant tellings told
 
 -- Two runs in which a tenant has the same entry and is served the same requests, whatever else they hold and
 -- whoever else may log in, tell it the same, byte for byte, and leave it the same store.
 abbrev pub TwoRuns : Type 0
 TwoRuns =
-    (entries entries' : List Entry) (events events' : List Event) (told told' : List Told) (marks marks' : List Mark) (house house' : HouseState)
-    → (s : Shows entries events told marks house) → (s' : Shows entries' events' told' marks' house')
+    (entries entries' : List Entry) (events events' : List Event) (told told' : List Told)
+    (marks marks' : List Mark) (house house' : HouseState)
+    → (s : Shows entries events told marks house)
+    → (s' : Shows entries' events' told' marks' house')
     → (tenant tenant' : ℕ) → ServesAlike entries tenant s.history entries' tenant' s'.history
-    → (told_in_run tenant (tellings entries s.history) (reverse told) ≡ told_in_run tenant' (tellings entries' s'.history) (reverse told'))
-    × (map encoding (told_in_run tenant (tellings entries s.history) (reverse told)) ≡ map encoding (told_in_run tenant' (tellings entries' s'.history) (reverse told')))
+    → (told_in_run tenant (tellings entries s.history) (reverse told)
+    ≡ told_in_run tenant' (tellings entries' s'.history) (reverse told'))
+    × (map encoding (told_in_run tenant (tellings entries s.history) (reverse told))
+    ≡ map encoding (told_in_run tenant' (tellings entries' s'.history) (reverse told')))
     × (store_of house.core tenant ≡ store_of house'.core tenant')
 
 -- The events, and the marks of what memory was refused to, say all: runs with the same marks tell the same, in
 -- the same order and to the same connections, and leave each tenant the same store.
 abbrev pub OneRun : Type 0
 OneRun =
-    (entries : List Entry) (events : List Event) (told told' : List Told) (marks : List Mark) (house house' : HouseState)
+    (entries : List Entry) (events : List Event) (told told' : List Told) (marks : List Mark)
+    (house house' : HouseState)
     → Shows entries events told marks house → Shows entries events told' marks house'
     → (told ≡ told') × ((tenant : ℕ) → store_of house.core tenant ≡ store_of house'.core tenant)

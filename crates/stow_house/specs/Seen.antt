@@ -24,7 +24,12 @@ status_by false = Closed
 
 abbrev pub seen : {A : Type 0} → Option (Connection A) → Seen
 seen None = never_opened
-seen (Some connection) = record { status = status_by connection.is_open; tenant = connection.session; unread = connection.input }
+seen (Some connection) =
+    record {
+      status = status_by connection.is_open;
+      tenant = connection.session;
+      unread = connection.input;
+    }
 
 -- what is known of the connection of this number
 abbrev pub seen_at : {A : Type 0} → BTreeMap ℕ (Connection A) → ℕ → Seen

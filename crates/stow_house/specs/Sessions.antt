@@ -46,15 +46,18 @@ taken_of (in_code.ForStoreOf tenant words) = ForStoreOf tenant words
 -- a login tells whether it was accepted, a quit ends the connection, and a request is for the store of the
 -- tenant who is logged in, if one is
 abbrev pub taking_words : List Entry → Kind → List (List ℕ) → Option ℕ → Taken
-taking_words entries (Login name password) words tenant = Told (Some (login_reply (login entries name password))) false
+taking_words entries (Login name password) words tenant =
+    Told (Some (login_reply (login entries name password))) false
 taking_words entries Quit words tenant = Told (Some (reply.Simple simple.Ok)) true
-taking_words entries Malformed words tenant = Told (Some (reply.Error refusal.WrongArgumentCount)) false
+taking_words entries Malformed words tenant =
+    Told (Some (reply.Error refusal.WrongArgumentCount)) false
 taking_words entries ForStore words None = Told (Some (reply.Error refusal.NotAuthenticated)) false
 taking_words entries ForStore words (Some tenant) = ForStoreOf tenant words
 
 -- a quoted line is refused, a blank is told nothing, and a fault ends the connection
 abbrev pub taking : List Entry → Arrival → Option ℕ → Taken
-taking entries (Whole (message.Words words)) tenant = taking_words entries (kind_of words) words tenant
+taking entries (Whole (message.Words words)) tenant =
+    taking_words entries (kind_of words) words tenant
 taking entries (Whole message.Quoted) tenant = Told (Some (quoted_reply tenant)) false
 taking entries (Whole message.Blank) tenant = Told None false
 taking entries (Faulty fault) tenant = Told (Some (reply.ProtocolError fault)) true
@@ -68,20 +71,29 @@ served_after_arrival entries Nothing before = before
 
 -- what is told, whether the connection ends, and what becomes of the door, whose calls are as the relation
 -- says: it is asked only for a tenant's store, and stays as it was in every other case
-abbrev pub Finishes : {D : Type 0} → (D → ℕ → List (List ℕ) → Reply → D → Type 0) → Taken → D → Option Reply → Bool → D → Type 0
+abbrev pub Finishes : {D : Type 0} → (D → ℕ → List (List ℕ) → Reply → D → Type 0) → Taken → D
+    → Option Reply → Bool → D → Type 0
 Finishes calls (Told r ended) old told ends new = (told ≡ r) × (ends ≡ ended) × (new ≡ old)
-Finishes calls (ForStoreOf tenant words) old told ends new = (r : Reply) × calls old tenant words r new × (told ≡ Some r) × (ends ≡ false)
+Finishes calls (ForStoreOf tenant words) old told ends new = (r : Reply)
+    × calls old tenant words r new × (told ≡ Some r) × (ends ≡ false)
 
 -- what came was served: who is served from now on, what is told, whether the connection ends, and the door
 -- before and after
-pub record Serves {D : Type 0} (calls : D → ℕ → List (List ℕ) → Reply → D → Type 0) (entries : List Entry) (before after : Option ℕ) (old : D) (arrival : Arrival) (told : Option Reply) (ends : Bool) (new : D) : Type 0 where
+pub record Serves {D : Type 0} (calls : D → ℕ → List (List ℕ) → Reply → D → Type 0)
+    (entries : List Entry) (before after : Option ℕ) (old : D) (arrival : Arrival)
+    (told : Option Reply) (ends : Bool) (new : D) : Type 0 where
   pub tenant : after ≡ served_after_arrival entries arrival before
   pub finishes : Finishes calls (taking entries arrival before) old told ends new
 
 -- ---- of the code's answers
 
-abbrev pub Finished : {D A : Type 0} → (D → ℕ → List (List ℕ) → Reply → D → Type 0) → coded.Taken A → D → Answer A → D → Type 0
-Finished calls taken old answer new = Finishes calls (taken_of taken) old (option_map reply_of answer.reply) answer.ends new
+abbrev pub Finished : {D A : Type 0} → (D → ℕ → List (List ℕ) → Reply → D → Type 0) → coded.Taken A
+    → D → Answer A → D → Type 0
+Finished calls taken old answer new =
+    Finishes calls (taken_of taken) old (option_map reply_of answer.reply) answer.ends new
 
-abbrev pub Served : {D A : Type 0} → (D → ℕ → List (List ℕ) → Reply → D → Type 0) → List Entry → Option ℕ → Option ℕ → D → Next A → Answer A → D → Type 0
-Served calls entries before after old next answer new = Serves calls entries before after old (arrival_of next) (option_map reply_of answer.reply) answer.ends new
+abbrev pub Served : {D A : Type 0} → (D → ℕ → List (List ℕ) → Reply → D → Type 0) → List Entry
+    → Option ℕ → Option ℕ → D → Next A → Answer A → D → Type 0
+Served calls entries before after old next answer new =
+    Serves calls entries before after old (arrival_of next)
+    (option_map reply_of answer.reply) answer.ends new

@@ -68,7 +68,8 @@ abbrev pub MayAnswer : FlusherEvent → StepResult → Type 0
 MayAnswer (event.Plan f) r = r ≡ NoJob
 MayAnswer (event.Merge f) r = r ≡ Refused
 MayAnswer (event.Install f) r = r ≡ Refused
-MayAnswer (event.Resize n) r = ((n ≤ cache_limit) × (r ≡ Done)) ⊎ ((cache_limit < n) × (r ≡ Refused))
+MayAnswer (event.Resize n) r = ((n ≤ cache_limit) × (r ≡ Done))
+    ⊎ ((cache_limit < n) × (r ≡ Refused))
 
 -- the answers that an event of a connection can have at all
 abbrev pub CanAnswerOn : ConnectionEvent → StepResult → Type 0
@@ -98,5 +99,6 @@ CanAnswer (event.By e) r = MayAnswer e r
 -- what a step is answered, after the history before it
 unfoldable pub IsAnswer : List Entry → Step → List Step → StepResult → Type 0
 IsAnswer entries (Void e) earlier r = r ≡ NoMemory
-IsAnswer entries (At c own) earlier r = r ≡ answer_to_own own (status_of (part_of c earlier)) (told_at entries c own earlier)
+IsAnswer entries (At c own) earlier r = r
+    ≡ answer_to_own own (status_of (part_of c earlier)) (told_at entries c own earlier)
 IsAnswer entries (Flushed e) earlier r = MayAnswer e r

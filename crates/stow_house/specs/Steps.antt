@@ -34,18 +34,23 @@ pub record Stands (entries : List Entry) (house : HouseState) (history : List St
   pub is_history : IsHistory entries history
   pub tenants : house.core.entries ≡ entries
   pub connections : (c : ℕ) → StandsAt entries (house.seen c) (part_of c history)
-  pub stores : (tenant : ℕ) → store_of house.core tenant ≡ store_after (quota_of entries tenant) (line_of entries tenant history)
+  pub stores : (tenant : ℕ)
+      → store_of house.core tenant
+      ≡ store_after (quota_of entries tenant) (line_of entries tenant history)
 
 -- a history goes on by a step, which is answered so
-pub record GoesOn (entries : List Entry) (step : Step) (earlier : List Step) (r : StepResult) (new : HouseState) : Type 0 where
+pub record GoesOn (entries : List Entry) (step : Step) (earlier : List Step) (r : StepResult)
+    (new : HouseState) : Type 0 where
   pub stands : Stands entries new (step ∷ earlier)
   pub answer : IsAnswer entries step earlier r
 
 -- an event is one step, by which every history of the house goes on
-pub record IsStepOf (old : HouseState) (e : Event) (r : StepResult) (new : HouseState) : Type 0 where
+pub record IsStepOf (old : HouseState) (e : Event) (r : StepResult)
+    (new : HouseState) : Type 0 where
   pub step : Step
   pub is_event : event_of_step step ≡ e
-  pub goes_on : (entries : List Entry) (history : List Step) → Stands entries old history → GoesOn entries step history r new
+  pub goes_on : (entries : List Entry) (history : List Step) → Stands entries old history
+      → GoesOn entries step history r new
 
 abbrev pub Steps : {A : Type 0} → House A → Event → coded.StepResult A → House A → Type 0
 Steps old e result new = IsStepOf (state_of old) e (step_result_of result) (state_of new)

@@ -37,7 +37,8 @@ digest_length = 32
 
 -- the next step, where the one before gave a value
 infixl 10 ◌>>=◌
-abbrev pub ◌>>=◌ : {A B : Type 0} → Result A TenantsFault → (A → Result B TenantsFault) → Result B TenantsFault
+abbrev pub ◌>>=◌ : {A B : Type 0} → Result A TenantsFault → (A → Result B TenantsFault)
+    → Result B TenantsFault
 Ok x >>= f = f x
 Err e >>= f = Err e
 
@@ -69,18 +70,22 @@ tables_of value = option_and_then tables_only (as_array value)
 abbrev pub items_in : Members → Result Items TenantsFault
 items_in members =
     if size members == 0 then Err fault.WrongCount
-    else if size members == 1 then ok_or (option_and_then tables_of (get_member (codes "tenant") members)) fault.WrongShape
+    else if size members == 1 then ok_or
+    (option_and_then tables_of (get_member (codes "tenant") members)) fault.WrongShape
     else Err fault.WrongShape
 
 -- as many as there may be
 abbrev pub counted : Items → Result Items TenantsFault
-counted items = if nat_le 1 (count items) && nat_le (count items) tenant_limit then Ok items else Err fault.WrongCount
+counted items =
+    if nat_le 1 (count items) && nat_le (count items) tenant_limit then Ok items
+    else Err fault.WrongCount
 
 -- ---- one tenant's table
 
 -- a table of four fields
 abbrev pub four_fields : Data → Option Members
-four_fields value = option_and_then (λ members. if size members == 4 then Some members else None) (as_table value)
+four_fields value =
+    option_and_then (λ members. if size members == 4 then Some members else None) (as_table value)
 
 -- the text of a field
 abbrev pub text_at : List ℕ → Members → Option (List ℕ)
@@ -96,7 +101,8 @@ is_name_byte byte = is_ascii_alphanumeric byte || ((byte == 45 || byte == 95) ||
 
 -- 1 to 64 bytes of these
 abbrev pub is_name : List ℕ → Bool
-is_name name = (nat_le 1 (length name) && nat_le (length name) name_limit) && list_all is_name_byte name
+is_name name =
+    (nat_le 1 (length name) && nat_le (length name) name_limit) && list_all is_name_byte name
 
 -- a name by the rule
 abbrev pub valid_name : List ℕ → Result (List ℕ) TenantsFault
@@ -147,7 +153,8 @@ entry_in earlier value = do
 -- the earlier entries, and those of the items after them, or the first fault
 abbrev pub entries_after : List Entry → Items → Result (List Entry) TenantsFault
 entries_after earlier no_items = Ok earlier
-entries_after earlier (item value items) = entry_in earlier value >>= (λ entry. entries_after (earlier ++ entry ∷ []) items)
+entries_after earlier (item value items) =
+    entry_in earlier value >>= (λ entry. entries_after (earlier ++ entry ∷ []) items)
 
 -- the entries of the file's table, or the first fault
 abbrev pub entries_of : Members → Result (List Entry) TenantsFault
@@ -182,4 +189,5 @@ HaveOwnNames (entry ∷ entries) = (is_used entries entry.name ≡ false) × Hav
 abbrev pub EntriesAreByRule : Type 0
 EntriesAreByRule =
     (text : List ℕ) (entries : List Entry) → entries_of_text text ≡ Ok entries
-    → (1 ≤ length entries) × (length entries ≤ tenant_limit) × AllByRecursion IsByRule entries × HaveOwnNames entries
+    → (1 ≤ length entries) × (length entries ≤ tenant_limit) × AllByRecursion IsByRule entries
+    × HaveOwnNames entries

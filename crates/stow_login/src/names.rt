@@ -32,7 +32,9 @@ impl<A: Allocator + Copy> Names<A> {
 
     /// Gives a name an index. An `Err` changes nothing.
     pub(crate) fn add(&mut self, alloc: A, name: &[u8], index: u32) -> Result<(), AllocError>
-        ensures ok { OnOk result ((q : List ℕ) → index_in self.new q ≡ (if bytes_eq name.now q then Some index else index_in self.old q)) }
+        ensures ok { OnOk result ((q : List ℕ)
+            → index_in self.new q
+            ≡ (if bytes_eq name.now q then Some index else index_in self.old q)) }
         ensures err { OnErr result (self.new ≡ self.old) }
     {
         self.map.insert(Vec::from_slice(alloc, name)?, index)?;

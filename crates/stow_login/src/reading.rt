@@ -32,7 +32,8 @@ pub(crate) fn read_table<A: Allocator + Copy>(
     table: &Table,
 ) -> Result<Tenants<A>, TenantsFault>
     ensures ok { IfOk result (λ tenants. entries_of (table_view table.now) ≡ Ok tenants) }
-    ensures err { IfErr result (λ fault. (fault ≡ TenantsFault.OutOfMemory) ⊎ (entries_of (table_view table.now) ≡ Err fault)) }
+    ensures err { IfErr result (λ fault. (fault ≡ TenantsFault.OutOfMemory)
+        ⊎ (entries_of (table_view table.now) ≡ Err fault)) }
 {
     let items = items_in(table)?;
     if items.is_empty() || items.len() > TENANT_LIMIT {
@@ -48,7 +49,8 @@ pub(crate) fn read_table<A: Allocator + Copy>(
 
 /// The tables under the file's only key, `tenant`.
 pub(crate) fn items_in(table: &Table) -> Result<&[Value], TenantsFault>
-    ensures ok { IfOk result (λ items. items_in (table_view table.now) ≡ Ok (items_view items.now)) }
+    ensures ok { IfOk result (λ items. items_in (table_view table.now)
+        ≡ Ok (items_view items.now)) }
     ensures err { IfErr result (λ fault. items_in (table_view table.now) ≡ Err fault) }
 {
     if table.is_empty() {
@@ -62,7 +64,8 @@ pub(crate) fn items_in(table: &Table) -> Result<&[Value], TenantsFault>
 
 /// The array of tables at a key.
 fn tables_at<'a>(table: &'a Table, key: &str) -> Option<&'a [Value]>
-    ensures { option_map (λ items. items_view items.now) result ≡ option_and_then tables_of (get_member key.now (table_view table.now)) }
+    ensures { option_map (λ items. items_view items.now) result
+        ≡ option_and_then tables_of (get_member key.now (table_view table.now)) }
 {
     match table.get(key) {
         Some(value) => tables_of(value),
@@ -96,8 +99,10 @@ pub(crate) fn read_tenant<A: Allocator + Copy>(
     earlier: &Tenants<A>,
     value: &Value,
 ) -> Result<Tenant<A>, TenantsFault>
-    ensures ok { IfOk result (λ tenant. entry_in earlier.now (view value.now) ≡ Ok (entry_of tenant)) }
-    ensures err { IfErr result (λ fault. (fault ≡ TenantsFault.OutOfMemory) ⊎ (entry_in earlier.now (view value.now) ≡ Err fault)) }
+    ensures ok { IfOk result (λ tenant. entry_in earlier.now (view value.now)
+        ≡ Ok (entry_of tenant)) }
+    ensures err { IfErr result (λ fault. (fault ≡ TenantsFault.OutOfMemory)
+        ⊎ (entry_in earlier.now (view value.now) ≡ Err fault)) }
 {
     let fields = four_fields(value).ok_or(TenantsFault::WrongShape)?;
     let name = text_at(fields, "name").ok_or(TenantsFault::WrongShape)?;
@@ -173,7 +178,8 @@ fn is_name_byte(byte: u8) -> bool
 /// The bytes of a salt.
 pub(crate) fn salt_in<A: Allocator>(alloc: A, text: &str) -> Result<ByteString<A>, TenantsFault>
     ensures ok { IfOk result (λ salt. salt_in text.now ≡ Ok salt) }
-    ensures err { IfErr result (λ fault. (fault ≡ TenantsFault.OutOfMemory) ⊎ (salt_in text.now ≡ Err fault)) }
+    ensures err { IfErr result (λ fault. (fault ≡ TenantsFault.OutOfMemory)
+        ⊎ (salt_in text.now ≡ Err fault)) }
 {
     match hex::decode(alloc, text) {
         Ok(salt) if salt.len() <= SALT_LIMIT => Ok(ByteString::from_vec(salt)),

@@ -55,7 +55,8 @@ is_long_key key = nat_lt key_limit (length key)
 
 -- a command, unless one of its keys is too long
 abbrev pub with_keys : List (List ℕ) → Command → Reading
-with_keys keys command = if list_any is_long_key keys then Refused refusal.KeyTooLong else Understood command
+with_keys keys command =
+    if list_any is_long_key keys then Refused refusal.KeyTooLong else Understood command
 
 -- ---- by the arguments
 
@@ -81,7 +82,9 @@ reading_ping (text ∷ texts) = of_text Echo (text ∷ texts)
 
 -- the third argument of a SET
 abbrev pub condition_named : List ℕ → Option Condition
-condition_named option = if is_named option (codes "nx") then Some IfMissing else if is_named option (codes "xx") then Some IfThere else None
+condition_named option =
+    if is_named option (codes "nx") then Some IfMissing
+    else if is_named option (codes "xx") then Some IfThere else None
 
 abbrev pub reading_set_if : List ℕ → List ℕ → Option Condition → Reading
 reading_set_if key value None = Refused refusal.SyntaxError
@@ -124,7 +127,9 @@ reading_range (_ ∷ _ ∷ _ ∷ _ ∷ _) = Refused refusal.WrongArgumentCount
 
 abbrev pub reading_del : List (List ℕ) → Reading
 reading_del [] = Refused refusal.WrongArgumentCount
-reading_del (key ∷ keys) = if nat_lt deleted_limit (length (key ∷ keys)) then Refused refusal.TooManyKeys else with_keys (key ∷ keys) (Del (key ∷ keys))
+reading_del (key ∷ keys) =
+    if nat_lt deleted_limit (length (key ∷ keys)) then Refused refusal.TooManyKeys
+    else with_keys (key ∷ keys) (Del (key ∷ keys))
 
 -- ---- by the name
 
@@ -152,7 +157,8 @@ commands =
 
 abbrev pub reading_among : List Entry → List ℕ → List (List ℕ) → Reading
 reading_among [] name arguments = Refused refusal.UnknownCommand
-reading_among (entry ∷ entries) name arguments = if is_named name entry.0 then entry.1 arguments else reading_among entries name arguments
+reading_among (entry ∷ entries) name arguments =
+    if is_named name entry.0 then entry.1 arguments else reading_among entries name arguments
 
 -- the command that the words are, or the first refusal that applies: the name, the number of arguments,
 -- options, numbers among the arguments, then the length of each key

@@ -22,7 +22,8 @@ pub record Encodings : Type 0 where
   pub ok : encoding (Simple Ok) ≡ codes "+OK\r\n"
   pub pong : encoding (Simple Pong) ≡ codes "+PONG\r\n"
   pub error : encoding (Error NotAuthenticated) ≡ codes "-NOAUTH Authentication required.\r\n"
-  pub fault : encoding (ProtocolError InvalidBulkLength) ≡ codes "-ERR Protocol error: invalid bulk length\r\n"
+  pub fault : encoding (ProtocolError InvalidBulkLength)
+      ≡ codes "-ERR Protocol error: invalid bulk length\r\n"
   pub integer : encoding (Integer (pos 1)) ≡ codes ":1\r\n"
   pub bulk : encoding (Bulk (codes "v1")) ≡ codes "$2\r\nv1\r\n"
   pub empty : encoding (Bulk []) ≡ codes "$0\r\n\r\n"
@@ -31,7 +32,8 @@ pub record Encodings : Type 0 where
 
 -- what words are to a connection, and the order of byte strings
 pub record OfWords : Type 0 where
-  pub login : kind_of (codes "auth" ∷ codes "ann" ∷ codes "bc" ∷ []) ≡ Login (codes "ann") (codes "bc")
+  pub login : kind_of (codes "auth" ∷ codes "ann" ∷ codes "bc" ∷ [])
+      ≡ Login (codes "ann") (codes "bc")
   pub quit : kind_of (codes "QUIT" ∷ []) ≡ Quit
   pub malformed : kind_of (codes "Auth" ∷ codes "ann" ∷ []) ≡ Malformed
   pub for_store : kind_of (codes "GET" ∷ codes "k" ∷ []) ≡ ForStore
@@ -80,18 +82,23 @@ pub record OfLines : Type 0 where
 
 -- connection 1 is opened, a blank comes, and is served
 abbrev pub blank_served : List Step
-blank_served = At 1 (Took Blank false) ∷ At 1 (Plain (Piece (codes "*0\r\n"))) ∷ At 1 (Plain Open) ∷ []
+blank_served =
+    At 1 (Took Blank false) ∷ At 1 (Plain (Piece (codes "*0\r\n"))) ∷ At 1 (Plain Open) ∷ []
 
 -- connection 1 is opened, asks for a key, and asks to be closed
 abbrev pub not_logged_in : List Step
-not_logged_in = At 1 (Took (Words (codes "quit" ∷ [])) false) ∷ At 1 (Took (Words (codes "GET" ∷ codes "k" ∷ [])) false) ∷ At 1 (Plain Open) ∷ []
+not_logged_in =
+    At 1 (Took (Words (codes "quit" ∷ [])) false)
+    ∷ At 1 (Took (Words (codes "GET" ∷ codes "k" ∷ [])) false) ∷ At 1 (Plain Open) ∷ []
 
 -- a tenant's entry, whose password is `bc`
 abbrev pub some_entry : Entry
-some_entry = record { name = codes "ann"; salt = codes "a"; digest = sha256 (codes "abc"); quota = 5 }
+some_entry =
+    record { name = codes "ann"; salt = codes "a"; digest = sha256 (codes "abc"); quota = 5 }
 
 abbrev pub other_entry : Entry
-other_entry = record { name = codes "ben"; salt = codes "ab"; digest = sha256 (codes "abc"); quota = 5 }
+other_entry =
+    record { name = codes "ben"; salt = codes "ab"; digest = sha256 (codes "abc"); quota = 5 }
 
 -- logins
 pub record OfLogins : Type 0 where
@@ -103,11 +110,14 @@ pub record OfLogins : Type 0 where
 pub record OfHistories : Type 0 where
   pub history : IsHistory [] blank_served
   pub not_history : IsHistory [] (At 1 (Took Blank false) ∷ At 1 (Plain Open) ∷ []) → ⊥
-  pub not_waiting : IsHistory [] (At 1 (Plain Serve) ∷ At 1 (Plain (Piece (codes "*0\r\n"))) ∷ At 1 (Plain Open) ∷ []) → ⊥
+  pub not_waiting : IsHistory [] (At 1 (Plain Serve) ∷ At 1 (Plain (Piece (codes "*0\r\n")))
+      ∷ At 1 (Plain Open) ∷ []) → ⊥
   pub void_open : IsHistory [] (Void (On 1 Open) ∷ [])
   pub no_void_close : IsHistory [] (Void (On 1 Close) ∷ At 1 (Plain Open) ∷ []) → ⊥
-  pub no_void_blank : IsHistory [] (Void (On 1 Serve) ∷ At 1 (Plain (Piece (codes "*0\r\n"))) ∷ At 1 (Plain Open) ∷ []) → ⊥
-  pub no_refused_blank : IsHistory [] (At 1 (Took Blank true) ∷ At 1 (Plain (Piece (codes "*0\r\n"))) ∷ At 1 (Plain Open) ∷ []) → ⊥
+  pub no_void_blank : IsHistory [] (Void (On 1 Serve) ∷ At 1 (Plain (Piece (codes "*0\r\n")))
+      ∷ At 1 (Plain Open) ∷ []) → ⊥
+  pub no_refused_blank : IsHistory [] (At 1 (Took Blank true)
+      ∷ At 1 (Plain (Piece (codes "*0\r\n"))) ∷ At 1 (Plain Open) ∷ []) → ⊥
   pub is_open : status_of (part_of 1 blank_served) ≡ IsOpen
   pub is_closed : status_of (part_of 1 not_logged_in) ≡ Closed
   pub stream : stream_of (part_of 1 blank_served) ≡ codes "*0\r\n"
@@ -115,8 +125,14 @@ pub record OfHistories : Type 0 where
   pub void : output_of [] 1 (Void (On 1 Serve) ∷ At 1 (Plain Open) ∷ []) ≡ []
   pub alike : ServesAlike (some_entry ∷ []) 1 [] (other_entry ∷ some_entry ∷ []) 2 blank_served
   pub not_alike : ServesAlike (some_entry ∷ []) 1 [] (other_entry ∷ []) 1 [] → ⊥
-  pub another : IsForAnother 1 (Some (record { tenant = 2; event = Asked (record { words = []; is_refused = false }) }))
-  pub not_another : IsForAnother 2 (Some (record { tenant = 2; event = Asked (record { words = []; is_refused = false }) })) → ⊥
+  pub another : IsForAnother 1 (Some (record {
+    tenant = 2;
+    event = Asked (record { words = []; is_refused = false });
+  }))
+  pub not_another : IsForAnother 2 (Some (record {
+    tenant = 2;
+    event = Asked (record { words = []; is_refused = false });
+  })) → ⊥
   pub tenant : IsTenant (some_entry ∷ []) 1
   pub not_tenant : IsTenant (some_entry ∷ []) 0 → ⊥
 

@@ -117,13 +117,15 @@ served_after_login None before = before
 served_after_login (Some tenant) before = Some tenant
 
 abbrev pub served_after_kind : List Entry → Kind → Option ℕ → Option ℕ
-served_after_kind entries (Login name password) before = served_after_login (login entries name password) before
+served_after_kind entries (Login name password) before =
+    served_after_login (login entries name password) before
 served_after_kind entries Quit before = before
 served_after_kind entries Malformed before = before
 served_after_kind entries ForStore before = before
 
 abbrev pub served_after_message : List Entry → Message → Option ℕ → Option ℕ
-served_after_message entries (message.Words words) before = served_after_kind entries (kind_of words) before
+served_after_message entries (message.Words words) before =
+    served_after_kind entries (kind_of words) before
 served_after_message entries message.Quoted before = before
 served_after_message entries message.Blank before = before
 
@@ -181,10 +183,15 @@ request_as (Login name password) words is_refused tenant = None
 request_as Quit words is_refused tenant = None
 request_as Malformed words is_refused tenant = None
 request_as ForStore words is_refused None = None
-request_as ForStore words is_refused (Some tenant) = Some (record { tenant = tenant; event = Asked (record { words = words; is_refused = is_refused }) })
+request_as ForStore words is_refused (Some tenant) =
+    Some (record {
+      tenant = tenant;
+      event = Asked (record { words = words; is_refused = is_refused });
+    })
 
 abbrev pub request_of_message : Message → Bool → Option ℕ → Option Service
-request_of_message (message.Words words) is_refused tenant = request_as (kind_of words) words is_refused tenant
+request_of_message (message.Words words) is_refused tenant =
+    request_as (kind_of words) words is_refused tenant
 request_of_message message.Quoted is_refused tenant = None
 request_of_message message.Blank is_refused tenant = None
 
@@ -202,18 +209,21 @@ service_of entries (Flushed e) earlier = None
 
 abbrev pub with_service : ℕ → Option Service → List OwnEvent → List OwnEvent
 with_service tenant None line = line
-with_service tenant (Some service) line = if service.tenant == tenant then service.event ∷ line else line
+with_service tenant (Some service) line =
+    if service.tenant == tenant then service.event ∷ line else line
 
 -- the tenant's line: its requests over all connections, newest first
 unfoldable pub line_of : List Entry → ℕ → List Step → List OwnEvent
 line_of entries tenant [] = []
-line_of entries tenant (newest ∷ earlier) = with_service tenant (service_of entries newest earlier) (line_of entries tenant earlier)
+line_of entries tenant (newest ∷ earlier) =
+    with_service tenant (service_of entries newest earlier) (line_of entries tenant earlier)
 
 -- ---- what each step may lead to
 
 -- the message is the next on the stream
 abbrev pub Takes : Message → List ℕ → List Message → Type 0
-Takes m stream taken = (front : List ℕ) × (spelling : List ℕ) × (rest : List ℕ) × SpellsAll taken front × Spells m spelling × (stream ≡ front ++ (spelling ++ rest))
+Takes m stream taken = (front : List ℕ) × (spelling : List ℕ) × (rest : List ℕ)
+    × SpellsAll taken front × Spells m spelling × (stream ≡ front ++ (spelling ++ rest))
 
 -- the words of a message are the next on the stream
 abbrev pub TakesWords : List ℕ → List Message → Type 0
@@ -221,11 +231,13 @@ TakesWords stream taken = (words : List (List ℕ)) × Takes (message.Words word
 
 -- the next message isn't whole yet
 abbrev pub Waits : List ℕ → List Message → Type 0
-Waits stream taken = (front : List ℕ) × (rest : List ℕ) × SpellsAll taken front × IsBegun rest × (stream ≡ front ++ rest)
+Waits stream taken = (front : List ℕ) × (rest : List ℕ) × SpellsAll taken front × IsBegun rest
+    × (stream ≡ front ++ rest)
 
 -- no message can come any more
 abbrev pub Breaks : StreamFault → List ℕ → List Message → Type 0
-Breaks fault stream taken = (front : List ℕ) × (rest : List ℕ) × SpellsAll taken front × IsFaulty rest fault × (stream ≡ front ++ rest)
+Breaks fault stream taken = (front : List ℕ) × (rest : List ℕ) × SpellsAll taken front
+    × IsFaulty rest fault × (stream ≡ front ++ rest)
 
 -- a Serve that takes nothing: on an open connection the next message isn't whole, on another one it is refused
 abbrev pub MayTakeNothing : Status → List ℕ → List Message → Type 0
@@ -239,11 +251,13 @@ MayBePlain _ status stream taken = Unit {0}
 
 -- memory is refused to a message only where that is a request of a tenant's store
 abbrev pub MayBeRefused : Message → Bool → Option ℕ → Type 0
-MayBeRefused m is_refused tenant = is_refused ≡ true → IsSome (request_of_message m is_refused tenant)
+MayBeRefused m is_refused tenant = is_refused ≡ true
+    → IsSome (request_of_message m is_refused tenant)
 
 abbrev pub CanLead : ConnectionStep → Status → Option ℕ → List ℕ → List Message → Type 0
 CanLead (Plain e) status tenant stream taken = MayBePlain e status stream taken
-CanLead (Took m is_refused) status tenant stream taken = (status ≡ IsOpen) × Takes m stream taken × MayBeRefused m is_refused tenant
+CanLead (Took m is_refused) status tenant stream taken = (status ≡ IsOpen) × Takes m stream taken
+    × MayBeRefused m is_refused tenant
 CanLead (Broke fault) status tenant stream taken = (status ≡ IsOpen) × Breaks fault stream taken
 
 -- memory is refused only to an event that asks for it
@@ -255,7 +269,9 @@ CanBeVoid event.Close status stream taken = ⊥
 
 -- the connection's step follows from those before it
 unfoldable pub Follows : List Entry → ConnectionStep → List ConnectionStep → Type 0
-Follows entries newest earlier = CanLead newest (status_of earlier) (served_as entries earlier) (stream_of earlier) (taken_by earlier)
+Follows entries newest earlier =
+    CanLead newest (status_of earlier) (served_as entries earlier) (stream_of earlier)
+    (taken_by earlier)
 
 -- an event of a connection with this part may be void
 unfoldable pub MayBeVoid : ConnectionEvent → List ConnectionStep → Type 0
@@ -285,7 +301,8 @@ store_reply None of_tenant = reply.Error refusal.NotAuthenticated
 store_reply (Some tenant) of_tenant = of_tenant tenant
 
 abbrev pub kind_reply : List Entry → Kind → Option ℕ → (ℕ → Reply) → Reply
-kind_reply entries (Login name password) tenant of_tenant = login_reply (login entries name password)
+kind_reply entries (Login name password) tenant of_tenant =
+    login_reply (login entries name password)
 kind_reply entries Quit tenant of_tenant = reply.Simple simple.Ok
 kind_reply entries Malformed tenant of_tenant = reply.Error refusal.WrongArgumentCount
 kind_reply entries ForStore tenant of_tenant = store_reply tenant of_tenant
@@ -294,25 +311,32 @@ kind_reply entries ForStore tenant of_tenant = store_reply tenant of_tenant
 abbrev pub quoted_reply : Option ℕ → Reply
 quoted_reply tenant = store_reply tenant (λ t. reply.Error refusal.QuotedInline)
 
-abbrev pub message_reply : List Entry → Message → Option ℕ → (List (List ℕ) → ℕ → Reply) → Option Reply
-message_reply entries (message.Words words) tenant of_tenant = Some (kind_reply entries (kind_of words) tenant (of_tenant words))
+abbrev pub message_reply : List Entry → Message → Option ℕ → (List (List ℕ) → ℕ → Reply)
+    → Option Reply
+message_reply entries (message.Words words) tenant of_tenant =
+    Some (kind_reply entries (kind_of words) tenant (of_tenant words))
 message_reply entries message.Quoted tenant of_tenant = Some (quoted_reply tenant)
 message_reply entries message.Blank tenant of_tenant = None
 
 -- what a connection's step is told, if anything, by whom the connection is served as; `of_tenant` gives a
 -- tenant's reply to words, with memory or without
-abbrev pub told_by : List Entry → ConnectionStep → Option ℕ → (Bool → List (List ℕ) → ℕ → Reply) → Option Reply
+abbrev pub told_by : List Entry → ConnectionStep → Option ℕ → (Bool → List (List ℕ) → ℕ → Reply)
+    → Option Reply
 told_by entries (Plain e) tenant of_tenant = None
-told_by entries (Took m is_refused) tenant of_tenant = message_reply entries m tenant (of_tenant is_refused)
+told_by entries (Took m is_refused) tenant of_tenant =
+    message_reply entries m tenant (of_tenant is_refused)
 told_by entries (Broke fault) tenant of_tenant = Some (reply.ProtocolError fault)
 
 -- the reply at the request's place in the tenant's own run
 unfoldable pub reply_in_line : List Entry → List Step → Bool → List (List ℕ) → ℕ → Reply
-reply_in_line entries earlier is_refused words tenant = (answer_with (store_after (quota_of entries tenant) (line_of entries tenant earlier)) (record { words = words; is_refused = is_refused })).1
+reply_in_line entries earlier is_refused words tenant =
+    (answer_with (store_after (quota_of entries tenant) (line_of entries tenant earlier))
+    (record { words = words; is_refused = is_refused })).1
 
 -- what the connection is told by its next step, if anything
 unfoldable pub told_at : List Entry → ℕ → ConnectionStep → List Step → Option Reply
-told_at entries c own earlier = told_by entries own (served_as entries (part_of c earlier)) (reply_in_line entries earlier)
+told_at entries c own earlier =
+    told_by entries own (served_as entries (part_of c earlier)) (reply_in_line entries earlier)
 
 -- a reply, the connection that it goes to, and the tenant whose request it answers, if it answers one's
 pub record Telling : Type 0 where
@@ -323,7 +347,14 @@ pub record Telling : Type 0 where
 -- what is told by the step, if anything
 unfoldable pub telling_of : List Entry → Step → List Step → Option Telling
 telling_of entries (Void e) earlier = None
-telling_of entries (At c own) earlier = option_map (λ r. record { connection = c; tenant = option_map (λ s. s.tenant) (service_of entries (At c own) earlier); reply = r }) (told_at entries c own earlier)
+telling_of entries (At c own) earlier =
+    option_map (λ r. record {
+      connection = c;
+      tenant =
+          option_map (λ s. s.tenant) (service_of entries (At c own) earlier);
+      reply =
+          r;
+    }) (told_at entries c own earlier)
 telling_of entries (Flushed e) earlier = None
 
 abbrev pub with_telling : Option Telling → List Telling → List Telling
@@ -333,11 +364,13 @@ with_telling (Some telling) tellings = telling ∷ tellings
 -- all that is told, newest first
 unfoldable pub tellings : List Entry → List Step → List Telling
 tellings entries [] = []
-tellings entries (newest ∷ earlier) = with_telling (telling_of entries newest earlier) (tellings entries earlier)
+tellings entries (newest ∷ earlier) =
+    with_telling (telling_of entries newest earlier) (tellings entries earlier)
 
 -- what the connection is told, newest first
 abbrev pub output_of : List Entry → ℕ → List Step → List Reply
-output_of entries c history = map (λ t. t.reply) (filter (λ t. t.connection == c) (tellings entries history))
+output_of entries c history =
+    map (λ t. t.reply) (filter (λ t. t.connection == c) (tellings entries history))
 
 abbrev pub is_tenant : ℕ → Option ℕ → Bool
 is_tenant tenant None = false
@@ -355,11 +388,14 @@ told_to entries tenant history = answers_to tenant (tellings entries history)
 
 -- what a tenant is told is its own run over its own line
 abbrev pub ToldAlone : Type 0
-ToldAlone = (entries : List Entry) (tenant : ℕ) (history : List Step) → told_to entries tenant history ≡ replies_after (quota_of entries tenant) (line_of entries tenant history)
+ToldAlone = (entries : List Entry) (tenant : ℕ) (history : List Step)
+    → told_to entries tenant history
+    ≡ replies_after (quota_of entries tenant) (line_of entries tenant history)
 
 -- two histories that serve a tenant the same requests, whatever else is in them: its entry (name, salt,
 -- digest and quota) is the same, while its index and all other entries may differ
-pub record ServesAlike (entries : List Entry) (tenant : ℕ) (history : List Step) (entries' : List Entry) (tenant' : ℕ) (history' : List Step) : Type 0 where
+pub record ServesAlike (entries : List Entry) (tenant : ℕ) (history : List Step)
+    (entries' : List Entry) (tenant' : ℕ) (history' : List Step) : Type 0 where
   pub entry : entry_at entries tenant ≡ entry_at entries' tenant'
   pub line : line_of entries tenant history ≡ line_of entries' tenant' history'
 
@@ -369,8 +405,10 @@ TwoRuns =
     (entries entries' : List Entry) (tenant tenant' : ℕ) (history history' : List Step)
     → ServesAlike entries tenant history entries' tenant' history'
     → (told_to entries tenant history ≡ told_to entries' tenant' history')
-    × (map encoding (told_to entries tenant history) ≡ map encoding (told_to entries' tenant' history'))
-    × (store_after (quota_of entries tenant) (line_of entries tenant history) ≡ store_after (quota_of entries' tenant') (line_of entries' tenant' history'))
+    × (map encoding (told_to entries tenant history)
+    ≡ map encoding (told_to entries' tenant' history'))
+    × (store_after (quota_of entries tenant) (line_of entries tenant history)
+    ≡ store_after (quota_of entries' tenant') (line_of entries' tenant' history'))
 
 -- no request is taken, or one to another tenant's store
 abbrev pub IsForAnother : ℕ → Option Service → Type 0
@@ -385,7 +423,8 @@ OthersAddNothing =
     → IsForAnother tenant (service_of entries newest earlier)
     → (line_of entries tenant (newest ∷ earlier) ≡ line_of entries tenant earlier)
     × (told_to entries tenant (newest ∷ earlier) ≡ told_to entries tenant earlier)
-    × (store_after (quota_of entries tenant) (line_of entries tenant (newest ∷ earlier)) ≡ store_after (quota_of entries tenant) (line_of entries tenant earlier))
+    × (store_after (quota_of entries tenant) (line_of entries tenant (newest ∷ earlier))
+    ≡ store_after (quota_of entries tenant) (line_of entries tenant earlier))
 
 -- events with the same marks have one history: what each led to is told by the events and the marks
 abbrev pub OneHistory : Type 0

@@ -20,7 +20,8 @@ ends n = decimal n ++ 13 ∷ 10 ∷ []
 
 -- the bytes begin such a number, and aren't all of it
 abbrev pub IsBegunNumber : ℕ → List ℕ → Type 0
-IsBegunNumber limit bytes = (n : ℕ) × (next : ℕ) × (more : List ℕ) × (n ≤ limit) × (bytes ++ next ∷ more ≡ ends n)
+IsBegunNumber limit bytes = (n : ℕ) × (next : ℕ) × (more : List ℕ) × (n ≤ limit)
+    × (bytes ++ next ∷ more ≡ ends n)
 
 -- no such number begins with the bytes, nor do the bytes begin with one
 abbrev pub IsNoNumber : ℕ → List ℕ → Type 0
@@ -43,12 +44,14 @@ IsNumberAt limit bytes number.Stuck = IsStuckNumber limit bytes
 
 -- the digits of a number within the limit, or none yet
 unfoldable pub IsSoFar : ℕ → List ℕ → ℕ → Type 0
-IsSoFar limit front value = ((front ≡ []) × (value ≡ 0)) ⊎ ((front ≡ decimal value) × (value ≤ limit))
+IsSoFar limit front value = ((front ≡ []) × (value ≡ 0))
+    ⊎ ((front ≡ decimal value) × (value ≤ limit))
 
 -- ---- words
 
 abbrev pub IsBegunBulk : List ℕ → Type 0
-IsBegunBulk bytes = (word : List ℕ) × (next : ℕ) × (more : List ℕ) × FitsBulk word × (bytes ++ next ∷ more ≡ bulk word)
+IsBegunBulk bytes = (word : List ℕ) × (next : ℕ) × (more : List ℕ) × FitsBulk word
+    × (bytes ++ next ∷ more ≡ bulk word)
 
 abbrev pub IsNoBulk : List ℕ → Type 0
 IsNoBulk bytes = (word more y : List ℕ) → FitsBulk word → bytes ++ more ≡ bulk word ++ y → ⊥
@@ -59,7 +62,9 @@ IsBulkPlace front InvalidArrayLength = ⊥
 IsBulkPlace front InlineTooLong = ⊥
 IsBulkPlace front ExpectedBulk = front ≡ []
 IsBulkPlace front InvalidBulkLength = IsInLine 36 front
-IsBulkPlace front BulkNotEnded = (word : List ℕ) × FitsBulk word × ((front ≡ bulk_line (length word) ++ word) ⊎ (front ≡ bulk_line (length word) ++ (word ++ 13 ∷ [])))
+IsBulkPlace front BulkNotEnded = (word : List ℕ) × FitsBulk word
+    × ((front ≡ bulk_line (length word) ++ word)
+    ⊎ (front ≡ bulk_line (length word) ++ (word ++ 13 ∷ [])))
 
 pub record IsStuckBulk (bytes : List ℕ) (fault : StreamFault) : Type 0 where
   pub front : List ℕ
@@ -79,7 +84,8 @@ IsBulkAt bytes (element.Stuck fault) = IsStuckBulk bytes fault
 
 -- no array begins with the bytes, and the first of them are a line so far
 abbrev pub IsLooked : ℕ → List ℕ → Type 0
-IsLooked looked bytes = (begins_array bytes ≡ false) × (looked ≤ length bytes) × IsLine (take looked bytes)
+IsLooked looked bytes = (begins_array bytes ≡ false) × (looked ≤ length bytes)
+    × IsLine (take looked bytes)
 
 abbrev pub IsInlineAt : List ℕ → InlineAt → Type 0
 IsInlineAt bytes (inline.Line line rest) = IsLine line.now × (bytes ≡ line.now ++ 10 ∷ rest.now)
@@ -89,7 +95,8 @@ IsInlineAt bytes inline.TooLong = IsFaulty bytes InlineTooLong
 -- the first word of a text, and a rest that has the others
 abbrev pub IsNextWord : List ℕ → Option (Bor (List ℕ) × Bor (List ℕ)) → Type 0
 IsNextWord text None = words_of_text text ≡ []
-IsNextWord text (Some (word, rest)) = (words_of_text text ≡ word.now ∷ words_of_text rest.now) × (length rest.now < length text)
+IsNextWord text (Some (word, rest)) = (words_of_text text ≡ word.now ∷ words_of_text rest.now)
+    × (length rest.now < length text)
 
 -- the line asks for words
 abbrev pub AsksForWords : List ℕ → Type 0

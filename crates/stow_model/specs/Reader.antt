@@ -9,7 +9,8 @@ use Rattle.stow_model.specs.declared.stream_rest.StreamRest.TheVariants as rest
 
 -- what is at the front of the bytes
 abbrev pub IsMessageAt : {A : Type 0} → List ℕ → MessageAt A → Type 0
-IsMessageAt bytes (found.Message m after) = (spelling : List ℕ) × Spells (message_of m) spelling × (bytes ≡ spelling ++ after.now)
+IsMessageAt bytes (found.Message m after) = (spelling : List ℕ) × Spells (message_of m) spelling
+    × (bytes ≡ spelling ++ after.now)
 IsMessageAt bytes found.More = IsBegun bytes
 IsMessageAt bytes (found.Faulty fault) = IsFaulty bytes fault
 

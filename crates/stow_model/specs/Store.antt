@@ -47,7 +47,16 @@ pub record Store : Type 0 where
 
 -- nothing but a quota
 abbrev pub empty_store : ℕ → Store
-empty_store quota = record { rows = map.empty; last = 0; snapshots = map.empty; next = 1; quota = quota; commands = 0; refusals = 0 }
+empty_store quota =
+    record {
+      rows = map.empty;
+      last = 0;
+      snapshots = map.empty;
+      next = 1;
+      quota = quota;
+      commands = 0;
+      refusals = 0;
+    }
 
 -- ---- what is charged for it
 
@@ -59,12 +68,14 @@ abbrev pub cost : Shown → ℕ
 cost shown = length shown.0 + length shown.1.value + 16
 
 abbrev pub is_same_version : Shown → Shown → Bool
-is_same_version a b = bytes_eq a.0 b.0 && ((a.1.number == b.1.number) && bytes_eq a.1.value b.1.value)
+is_same_version a b =
+    bytes_eq a.0 b.0 && ((a.1.number == b.1.number) && bytes_eq a.1.value b.1.value)
 
 -- each once
 abbrev pub distinct : List Shown → List Shown
 distinct [] = []
-distinct (first ∷ later) = if list_any (is_same_version first) later then distinct later else first ∷ distinct later
+distinct (first ∷ later) =
+    if list_any (is_same_version first) later then distinct later else first ∷ distinct later
 
 -- all that the present rows or a live snapshot show
 abbrev pub shown_by : Store → List Shown
@@ -74,7 +85,18 @@ unfoldable pub charge : Store → ℕ
 charge store = sum_by cost (distinct (shown_by store))
 
 unfoldable pub usage : Store → Usage
-usage store = record { rows = map.len store.rows; charge = charge store; quota = store.quota; writes = store.last; commands = store.commands; refusals = store.refusals; snapshots = map.len store.snapshots }
+usage store =
+    record {
+      rows = map.len store.rows;
+      charge = charge store;
+      quota = store.quota;
+      writes =
+          store.last;
+      commands =
+          store.commands;
+      refusals = store.refusals;
+      snapshots = map.len store.snapshots;
+    }
 
 -- ---- a change of one row
 
@@ -92,7 +114,8 @@ pub data Outcome : Type 0 where
 
 -- a value, unless it is too long
 abbrev pub if_fits : List ℕ → Outcome → Outcome
-if_fits value outcome = if nat_lt value_limit (length value) then Failed refusal.ValueTooLong else outcome
+if_fits value outcome =
+    if nat_lt value_limit (length value) then Failed refusal.ValueTooLong else outcome
 
 abbrev pub allows : Condition → Option (List ℕ) → Bool
 allows Always present = true
@@ -100,11 +123,14 @@ allows IfMissing present = not (is_some present)
 allows IfThere present = is_some present
 
 abbrev pub set_outcome : List ℕ → Condition → Option (List ℕ) → Outcome
-set_outcome value condition present = if_fits value (if allows condition present then Written value (reply.Simple simple.Ok) else Unchanged reply.Null)
+set_outcome value condition present =
+    if_fits value (if allows condition present then Written value (reply.Simple simple.Ok)
+    else Unchanged reply.Null)
 
 -- a missing value counts as empty
 abbrev pub append_outcome : List ℕ → Option (List ℕ) → Outcome
-append_outcome suffix present = let value = unwrap_or present [] ++ suffix in if_fits value (Written value (reply.Integer (pos (length value))))
+append_outcome suffix present = let value = unwrap_or present []
+    ++ suffix in if_fits value (Written value (reply.Integer (pos (length value))))
 
 -- a missing value counts as 0
 abbrev pub stored_number : Option (List ℕ) → Option ℤ
@@ -113,7 +139,10 @@ stored_number (Some value) = number_of value
 
 abbrev pub sum_outcome : Option ℤ → ℤ → Outcome
 sum_outcome None amount = Failed refusal.NotAnInteger
-sum_outcome (Some n) amount = let sum = n +ℤ amount in if is_integer sum then Written (signed_decimal sum) (reply.Integer sum) else Failed refusal.Overflow
+sum_outcome (Some n) amount =
+    let sum =
+    n +ℤ amount in if is_integer sum then Written (signed_decimal sum) (reply.Integer sum)
+    else Failed refusal.Overflow
 
 -- by the present value
 unfoldable pub outcome : Update → Option (List ℕ) → Outcome
@@ -149,7 +178,8 @@ is_within from to key = is_le (bytes_cmp from key) && is_below to key
 
 -- the first rows of an interval, in byte order
 abbrev pub rows_within : List ℕ → List ℕ → ℕ → Rows → List Shown
-rows_within from to count rows = take count (filter (λ row. is_within from to row.0) (map.entries rows))
+rows_within from to count rows =
+    take count (filter (λ row. is_within from to row.0) (map.entries rows))
 
 abbrev pub row_items : Shown → List Item
 row_items row = item.Bulk row.0 ∷ item.Bulk row.1.value ∷ []
@@ -167,32 +197,42 @@ refused store r = (store, reply.Error r)
 
 -- the store's rows become these by its next write
 abbrev pub written : Store → Rows → Reply → Answer
-written store rows r = if nat_lt store.last number_limit then (record store { rows = rows; last = store.last + 1 }, r) else refused store refusal.WriteNumbersUsedUp
+written store rows r =
+    if nat_lt store.last number_limit then (record store { rows = rows; last = store.last + 1 }, r)
+    else refused store refusal.WriteNumbersUsedUp
 
 -- a row's value is written with the number of the store's next write
 abbrev pub change_answer : Store → List ℕ → Outcome → Answer
-change_answer store key (Written value r) = written store (map.insert store.rows key (record { number = store.last + 1; value = value })) r
+change_answer store key (Written value r) =
+    written store (map.insert store.rows key (record { number = store.last + 1; value = value })) r
 change_answer store key (Unchanged r) = (store, r)
 change_answer store key (Failed refusal) = refused store refusal
 
 -- how many rows fewer there are; a write, where that isn't none
 abbrev pub removed_answer : Store → ℕ → Rows → Answer
-removed_answer store removed rows = if removed == 0 then (store, reply.Integer (pos 0)) else written store rows (reply.Integer (pos removed))
+removed_answer store removed rows =
+    if removed == 0 then (store, reply.Integer (pos 0))
+    else written store rows (reply.Integer (pos removed))
 
 abbrev pub del_answer : Store → List (List ℕ) → Answer
-del_answer store keys = removed_answer store (map.len store.rows - map.len (rows_without keys store.rows)) (rows_without keys store.rows)
+del_answer store keys =
+    removed_answer store (map.len store.rows - map.len (rows_without keys store.rows))
+    (rows_without keys store.rows)
 
 -- the store after a command that was counted, and the reply
 abbrev pub served : Store → Command → Answer
 served store Ping = (store, reply.Simple simple.Pong)
 served store (Echo text) = (store, reply.Bulk text)
 served store (Get key) = (store, value_or_null (map.get store.rows key))
-served store (GetMany keys) = (store, reply.Array (list_map (λ key. item_or_null (map.get store.rows key)) keys))
+served store (GetMany keys) =
+    (store, reply.Array (list_map (λ key. item_or_null (map.get store.rows key)) keys))
 served store (Exists keys) = (store, reply.Integer (pos (count_rows store.rows keys)))
 served store (Length key) = (store, reply.Integer (pos (length_or_zero (map.get store.rows key))))
-served store (Range from to count) = (store, reply.Array (flat_map row_items (rows_within from to count store.rows)))
+served store (Range from to count) =
+    (store, reply.Array (flat_map row_items (rows_within from to count store.rows)))
 served store (Del keys) = del_answer store keys
-served store (Change key update) = change_answer store key (outcome update (value_in (map.get store.rows key)))
+served store (Change key update) =
+    change_answer store key (outcome update (value_in (map.get store.rows key)))
 
 -- a count, one higher, up to its limit
 abbrev pub one_more : ℕ → ℕ
@@ -218,7 +258,8 @@ pub record Request : Type 0 where
 
 -- the next store and the reply to a request, with memory or without
 unfoldable pub answer_with : Store → Request → Answer
-answer_with store request = if request.is_refused then refused store refusal.OutOfMemory else answer store request.words
+answer_with store request =
+    if request.is_refused then refused store refusal.OutOfMemory else answer store request.words
 
 -- what comes to a tenant's store: an entry of its line
 pub data OwnEvent : Type 0 where
@@ -240,7 +281,8 @@ store_after quota (newest ∷ earlier) = (step (store_after quota earlier) newes
 -- .. and the replies, newest first
 unfoldable pub replies_after : ℕ → List OwnEvent → List Reply
 replies_after quota [] = []
-replies_after quota (newest ∷ earlier) = with_reply (step (store_after quota earlier) newest).1 (replies_after quota earlier)
+replies_after quota (newest ∷ earlier) =
+    with_reply (step (store_after quota earlier) newest).1 (replies_after quota earlier)
 
 -- ---- want of memory
 
@@ -256,4 +298,5 @@ is_out_of_memory _ = false
 
 -- a reply says that memory was refused just where it was
 abbrev pub WantOfMemoryIsTold : Type 0
-WantOfMemoryIsTold = (store : Store) (request : Request) → is_out_of_memory (answer_with store request).1 ≡ request.is_refused
+WantOfMemoryIsTold = (store : Store) (request : Request)
+    → is_out_of_memory (answer_with store request).1 ≡ request.is_refused

@@ -39,7 +39,8 @@ null_line = codes "*-1\r\n"
 
 -- a message in array form
 abbrev pub IsArray : Message → List ℕ → Type 0
-IsArray (Words words) bytes = (0 < length words) × (length words ≤ words_limit) × AllByRecursion FitsBulk words × (bytes ≡ array_line (length words) ++ bulks words)
+IsArray (Words words) bytes = (0 < length words) × (length words ≤ words_limit)
+    × AllByRecursion FitsBulk words × (bytes ≡ array_line (length words) ++ bulks words)
 IsArray Quoted bytes = ⊥
 IsArray Blank bytes = (bytes ≡ array_line 0) ⊎ (bytes ≡ null_line)
 
@@ -64,7 +65,8 @@ message_of_words (word ∷ words) = Words (word ∷ words)
 
 -- what a line's text asks for
 abbrev pub message_of_text : List ℕ → Message
-message_of_text text = if list_any is_quote text then Quoted else message_of_words (words_of_text text)
+message_of_text text =
+    if list_any is_quote text then Quoted else message_of_words (words_of_text text)
 
 -- the text of a line: all of it but one CR at its end
 abbrev pub text_of_line : List ℕ → List ℕ
@@ -79,11 +81,13 @@ begins_array (b ∷ _) = b == 42
 
 -- an inline request's line, before its LF
 abbrev pub IsLine : List ℕ → Type 0
-IsLine line = AllByRecursion (λ b. b ≢ 10) line × (length line ≤ line_limit) × (begins_array line ≡ false)
+IsLine line = AllByRecursion (λ b. b ≢ 10) line × (length line ≤ line_limit)
+    × (begins_array line ≡ false)
 
 -- a message in inline form
 abbrev pub IsInline : Message → List ℕ → Type 0
-IsInline m bytes = (line : List ℕ) × IsLine line × (bytes ≡ line ++ 10 ∷ []) × (m ≡ message_of_text (text_of_line line))
+IsInline m bytes = (line : List ℕ) × IsLine line × (bytes ≡ line ++ 10 ∷ [])
+    × (m ≡ message_of_text (text_of_line line))
 
 -- ---- all requests
 
@@ -94,13 +98,15 @@ Spells m bytes = IsArray m bytes ⊎ IsInline m bytes
 -- the bytes spell the messages, told newest first, one after another
 abbrev pub SpellsAll : List Message → List ℕ → Type 0
 SpellsAll [] bytes = bytes ≡ []
-SpellsAll (newest ∷ earlier) bytes = (front : List ℕ) × (last : List ℕ) × SpellsAll earlier front × Spells newest last × (bytes ≡ front ++ last)
+SpellsAll (newest ∷ earlier) bytes = (front : List ℕ) × (last : List ℕ) × SpellsAll earlier front
+    × Spells newest last × (bytes ≡ front ++ last)
 
 -- ---- streams
 
 -- no front of the bytes spells a message
 abbrev pub HasNoMessage : List ℕ → Type 0
-HasNoMessage bytes = (m : Message) (spelling more : List ℕ) → Spells m spelling → bytes ≡ spelling ++ more → ⊥
+HasNoMessage bytes = (m : Message) (spelling more : List ℕ) → Spells m spelling
+    → bytes ≡ spelling ++ more → ⊥
 
 -- the bytes begin a spelling, and aren't all of it
 abbrev pub IsBegun : List ℕ → Type 0
@@ -109,7 +115,8 @@ IsBegun bytes = (m : Message) × (next : ℕ) × (more : List ℕ) × Spells m (
 -- the stream is these messages, oldest first, and then a rest that begins with none
 abbrev pub Splits : List ℕ → List Message → List ℕ → Type 0
 Splits stream [] rest = (stream ≡ rest) × HasNoMessage rest
-Splits stream (first ∷ later) rest = (spelling : List ℕ) × (after : List ℕ) × Spells first spelling × (stream ≡ spelling ++ after) × Splits after later rest
+Splits stream (first ∷ later) rest = (spelling : List ℕ) × (after : List ℕ) × Spells first spelling
+    × (stream ≡ spelling ++ after) × Splits after later rest
 
 -- ---- faults
 
@@ -119,7 +126,8 @@ IsInLine sign bytes = (part : List ℕ) × AllByRecursion (λ b. b ≢ 10) part 
 
 -- the line of an array, fewer whole elements than it says, and then the rest
 abbrev pub IsInArray : List ℕ → List ℕ → Type 0
-IsInArray bytes rest = (n : ℕ) × (n ≤ words_limit) × (words : List (List ℕ)) × (length words < n) × AllByRecursion FitsBulk words × (bytes ≡ array_line n ++ (bulks words ++ rest))
+IsInArray bytes rest = (n : ℕ) × (n ≤ words_limit) × (words : List (List ℕ)) × (length words < n)
+    × AllByRecursion FitsBulk words × (bytes ≡ array_line n ++ (bulks words ++ rest))
 
 -- where the byte after these bytes stands, if they begin a spelling, and what is wrong if it can't follow
 unfoldable pub IsPlace : List ℕ → StreamFault → Type 0
@@ -130,7 +138,9 @@ IsPlace bytes ExpectedBulk = IsInArray bytes []
 -- in an element's line
 IsPlace bytes InvalidBulkLength = (part : List ℕ) × IsInLine 36 part × IsInArray bytes part
 -- one of the two bytes after an element's own
-IsPlace bytes BulkNotEnded = (word : List ℕ) × FitsBulk word × (IsInArray bytes (bulk_line (length word) ++ word) ⊎ IsInArray bytes (bulk_line (length word) ++ (word ++ 13 ∷ [])))
+IsPlace bytes BulkNotEnded = (word : List ℕ) × FitsBulk word
+    × (IsInArray bytes (bulk_line (length word) ++ word)
+    ⊎ IsInArray bytes (bulk_line (length word) ++ (word ++ 13 ∷ [])))
 -- in an inline request's line, which is as long as it may be
 IsPlace bytes InlineTooLong = IsLine bytes × (length bytes ≡ line_limit)
 
@@ -149,23 +159,30 @@ pub record IsFaulty (bytes : List ℕ) (fault : StreamFault) : Type 0 where
 
 -- no spelling begins another
 abbrev pub SpelledOnce : Type 0
-SpelledOnce = (m m' : Message) (a b x y : List ℕ) → Spells m a → Spells m' b → a ++ x ≡ b ++ y → (m ≡ m') × (a ≡ b)
+SpelledOnce = (m m' : Message) (a b x y : List ℕ) → Spells m a → Spells m' b → a ++ x ≡ b ++ y
+    → (m ≡ m') × (a ≡ b)
 
 -- a stream has one split
 abbrev pub SplitsOnce : Type 0
-SplitsOnce = (stream : List ℕ) (messages messages' : List Message) (rest rest' : List ℕ) → Splits stream messages rest → Splits stream messages' rest' → (messages ≡ messages') × (rest ≡ rest')
+SplitsOnce = (stream : List ℕ) (messages messages' : List Message) (rest rest' : List ℕ)
+    → Splits stream messages rest → Splits stream messages' rest'
+    → (messages ≡ messages') × (rest ≡ rest')
 
 -- the messages that were taken are the first of the split
 abbrev pub TakenAreFirst : Type 0
-TakenAreFirst = (taken messages : List Message) (front more rest : List ℕ) → SpellsAll taken front → Splits (front ++ more) messages rest → (later : List Message) × Splits more later rest × (messages ≡ reverse taken ++ later)
+TakenAreFirst = (taken messages : List Message) (front more rest : List ℕ) → SpellsAll taken front
+    → Splits (front ++ more) messages rest
+    → (later : List Message) × Splits more later rest × (messages ≡ reverse taken ++ later)
 
 -- a fault stays, whatever comes
 abbrev pub FaultStays : Type 0
-FaultStays = (bytes more : List ℕ) (fault : StreamFault) → IsFaulty bytes fault → IsFaulty (bytes ++ more) fault
+FaultStays = (bytes more : List ℕ) (fault : StreamFault) → IsFaulty bytes fault
+    → IsFaulty (bytes ++ more) fault
 
 -- there is one fault
 abbrev pub FaultOnce : Type 0
-FaultOnce = (bytes : List ℕ) (fault fault' : StreamFault) → IsFaulty bytes fault → IsFaulty bytes fault' → fault ≡ fault'
+FaultOnce = (bytes : List ℕ) (fault fault' : StreamFault) → IsFaulty bytes fault
+    → IsFaulty bytes fault' → fault ≡ fault'
 
 -- what is faulty is never waited for
 abbrev pub FaultyNotBegun : Type 0

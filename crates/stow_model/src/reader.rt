@@ -12,7 +12,8 @@ use std::alloc::{AllocError, Allocator};
 /// Reads the whole messages of a stream, and says what stands after them.
 pub fn read_stream<A: Allocator + Copy>(alloc: A, bytes: &[u8]) -> Result<StreamRead<A>, AllocError>
     ensures used { IfOk result (λ read. read.used ≤ length bytes.now) }
-    ensures splits { IfOk result (λ read. Splits bytes.now (map message_of read.messages.items) (drop read.used bytes.now)) }
+    ensures splits { IfOk result
+        (λ read. Splits bytes.now (map message_of read.messages.items) (drop read.used bytes.now)) }
     ensures rest { IfOk result (λ read. IsRest (drop read.used bytes.now) read.rest) }
 {
     let mut messages = Vec::new(alloc);

@@ -1,6 +1,9 @@
 -- What the types of the plain run stand for.
+use Rattle.std.specs.Prelude.{◌≡◌}
 use Rattle.std.specs.FinMap as map
-use Rattle.stow_model.specs.Store.{Store, Request, OwnEvent, Asked}
+use Rattle.stow_model.specs.Reply.{reply_of}
+use Rattle.stow_model.specs.declared.reply.Reply.{Reply}
+use Rattle.stow_model.specs.Store.{Store, Request, OwnEvent, Asked, Answer}
 use Rattle.stow_plain.specs.declared.plain_request.PlainRequest.{PlainRequest}
 use Rattle.stow_plain.specs.declared.plain_store.PlainStore.{PlainStore}
 
@@ -12,4 +15,17 @@ abbrev pub asked : {A : Type 0} → PlainRequest A → OwnEvent
 asked request = Asked (request_of request)
 
 abbrev pub store_of : {A : Type 0} → PlainStore A → Store
-store_of s = record { rows = s.rows; last = s.last; snapshots = map.empty; next = s.next; quota = s.quota; commands = s.commands; refusals = s.refusals }
+store_of s =
+    record {
+      rows = s.rows;
+      last = s.last;
+      snapshots = map.empty;
+      next = s.next;
+      quota = s.quota;
+      commands = s.commands;
+      refusals = s.refusals;
+    }
+
+-- the store and the reply are this answer
+abbrev pub Tells : {A B : Type 0} → PlainStore A → Reply B → Answer → Type 0
+Tells store reply answer = ◌≡◌ {A = Answer} (store_of store, reply_of reply) answer

@@ -12,13 +12,15 @@ version_of v = record { number = v.number; value = v.value }
 -- a version is stored as the pair of its fields
 abbrev pub version_code : Coded Version
 version_code =
-    code_by (ℕ × List ℕ) (coded× coded_ℕ (coded_list coded_ℕ)) (λ v. (v.number, v.value)) (λ p. record { number = p.0; value = p.1 }) (λ _. refl)
+    code_by (ℕ × List ℕ) (coded× coded_ℕ (coded_list coded_ℕ)) (λ v. (v.number, v.value))
+    (λ p. record { number = p.0; value = p.1 }) (λ _. refl)
 
 abbrev pub rows_code : Coded Rows
 rows_code = map.code (coded_list coded_ℕ) version_code
 
 -- entries whose keys have the bytes that `bytes` gives
-abbrev pub entries_of : {K A : Type 0} → (K → List ℕ) → List (K × PlainVersion A) → List (List ℕ × Version)
+abbrev pub entries_of : {K A : Type 0} → (K → List ℕ) → List (K × PlainVersion A)
+    → List (List ℕ × Version)
 entries_of bytes [] = []
 entries_of bytes (e ∷ es) = (bytes e.0, version_of e.1) ∷ entries_of bytes es
 

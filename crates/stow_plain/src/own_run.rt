@@ -15,8 +15,10 @@ pub fn own_run<A: Allocator + Copy>(
     quota: u64,
     requests: &[PlainRequest<A>],
 ) -> Result<PlainRun<A>, AllocError>
-    ensures store { IfOk result (λ run. store_of run.store ≡ store_after quota (reverse (map asked requests.now))) }
-    ensures replies { IfOk result (λ run. reverse (map reply_of run.replies.items) ≡ replies_after quota (reverse (map asked requests.now))) }
+    ensures store { IfOk result (λ run. store_of run.store
+        ≡ store_after quota (reverse (map asked requests.now))) }
+    ensures replies { IfOk result (λ run. reverse (map reply_of run.replies.items)
+        ≡ replies_after quota (reverse (map asked requests.now))) }
 {
     let mut store = PlainStore::new(alloc, quota);
     let mut replies = Vec::new(alloc);

@@ -83,7 +83,8 @@ impl<A: Allocator + Copy> PlainRows<A> {
 
     /// The value of each key, or `Null`.
     pub fn items(&self, alloc: A, keys: &[ByteString<A>]) -> Result<Vec<Item<A>, A>, AllocError>
-        ensures { IfOk result (λ items. list_map item_of items.items ≡ list_map (λ key. item_or_null (map.get self.now key)) keys.now) }
+        ensures { IfOk result (λ items. list_map item_of items.items
+            ≡ list_map (λ key. item_or_null (map.get self.now key)) keys.now) }
     {
         let mut items = Vec::new(alloc);
         for key in keys {
@@ -114,7 +115,8 @@ impl<A: Allocator + Copy> PlainRows<A> {
         to: &[u8],
         count: u32,
     ) -> Result<Vec<Item<A>, A>, AllocError>
-        ensures { IfOk result (λ items. list_map item_of items.items ≡ flat_map row_items (rows_within from.now to.now count self.now)) }
+        ensures { IfOk result (λ items. list_map item_of items.items
+            ≡ flat_map row_items (rows_within from.now to.now count self.now)) }
     {
         let mut items = Vec::new(alloc);
         let mut left = count;
@@ -133,7 +135,8 @@ impl<A: Allocator + Copy> PlainRows<A> {
 
     /// What the rows cost, if it is below 2^64: of each the bytes of its key and of its value, and 16.
     pub fn cost(&self) -> Option<u64>
-        ensures { SomeIff result (sum_by cost (map.entries self.now) < 2 ^ 64) (sum_by cost (map.entries self.now)) }
+        ensures { SomeIff result (sum_by cost (map.entries self.now) < 2 ^ 64)
+            (sum_by cost (map.entries self.now)) }
     {
         let mut total: u64 = 0;
         for (key, version) in self.rows.iter() {
@@ -153,7 +156,8 @@ impl<A: Allocator + Copy> PlainRows<A> {
         number: u64,
         value: &[u8],
     ) -> Result<(), AllocError>
-        ensures ok { OnOk result (self.new ≡ map.insert self.old key.now (record { number = number; value = value.now })) }
+        ensures ok { OnOk result (self.new
+            ≡ map.insert self.old key.now (record { number = number; value = value.now })) }
         ensures err { OnErr result (self.new ≡ self.old) }
     {
         let key = Vec::from_slice(alloc, key)?;

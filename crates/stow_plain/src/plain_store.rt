@@ -6,7 +6,7 @@ ghost use Rattle.stow_commands.specs.Outcomes.{IsOutcome};
 ghost use Rattle.stow_model.specs.Command as command;
 ghost use Rattle.stow_model.specs.Store as store;
 ghost use Rattle.stow_model.specs.Reply.{reply_of};
-ghost use Rattle.stow_plain.specs.OwnRun.{request_of, store_of};
+ghost use Rattle.stow_plain.specs.OwnRun.{request_of, store_of, Tells};
 
 use crate::plain_request::PlainRequest;
 use crate::plain_rows::PlainRows;
@@ -58,7 +58,8 @@ impl<A: Allocator + Copy> PlainStore<A> {
 
     /// The usage report, if what is charged is below 2^64.
     pub fn usage(&self) -> Option<Usage>
-        ensures { SomeIff result (store.charge (store_of self.now) < 2 ^ 64) (store.usage (store_of self.now)) }
+        ensures { SomeIff result (store.charge (store_of self.now) < 2 ^ 64)
+            (store.usage (store_of self.now)) }
     {
         match self.rows.cost() {
             None => None,
@@ -76,7 +77,9 @@ impl<A: Allocator + Copy> PlainStore<A> {
 
     /// Serves one request. An `Err` changes nothing.
     pub fn step(&mut self, alloc: A, request: &PlainRequest<A>) -> Result<Reply<A>, AllocError>
-        ensures ok { IfOk result (λ r. ◌≡◌ {A = store.Answer} (store_of self.new, reply_of r) (store.answer_with (store_of self.old) (request_of request.now))) }
+        ensures ok { IfOk result
+            (λ r. Tells self.new r
+            (store.answer_with (store_of self.old) (request_of request.now))) }
         ensures err { OnErr result (self.new ≡ self.old) }
     {
         if request.is_refused {
@@ -99,7 +102,9 @@ impl<A: Allocator + Copy> PlainStore<A> {
         alloc: A,
         reading: Result<Command<'_, A>, Refusal>,
     ) -> Result<Reply<A>, AllocError>
-        ensures ok { IfOk result (λ r. ◌≡◌ {A = store.Answer} (store_of self.new, reply_of r) (store.answer_to (store_of self.old) (reading_of reading.entry))) }
+        ensures ok { IfOk result
+            (λ r. Tells self.new r
+            (store.answer_to (store_of self.old) (reading_of reading.entry))) }
         ensures err { OnErr result (self.new ≡ self.old) }
     {
         match reading {
@@ -109,7 +114,8 @@ impl<A: Allocator + Copy> PlainStore<A> {
     }
 
     fn serve(&mut self, alloc: A, command: Command<'_, A>) -> Result<Reply<A>, AllocError>
-        ensures ok { IfOk result (λ r. ◌≡◌ {A = store.Answer} (store_of self.new, reply_of r) (store.served (store_of self.old) (command_of command.entry))) }
+        ensures ok { IfOk result
+            (λ r. Tells self.new r (store.served (store_of self.old) (command_of command.entry))) }
         ensures err { OnErr result (self.new ≡ self.old) }
     {
         match command {
@@ -132,7 +138,8 @@ impl<A: Allocator + Copy> PlainStore<A> {
     }
 
     fn get(&self, alloc: A, key: &[u8]) -> Result<Reply<A>, AllocError>
-        ensures { IfOk result (λ r. ◌≡◌ {A = store.Answer} (store_of self.now, reply_of r) (store.served (store_of self.now) (command.Get key.now))) }
+        ensures { IfOk result
+            (λ r. Tells self.now r (store.served (store_of self.now) (command.Get key.now))) }
     {
         match self.rows.value(key) {
             None => Ok(Reply::Null),
@@ -141,7 +148,10 @@ impl<A: Allocator + Copy> PlainStore<A> {
     }
 
     fn change(&mut self, alloc: A, key: &[u8], update: Update<'_>) -> Result<Reply<A>, AllocError>
-        ensures ok { IfOk result (λ r. ◌≡◌ {A = store.Answer} (store_of self.new, reply_of r) (store.served (store_of self.old) (command.Change key.now (update_of update.entry)))) }
+        ensures ok { IfOk result
+            (λ r. Tells self.new r
+            (store.served (store_of self.old)
+            (command.Change key.now (update_of update.entry)))) }
         ensures err { OnErr result (self.new ≡ self.old) }
     {
         let outcome = update.outcome(alloc, self.rows.value(key));
@@ -155,7 +165,8 @@ impl<A: Allocator + Copy> PlainStore<A> {
         key: &[u8],
         outcome: Result<Outcome<A>, OutcomeFault>,
     ) -> Result<Reply<A>, AllocError>
-        ensures ok { (o : store.Outcome) → IsOutcome outcome o → IfOk result (λ r. ◌≡◌ {A = store.Answer} (store_of self.new, reply_of r) (store.change_answer (store_of self.old) key.now o)) }
+        ensures ok { (o : store.Outcome) → IsOutcome outcome o
+            → IfOk result (λ r. Tells self.new r (store.change_answer (store_of self.old) key.now o)) }
         ensures err { OnErr result (self.new ≡ self.old) }
     {
         match outcome {
@@ -173,7 +184,10 @@ impl<A: Allocator + Copy> PlainStore<A> {
         value: &ByteString<A>,
         reply: Reply<A>,
     ) -> Result<Reply<A>, AllocError>
-        ensures ok { IfOk result (λ r. ◌≡◌ {A = store.Answer} (store_of self.new, reply_of r) (store.change_answer (store_of self.old) key.now (store.Written value.now (reply_of reply)))) }
+        ensures ok { IfOk result
+            (λ r. Tells self.new r
+            (store.change_answer (store_of self.old) key.now
+            (store.Written value.now (reply_of reply)))) }
         ensures err { OnErr result (self.new ≡ self.old) }
     {
         if self.last >= NUMBER_LIMIT {
@@ -186,7 +200,8 @@ impl<A: Allocator + Copy> PlainStore<A> {
     }
 
     fn del(&mut self, keys: &[ByteString<A>]) -> Result<Reply<A>, AllocError>
-        ensures ok { IfOk result (λ r. ◌≡◌ {A = store.Answer} (store_of self.new, reply_of r) (store.del_answer (store_of self.old) keys.now)) }
+        ensures ok { IfOk result
+            (λ r. Tells self.new r (store.del_answer (store_of self.old) keys.now)) }
         ensures err { OnErr result (self.new ≡ self.old) }
     {
         let rows = self.rows.without(keys)?;

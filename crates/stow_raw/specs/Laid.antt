@@ -24,4 +24,5 @@ module _ {A : Type 0} where
 
   -- c is b's block with these lists in it
   abbrev pub Becomes : Block A → Block A → List ℕ → List ℕ → Type 0
-  Becomes b c front slots = IsLaid c × (c.capacity ≡ b.capacity) × (front_of c ≡ front) × (slots_of c ≡ slots)
+  Becomes b c front slots = IsLaid c × (c.capacity ≡ b.capacity) × (front_of c ≡ front)
+      × (slots_of c ≡ slots)

@@ -18,7 +18,8 @@ pub struct Block<A: Allocator> {
 
 impl<A: Allocator> Block<A> {
     pub(crate) fn with_capacity(alloc: A, capacity: usize) -> Result<Self, AllocError>
-        ensures { IfOk result (λ b. IsLaid b × (b.capacity ≡ capacity) × (front_of b ≡ []) × (slots_of b ≡ [])) }
+        ensures { IfOk result (λ b. IsLaid b × (b.capacity ≡ capacity) × (front_of b ≡ [])
+            × (slots_of b ≡ [])) }
     {
         let mut bytes = Vec::new(alloc);
         bytes.resize(capacity, 0)?;
@@ -54,7 +55,8 @@ impl<A: Allocator> Block<A> {
     }
 
     pub(crate) fn push_front(&mut self, bytes: &[u8])
-        requires { IsLaid self.old × (self.old.front + 4 * self.old.slots + length bytes.now ≤ self.old.capacity) }
+        requires { IsLaid self.old
+            × (self.old.front + 4 * self.old.slots + length bytes.now ≤ self.old.capacity) }
         ensures { Becomes self.old self.new (front_of self.old ++ bytes.now) (slots_of self.old) }
     {
         let start = self.front;
@@ -74,7 +76,8 @@ impl<A: Allocator> Block<A> {
     /// The slots' bytes.
     pub(crate) fn slot_row(&self) -> &[u8]
         requires { IsLaid self.now }
-        ensures { (length result.now ≡ 4 * self.now.slots) × (words self.now.slots result.now ≡ slots_of self.now) }
+        ensures { (length result.now ≡ 4 * self.now.slots)
+            × (words self.now.slots result.now ≡ slots_of self.now) }
     {
         self.bytes
             .as_slice()
@@ -102,7 +105,8 @@ impl<A: Allocator> Block<A> {
 
     pub(crate) fn set_slot(&mut self, index: usize, slot: u32)
         requires { IsLaid self.old × (index < self.old.slots) }
-        ensures { Becomes self.old self.new (front_of self.old) (slice_set (slots_of self.old) index slot) }
+        ensures { Becomes self.old self.new (front_of self.old)
+            (slice_set (slots_of self.old) index slot) }
     {
         let start = self.capacity - WORD * self.slots;
         set_from(&mut self.bytes, start, index, slot);
@@ -111,7 +115,9 @@ impl<A: Allocator> Block<A> {
     /// Moves the slots at 1 to `index` one place down, over the first, and puts `slot` at `index`.
     pub(crate) fn shift_in(&mut self, index: usize, slot: u32)
         requires { IsLaid self.old × (index < self.old.slots) }
-        ensures { Becomes self.old self.new (front_of self.old) (take index (drop 1 (slots_of self.old)) ++ slot ∷ drop (index + 1) (slots_of self.old)) }
+        ensures { Becomes self.old self.new (front_of self.old)
+            (take index (drop 1 (slots_of self.old))
+            ++ slot ∷ drop (index + 1) (slots_of self.old)) }
     {
         let start = self.capacity - WORD * self.slots;
         insert_from(&mut self.bytes, start, index, slot);
@@ -120,7 +126,8 @@ impl<A: Allocator> Block<A> {
     /// Moves the slots below `from` up by `count` places, over the `count` slots from `from` on.
     pub(crate) fn close(&mut self, from: usize, count: usize)
         requires { IsLaid self.old × (from + count ≤ self.old.slots) }
-        ensures { Becomes self.old self.new (front_of self.old) (take count (slots_of self.old) ++ (take from (slots_of self.old) ++ drop (from + count) (slots_of self.old))) }
+        ensures { Becomes self.old self.new (front_of self.old) (take count (slots_of self.old)
+            ++ (take from (slots_of self.old) ++ drop (from + count) (slots_of self.old))) }
     {
         let start = self.capacity - WORD * self.slots;
         close_from(&mut self.bytes, start, from, count);
@@ -130,7 +137,8 @@ impl<A: Allocator> Block<A> {
 /// Writes `src` over the bytes from `at` on.
 fn write<A: Allocator>(bytes: &mut Vec<u8, A>, at: usize, src: &[u8])
     requires { at + length src.now ≤ length bytes.old.items }
-    ensures { bytes.new.items ≡ take at bytes.old.items ++ (src.now ++ drop (at + length src.now) bytes.old.items) }
+    ensures { bytes.new.items
+        ≡ take at bytes.old.items ++ (src.now ++ drop (at + length src.now) bytes.old.items) }
 {
     bytes[at..at + src.len()].copy_from_slice(src);
 }
@@ -138,7 +146,10 @@ fn write<A: Allocator>(bytes: &mut Vec<u8, A>, at: usize, src: &[u8])
 /// Writes `word` over the number at `index` of those that stand from `start` on.
 fn set_from<A: Allocator>(bytes: &mut Vec<u8, A>, start: usize, index: usize, word: u32)
     requires { start + (4 * index + 4) ≤ length bytes.old.items }
-    ensures { bytes.new.items ≡ take start bytes.old.items ++ (take (4 * index) (drop start bytes.old.items) ++ (to_be_bytes w32 word ++ drop (4 * index + 4) (drop start bytes.old.items))) }
+    ensures { bytes.new.items
+        ≡ take start bytes.old.items
+        ++ (take (4 * index) (drop start bytes.old.items)
+        ++ (to_be_bytes w32 word ++ drop (4 * index + 4) (drop start bytes.old.items))) }
 {
     set_word(&mut bytes[start..], index, word);
 }
@@ -146,7 +157,10 @@ fn set_from<A: Allocator>(bytes: &mut Vec<u8, A>, start: usize, index: usize, wo
 /// Moves the numbers at 1 to `index` of those from `start` on one place down, and writes `word` at `index`.
 fn insert_from<A: Allocator>(bytes: &mut Vec<u8, A>, start: usize, index: usize, word: u32)
     requires { start + (4 * index + 4) ≤ length bytes.old.items }
-    ensures { bytes.new.items ≡ take start bytes.old.items ++ (take (4 * index) (drop 4 (drop start bytes.old.items)) ++ (to_be_bytes w32 word ++ drop (4 * index + 4) (drop start bytes.old.items))) }
+    ensures { bytes.new.items
+        ≡ take start bytes.old.items
+        ++ (take (4 * index) (drop 4 (drop start bytes.old.items))
+        ++ (to_be_bytes w32 word ++ drop (4 * index + 4) (drop start bytes.old.items))) }
 {
     insert_word(&mut bytes[start..], index, word);
 }
@@ -154,7 +168,11 @@ fn insert_from<A: Allocator>(bytes: &mut Vec<u8, A>, start: usize, index: usize,
 /// Moves the numbers below `from`, of those from `start` on, up by `count` places.
 fn close_from<A: Allocator>(bytes: &mut Vec<u8, A>, start: usize, from: usize, count: usize)
     requires { start + 4 * (from + count) ≤ length bytes.old.items }
-    ensures { bytes.new.items ≡ take start bytes.old.items ++ (take (4 * count) (drop start bytes.old.items) ++ (take (4 * from) (drop start bytes.old.items) ++ drop (4 * (from + count)) (drop start bytes.old.items))) }
+    ensures { bytes.new.items
+        ≡ take start bytes.old.items
+        ++ (take (4 * count) (drop start bytes.old.items)
+        ++ (take (4 * from) (drop start bytes.old.items)
+        ++ drop (4 * (from + count)) (drop start bytes.old.items))) }
 {
     close_words(&mut bytes[start..], from, count);
 }

@@ -70,7 +70,8 @@ impl<A: Allocator> RawBuf<A> {
     /// Appends to the bytes at the front.
     pub fn push_front(&mut self, bytes: &[u8])
         requires { RawFits self.old (length bytes.now) }
-        ensures { self.new ≡ raw_lists (self.old.front ++ bytes.now) self.old.slots self.old.capacity }
+        ensures { self.new
+            ≡ raw_lists (self.old.front ++ bytes.now) self.old.slots self.old.capacity }
     {
         self.block.push_front(bytes);
     }
@@ -94,7 +95,8 @@ impl<A: Allocator> RawBuf<A> {
     /// Writes over the slot at `index`.
     pub fn set_slot(&mut self, index: usize, slot: u32)
         requires { index < length self.old.slots }
-        ensures { self.new ≡ raw_lists self.old.front (slice_set self.old.slots index slot) self.old.capacity }
+        ensures { self.new
+            ≡ raw_lists self.old.front (slice_set self.old.slots index slot) self.old.capacity }
     {
         self.block.set_slot(index, slot);
     }
@@ -102,7 +104,8 @@ impl<A: Allocator> RawBuf<A> {
     /// Puts a slot at `index`, by one move of the slots before it.
     pub fn insert_slot(&mut self, index: usize, slot: u32)
         requires { (index ≤ length self.old.slots) × RawFits self.old 4 }
-        ensures { self.new ≡ raw_lists self.old.front (insert self.old.slots index slot) self.old.capacity }
+        ensures { self.new
+            ≡ raw_lists self.old.front (insert self.old.slots index slot) self.old.capacity }
     {
         self.block.add_slot();
         self.block.shift_in(index, slot);
@@ -111,7 +114,8 @@ impl<A: Allocator> RawBuf<A> {
     /// Puts `count` slots of value 0 before the others, for `set_slot`. No slot is moved.
     pub fn add_slots(&mut self, count: usize)
         requires { RawFits self.old (4 * count) }
-        ensures { self.new ≡ raw_lists self.old.front (replicate count 0 ++ self.old.slots) self.old.capacity }
+        ensures { self.new
+            ≡ raw_lists self.old.front (replicate count 0 ++ self.old.slots) self.old.capacity }
     {
         for _ in 0..count {
             self.block.add_slot();
@@ -121,7 +125,8 @@ impl<A: Allocator> RawBuf<A> {
     /// Takes the slot at `index` out, by one move of the slots before it.
     pub fn remove_slot(&mut self, index: usize)
         requires { index < length self.old.slots }
-        ensures { self.new ≡ raw_lists self.old.front (remove self.old.slots index) self.old.capacity }
+        ensures { self.new
+            ≡ raw_lists self.old.front (remove self.old.slots index) self.old.capacity }
     {
         self.remove_slots(index, 1);
     }
@@ -129,7 +134,8 @@ impl<A: Allocator> RawBuf<A> {
     /// Takes the `count` slots from `from` on out, by one move of the slots before them.
     pub fn remove_slots(&mut self, from: usize, count: usize)
         requires { from + count ≤ length self.old.slots }
-        ensures { self.new ≡ raw_lists self.old.front (remove_range self.old.slots from (from + count)) self.old.capacity }
+        ensures { self.new
+            ≡ raw_lists self.old.front (remove_range self.old.slots from (from + count)) self.old.capacity }
     {
         self.block.close(from, count);
         self.block.drop_slots(count);

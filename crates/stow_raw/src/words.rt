@@ -18,7 +18,8 @@ pub(crate) fn word_at(bytes: &[u8], index: usize) -> u32
 pub(crate) fn set_word(bytes: &mut [u8], index: usize, word: u32)
     requires { 4 * index + 4 ≤ length bytes.old }
     ensures len { length bytes.new ≡ length bytes.old }
-    ensures after { bytes.new ≡ take (4 * index) bytes.old ++ (to_be_bytes w32 word ++ drop (4 * index + 4) bytes.old) }
+    ensures after { bytes.new
+        ≡ take (4 * index) bytes.old ++ (to_be_bytes w32 word ++ drop (4 * index + 4) bytes.old) }
 {
     let at = WORD * index;
     bytes[at..at + WORD].copy_from_slice(&word.to_be_bytes());
@@ -28,7 +29,9 @@ pub(crate) fn set_word(bytes: &mut [u8], index: usize, word: u32)
 pub(crate) fn insert_word(bytes: &mut [u8], index: usize, word: u32)
     requires { 4 * index + 4 ≤ length bytes.old }
     ensures len { length bytes.new ≡ length bytes.old }
-    ensures after { bytes.new ≡ take (4 * index) (drop 4 bytes.old) ++ (to_be_bytes w32 word ++ drop (4 * index + 4) bytes.old) }
+    ensures after { bytes.new
+        ≡ take (4 * index) (drop 4 bytes.old)
+        ++ (to_be_bytes w32 word ++ drop (4 * index + 4) bytes.old) }
 {
     let at = WORD * index;
     bytes.copy_within(WORD..at + WORD, 0);
@@ -39,7 +42,9 @@ pub(crate) fn insert_word(bytes: &mut [u8], index: usize, word: u32)
 pub(crate) fn close_words(bytes: &mut [u8], from: usize, count: usize)
     requires { 4 * (from + count) ≤ length bytes.old }
     ensures len { length bytes.new ≡ length bytes.old }
-    ensures after { bytes.new ≡ take (4 * count) bytes.old ++ (take (4 * from) bytes.old ++ drop (4 * (from + count)) bytes.old) }
+    ensures after { bytes.new
+        ≡ take (4 * count) bytes.old
+        ++ (take (4 * from) bytes.old ++ drop (4 * (from + count)) bytes.old) }
 {
     bytes.copy_within(0..WORD * from, WORD * count);
 }

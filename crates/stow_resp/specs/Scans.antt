@@ -16,8 +16,10 @@ use Rattle.stow_resp.specs.declared.progress.Scan.TheVariants as scan
 
 -- the first line of an array, and what comes after it
 abbrev pub IsLineAt : List ℕ → LineAt → Type 0
-IsLineAt bytes (line.Array count rest) = (0 < count) × (count ≤ words_limit) × (bytes ≡ array_line count ++ rest.now)
-IsLineAt bytes (line.Blank rest) = (spelling : List ℕ) × Spells Blank spelling × (bytes ≡ spelling ++ rest.now)
+IsLineAt bytes (line.Array count rest) = (0 < count) × (count ≤ words_limit)
+    × (bytes ≡ array_line count ++ rest.now)
+IsLineAt bytes (line.Blank rest) = (spelling : List ℕ) × Spells Blank spelling
+    × (bytes ≡ spelling ++ rest.now)
 IsLineAt bytes line.Inline = (0 < length bytes) × (begins_array bytes ≡ false)
 IsLineAt bytes line.More = IsBegun bytes
 IsLineAt bytes line.Stuck = IsFaulty bytes InvalidArrayLength

@@ -60,7 +60,8 @@ fn write_protocol_error<B: Allocator>(
     fault: StreamFault,
     out: &mut Vec<u8, B>,
 ) -> Result<(), AllocError>
-    ensures ok { OnOk result (out.new.items ≡ out.old.items ++ line 45 (codes "ERR Protocol error: " ++ fault_text fault)) }
+    ensures ok { OnOk result (out.new.items
+        ≡ out.old.items ++ line 45 (codes "ERR Protocol error: " ++ fault_text fault)) }
     ensures keeps { Keeps out.old.items out.new.items }
 {
     out.extend_from_slice(b"-ERR Protocol error: ")?;
@@ -73,7 +74,8 @@ fn write_array<A: Allocator, B: Allocator>(
     items: &[Item<A>],
     out: &mut Vec<u8, B>,
 ) -> Result<(), AllocError>
-    ensures ok { OnOk result (out.new.items ≡ out.old.items ++ encoding (Array (map item_of items.now))) }
+    ensures ok { OnOk result (out.new.items
+        ≡ out.old.items ++ encoding (Array (map item_of items.now))) }
     ensures keeps { Keeps out.old.items out.new.items }
 {
     write_line(b'*', Buffer::new().format(items.len()).as_bytes(), out)?;

@@ -28,7 +28,8 @@ pub enum Next<A: Allocator = Global> {
 impl<A: Allocator> Next<A> {
     /// What comes next where the message was taken off.
     pub fn of_message(message: Message<A>) -> Next<A>
-        ensures { (old new : List ℕ) → IsTaken (message_of message) old new → IsNext result old new }
+        ensures { (old new : List ℕ) → IsTaken (message_of message) old new
+            → IsNext result old new }
     {
         match message {
             Message::Words(words) => Next::Message(words),

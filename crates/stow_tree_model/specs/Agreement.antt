@@ -22,7 +22,8 @@ pub record AgreeAt (f g : Operations) (pins : List ℕ) (bound : ℕ) : Type 0 w
 
 -- two sets mean the same to each tenant under its pins and from its bound on
 abbrev pub Agree : Messages → Messages → TenantPins → TenantBounds → Type 0
-Agree m n pins bound = (key : List ℕ) → AgreeAt (ops_of m key) (ops_of n key) (pins (tenant_of key)) (bound (tenant_of key))
+Agree m n pins bound = (key : List ℕ)
+    → AgreeAt (ops_of m key) (ops_of n key) (pins (tenant_of key)) (bound (tenant_of key))
 
 -- the bounds with one changed
 abbrev pub with_bound : TenantBounds → ℕ → ℕ → TenantBounds
@@ -42,7 +43,9 @@ PinsAmong fewer pins = (t p : ℕ) → Contains (fewer t) p → Contains (pins t
 
 -- the messages that stay are newer than those of the leaf, key by key
 abbrev pub IsNewer : Messages → Messages → TenantBounds → Type 0
-IsNewer newer leaf bound = (key : List ℕ) → (top : ℕ) × (top ≤ bound (tenant_of key)) × NoneAbove top (ops_of leaf key) × NoneUpTo top (ops_of newer key) × NoneAbove (bound (tenant_of key)) (ops_of newer key)
+IsNewer newer leaf bound = (key : List ℕ)
+    → (top : ℕ) × (top ≤ bound (tenant_of key)) × NoneAbove top (ops_of leaf key)
+    × NoneUpTo top (ops_of newer key) × NoneAbove (bound (tenant_of key)) (ops_of newer key)
 
 -- the set of both, where the first wins
 abbrev pub IsOver : Messages → Messages → Messages → Type 0
@@ -52,20 +55,27 @@ IsOver m newer older = (key : List ℕ) → ops_of m key ≡ over (ops_of newer 
 
 -- agreement chains
 abbrev pub AgreementChains : Type 0
-AgreementChains = (l m n : Messages) (pins : TenantPins) (bound : TenantBounds) → Agree l m pins bound → Agree m n pins bound → Agree l n pins bound
+AgreementChains = (l m n : Messages) (pins : TenantPins) (bound : TenantBounds)
+    → Agree l m pins bound → Agree m n pins bound → Agree l n pins bound
 
 -- agreement stays after the same call's messages, with the number after the bound
 abbrev pub CallAgrees : Type 0
-CallAgrees = (m n : Messages) (pins : TenantPins) (bound : TenantBounds) (tenant : ℕ) (ms : List TreeMessage) → IsCall tenant (suc (bound tenant)) ms → PinsBelow pins bound → Agree m n pins bound → Agree (with_all m ms) (with_all n ms) pins (with_bound bound tenant (suc (bound tenant)))
+CallAgrees =
+    (m n : Messages) (pins : TenantPins) (bound : TenantBounds) (tenant : ℕ) (ms : List TreeMessage)
+    → IsCall tenant (suc (bound tenant)) ms → PinsBelow pins bound → Agree m n pins bound
+    → Agree (with_all m ms) (with_all n ms) pins (with_bound bound tenant (suc (bound tenant)))
 
 -- agreement stays with a new pin at the bound
 abbrev pub PinAgrees : Type 0
-PinAgrees = (m n : Messages) (pins : TenantPins) (bound : TenantBounds) (tenant : ℕ) → Agree m n pins bound → Agree m n (with_pins pins tenant (bound tenant ∷ pins tenant)) bound
+PinAgrees = (m n : Messages) (pins : TenantPins) (bound : TenantBounds) (tenant : ℕ)
+    → Agree m n pins bound → Agree m n (with_pins pins tenant (bound tenant ∷ pins tenant)) bound
 
 -- agreement stays with fewer pins
 abbrev pub FewerPinsAgree : Type 0
-FewerPinsAgree = (m n : Messages) (pins fewer : TenantPins) (bound : TenantBounds) → PinsAmong fewer pins → Agree m n pins bound → Agree m n fewer bound
+FewerPinsAgree = (m n : Messages) (pins fewer : TenantPins) (bound : TenantBounds)
+    → PinsAmong fewer pins → Agree m n pins bound → Agree m n fewer bound
 
 -- agreement stays where bounds are higher
 abbrev pub HigherBoundsAgree : Type 0
-HigherBoundsAgree = (m n : Messages) (pins : TenantPins) (bound higher : TenantBounds) → ((t : ℕ) → bound t ≤ higher t) → Agree m n pins bound → Agree m n pins higher
+HigherBoundsAgree = (m n : Messages) (pins : TenantPins) (bound higher : TenantBounds)
+    → ((t : ℕ) → bound t ≤ higher t) → Agree m n pins bound → Agree m n pins higher

@@ -20,7 +20,9 @@ message n op = record { key = a_key; number = n; op = op }
 
 -- the key gets x, then y after it, is taken away, and gets z after nothing
 abbrev pub four_messages : List TreeMessage
-four_messages = message 1 (Put (codes "x")) ∷ message 2 (Append (codes "y")) ∷ message 3 Gone ∷ message 4 (Append (codes "z")) ∷ []
+four_messages =
+    message 1 (Put (codes "x")) ∷ message 2 (Append (codes "y")) ∷ message 3 Gone
+    ∷ message 4 (Append (codes "z")) ∷ []
 
 -- keys and places
 pub record OfKeys : Type 0 where
@@ -42,10 +44,12 @@ pub record OfKeys : Type 0 where
 pub record OfValues : Type 0 where
   pub before : value (set_of four_messages) a_key 0 ≡ None
   pub put : value (set_of four_messages) a_key 1 ≡ Some (record { number = 1; value = codes "x" })
-  pub appended : value (set_of four_messages) a_key 2 ≡ Some (record { number = 2; value = codes "xy" })
+  pub appended : value (set_of four_messages) a_key 2
+      ≡ Some (record { number = 2; value = codes "xy" })
   pub gone : value (set_of four_messages) a_key 3 ≡ None
   -- not `xyz`
-  pub over_gone : value (set_of four_messages) a_key 4 ≡ Some (record { number = 4; value = codes "z" })
+  pub over_gone : value (set_of four_messages) a_key 4
+      ≡ Some (record { number = 4; value = codes "z" })
   pub later : value (set_of four_messages) a_key 9 ≡ Some (record { number = 4; value = codes "z" })
   pub other : value (set_of four_messages) (packed 2 (codes "a")) 9 ≡ None
   pub ordered : in_order (set_of four_messages) ≡ four_messages
@@ -115,11 +119,15 @@ three_writes = set_of all_three
 -- what stays
 pub record OfMerges : Type 0 where
   pub nothing : merged one_row two_more no_pins ≡ []
-  pub above_kept : merged one_row two_more (pins_at 1 (2 ∷ [])) ≡ version 2 (codes "xy") ∷ removal 3 ∷ []
-  pub between : merged one_row (message 3 (Append (codes "y")) ∷ []) (pins_at 1 (2 ∷ [])) ≡ version 1 (codes "x") ∷ version 3 (codes "xy") ∷ []
-  pub newest : merged one_row (message 2 (Append (codes "y")) ∷ []) no_pins ≡ version 2 (codes "xy") ∷ []
+  pub above_kept : merged one_row two_more (pins_at 1 (2 ∷ []))
+      ≡ version 2 (codes "xy") ∷ removal 3 ∷ []
+  pub between : merged one_row (message 3 (Append (codes "y")) ∷ []) (pins_at 1 (2 ∷ []))
+      ≡ version 1 (codes "x") ∷ version 3 (codes "xy") ∷ []
+  pub newest : merged one_row (message 2 (Append (codes "y")) ∷ []) no_pins
+      ≡ version 2 (codes "xy") ∷ []
   pub other_tenant : merged one_row two_more (pins_at 2 (2 ∷ [])) ≡ []
-  pub oldest_removal : merged [] (message 1 Gone ∷ message 2 Gone ∷ []) (pins_at 1 (1 ∷ [])) ≡ removal 2 ∷ []
+  pub oldest_removal : merged [] (message 1 Gone ∷ message 2 Gone ∷ []) (pins_at 1 (1 ∷ []))
+      ≡ removal 2 ∷ []
   pub greatest : IsGreatestUpTo three_writes a_key 1 1
   pub not_greatest : IsGreatestUpTo three_writes a_key 1 2 → ⊥
   pub kept : IsKept (pins_at 1 (2 ∷ [])) three_writes a_key 2

@@ -33,7 +33,8 @@ set_of = with_all finite.empty
 -- the operation on a key at each number, in a list of messages
 abbrev pub ops_in : List TreeMessage → List ℕ → Operations
 ops_in [] key number = None
-ops_in (m ∷ more) key number = if eq_by_cmp place_cmp (key, number) (place_of m) then Some m.op else ops_in more key number
+ops_in (m ∷ more) key number =
+    if eq_by_cmp place_cmp (key, number) (place_of m) then Some m.op else ops_in more key number
 
 abbrev pub message_at : Place × Op → TreeMessage
 message_at e = record { key = e.0.0; number = e.0.1; op = e.1 }
@@ -50,12 +51,15 @@ IsCall tenant number ms = AllByRecursion (λ m. (tenant_of m.key ≡ tenant) × 
 
 -- a set is told by its look-ups
 abbrev pub SetByOps : Type 0
-SetByOps = (m n : Messages) → ((key : List ℕ) (number : ℕ) → ops_of m key number ≡ ops_of n key number) → m ≡ n
+SetByOps = (m n : Messages)
+    → ((key : List ℕ) (number : ℕ) → ops_of m key number ≡ ops_of n key number) → m ≡ n
 
 -- a list that rises and has the operations of a set is its messages in order
 abbrev pub InOrderOnce : Type 0
-InOrderOnce = (ms : List TreeMessage) (messages : Messages) → MessagesRise ms → ((key : List ℕ) (n : ℕ) → ops_in ms key n ≡ ops_of messages key n) → ms ≡ in_order messages
+InOrderOnce = (ms : List TreeMessage) (messages : Messages) → MessagesRise ms
+    → ((key : List ℕ) (n : ℕ) → ops_in ms key n ≡ ops_of messages key n) → ms ≡ in_order messages
 
 -- a call's messages leave what the keys of others have
 abbrev pub OthersStay : Type 0
-OthersStay = (m : Messages) (tenant number : ℕ) (ms : List TreeMessage) (key : List ℕ) → IsCall tenant number ms → tenant_of key ≢ tenant → ops_of (with_all m ms) key ≡ ops_of m key
+OthersStay = (m : Messages) (tenant number : ℕ) (ms : List TreeMessage) (key : List ℕ)
+    → IsCall tenant number ms → tenant_of key ≢ tenant → ops_of (with_all m ms) key ≡ ops_of m key

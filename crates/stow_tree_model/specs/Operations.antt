@@ -59,4 +59,5 @@ NoneUpTo bound ops = (n : ℕ) → n ≤ bound → ops n ≡ None
 
 -- what a key has at a number depends on its own operations up to the number
 abbrev pub OwnOperationsOnly : Type 0
-OwnOperationsOnly = (f g : Operations) (n : ℕ) → ((k : ℕ) → k ≤ n → f k ≡ g k) → latest f n ≡ latest g n
+OwnOperationsOnly = (f g : Operations) (n : ℕ) → ((k : ℕ) → k ≤ n → f k ≡ g k)
+    → latest f n ≡ latest g n

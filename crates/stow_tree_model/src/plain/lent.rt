@@ -17,7 +17,8 @@ use stow_bytes::limits::{NUMBER_LIMIT, TENANT_LIMIT, VALUE_LIMIT};
 pub fn message<'a>(key: TenantKey<'a>, number: u64, op: Op<'a>) -> Option<Message<'a>>
     ensures made { IfSome result (λ m. message_of m
         ≡ record { key = key.entry.bytes.now; number = number; op = op_of op.entry }) }
-    ensures refused { IfNone result (IsOfTenant key.entry.bytes.now → 1 ≤ number → number ≤ number_limit
+    ensures refused { IfNone result (IsOfTenant key.entry.bytes.now → 1 ≤ number
+        → number ≤ number_limit
         → length (bytes_in (op_of op.entry)) ≤ value_limit → ⊥) }
 {
     if is_in_range(key, number) && carried(op) <= VALUE_LIMIT {
@@ -31,7 +32,8 @@ pub fn message<'a>(key: TenantKey<'a>, number: u64, op: Op<'a>) -> Option<Messag
 pub fn version<'a>(key: TenantKey<'a>, number: u64, value: Option<&'a [u8]>) -> Option<Version<'a>>
     ensures made { IfSome result (λ v. version_of v
         ≡ record { key = key.entry.bytes.now; number = number; value = bytes_at value.entry }) }
-    ensures refused { IfNone result (IsOfTenant key.entry.bytes.now → 1 ≤ number → number ≤ number_limit
+    ensures refused { IfNone result (IsOfTenant key.entry.bytes.now → 1 ≤ number
+        → number ≤ number_limit
         → IsValue (bytes_at value.entry) → ⊥) }
 {
     let is_short = match value {
@@ -46,7 +48,8 @@ pub fn version<'a>(key: TenantKey<'a>, number: u64, value: Option<&'a [u8]>) -> 
 }
 
 fn is_in_range(key: TenantKey<'_>, number: u64) -> bool
-    ensures { IsTrue result ↔ (IsOfTenant key.entry.bytes.now × (1 ≤ number) × (number ≤ number_limit)) }
+    ensures { IsTrue result ↔ (IsOfTenant key.entry.bytes.now × (1 ≤ number)
+        × (number ≤ number_limit)) }
 {
     let tenant = key.tenant();
     1 <= tenant && tenant <= TENANT_LIMIT && 1 <= number && number <= NUMBER_LIMIT

@@ -120,7 +120,8 @@ fn begins(done: &[Message<'_>], key: TenantKey<'_>) -> bool
 
 /// Whether a message is the newest of its key, or a pin shows it.
 fn keeps(pins: &[Pin], newer: Option<Message<'_>>, message: Message<'_>) -> bool
-    ensures { result ≡ is_kept (pins_of pins.now) (option_map message_of newer.entry) (message_of message.entry) }
+    ensures { result
+        ≡ is_kept (pins_of pins.now) (option_map message_of newer.entry) (message_of message.entry) }
 {
     match newer {
         None => true,
@@ -139,7 +140,8 @@ fn pin_within(pins: &[Pin], tenant: u32, from: u64, to: u64) -> bool
 }
 
 fn any_within(pins: &[Pin], tenant: u32, from: u64, to: u64) -> bool
-    ensures { result ≡ list_any (λ p. (p.tenant == tenant) && (nat_le from p.number && nat_lt p.number to)) pins.now }
+    ensures { result
+        ≡ list_any (λ p. (p.tenant == tenant) && (nat_le from p.number && nat_lt p.number to)) pins.now }
 {
     pins.iter().any(|p| p.tenant == tenant && (from <= p.number && p.number < to))
 }

@@ -83,7 +83,8 @@ pub fn row_messages<'a, A: Allocator + Copy>(
     alloc: A,
     rows: &[Version<'a>],
 ) -> Result<Vec<Message<'a>, A>, AllocError>
-    ensures { IfOk result (λ ms. map message_of ms.items ≡ map row_message (map version_of rows.now)) }
+    ensures { IfOk result (λ ms. map message_of ms.items
+        ≡ map row_message (map version_of rows.now)) }
 {
     let mut messages = Vec::new(alloc);
     for row in rows {
