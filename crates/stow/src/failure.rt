@@ -56,16 +56,6 @@ impl<'a> Failure<'a> {
         }
     }
 
-    /// Standard input failed.
-    pub fn input(error: io::Error) -> Failure<'a> {
-        Failure::at(Place::Input, error)
-    }
-
-    /// Standard output failed.
-    pub fn output(error: io::Error) -> Failure<'a> {
-        Failure::at(Place::Output, error)
-    }
-
     /// The status that the program ends with.
     pub fn status(&self) -> u8 {
         match self {
@@ -111,6 +101,14 @@ impl<'a> Failure<'a> {
 }
 
 impl<'a> Place<'a> {
+    /// What was read or written there, or the failure that it ended with.
+    pub fn check<T: Drop>(self, outcome: io::Result<T>) -> Result<T, Failure<'a>> {
+        match outcome {
+            Ok(value) => Ok(value),
+            Err(error) => Err(Failure::at(self, error)),
+        }
+    }
+
     fn name(self) -> &'a str {
         match self {
             Place::File(path) => path,

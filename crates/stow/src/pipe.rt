@@ -1,7 +1,7 @@
 //! One connection over a reader and a writer.
 ghost use Rattle.std.specs.Prelude.{◌≤◌, IfOk, length};
 
-use crate::failure::Failure;
+use crate::failure::{Failure, Place};
 use std::alloc::Allocator;
 use std::io;
 use std::io::{ErrorKind, Read, Write};
@@ -48,9 +48,7 @@ pub fn pipe<'a, A: Allocator + Copy, R: Read, W: Write>(
         }
         feed(alloc, house, &piece[..count])?;
         let served = serve(alloc, house, &mut replies);
-        output
-            .write_all(replies.as_slice())
-            .map_err(Failure::output)?;
+        Place::Output.check(output.write_all(replies.as_slice()))?;
         replies.clear();
         match served {
             Served::Waiting => {}
@@ -58,7 +56,7 @@ pub fn pipe<'a, A: Allocator + Copy, R: Read, W: Write>(
             Served::NoMemory => return Err(Failure::Memory),
         }
     }
-    output.flush().map_err(Failure::output)?;
+    Place::Output.check(output.flush())?;
     Ok(())
 }
 
@@ -70,10 +68,10 @@ fn read_some<'a, R: Read>(input: &mut R, piece: &mut [u8]) -> Result<usize, Fail
         match input.read(piece) {
             Ok(count) => return Ok(count),
             Err(error) if error.kind() == ErrorKind::Interrupted => {}
-            Err(error) => return Err(Failure::input(error)),
+            Err(error) => return Err(Failure::at(Place::Input, error)),
         }
     }
-    Err(Failure::input(io::Error::from(ErrorKind::Interrupted)))
+    Err(Failure::at(Place::Input, io::Error::from(ErrorKind::Interrupted)))
 }
 
 fn feed<'a, A: Allocator + Copy>(

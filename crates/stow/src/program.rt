@@ -53,10 +53,7 @@ fn read_tenants<'a, D: Folder>(
     folder: &D,
     path: &'a str,
 ) -> Result<Tenants<Global>, Failure<'a>> {
-    let bytes = read_file(alloc, folder, path).map_err(|error| Failure::at(
-        Place::File(path),
-        error,
-    ))?;
+    let bytes = Place::File(path).check(read_file(alloc, folder, path))?;
     let Ok(text) = std::str::from_utf8(bytes.as_slice()) else {
         let reason = String::from_str(alloc, "the file is no UTF-8 text")?;
         return Err(Failure::tenants(TenantsFault::NotToml, Some(reason)));

@@ -2,7 +2,7 @@
 ghost use Rattle.stow_model.specs.Event.{event_of};
 ghost use Rattle.stow_house.specs.StepResult.{step_result_of, CanAnswer};
 
-use crate::failure::Failure;
+use crate::failure::{Failure, Place};
 use crate::line::{read_line, write_result};
 use crate::stumble::Stumble;
 use crate::text::TextFault;
@@ -24,7 +24,7 @@ pub fn script<'a, A: Allocator + Copy, R: Read, W: Write>(
     output: &mut W,
 ) -> Result<(), Failure<'a>> {
     let mut text = Vec::new(alloc);
-    input.read_to_end(&mut text).map_err(Failure::input)?;
+    Place::Input.check(input.read_to_end(&mut text))?;
     let events = read_script(alloc, text.as_slice())?;
     let mut answers = Vec::new(alloc);
     let mut told = Ok(());
@@ -35,16 +35,12 @@ pub fn script<'a, A: Allocator + Copy, R: Read, W: Write>(
             break;
         }
         if answers.len() >= ANSWERS {
-            output
-                .write_all(answers.as_slice())
-                .map_err(Failure::output)?;
+            Place::Output.check(output.write_all(answers.as_slice()))?;
             answers.clear();
         }
     }
-    output
-        .write_all(answers.as_slice())
-        .map_err(Failure::output)?;
-    output.flush().map_err(Failure::output)?;
+    Place::Output.check(output.write_all(answers.as_slice()))?;
+    Place::Output.check(output.flush())?;
     Ok(told?)
 }
 
