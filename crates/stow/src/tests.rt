@@ -10,6 +10,9 @@ use std::test::Fail;
 use stow_login::tenants_fault::TenantsFault;
 use stow_testing::tenants::THREE;
 
+mod fields;
+mod limits;
+mod streams;
 mod worked;
 
 const LOGIN: &[u8] = b"*3\r\n$4\r\nAUTH\r\n$3\r\nann\r\n$2\r\nbc\r\n";
