@@ -28,6 +28,9 @@ impl<A: Allocator + Copy> Model for LeafCache<A> {
 }
 
 impl<A: Allocator + Copy> LeafCache<A> {
+    ghost use Rattle.std.specs.Borrow.{sem};
+    ghost use Rattle.stow_leaf_cache.specs.Lent.{ends_used};
+
     /// A cache of at most this many leaves, which holds none.
     pub fn new(alloc: A, limit: usize) -> Result<LeafCache<A>, AllocError>
         ensures { IfOk result (λ c. c ≡ record { leaves = []; limit = limit }) }
@@ -53,13 +56,16 @@ impl<A: Allocator + Copy> LeafCache<A> {
         self.leaves.peek(low_fence)
     }
 
-    /// Brings the leaf under a low fence to the front, and tells whether there is one.
-    pub fn promote(&mut self, low_fence: &[u8]) -> bool
-        ensures there { result ≡ is_some (rows_under low_fence.now self.old.leaves) }
-        ensures leaves { self.new.leaves ≡ leaves_used low_fence.now self.old.leaves }
-        ensures limit { self.new.limit ≡ self.old.limit }
+    /// Brings the leaf under a low fence to the front, and lends its rows.
+    pub fn find(&mut self, low_fence: &[u8]) -> Option<&Rows<A>>
+        ensures* after { sem 𝓛 (ends_used A.row A.Allocator self.entry low_fence.now) }
+        ensures rows { option_map (λ r. r.now) result ≡ rows_under low_fence.now self.old.leaves }
     {
-        self.leaves.promote(low_fence)
+        if !self.leaves.promote(low_fence) {
+            return None;
+        }
+        let (_, rows) = self.leaves.peek_mru()?;
+        Some(rows)
     }
 
     /// Holds the rows under the low fence, in front of all. Where memory is refused nothing is held under it.

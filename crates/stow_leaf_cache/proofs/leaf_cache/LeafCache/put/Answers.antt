@@ -1,4 +1,4 @@
-use Rattle.std.proofs.Common.{◌≡◌, ◌≤◌, sym, ◌∙◌, ap, subst, inl, inr}
+use Rattle.std.proofs.Common.{◌≤◌, sym, ◌∙◌, ap, subst, inl, inr}
 use Rattle.std.proofs.lemmas.Bool.{true≢false}
 use Rattle.stow_leaf_cache.specs.Cache.{IsOffered, leaves_of, leaves_kept}
 use Rattle.stow_leaf_cache.proofs.Held.{kept-put, nothing-under, limited}
