@@ -12,7 +12,7 @@ use Rattle.std.proofs.lemmas.List.{take_all, take-map, length-map}
 use Rattle.std.specs.Str.{bytes_eq}
 use Rattle.std.specs.declared.vec.Vec.{Vec}
 use Rattle.stow_tree_model.specs.Version.{Version}
-use Rattle.stow_leaf_cache.specs.Cache.{Cache, Leaf, leaf_of, leaves_of, rows_under, leaves_without, leaves_used, leaves_kept, IsLimited}
+use Rattle.stow_leaf_cache.specs.Cache.{Cache, cache_used, Leaf, leaf_of, leaves_of, rows_under, leaves_without, leaves_used, leaves_kept, IsLimited}
 
 pub rows_under-map : {A : Type 0} (fence : List ℕ) (held : List (Vec ℕ A × List Version)) → rows_under fence (map leaf_of held) ≡ lookup (λ k. bytes_eq fence k.items) held
 rows_under-map fence [] = refl
@@ -93,8 +93,8 @@ module _ {A : Type 0} (fence : List ℕ) (held : LruCache (Vec ℕ A) (List Vers
   none-rows_under found f out = none_of (lookup (is_fence fence) held.entries) (sym f ∙ out) ∙ lookup-rows_under
 
   module _ (now : LruCache (Vec ℕ A) (List Version)) (h : now ≡ lru_cache (promoted (is_fence fence) held.entries) held.cap) where
-    pub cache_used : cache_of (leaves_of now) limit ≡ cache_of (leaves_used fence cache.leaves) cache.limit
-    cache_used =
+    pub used-cache : cache_of (leaves_of now) limit ≡ cache_used fence cache
+    used-cache =
         let leaves = ap leaves_of h ∙ leaves_used-map fence held.entries ∙ ap (λ c. leaves_used fence c.leaves) e in
         λ i. cache_of (leaves i) (e i).limit
 
