@@ -1,12 +1,11 @@
 -- A version put behind those of a block.
-use Rattle.std.proofs.Common.{◌≡◌, ℕ, zero, suc, ◌+◌, ◌<◌, ◌≤◌, ◌^◌, List, [], ◌∷◌, ◌++◌, length, take, drop, refl, sym, ◌∙◌, ap, subst, arith, length-append, append_assoc, add_assoc, lit<, lit≤}
-use Rattle.std.proofs.lemmas.List.{append-nil, length-map}
-use Rattle.std.specs.List.{flat_map, AllByRecursion}
-use Rattle.std.specs.Int.{to_be_bytes, w16, w32, w64}
+use Rattle.std.proofs.Common.{◌≡◌, ℕ, suc, ◌+◌, ◌<◌, ◌≤◌, ◌^◌, List, [], ◌∷◌, ◌++◌, length, refl, sym, ◌∙◌, ap, subst, arith, length-append, append_assoc, add_assoc, lit≤}
+use Rattle.std.proofs.lemmas.List.{append-nil}
+use Rattle.std.specs.Int.{to_be_bytes, w16, w64}
 use Rattle.stow_tree_model.specs.Version.{Version}
 use Rattle.stow_tree_model.specs.Order.{VersionsRise}
 use Rattle.stow_page.specs.Format.{entry, place_bytes, entries, header, packed_page, places_from, places_of, tail, IsVersion, AreVersions}
-use Rattle.stow_page.specs.Rows.{version_in, rows_in, ArePacked, HasRoomFor, counted}
+use Rattle.stow_page.specs.Rows.{rows_in, ArePacked, HasRoomFor, counted}
 use Rattle.stow_page.proofs.Packing.{rows_in-page}
 
 pub entries-append : (rows : List Version) (v : Version) → entries (rows ++ v ∷ []) ≡ entries rows ++ entry v

@@ -1,5 +1,5 @@
 -- A leaf's versions in one block, with the place of each.
-use Rattle.std.specs.Prelude.{◌≡◌, ℕ, zero, suc, ◌+◌, ◌<◌, ◌≤◌, ◌^◌, Bool, true, false, List, slice_get, [], ◌∷◌, ◌++◌, length, map, filter, Option, Some, None, take, drop, nat_le, ◌&&◌}
+use Rattle.std.specs.Prelude.{◌≡◌, ℕ, zero, suc, ◌<◌, ◌≤◌, ◌^◌, Bool, true, false, List, slice_get, [], ◌∷◌, ◌++◌, length, map, filter, Option, Some, None, take, drop, nat_le, ◌&&◌}
 use Rattle.std.specs.Int.{from_be_bytes, to_be_bytes, w16, w32, w64}
 use Rattle.std.specs.Ordering.{is_lt}
 use Rattle.std.specs.Str.{bytes_eq}

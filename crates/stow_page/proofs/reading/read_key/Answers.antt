@@ -1,4 +1,3 @@
-use Rattle.std.proofs.Common.{◌≡◌, sym}
 use Rattle.stow_page.proofs.Fields.{bytes_fit, unfit, after_length, length_ends, bad_length, index_ends, bad_index, key_ends, is_key, key_is_read}
 use Rattle.stow_page.proofs.reading.read_key.Goals as goal
 

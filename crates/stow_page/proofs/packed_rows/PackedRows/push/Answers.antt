@@ -1,4 +1,4 @@
-use Rattle.std.proofs.Common.{◌≡◌, ◌+◌, ◌≤◌, ◌++◌, ◌∷◌, [], ◌∙◌, ap, sym, subst, ◌<◌, ◌^◌, length, length-append, arith}
+use Rattle.std.proofs.Common.{◌++◌, ◌∷◌, [], ◌∙◌, ap, sym, subst, length, length-append, arith}
 use Rattle.stow_tree_model.specs.Order.{VersionsRise}
 use Rattle.stow_tree_model.specs.Version.{version_of}
 use Rattle.stow_page.specs.Rows.{HasRoomFor, with_count}
