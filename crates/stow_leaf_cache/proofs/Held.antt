@@ -1,7 +1,9 @@
 -- What is held, by the bytes of the fences.
-use Rattle.std.proofs.Common.{◌≡◌, ℕ, Bool, true, false, cond, ◌+◌, ◌-◌, ◌<◌, ◌≤◌, zero, suc, List, [], ◌∷◌, length, take, map, arith, subst, IsSome, Option, Some, None, refl, sym, ◌∙◌, ap}
+use Rattle.std.proofs.Common.{◌≡◌, ℕ, Bool, true, false, cond, ◌+◌, ◌-◌, ◌<◌, ◌≤◌, zero, suc, List, [], ◌∷◌, length, take, map, arith, subst, is_some, slice_get, IsSome, Option, Some, None, refl, sym, ◌∙◌, ap}
 use Rattle.std.specs.Cmp.Lexicographic.{bytes_decides}
 use Rattle.std.specs.Option.{option_map, option_map_or}
+use Rattle.std.specs.Borrow.{Bor}
+use Rattle.std.specs.Map.Iter.{deref_pair}
 use Rattle.std.specs.Map.{lookup, lookup_entry, remove_entry}
 use Rattle.lru.specs.LruCache.{LruCache, lru_cache, promoted, put_entries}
 use Rattle.lru.proofs.CallerLemmas.{Contains-lookup_entry}
@@ -10,7 +12,7 @@ use Rattle.std.proofs.lemmas.List.{take_all, take-map, length-map}
 use Rattle.std.specs.Str.{bytes_eq}
 use Rattle.std.specs.declared.vec.Vec.{Vec}
 use Rattle.stow_tree_model.specs.Version.{Version}
-use Rattle.stow_leaf_cache.specs.Cache.{Leaf, leaf_of, rows_under, leaves_without, leaves_used, leaves_kept, IsLimited}
+use Rattle.stow_leaf_cache.specs.Cache.{Cache, cache_used, Leaf, leaf_of, leaves_of, rows_under, leaves_without, leaves_used, leaves_kept, IsLimited}
 
 pub rows_under-map : {A : Type 0} (fence : List ℕ) (held : List (Vec ℕ A × List Version)) → rows_under fence (map leaf_of held) ≡ lookup (λ k. bytes_eq fence k.items) held
 rows_under-map fence [] = refl
@@ -59,6 +61,49 @@ leaves_used-map fence es =
     used_by fence es (lookup_entry (is_fence fence) es) refl
     ∙ ap (λ o. option_map_or (λ rows. (fence, rows) ∷ leaves_without fence (map leaf_of es)) o (map leaf_of es))
     (lookup-lookup_entry (is_fence fence) es ∙ sym (rows_under-map fence es))
+
+first_by : {A : Type 0} (es others : List (Vec ℕ A × List Version)) (o : Option (Vec ℕ A × List Version)) → is_some (option_map (λ e. e.1) o) ≡ true
+    → option_map (λ e. e.1) (slice_get (option_map_or (λ e. e ∷ others) o es) 0) ≡ option_map (λ e. e.1) o
+first_by es others None there = cc
+first_by es others (Some e) there = refl
+
+rows_of : {A : Type 0} (lent : Option (Bor (Vec ℕ A) × Bor (List Version))) → option_map (λ p. p.1.now) lent ≡ option_map (λ p. p.1) (option_map deref_pair lent)
+rows_of None = refl
+rows_of (Some p) = refl
+
+none_of : (o : Option (List Version)) → is_some o ≡ false → None ≡ o
+none_of None h = refl
+none_of (Some rows) h = cc
+
+-- what came to the front is the first
+first-used : {A : Type 0} (fence : List ℕ) (es : List (Vec ℕ A × List Version)) → is_some (lookup (is_fence fence) es) ≡ true
+    → option_map (λ e. e.1) (slice_get (promoted (is_fence fence) es) 0) ≡ lookup (is_fence fence) es
+first-used fence es there =
+    let same = lookup-lookup_entry (is_fence fence) es in
+    first_by es (remove_entry (is_fence fence) es) (lookup_entry (is_fence fence) es) (ap is_some same ∙ there) ∙ same
+
+abbrev pub cache_of : List Leaf → ℕ → Cache
+cache_of leaves limit = record { leaves = leaves; limit = limit }
+
+module _ {A : Type 0} (fence : List ℕ) (held : LruCache (Vec ℕ A) (List Version)) (limit : ℕ) (cache : Cache) (e : cache_of (leaves_of held) limit ≡ cache) where
+  lookup-rows_under : lookup (is_fence fence) held.entries ≡ rows_under fence cache.leaves
+  lookup-rows_under = sym (rows_under-map fence held.entries) ∙ ap (λ c. rows_under fence c.leaves) e
+
+  pub none-rows_under : (found : Bool) → found ≡ is_some (lookup (is_fence fence) held.entries) → found ≡ false → None ≡ rows_under fence cache.leaves
+  none-rows_under found f out = none_of (lookup (is_fence fence) held.entries) (sym f ∙ out) ∙ lookup-rows_under
+
+  module _ (now : LruCache (Vec ℕ A) (List Version)) (h : now ≡ lru_cache (promoted (is_fence fence) held.entries) held.cap) where
+    pub used-cache : cache_of (leaves_of now) limit ≡ cache_used fence cache
+    used-cache =
+        let leaves = ap leaves_of h ∙ leaves_used-map fence held.entries ∙ ap (λ c. leaves_used fence c.leaves) e in
+        λ i. cache_of (leaves i) (e i).limit
+
+    -- the first one, lent
+    pub first-rows_under : (lent first : Option (Bor (Vec ℕ A) × Bor (List Version))) (found : Bool) → lent ≡ first → option_map deref_pair lent ≡ slice_get now.entries 0
+        → found ≡ is_some (lookup (is_fence fence) held.entries) → found ≡ true → option_map (λ p. p.1.now) first ≡ rows_under fence cache.leaves
+    first-rows_under lent first found same l f there =
+        ap (option_map (λ p. p.1.now)) (sym same) ∙ rows_of lent ∙ ap (option_map (λ p. p.1)) (l ∙ ap (λ c. slice_get c.entries 0) h)
+        ∙ first-used fence held.entries (sym f ∙ there) ∙ lookup-rows_under
 
 -- ---- what is kept
 

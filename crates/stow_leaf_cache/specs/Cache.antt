@@ -1,5 +1,5 @@
 -- Leaves that are held unpacked, the last used first.
-use Rattle.std.specs.Prelude.{◌≡◌, ◌⊎◌, ℕ, zero, suc, List, [], ◌∷◌, map, take, Option, Some, None}
+use Rattle.std.specs.Prelude.{◌≡◌, ◌⊎◌, ℕ, zero, suc, List, [], ◌∷◌, map, take, Option}
 use Rattle.std.specs.Map.{lookup, remove_entry}
 use Rattle.std.specs.Option.{option_map_or}
 use Rattle.std.specs.Str.{bytes_eq}
@@ -34,8 +34,17 @@ abbrev pub leaves_kept : ℕ → List ℕ → List Version → List Leaf → Lis
 leaves_kept limit fence rows leaves = take limit ((fence, rows) ∷ leaves_without fence leaves)
 
 -- the rows are kept, or, where memory is refused, nothing is held under the fence
-abbrev pub IsOffered : ℕ → List ℕ → List Version → List Leaf → List Leaf → Type 0
-IsOffered limit fence rows old new = (new ≡ leaves_kept limit fence rows old) ⊎ (new ≡ leaves_without fence old)
+abbrev pub IsOffered : Cache → List ℕ → List Version → List Leaf → Type 0
+IsOffered cache fence rows new =
+    (new ≡ leaves_kept cache.limit fence rows cache.leaves) ⊎ (new ≡ leaves_without fence cache.leaves)
+
+-- the cache once the leaf under the fence was used
+abbrev pub cache_used : List ℕ → Cache → Cache
+cache_used fence cache = record { leaves = leaves_used fence cache.leaves; limit = cache.limit }
+
+-- the cache with another limit: the last used of its leaves stay
+abbrev pub cache_resized : ℕ → Cache → Cache
+cache_resized limit cache = record { leaves = take limit cache.leaves; limit = limit }
 
 -- ---- what the code's type stands for
 

@@ -1,7 +1,7 @@
 //! Unpacked leaves, the last used first.
 ghost use Rattle.std.specs.Prelude.{◌≡◌, ◌≤◌, [], length, take, is_some, option_map, IfOk, OnOk, OnErr, max};
 ghost use Rattle.std.specs.NonZero.{non_zero_usize_get};
-ghost use Rattle.stow_leaf_cache.specs.Cache.{Cache, rows_under, leaves_without, leaves_used, IsOffered};
+ghost use Rattle.stow_leaf_cache.specs.Cache.{Cache, rows_under, leaves_without, cache_resized, IsOffered};
 
 use lru::{DefaultHasher, LruCache};
 use std::alloc::{AllocError, Allocator, Global};
@@ -28,6 +28,9 @@ impl<A: Allocator + Copy> Model for LeafCache<A> {
 }
 
 impl<A: Allocator + Copy> LeafCache<A> {
+    ghost use Rattle.std.specs.Borrow.{sem};
+    ghost use Rattle.stow_leaf_cache.specs.Lent.{ends_used};
+
     /// A cache of at most this many leaves, which holds none.
     pub fn new(alloc: A, limit: usize) -> Result<LeafCache<A>, AllocError>
         ensures { IfOk result (λ c. c ≡ record { leaves = []; limit = limit }) }
@@ -53,18 +56,21 @@ impl<A: Allocator + Copy> LeafCache<A> {
         self.leaves.peek(low_fence)
     }
 
-    /// Brings the leaf under a low fence to the front, and tells whether there is one.
-    pub fn promote(&mut self, low_fence: &[u8]) -> bool
-        ensures there { result ≡ is_some (rows_under low_fence.now self.old.leaves) }
-        ensures leaves { self.new.leaves ≡ leaves_used low_fence.now self.old.leaves }
-        ensures limit { self.new.limit ≡ self.old.limit }
+    /// Brings the leaf under a low fence to the front, and lends its rows.
+    pub fn find(&mut self, low_fence: &[u8]) -> Option<&Rows<A>>
+        ensures* after { sem 𝓛 (ends_used A.row A.Allocator self.entry low_fence.now) }
+        ensures rows { option_map (λ r. r.now) result ≡ rows_under low_fence.now self.old.leaves }
     {
-        self.leaves.promote(low_fence)
+        if !self.leaves.promote(low_fence) {
+            return None;
+        }
+        let (_, rows) = self.leaves.peek_mru()?;
+        Some(rows)
     }
 
     /// Holds the rows under the low fence, in front of all. Where memory is refused nothing is held under it.
     pub fn keep(&mut self, low_fence: &[u8], rows: Rows<A>)
-        ensures leaves { IsOffered self.old.limit low_fence.now rows self.old.leaves self.new.leaves }
+        ensures leaves { IsOffered self.old low_fence.now rows self.new.leaves }
         ensures limit { self.new.limit ≡ self.old.limit }
     {
         if self.limit == 0 {
@@ -79,7 +85,7 @@ impl<A: Allocator + Copy> LeafCache<A> {
     /// Holds the rows under the key, if there is memory.
     fn put(&mut self, key: Vec<u8, A>, rows: Rows<A>)
         requires { 1 ≤ self.old.limit }
-        ensures leaves { IsOffered self.old.limit key.items rows self.old.leaves self.new.leaves }
+        ensures leaves { IsOffered self.old key.items rows self.new.leaves }
         ensures limit { self.new.limit ≡ self.old.limit }
     {
         let _held = self.leaves.len();
@@ -100,7 +106,7 @@ impl<A: Allocator + Copy> LeafCache<A> {
     /// Holds at most this many leaves from now on; the last used of those that are held stay. An `Err` changes
     /// nothing.
     pub fn resize(&mut self, limit: usize) -> Result<(), AllocError>
-        ensures ok { OnOk result (self.new ≡ record { leaves = take limit self.old.leaves; limit = limit }) }
+        ensures ok { OnOk result (self.new ≡ cache_resized limit self.old) }
         ensures err { OnErr result (self.new ≡ self.old) }
     {
         self.limit = limit;

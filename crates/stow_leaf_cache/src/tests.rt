@@ -1,4 +1,7 @@
 //! What no clause says: that the calls succeed where there is memory, and which of them ask for none.
+ghost use Rattle.std.specs.Prelude.{◌≡◌, length, is_some};
+ghost use Rattle.stow_leaf_cache.specs.Cache.{leaves_used, rows_under};
+
 use crate::leaf_cache::LeafCache;
 use std::alloc::{AllocError, Allocator};
 use std::test::Fail;
@@ -34,6 +37,15 @@ fn number_under<A: Allocator + Copy>(cache: &LeafCache<A>, fence: &[u8]) -> u64 
     }
 }
 
+/// Uses a leaf. What a caller knows of the cache afterwards.
+fn is_used<A: Allocator + Copy>(cache: &mut LeafCache<A>, fence: &[u8]) -> bool
+    ensures there { result ≡ is_some (rows_under fence.now cache.old.leaves) }
+    ensures leaves { cache.new.leaves ≡ leaves_used fence.now cache.old.leaves }
+    ensures limit { cache.new.limit ≡ cache.old.limit }
+{
+    cache.find(fence).is_some()
+}
+
 #[test]
 fn the_last_used_stay(rt: HostRuntime) -> Result<(), Fail> {
     let alloc = rt.alloc();
@@ -41,7 +53,7 @@ fn the_last_used_stay(rt: HostRuntime) -> Result<(), Fail> {
     assert_eq!(rt; cache.len(), 0);
     cache.keep(b"a", rows_of(alloc, 1)?);
     cache.keep(b"b", rows_of(alloc, 2)?);
-    assert!(rt; cache.promote(b"a") && !cache.promote(b"c"));
+    assert!(rt; is_used(&mut cache, b"a") && !is_used(&mut cache, b"c"));
     cache.keep(b"c", rows_of(alloc, 3)?);
     assert_eq!(rt; cache.len(), 2);
     assert_eq!(rt; number_under(&cache, b"a"), 1);
@@ -108,7 +120,7 @@ fn looks_up_without_memory(rt: HostRuntime) -> Result<(), Fail> {
     cache.keep(b"a", rows_of(&heap, 1)?);
     cache.keep(b"b", rows_of(&heap, 2)?);
     heap.set(Plan::RefuseAll);
-    assert!(rt; cache.promote(b"a") && cache.peek(b"a").is_some());
+    assert!(rt; cache.find(b"a").is_some() && cache.peek(b"a").is_some());
     cache.forget(b"b");
     assert_eq!(rt; cache.len(), 1);
     assert_eq!(rt; heap.asked(), 0);

@@ -1,20 +1,18 @@
 -- What stands at the front of bytes that begin with an entry.
-use Rattle.std.proofs.Common.{◌≡◌, ℕ, zero, suc, ◌+◌, ◌<◌, ◌≤◌, ◌^◌, List, [], ◌∷◌, ◌++◌, length, take, drop, refl, sym, ◌∙◌, ap, subst, arith, length-append, append_assoc, lit<, lit≤, Option, Some, None}
+use Rattle.std.proofs.Common.{◌≡◌, ℕ, ◌+◌, ◌<◌, ◌≤◌, ◌^◌, List, [], ◌++◌, length, take, drop, refl, sym, ◌∙◌, ap, subst, arith, length-append, append_assoc, lit≤, Option, Some, None}
 use Rattle.std.proofs.Math.Seq.{take-append_seam, drop-append_seam}
 use Rattle.std.proofs.lemmas.Nat.{from_be_bytes-to_be_bytes_2, from_be_bytes-to_be_bytes_8}
 use Rattle.std.specs.Int.{to_be_bytes, from_be_bytes, w16, w64}
-use Rattle.stow_bytes.specs.Limits.{value_limit, number_limit, key_limit}
-use Rattle.stow_tree_model.specs.Keys.{IsTenantKey, IsOfTenant}
 use Rattle.stow_tree_model.specs.Value.{IsValue}
 use Rattle.stow_tree_model.specs.Version.{Version, version_of}
 use Rattle.stow_tree_model.specs.declared.version.Version as coded
 use Rattle.stow_page.specs.Format.{entry, place_bytes, tail, IsVersion}
 use Rattle.stow_page.specs.Rows.{version_in, value_in, after_key, IsAtFront, IsTail}
 
-from16 : (n : ℕ) (rest : List ℕ) → n < 2 ^ 16 → from_be_bytes w16 (to_be_bytes w16 n ++ rest) ≡ n
+pub from16 : (n : ℕ) (rest : List ℕ) → n < 2 ^ 16 → from_be_bytes w16 (to_be_bytes w16 n ++ rest) ≡ n
 from16 n rest h = from_be_bytes-to_be_bytes_2 n h
 
-from64 : (n : ℕ) (rest : List ℕ) → n < 2 ^ 64 → from_be_bytes w64 (to_be_bytes w64 n ++ rest) ≡ n
+pub from64 : (n : ℕ) (rest : List ℕ) → n < 2 ^ 64 → from_be_bytes w64 (to_be_bytes w64 n ++ rest) ≡ n
 from64 n rest h = from_be_bytes-to_be_bytes_8 n h
 
 drop2 : (n : ℕ) (rest : List ℕ) → drop 2 (to_be_bytes w16 n ++ rest) ≡ rest

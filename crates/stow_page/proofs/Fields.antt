@@ -1,6 +1,7 @@
 -- Fields at the front of bytes.
-use Rattle.std.proofs.Common.{◌≡◌, ℕ, zero, suc, ◌+◌, ◌-◌, ◌*◌, ◌/◌, ◌%◌, ◌<◌, ◌≤◌, ◌^◌, List, [], ◌∷◌, ◌++◌, length, get_or, take, drop, refl, sym, ◌∙◌, ap, subst, arith, append_assoc, lit<, Fits, w8}
+use Rattle.std.proofs.Common.{◌≡◌, ℕ, zero, suc, ◌+◌, ◌<◌, ◌≤◌, ◌^◌, List, [], ◌∷◌, ◌++◌, length, get_or, take, drop, refl, sym, ◌∙◌, ap, subst, arith, append_assoc, lit<, Fits, w8, Bool, false, IsTrue, ◌↔◌}
 use Rattle.std.proofs.lemmas.Grind.{common_steps}
+use Rattle.std.proofs.lemmas.Bool.{true≢false}
 use Rattle.std.proofs.Math.Seq.{take-append_seam}
 use Rattle.std.proofs.lemmas.List.{get_or-drop, length-drop, length-take-le}
 use Rattle.std.proofs.lemmas.Nat.{from_be_bytes-to_be_bytes_2, from_be_bytes-to_be_bytes_4, from_be_bytes-to_be_bytes_8, be_bytes_8}
@@ -11,6 +12,10 @@ use Rattle.stow_tree_model.specs.Version.{Version}
 use Rattle.stow_page.specs.Format.{entry, tail, header, place_bytes}
 use Rattle.stow_page.proofs.Entries.{entry-append}
 use Rattle.stow_page.specs.Faults.{Nothing, Length, Index, Key, Number, Put, PutLength, front_bytes, IsKeyLength, IsTenantIndex, IsNumber, IsGood, EndsInField, HasBadField}
+
+-- what a test of a field found to be out of its range
+pub unfit : {P : Type 0} (found : Bool) → (IsTrue found ↔ P) → found ≡ false → P → ⊥
+unfit found h out p = true≢false (sym (h.1 p) ∙ out)
 
 abbrev pub AreBytes : List ℕ → Type 0
 AreBytes bytes = (i : ℕ) → get_or bytes i 0 < 256

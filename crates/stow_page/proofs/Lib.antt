@@ -6,3 +6,4 @@ pub mod Fields
 pub mod Pages
 pub mod Unique
 pub mod Whole
+pub mod OneField

@@ -1,10 +1,10 @@
 -- A page from elsewhere, as far as it was read.
-use Rattle.std.proofs.Common.{◌≡◌, ℕ, ◌+◌, ◌<◌, ◌≤◌, ◌^◌, List, [], ◌∷◌, ◌++◌, length, refl, sym, ◌∙◌, ap, subst, arith, append_assoc, length-append, inl, inr}
+use Rattle.std.proofs.Common.{◌≡◌, ℕ, ◌+◌, ◌<◌, ◌≤◌, ◌^◌, List, [], ◌∷◌, ◌++◌, length, sym, ◌∙◌, ap, subst, arith, append_assoc, length-append, inl, inr}
 use Rattle.std.proofs.lemmas.List.{append-nil}
 use Rattle.stow_tree_model.specs.Order.{VersionsRise}
 use Rattle.stow_tree_model.specs.Version.{Version}
 use Rattle.stow_page.specs.Format.{entry, entries, header, packed_page, IsVersion, AreVersions}
-use Rattle.stow_page.specs.Faults.{Begins, HasFaultyEntry, HasEntryOutOfOrder, HasBytesBehind, IsEntryFault, IsPageFault}
+use Rattle.stow_page.specs.Faults.{HasEntryOutOfOrder, HasBytesBehind, IsEntryFault, IsPageFault}
 use Rattle.stow_page.specs.declared.page_fault.PageFault.{PageFault}
 use Rattle.stow_page.specs.declared.page_fault.PageFault.TheVariants as fault
 use Rattle.stow_page.proofs.Pushed.{entries-append, length-packed_page}

@@ -1,12 +1,11 @@
 -- A version put behind those of a block.
-use Rattle.std.proofs.Common.{◌≡◌, ℕ, zero, suc, ◌+◌, ◌<◌, ◌≤◌, ◌^◌, List, [], ◌∷◌, ◌++◌, length, take, drop, refl, sym, ◌∙◌, ap, subst, arith, length-append, append_assoc, add_assoc, lit<, lit≤}
-use Rattle.std.proofs.lemmas.List.{append-nil, length-map}
-use Rattle.std.specs.List.{flat_map, AllByRecursion}
-use Rattle.std.specs.Int.{to_be_bytes, w16, w32, w64}
+use Rattle.std.proofs.Common.{◌≡◌, ℕ, suc, ◌+◌, ◌<◌, ◌≤◌, ◌^◌, List, [], ◌∷◌, ◌++◌, length, refl, sym, ◌∙◌, ap, subst, arith, length-append, append_assoc, add_assoc, lit≤}
+use Rattle.std.proofs.lemmas.List.{append-nil}
+use Rattle.std.specs.Int.{to_be_bytes, w16, w64}
 use Rattle.stow_tree_model.specs.Version.{Version}
 use Rattle.stow_tree_model.specs.Order.{VersionsRise}
 use Rattle.stow_page.specs.Format.{entry, place_bytes, entries, header, packed_page, places_from, places_of, tail, IsVersion, AreVersions}
-use Rattle.stow_page.specs.Rows.{version_in, rows_in, ArePacked, counted, IsCounted}
+use Rattle.stow_page.specs.Rows.{rows_in, ArePacked, HasRoomFor, counted}
 use Rattle.stow_page.proofs.Packing.{rows_in-page}
 
 pub entries-append : (rows : List Version) (v : Version) → entries (rows ++ v ∷ []) ≡ entries rows ++ entry v
@@ -20,6 +19,11 @@ places_from-append n (w ∷ later) v =
     let more = places_from-append (n + length (entry w)) later v in
     let e : n + length (entry w) + length (entries later) ≡ n + length (entries (w ∷ later)) = add_assoc n (length (entry w)) (length (entries later)) ∙ ap (λ m. n + m) (sym (length-append (entry w) (entries later))) in
     ap (λ ps. n ∷ ps) (more ∙ ap (λ m. places_from (n + length (entry w)) later ++ m ∷ []) e)
+
+length-places_from : (n : ℕ) (rows : List Version) → length (places_from n rows) ≡ length rows
+unfolding places_from
+length-places_from n [] = refl
+length-places_from n (v ∷ later) = ap suc (length-places_from (n + length (entry v)) later)
 
 are_all : (rows : List Version) (v : Version) → AreVersions rows → IsVersion v → AreVersions (rows ++ v ∷ [])
 are_all [] v all h = (h, tt)
@@ -74,24 +78,26 @@ count_is_low rows h =
     omega arith
 
 -- the block after a push, as the code makes it
-pub counted_pushed : (bytes places new more : List ℕ) (v : Version) → ArePacked bytes places (rows_in bytes places) → IsCounted bytes new places more v → IsVersion v
-    → VersionsRise (rows_in bytes places ++ v ∷ []) → length (packed_page (rows_in bytes places ++ v ∷ [])) < 2 ^ 32 → IsPushed new more (rows_in bytes places ++ v ∷ [])
-counted_pushed bytes places new more v h made is rise room =
-    let rows : List Version = rows_in bytes places in
-    let same : length more ≡ length (rows ++ v ∷ []) = ap length made.stand ∙ length-append places (length bytes ∷ []) ∙ sym (length-append rows (v ∷ []) ∙ ap (λ n. n + 1) (length-map places (λ p. version_in (drop p bytes)))) in
-    let bytes_are : new ≡ counted bytes v (length (rows ++ v ∷ [])) = made.are_bytes ∙ ap (counted bytes v) same in
+pub counted_pushed : (bytes places more new : List ℕ) (rows : List Version) (v : Version) → ArePacked bytes places rows → IsVersion v
+    → VersionsRise (rows ++ v ∷ []) → HasRoomFor rows v → more ≡ places ++ length bytes ∷ [] → new ≡ counted bytes v (length more) → IsPushed new more (rows ++ v ∷ [])
+counted_pushed bytes places more new rows v h is rise room p n =
+    let few = ap length h.are_places ∙ length-places_from 5 rows in
+    let same : length more ≡ length (rows ++ v ∷ []) = ap length p ∙ length-append places (length bytes ∷ []) ∙ ap (λ m. m + 1) few ∙ sym (length-append rows (v ∷ [])) in
+    let bytes_are : new ≡ counted bytes v (length (rows ++ v ∷ [])) = n ∙ ap (counted bytes v) same in
     let after = pushed bytes places rows v h is rise room in
-    subst (λ b. IsPushed b more (rows ++ v ∷ [])) (sym bytes_are) (subst (λ ps. IsPushed (counted bytes v (length (rows ++ v ∷ []))) ps (rows ++ v ∷ [])) (sym made.stand) after)
+    subst (λ b. IsPushed b more (rows ++ v ∷ [])) (sym bytes_are) (subst (λ ps. IsPushed (counted bytes v (length (rows ++ v ∷ []))) ps (rows ++ v ∷ [])) (sym p) after)
 
 pub block_has_header : (bytes places : List ℕ) (rows : List Version) → ArePacked bytes places rows → 5 ≤ length bytes
 block_has_header bytes places rows h =
     let e : length bytes ≡ 5 + length (entries rows) = ap length h.is_page ∙ length-packed_page rows in
     omega arith
 
-pub places_are_few : (bytes places : List ℕ) (v : Version) → length (packed_page (rows_in bytes places ++ v ∷ [])) < 2 ^ 32 → length places + 1 < 2 ^ 32
-places_are_few bytes places v room =
-    let low = count_is_low (rows_in bytes places ++ v ∷ []) room in
-    let e : length (rows_in bytes places ++ v ∷ []) ≡ length places + 1 = length-append (rows_in bytes places) (v ∷ []) ∙ ap (λ n. n + 1) (length-map places (λ p. version_in (drop p bytes))) in
+-- one place more can be counted in four bytes
+pub places_are_few : (bytes places : List ℕ) (rows : List Version) (v : Version) → ArePacked bytes places rows → HasRoomFor rows v → length places + 1 < 2 ^ 32
+places_are_few bytes places rows v h room =
+    let low = count_is_low (rows ++ v ∷ []) room in
+    let few = ap length h.are_places ∙ length-places_from 5 rows in
+    let e = length-append rows (v ∷ []) in
     omega arith
 
 pub length-entry : (v : Version) → length (entry v) ≡ 10 + length v.key + length (tail v.value)

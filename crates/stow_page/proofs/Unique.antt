@@ -1,16 +1,16 @@
 -- Bytes begin one entry at most, and none where they have a fault.
-use Rattle.std.proofs.Common.{◌≡◌, ℕ, zero, suc, ◌+◌, ◌-◌, ◌<◌, ◌≤◌, ◌^◌, List, [], ◌∷◌, ◌++◌, length, get_or, take, drop, refl, sym, ◌∙◌, ap, subst, arith, append_assoc, length-append, length-drop, lit<, lit≤, Option, Some, None}
+use Rattle.std.proofs.Common.{◌≡◌, ℕ, zero, suc, ◌+◌, ◌<◌, ◌≤◌, ◌^◌, List, [], ◌∷◌, ◌++◌, length, get_or, take, drop, refl, sym, ◌∙◌, ap, subst, arith, append_assoc, length-append, length-drop, Option, Some, None}
 use Rattle.std.proofs.Math.Seq.{take-append_seam, drop-append_seam}
-use Rattle.std.proofs.lemmas.Nat.{from_be_bytes-to_be_bytes_2, from_be_bytes-to_be_bytes_4, from_be_bytes-to_be_bytes_8}
+use Rattle.std.proofs.lemmas.Nat.{from_be_bytes-to_be_bytes_2, from_be_bytes-to_be_bytes_4}
 use Rattle.std.specs.Int.{to_be_bytes, from_be_bytes, w16, w32, w64}
-use Rattle.stow_bytes.specs.Limits.{key_limit, value_limit, tenant_limit, number_limit}
-use Rattle.stow_tree_model.specs.Keys.{IsTenantKey, IsOfTenant, tenant_of}
+use Rattle.stow_bytes.specs.Limits.{value_limit}
+use Rattle.stow_tree_model.specs.Keys.{IsTenantKey, tenant_of}
 use Rattle.stow_tree_model.specs.Value.{IsValue}
 use Rattle.stow_tree_model.specs.Version.{Version}
 use Rattle.stow_page.specs.Format.{entry, tail, place_bytes, IsVersion}
-use Rattle.stow_page.specs.Rows.{version_in, after_key, IsAtFront, IsTail}
+use Rattle.stow_page.specs.Rows.{version_in, after_key, IsAtFront}
 use Rattle.stow_page.specs.Faults.{Front, Nothing, Length, Index, Key, Number, Put, PutLength, front_bytes, width, IsKeyLength, IsTenantIndex, IsNumber, IsGood, IsOutOfRange, EndsInField, HasBadField}
-use Rattle.stow_page.proofs.Entries.{Parts, parts_at, version_in-at, entry-append}
+use Rattle.stow_page.proofs.Entries.{Parts, parts_at, version_in-at}
 
 -- ---- one entry at most
 
@@ -31,17 +31,17 @@ same_rest v w x y hv hw e =
 from16 : (n : ℕ) (rest : List ℕ) → n < 2 ^ 16 → from_be_bytes w16 (to_be_bytes w16 n ++ rest) ≡ n
 from16 n rest h = from_be_bytes-to_be_bytes_2 n h
 
-from32 : (n : ℕ) (rest : List ℕ) → n < 2 ^ 32 → from_be_bytes w32 (to_be_bytes w32 n ++ rest) ≡ n
+pub from32 : (n : ℕ) (rest : List ℕ) → n < 2 ^ 32 → from_be_bytes w32 (to_be_bytes w32 n ++ rest) ≡ n
 from32 n rest h = from_be_bytes-to_be_bytes_4 n h
 
 -- what follows a good key
-behind_key : (key rest : List ℕ) → IsTenantKey key → after_key (front_bytes (Key key) ++ rest) ≡ rest
+pub behind_key : (key rest : List ℕ) → IsTenantKey key → after_key (front_bytes (Key key) ++ rest) ≡ rest
 behind_key key rest h =
     let short = h.is_short in
     ap (λ n. drop n (key ++ rest)) (from16 (length key) [] (omega arith)) ∙ drop-append_seam key rest
 
 -- what follows a good key and a number
-behind_number : (key rest : List ℕ) (number : ℕ) → IsTenantKey key → drop 8 (after_key (front_bytes (Number key number) ++ rest)) ≡ rest
+pub behind_number : (key rest : List ℕ) (number : ℕ) → IsTenantKey key → drop 8 (after_key (front_bytes (Number key number) ++ rest)) ≡ rest
 behind_number key rest number h =
     ap (λ b. drop 8 (after_key b)) (ap (λ b. to_be_bytes w16 (length key) ++ b) (append_assoc key (to_be_bytes w64 number) rest))
     ∙ ap (drop 8) (behind_key key (to_be_bytes w64 number ++ rest) h)
@@ -106,13 +106,13 @@ entry_does_not_end v bytes h e = by e.front e.is_good e.are e.ends
         value_ends v.value parts.tail_at.rest e.rest n h.is_version.is_short good.3 (sym parts.tail_at.is_tail ∙ rest) short
 
 -- a number that fills its field is read in it alone
-front16 : (field rest : List ℕ) → length field ≡ 2 → from_be_bytes w16 (field ++ rest) ≡ from_be_bytes w16 field
+pub front16 : (field rest : List ℕ) → length field ≡ 2 → from_be_bytes w16 (field ++ rest) ≡ from_be_bytes w16 field
 front16 [] rest h = absurd (omega arith)
 front16 (_ ∷ []) rest h = absurd (omega arith)
 front16 (_ ∷ _ ∷ []) rest h = refl
 front16 (_ ∷ _ ∷ _ ∷ _) rest h = absurd (omega arith)
 
-front32 : (field rest : List ℕ) → length field ≡ 4 → from_be_bytes w32 (field ++ rest) ≡ from_be_bytes w32 field
+pub front32 : (field rest : List ℕ) → length field ≡ 4 → from_be_bytes w32 (field ++ rest) ≡ from_be_bytes w32 field
 front32 [] rest h = absurd (omega arith)
 front32 (_ ∷ []) rest h = absurd (omega arith)
 front32 (_ ∷ _ ∷ []) rest h = absurd (omega arith)
@@ -120,7 +120,7 @@ front32 (_ ∷ _ ∷ _ ∷ []) rest h = absurd (omega arith)
 front32 (_ ∷ _ ∷ _ ∷ _ ∷ []) rest h = refl
 front32 (_ ∷ _ ∷ _ ∷ _ ∷ _ ∷ _) rest h = absurd (omega arith)
 
-front64 : (field rest : List ℕ) → length field ≡ 8 → from_be_bytes w64 (field ++ rest) ≡ from_be_bytes w64 field
+pub front64 : (field rest : List ℕ) → length field ≡ 8 → from_be_bytes w64 (field ++ rest) ≡ from_be_bytes w64 field
 front64 [] rest h = absurd (omega arith)
 front64 (_ ∷ []) rest h = absurd (omega arith)
 front64 (_ ∷ _ ∷ []) rest h = absurd (omega arith)

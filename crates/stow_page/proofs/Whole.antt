@@ -1,8 +1,8 @@
--- A page is that of one list of versions, and has no fault.
-use Rattle.std.proofs.Common.{◌≡◌, ℕ, zero, suc, ◌+◌, ◌-◌, ◌<◌, ◌≤◌, ◌^◌, List, [], ◌∷◌, ◌++◌, length, get_or, map, drop, refl, sym, ◌∙◌, ap, subst, arith, append_assoc, length-append, ⊎_elim, ◌⊎◌}
+-- A page is that of one list of versions, and has no fault; other bytes have one first fault at most.
+use Rattle.std.proofs.Common.{◌≡◌, ◌≢◌, ℕ, ◌+◌, ◌<◌, ◌≤◌, ◌^◌, List, [], ◌∷◌, ◌++◌, length, get_or, map, drop, refl, sym, ◌∙◌, ap, subst, arith, append_assoc, length-append, ⊎_elim, inl, inr, ◌⊎◌}
 use Rattle.std.proofs.lemmas.List.{append-nil}
 use Rattle.std.proofs.lemmas.Nat.{from_be_bytes-to_be_bytes_4}
-use Rattle.std.specs.Int.{to_be_bytes, from_be_bytes, w32}
+use Rattle.std.specs.Int.{from_be_bytes, w32}
 use Rattle.std.specs.List.{AllByRecursion}
 use Rattle.std.specs.List.Sorted.{IsStrictlySortedBy}
 use Rattle.std.specs.declared.cmp.Ordering.TheVariants.{Less}
@@ -10,31 +10,12 @@ use Rattle.stow_tree_model.specs.Order.{Place, place_cmp, version_place, Version
 use Rattle.stow_tree_model.specs.Version.{Version}
 use Rattle.stow_page.specs.Format.{entry, entries, header, packed_page, IsVersion, AreVersions}
 use Rattle.stow_page.specs.Rows.{IsAtFront}
-use Rattle.stow_page.specs.Faults.{Begins, EndsInHeader, HasFaultyEntry, HasEntryOutOfOrder, HasBytesBehind, IsEntryFault, IsPageFault}
-use Rattle.stow_page.specs.Laws.{AreRows, PackedOnce, PageHasNoFault}
+use Rattle.stow_page.specs.Faults.{Begins, EndsInField, HasBadField, EndsInHeader, HasFaultyEntry, HasEntryOutOfOrder, HasBytesBehind, IsPageFault}
+use Rattle.stow_page.specs.Laws.{AreRows, PackedOnce, PageHasNoFault, OneFault}
 use Rattle.stow_page.specs.declared.page_fault.PageFault.{PageFault}
 use Rattle.stow_page.specs.declared.page_fault.PageFault.TheVariants as fault
+use Rattle.stow_page.proofs.OneField.{not_both}
 use Rattle.stow_page.proofs.Unique.{same_version, same_rest, entry_does_not_end, entry_has_no_bad_field}
-use Rattle.stow_page.proofs.Pushed.{entry_is_long}
-
--- the versions behind those that the bytes begin with
-record Continues (rows front : List Version) (rest : List ℕ) : Type 0 where
-  more : List Version
-  are : rows ≡ front ++ more
-  rest_is : rest ≡ entries more
-  are_versions : AreVersions more
-
-continues : (rows front : List Version) (rest : List ℕ) → AreVersions rows → AreVersions front → entries rows ≡ entries front ++ rest → Continues rows front rest
-continues rows [] rest all some e = record { more = rows; are = refl; rest_is = sym e; are_versions = all }
-continues [] (w ∷ front) rest all some e =
-    let one = entry_is_long w in
-    let wrong = ap length (e ∙ append_assoc (entry w) (entries front) rest) ∙ length-append (entry w) (entries front ++ rest) in
-    absurd (omega arith)
-continues (v ∷ rows) (w ∷ front) rest all some e =
-    let both = e ∙ append_assoc (entry w) (entries front) rest in
-    let same = same_version v w (entries rows) (entries front ++ rest) all.0 some.0 both in
-    let later = continues rows front rest all.1 some.1 (same_rest v w (entries rows) (entries front ++ rest) all.0 some.0 both) in
-    record { more = later.more; are = λ i. same i ∷ later.are i; rest_is = later.rest_is; are_versions = later.are_versions }
 
 from32 : (n : ℕ) (rest : List ℕ) → n < 2 ^ 32 → from_be_bytes w32 (drop 1 (header n ++ rest)) ≡ n
 from32 n rest h = from_be_bytes-to_be_bytes_4 n h
@@ -45,44 +26,6 @@ same_count m n x y hm hn e = sym (from32 m x hm) ∙ ap (λ b. from_be_bytes w32
 same_behind : (m n : ℕ) (x y : List ℕ) → header m ++ x ≡ header n ++ y → x ≡ y
 same_behind m n x y e = ap (drop 5) e
 
-no_entries : (rows : List Version) → entries rows ≡ [] → rows ≡ []
-no_entries [] e = refl
-no_entries (v ∷ rows) e =
-    let one = entry_is_long v in
-    let wrong = sym (length-append (entry v) (entries rows)) ∙ ap length e in
-    absurd (omega arith)
-
-pub packed_once_lem : PackedOnce
-unfolding packed_page
-packed_once_lem rows others h k e =
-    let same = same_behind (length rows) (length others) (entries rows) (entries others) e in
-    let later = continues rows others [] h.are_versions k.are_versions (same ∙ sym (append-nil (entries others))) in
-    later.are ∙ ap (λ more. others ++ more) (no_entries later.more (sym later.rest_is)) ∙ append-nil others
-
--- where the bytes are a page, those that were read are the first of its versions
-began : (rows some : List Version) (count : ℕ) (rest : List ℕ) → AreRows rows → Begins (packed_page rows) count some rest → (count ≡ length rows) × Continues rows some rest
-unfolding packed_page
-began rows some count rest h b = (
-  sym (same_count (length rows) count (entries rows) (entries some ++ rest) h.are_counted b.is_counted b.are),
-  continues rows some rest h.are_versions b.are_versions (same_behind (length rows) count (entries rows) (entries some ++ rest) b.are),
-)
-
-no_faulty_entry : (reason : PageFault) (rest : List ℕ) (more : List Version) → AreVersions more → rest ≡ entries more → 1 ≤ length more → IsEntryFault reason rest → ⊥
-no_faulty_entry reason rest [] all e some bad = absurd (omega arith)
-no_faulty_entry fault.FormatByte rest (v ∷ more) all e some bad = bad
-no_faulty_entry fault.Truncated rest (v ∷ more) all e some bad = entry_does_not_end v rest (record { rest = entries more; is_entry = e; is_version = all.0 }) bad
-no_faulty_entry fault.Order rest (v ∷ more) all e some bad = bad
-no_faulty_entry fault.LengthOrField rest (v ∷ more) all e some bad = entry_has_no_bad_field v rest (record { rest = entries more; is_entry = e; is_version = all.0 }) bad
-no_faulty_entry fault.Memory rest (v ∷ more) all e some bad = bad
-
-has_no_faulty_entry : (reason : PageFault) (rows : List Version) → AreRows rows → HasFaultyEntry reason (packed_page rows) → ⊥
-has_no_faulty_entry reason rows h bad =
-    let both = began rows bad.rows bad.count bad.rest h bad.begins in
-    let short = bad.is_short in
-    let long = ap length both.1.are ∙ length-append bad.rows both.1.more in
-    let same = both.0 in
-    no_faulty_entry reason bad.rest both.1.more both.1.are_versions both.1.rest_is (omega arith) bad.is_faulty
-
 all_in_front : (P : Place → Type 0) (some : List Version) (v : Version) (more : List Version) → AllByRecursion P (map version_place (some ++ v ∷ more)) → AllByRecursion P (map version_place (some ++ v ∷ []))
 all_in_front P [] v more all = (all.0, tt)
 all_in_front P (w ∷ some) v more all = (all.0, all_in_front P some v more all.1)
@@ -92,42 +35,249 @@ unfolding IsStrictlySortedBy
 front_rises [] v more rise = (tt, tt)
 front_rises (w ∷ some) v more rise = (all_in_front (λ p. place_cmp (version_place w) p ≡ Less) some v more rise.0, front_rises some v more rise.1)
 
-in_order : (rows some : List Version) (rest : List ℕ) (version : Version) (more : List Version) → VersionsRise rows → rows ≡ some ++ more → AreVersions more → IsVersion version → 1 ≤ length more → entry version ++ rest ≡ entries more → VersionsRise (some ++ version ∷ [])
-in_order rows some rest version [] rise are all is long e = absurd (omega arith)
-in_order rows some rest version (v ∷ more) rise are all is long e =
-    let same : version ≡ v = same_version version v rest (entries more) is all.0 e in
-    subst (λ w. VersionsRise (some ++ w ∷ [])) (sym same) (front_rises some v more (subst VersionsRise are rise))
+-- ---- where reading stops
 
-has_no_entry_out_of_order : (rows : List Version) → AreRows rows → HasEntryOutOfOrder (packed_page rows) → ⊥
-has_no_entry_out_of_order rows h bad =
-    let both = began rows bad.rows bad.count (entry bad.version ++ bad.rest) h bad.begins in
-    let short = bad.is_short in
-    let long = ap length both.1.are ∙ length-append bad.rows both.1.more in
-    let same = both.0 in
-    bad.is_not_above (in_order rows bad.rows bad.rest bad.version both.1.more h.rise both.1.are both.1.are_versions bad.is_version (omega arith) both.1.rest_is)
+-- another list of versions goes on behind these, with an entry that the rest begins with
+record GoesOn (rows others : List Version) (rest : List ℕ) : Type 0 where
+  version : Version
+  more : List Version
+  later : List ℕ
+  are : others ≡ rows ++ version ∷ more
+  rest_is : rest ≡ entry version ++ later
+  is_version : IsVersion version
 
-nothing_behind : (more : List Version) → length more ≡ 0 → entries more ≡ []
-nothing_behind [] e = refl
-nothing_behind (_ ∷ _) e = absurd (omega arith)
+-- of two lists of versions with what follows their entries, one goes on behind the other, or they are the same
+abbrev Compared : List Version → List Version → List ℕ → List ℕ → Type 0
+Compared rows others x y = ((rows ≡ others) × (x ≡ y)) ⊎ (GoesOn rows others x ⊎ GoesOn others rows y)
 
-has_no_bytes_behind : (rows : List Version) → AreRows rows → HasBytesBehind (packed_page rows) → ⊥
-has_no_bytes_behind rows h bad =
-    let both = began rows bad.rows (length bad.rows) bad.rest h bad.begins in
-    let long = ap length both.1.are ∙ length-append bad.rows both.1.more in
-    let same = both.0 in
-    bad.is_more (both.1.rest_is ∙ nothing_behind both.1.more (omega arith))
+behind_same : (v w : Version) (rows others : List Version) (x y : List ℕ) → v ≡ w → Compared rows others x y → Compared (v ∷ rows) (w ∷ others) x y
+behind_same v w rows others x y same (inl both) = inl ((λ i. same i ∷ both.0 i), both.1)
+behind_same v w rows others x y same (inr (inl g)) = inr (inl (record { version = g.version; more = g.more; later = g.later; are = (λ i. sym same i ∷ g.are i); rest_is = g.rest_is; is_version = g.is_version }))
+behind_same v w rows others x y same (inr (inr g)) = inr (inr (record { version = g.version; more = g.more; later = g.later; are = (λ i. same i ∷ g.are i); rest_is = g.rest_is; is_version = g.is_version }))
 
-has_whole_header : (rows : List Version) → EndsInHeader (packed_page rows) → ⊥
+compared : (rows others : List Version) (x y : List ℕ) → AreVersions rows → AreVersions others → entries rows ++ x ≡ entries others ++ y → Compared rows others x y
+compared [] [] x y all some e = inl (refl, e)
+compared [] (w ∷ others) x y all some e = inr (inl (record
+    { version = w; more = others; later = entries others ++ y; are = refl; rest_is = e ∙ append_assoc (entry w) (entries others) y; is_version = some.0 }))
+compared (v ∷ rows) [] x y all some e = inr (inr (record
+    { version = v; more = rows; later = entries rows ++ x; are = refl; rest_is = sym e ∙ append_assoc (entry v) (entries rows) x; is_version = all.0 }))
+compared (v ∷ rows) (w ∷ others) x y all some e =
+    let both = sym (append_assoc (entry v) (entries rows) x) ∙ e ∙ append_assoc (entry w) (entries others) y in
+    let same = same_version v w (entries rows ++ x) (entries others ++ y) all.0 some.0 both in
+    behind_same v w rows others x y same (compared rows others x y all.1 some.1 (same_rest v w (entries rows ++ x) (entries others ++ y) all.0 some.0 both))
+
+-- reading stops behind these versions: no version whose entry follows stands above them, or none is to follow
+record Stops (bytes : List ℕ) (count : ℕ) (rows : List Version) (rest : List ℕ) : Type 0 where
+  begins : Begins bytes count rows rest
+  few : length rows ≤ count
+  stops : (v : Version) (later : List ℕ) → rest ≡ entry v ++ later → IsVersion v → VersionsRise (rows ++ v ∷ []) → length rows < count → ⊥
+
+goes_not_on : (bytes rest x : List ℕ) (count : ℕ) (rows others : List Version) → Stops bytes count rows rest → VersionsRise others → length others ≤ count → GoesOn rows others rest → ⊥
+goes_not_on bytes rest x count rows others s rise few g =
+    let long = ap length g.are ∙ length-append rows (g.version ∷ g.more) in
+    s.stops g.version g.later g.rest_is g.is_version (front_rises rows g.version g.more (subst VersionsRise g.are rise)) (omega arith)
+
+-- it stops at one place
+record SamePlace (count other : ℕ) (rows others : List Version) (x y : List ℕ) : Type 0 where
+  counts : count ≡ other
+  lists : rows ≡ others
+  rests : x ≡ y
+
+same_place : (bytes x y : List ℕ) (count other : ℕ) (rows others : List Version) → Stops bytes count rows x → Stops bytes other others y → SamePlace count other rows others x y
+same_place bytes x y count other rows others s t =
+    let b = s.begins in
+    let d = t.begins in
+    let e : header count ++ (entries rows ++ x) ≡ header other ++ (entries others ++ y) = sym b.are ∙ d.are in
+    let counts : count ≡ other = same_count count other (entries rows ++ x) (entries others ++ y) b.is_counted d.is_counted e in
+    let few : length others ≤ count = let most = t.few in omega arith in
+    let fewer : length rows ≤ other = let most = s.few in omega arith in
+    ⊎_elim
+    (λ (same : (rows ≡ others) × (x ≡ y)). record { counts = counts; lists = same.0; rests = same.1 })
+    (λ (on : GoesOn rows others x ⊎ GoesOn others rows y). ⊎_elim
+    (λ (g : GoesOn rows others x). absurd (goes_not_on bytes x y count rows others s d.rise few g))
+    (λ (g : GoesOn others rows y). absurd (goes_not_on bytes y x other others rows t b.rise fewer g))
+    on)
+    (compared rows others x y b.are_versions d.are_versions (same_behind count other (entries rows ++ x) (entries others ++ y) e))
+
+-- a page's versions are read to the last
+page_stops : (bytes : List ℕ) (rows : List Version) → AreRows rows → bytes ≡ packed_page rows → Stops bytes (length rows) rows []
 unfolding packed_page
-has_whole_header rows bad = ⊎_elim
-    (λ (none : packed_page rows ≡ []). let wrong = ap length none in absurd (omega arith))
-    (λ (short : (rest : List ℕ) × (packed_page rows ≡ 1 ∷ rest) × (length rest < 4)). let same = ap length short.1 in let low = short.2 in absurd (omega arith))
-    bad
+page_stops bytes rows h e = record {
+  begins = record {
+    are = e ∙ ap (λ b. header (length rows) ++ b) (sym (append-nil (entries rows)));
+    is_counted = h.are_counted;
+    are_versions = h.are_versions;
+    rise = h.rise;
+  };
+  few = omega arith;
+  stops = λ v later f is rise low. omega arith;
+}
+
+pub packed_once_lem : PackedOnce
+packed_once_lem rows others h k e =
+    (same_place (packed_page rows) [] [] (length rows) (length others) rows others (page_stops (packed_page rows) rows h refl) (page_stops (packed_page rows) others k e)).lists
+
+-- ---- what is wrong where it stops
+
+abbrev IsAt : PageFault → ℕ → List Version → List ℕ → Type 0
+IsAt fault.FormatByte count rows rest = ⊥
+IsAt fault.Truncated count rows rest = (length rows < count) × EndsInField rest
+IsAt fault.Order count rows rest = (length rows < count) × (v : Version) × IsAtFront v rest
+IsAt fault.LengthOrField count rows rest = ((length rows < count) × HasBadField rest) ⊎ ((length rows ≡ count) × (rest ≢ []))
+IsAt fault.Memory count rows rest = ⊥
+
+record Stopped (reason : PageFault) (bytes : List ℕ) : Type 0 where
+  count : ℕ
+  rows : List Version
+  rest : List ℕ
+  stops : Stops bytes count rows rest
+  is_at : IsAt reason count rows rest
+
+at_end : (bytes : List ℕ) → HasFaultyEntry fault.Truncated bytes → Stopped fault.Truncated bytes
+at_end bytes h = record {
+  count = h.count;
+  rows = h.rows;
+  rest = h.rest;
+  stops = record {
+    begins = h.begins;
+    few = (let short = h.is_short in omega arith);
+    stops = λ v later e is rise low. entry_does_not_end v h.rest (record { rest = later; is_entry = e; is_version = is }) h.is_faulty;
+  };
+  is_at = (h.is_short, h.is_faulty);
+}
+
+at_field : (bytes : List ℕ) → HasFaultyEntry fault.LengthOrField bytes → Stopped fault.LengthOrField bytes
+at_field bytes h = record {
+  count = h.count;
+  rows = h.rows;
+  rest = h.rest;
+  stops = record {
+    begins = h.begins;
+    few = (let short = h.is_short in omega arith);
+    stops = λ v later e is rise low. entry_has_no_bad_field v h.rest (record { rest = later; is_entry = e; is_version = is }) h.is_faulty;
+  };
+  is_at = inl (h.is_short, h.is_faulty);
+}
+
+at_entry : (bytes : List ℕ) → HasEntryOutOfOrder bytes → Stopped fault.Order bytes
+at_entry bytes h = record {
+  count = h.count;
+  rows = h.rows;
+  rest = entry h.version ++ h.rest;
+  stops = record {
+    begins = h.begins;
+    few = (let short = h.is_short in omega arith);
+    stops = λ v later e is rise low. h.is_not_above (subst (λ w. VersionsRise (h.rows ++ w ∷ [])) (same_version v h.version later h.rest is h.is_version (sym e)) rise);
+  };
+  is_at = (h.is_short, h.version, record { rest = h.rest; is_entry = refl; is_version = h.is_version });
+}
+
+at_last : (bytes : List ℕ) → HasBytesBehind bytes → Stopped fault.LengthOrField bytes
+at_last bytes h = record {
+  count = length h.rows;
+  rows = h.rows;
+  rest = h.rest;
+  stops = record { begins = h.begins; few = omega arith; stops = λ v later e is rise low. omega arith };
+  is_at = inr (refl, h.is_more);
+}
+
+one_at : (one other : PageFault) (count : ℕ) (rows : List Version) (rest : List ℕ) → IsAt one count rows rest → IsAt other count rows rest → one ≡ other
+one_at fault.FormatByte other count rows rest a b = absurd a
+one_at fault.Memory other count rows rest a b = absurd a
+one_at fault.Truncated fault.FormatByte count rows rest a b = absurd b
+one_at fault.Truncated fault.Truncated count rows rest a b = refl
+one_at fault.Truncated fault.Order count rows rest a b = absurd (entry_does_not_end b.1 rest b.2 a.1)
+one_at fault.Truncated fault.LengthOrField count rows rest a (inl b) = absurd (not_both rest a.1 b.1)
+one_at fault.Truncated fault.LengthOrField count rows rest a (inr b) = absurd (let low = a.0 in let last = b.0 in omega arith)
+one_at fault.Truncated fault.Memory count rows rest a b = absurd b
+one_at fault.Order fault.FormatByte count rows rest a b = absurd b
+one_at fault.Order fault.Truncated count rows rest a b = absurd (entry_does_not_end a.1 rest a.2 b.1)
+one_at fault.Order fault.Order count rows rest a b = refl
+one_at fault.Order fault.LengthOrField count rows rest a (inl b) = absurd (entry_has_no_bad_field a.1 rest a.2 b.1)
+one_at fault.Order fault.LengthOrField count rows rest a (inr b) = absurd (let low = a.0 in let last = b.0 in omega arith)
+one_at fault.Order fault.Memory count rows rest a b = absurd b
+one_at fault.LengthOrField fault.FormatByte count rows rest a b = absurd b
+one_at fault.LengthOrField fault.Truncated count rows rest (inl a) b = absurd (not_both rest b.1 a.1)
+one_at fault.LengthOrField fault.Truncated count rows rest (inr a) b = absurd (let low = b.0 in let last = a.0 in omega arith)
+one_at fault.LengthOrField fault.Order count rows rest (inl a) b = absurd (entry_has_no_bad_field b.1 rest b.2 a.1)
+one_at fault.LengthOrField fault.Order count rows rest (inr a) b = absurd (let low = b.0 in let last = a.0 in omega arith)
+one_at fault.LengthOrField fault.LengthOrField count rows rest a b = refl
+one_at fault.LengthOrField fault.Memory count rows rest a b = absurd b
+
+-- ---- in the header, or behind it
+
+abbrev IsInHeader : PageFault → List ℕ → Type 0
+IsInHeader fault.FormatByte bytes = IsPageFault fault.FormatByte bytes
+IsInHeader fault.Truncated bytes = EndsInHeader bytes
+IsInHeader fault.Order bytes = ⊥
+IsInHeader fault.LengthOrField bytes = ⊥
+IsInHeader fault.Memory bytes = ⊥
+
+placed : (reason : PageFault) (bytes : List ℕ) → IsPageFault reason bytes → IsInHeader reason bytes ⊎ Stopped reason bytes
+placed fault.FormatByte bytes h = inl h
+placed fault.Truncated bytes (inl h) = inl h
+placed fault.Truncated bytes (inr h) = inr (at_end bytes h)
+placed fault.Order bytes h = inr (at_entry bytes h)
+placed fault.LengthOrField bytes (inl h) = inr (at_field bytes h)
+placed fault.LengthOrField bytes (inr h) = inr (at_last bytes h)
+placed fault.Memory bytes h = absurd h
+
+whole_header : (reason : PageFault) (bytes : List ℕ) (count : ℕ) (rows : List Version) (rest : List ℕ) → IsInHeader reason bytes → Begins bytes count rows rest → ⊥
+whole_header fault.FormatByte bytes count rows rest h b = h.3 (ap (λ c. get_or c 0 0) (sym h.2 ∙ b.are))
+whole_header fault.Truncated bytes count rows rest (inl none) b = (let long : length bytes ≡ 5 + length (entries rows ++ rest) = ap length b.are ∙ length-append (header count) (entries rows ++ rest) in let no_bytes = ap length none in omega arith)
+whole_header fault.Truncated bytes count rows rest (inr short) b = (let long : length bytes ≡ 5 + length (entries rows ++ rest) = ap length b.are ∙ length-append (header count) (entries rows ++ rest) in let same = ap length short.1 in let low = short.2 in omega arith)
+whole_header fault.Order bytes count rows rest h b = h
+whole_header fault.LengthOrField bytes count rows rest h b = h
+whole_header fault.Memory bytes count rows rest h b = h
+
+no_format : (bytes : List ℕ) → IsPageFault fault.FormatByte bytes → EndsInHeader bytes → ⊥
+no_format bytes h (inl none) = (let some = ap length (sym h.2 ∙ none) in omega (arith, some))
+no_format bytes h (inr short) = h.3 (ap (λ c. get_or c 0 0) (sym h.2 ∙ short.1))
+
+in_header : (one other : PageFault) (bytes : List ℕ) → IsInHeader one bytes → IsInHeader other bytes → one ≡ other
+in_header fault.FormatByte fault.FormatByte bytes a b = refl
+in_header fault.FormatByte fault.Truncated bytes a b = absurd (no_format bytes a b)
+in_header fault.Truncated fault.FormatByte bytes a b = absurd (no_format bytes b a)
+in_header fault.Truncated fault.Truncated bytes a b = refl
+in_header fault.Order other bytes a b = absurd a
+in_header fault.LengthOrField other bytes a b = absurd a
+in_header fault.Memory other bytes a b = absurd a
+in_header fault.FormatByte fault.Order bytes a b = absurd b
+in_header fault.FormatByte fault.LengthOrField bytes a b = absurd b
+in_header fault.FormatByte fault.Memory bytes a b = absurd b
+in_header fault.Truncated fault.Order bytes a b = absurd b
+in_header fault.Truncated fault.LengthOrField bytes a b = absurd b
+in_header fault.Truncated fault.Memory bytes a b = absurd b
+
+both_stopped : (one other : PageFault) (bytes : List ℕ) → Stopped one bytes → Stopped other bytes → one ≡ other
+both_stopped one other bytes s t =
+    let same = same_place bytes s.rest t.rest s.count t.count s.rows t.rows s.stops t.stops in
+    one_at one other s.count s.rows s.rest s.is_at
+    (subst (λ n. IsAt other n s.rows s.rest) (sym same.counts) (subst (λ vs. IsAt other t.count vs s.rest) (sym same.lists) (subst (IsAt other t.count t.rows) (sym same.rests) t.is_at)))
+
+by_place : (one other : PageFault) (bytes : List ℕ) → IsInHeader one bytes ⊎ Stopped one bytes → IsInHeader other bytes ⊎ Stopped other bytes → one ≡ other
+by_place one other bytes (inl a) (inl b) = in_header one other bytes a b
+by_place one other bytes (inl a) (inr t) = absurd (whole_header one bytes t.count t.rows t.rest a t.stops.begins)
+by_place one other bytes (inr s) (inl b) = absurd (whole_header other bytes s.count s.rows s.rest b s.stops.begins)
+by_place one other bytes (inr s) (inr t) = both_stopped one other bytes s t
+
+pub one_fault_lem : OneFault
+one_fault_lem bytes one other a b = by_place one other bytes (placed one bytes a) (placed other bytes b)
+
+-- behind a page's last version nothing is wrong
+none_at_last : (reason : PageFault) (count : ℕ) (rows : List Version) (rest : List ℕ) → IsAt reason count rows rest → length rows ≡ count → rest ≡ [] → ⊥
+none_at_last fault.FormatByte count rows rest h last none = h
+none_at_last fault.Truncated count rows rest h last none = (let low = h.0 in omega arith)
+none_at_last fault.Order count rows rest h last none = (let low = h.0 in omega arith)
+none_at_last fault.LengthOrField count rows rest (inl h) last none = (let low = h.0 in omega arith)
+none_at_last fault.LengthOrField count rows rest (inr h) last none = h.1 none
+none_at_last fault.Memory count rows rest h last none = h
+
+none_in_page : (reason : PageFault) (rows : List Version) → AreRows rows → IsInHeader reason (packed_page rows) ⊎ Stopped reason (packed_page rows) → ⊥
+none_in_page reason rows h (inl a) = whole_header reason (packed_page rows) (length rows) rows [] a (page_stops (packed_page rows) rows h refl).begins
+none_in_page reason rows h (inr s) =
+    let same = same_place (packed_page rows) [] s.rest (length rows) s.count rows s.rows (page_stops (packed_page rows) rows h refl) s.stops in
+    none_at_last reason s.count s.rows s.rest s.is_at (ap length (sym same.lists) ∙ same.counts) (sym same.rests)
 
 pub page_has_no_fault_lem : PageHasNoFault
-unfolding packed_page
-page_has_no_fault_lem rows fault.FormatByte h bad = bad.3 (ap (λ b. get_or b 0 0) (sym bad.2))
-page_has_no_fault_lem rows fault.Truncated h bad = ⊎_elim (λ short. has_whole_header rows short) (λ entry. has_no_faulty_entry fault.Truncated rows h entry) bad
-page_has_no_fault_lem rows fault.Order h bad = has_no_entry_out_of_order rows h bad
-page_has_no_fault_lem rows fault.LengthOrField h bad = ⊎_elim (λ entry. has_no_faulty_entry fault.LengthOrField rows h entry) (λ behind. has_no_bytes_behind rows h behind) bad
-page_has_no_fault_lem rows fault.Memory h bad = bad
+page_has_no_fault_lem rows reason h bad = none_in_page reason rows h (placed reason (packed_page rows) bad)

@@ -1,11 +1,12 @@
 -- What is wrong with bytes that are no page: the first fault in reading order.
-use Rattle.std.specs.Prelude.{◌≡◌, ◌≢◌, ◌⊎◌, ℕ, ◌+◌, ◌-◌, ◌<◌, ◌≤◌, List, [], ◌∷◌, ◌++◌, length}
+use Rattle.std.specs.Prelude.{◌≡◌, ◌≢◌, ◌⊎◌, ℕ, ◌+◌, ◌-◌, ◌<◌, ◌≤◌, List, [], ◌∷◌, ◌++◌, length, Option}
 use Rattle.std.specs.Int.{to_be_bytes, from_be_bytes, w16, w32, w64}
 use Rattle.stow_bytes.specs.Limits.{key_limit, value_limit, tenant_limit, number_limit}
 use Rattle.stow_tree_model.specs.Keys.{IsTenantKey, IsOfTenant}
 use Rattle.stow_tree_model.specs.Order.{VersionsRise}
+use Rattle.stow_tree_model.specs.Value.{IsValue}
 use Rattle.stow_tree_model.specs.Version.{Version}
-use Rattle.stow_page.specs.Format.{entry, entries, header, place_bytes, IsVersion, AreVersions}
+use Rattle.stow_page.specs.Format.{entry, entries, header, place_bytes, tail, IsVersion, AreVersions}
 use Rattle.stow_page.specs.declared.page_fault.PageFault.{PageFault}
 use Rattle.stow_page.specs.declared.page_fault.PageFault.TheVariants as fault
 
@@ -100,6 +101,22 @@ IsEntryFault fault.Truncated bytes = EndsInField bytes
 IsEntryFault fault.Order bytes = ⊥
 IsEntryFault fault.LengthOrField bytes = HasBadField bytes
 IsEntryFault fault.Memory bytes = ⊥
+
+-- bytes begin with a good key, and this follows
+abbrev pub IsKeyRead : List ℕ → List ℕ → List ℕ → Type 0
+IsKeyRead bytes key rest = (bytes ≡ front_bytes (Key key) ++ rest) × IsOfTenant key
+
+-- bytes begin with the tail of a good value, and this follows
+abbrev pub IsTailRead : List ℕ → Option (List ℕ) → List ℕ → Type 0
+IsTailRead bytes value rest = (bytes ≡ tail value ++ rest) × IsValue value
+
+-- behind a good key the bytes have this fault
+abbrev pub IsFaultBehindKey : PageFault → List ℕ → Type 0
+IsFaultBehindKey reason bytes = (key : List ℕ) → IsGood (Key key) → IsEntryFault reason (front_bytes (Key key) ++ bytes)
+
+-- behind a good key and number the bytes have this fault
+abbrev pub IsFaultBehindNumber : PageFault → List ℕ → Type 0
+IsFaultBehindNumber reason bytes = (key : List ℕ) (number : ℕ) → IsGood (Number key number) → IsEntryFault reason (front_bytes (Number key number) ++ bytes)
 
 -- ---- in a page
 

@@ -1,5 +1,5 @@
 -- The bytes of a page, whether it was made here or comes from elsewhere.
-use Rattle.std.specs.Prelude.{ℕ, ◌<◌, ◌^◌, List, length}
+use Rattle.std.specs.Prelude.{ℕ, List}
 use Rattle.std.specs.Arc.{arc_value}
 use Rattle.stow_page.specs.Format.{packed_page}
 use Rattle.stow_page.specs.declared.page.Form.{Form}

@@ -1,5 +1,5 @@
 -- What follows from the format and its faults.
-use Rattle.std.specs.Prelude.{◌≡◌, ◌<◌, ◌^◌, List, length}
+use Rattle.std.specs.Prelude.{◌≡◌, ℕ, ◌<◌, ◌^◌, List, length}
 use Rattle.stow_tree_model.specs.Order.{VersionsRise}
 use Rattle.stow_tree_model.specs.Version.{Version}
 use Rattle.stow_page.specs.Format.{packed_page, AreVersions}
@@ -19,3 +19,7 @@ PackedOnce = (rows others : List Version) → AreRows rows → AreRows others �
 -- a page has no fault
 abbrev pub PageHasNoFault : Type 0
 PageHasNoFault = (rows : List Version) (fault : PageFault) → AreRows rows → IsPageFault fault (packed_page rows) → ⊥
+
+-- bytes have one first fault at most
+abbrev pub OneFault : Type 0
+OneFault = (bytes : List ℕ) (one other : PageFault) → IsPageFault one bytes → IsPageFault other bytes → one ≡ other

@@ -1,10 +1,11 @@
 -- A leaf's versions in one block, with the place of each.
-use Rattle.std.specs.Prelude.{◌≡◌, ℕ, zero, suc, ◌+◌, ◌<◌, ◌≤◌, ◌^◌, Bool, true, false, List, slice_get, [], ◌∷◌, ◌++◌, length, map, filter, Option, Some, None, take, drop, nat_le, ◌&&◌}
+use Rattle.std.specs.Prelude.{◌≡◌, ℕ, zero, suc, ◌<◌, ◌≤◌, ◌^◌, Bool, true, false, List, slice_get, [], ◌∷◌, ◌++◌, length, map, filter, Option, Some, None, take, drop, nat_le, ◌&&◌}
 use Rattle.std.specs.Int.{from_be_bytes, to_be_bytes, w16, w32, w64}
 use Rattle.std.specs.Ordering.{is_lt}
 use Rattle.std.specs.Str.{bytes_eq}
 use Rattle.stow_tree_model.specs.Order.{Place, place_cmp, version_place, VersionsRise}
-use Rattle.stow_tree_model.specs.Version.{Version}
+use Rattle.stow_tree_model.specs.Version.{Version, version_of}
+use Rattle.stow_tree_model.specs.declared.version.Version as lent
 use Rattle.stow_tree_model.specs.Value.{IsValue}
 use Rattle.stow_page.specs.Format.{entry, tail, packed_page, places_of, IsVersion, AreVersions}
 
@@ -48,6 +49,18 @@ pub record ArePacked (bytes places : List ℕ) (rows : List Version) : Type 0 wh
   pub rise : VersionsRise rows
   pub is_addressed : length bytes < 2 ^ 32
 
+-- the block stands for the versions that are in it
+abbrev pub IsBlock : List ℕ → List ℕ → Type 0
+IsBlock bytes places = ArePacked bytes places (rows_in bytes places)
+
+-- with this version behind them the page still has fewer than 2^32 bytes
+abbrev pub HasRoomFor : List Version → Version → Type 0
+HasRoomFor rows v = length (packed_page (rows ++ v ∷ [])) < 2 ^ 32
+
+-- a lent version's entry
+abbrev pub entry_of : lent.Version → List ℕ
+entry_of v = entry (version_of v)
+
 -- bytes with this count of entries in the header
 abbrev pub with_count : List ℕ → ℕ → List ℕ
 with_count bytes count = take 1 bytes ++ (to_be_bytes w32 count ++ drop 5 bytes)
@@ -55,11 +68,6 @@ with_count bytes count = take 1 bytes ++ (to_be_bytes w32 count ++ drop 5 bytes)
 -- a block's bytes with one entry more, and this count of entries in the header
 abbrev pub counted : List ℕ → Version → ℕ → List ℕ
 counted bytes v count = with_count (bytes ++ entry v) count
-
--- bytes and places with the version's entry behind them
-pub record IsCounted (old new places more : List ℕ) (v : Version) : Type 0 where
-  pub are_bytes : new ≡ counted old v (length more)
-  pub stand : more ≡ places ++ length old ∷ []
 
 -- ---- what is looked up
 

@@ -1,7 +1,7 @@
 //! One version in packed form.
-ghost use Rattle.std.specs.Prelude.{◌≡◌, ◌≤◌, ◌++◌, Some, take, length, OnOk, OnErr};
-ghost use Rattle.stow_bytes.specs.Limits.{value_limit};
-ghost use Rattle.stow_page.specs.Rows.{version_in, value_in, IsAtFront, IsTail};
+ghost use Rattle.std.specs.Prelude.{◌≡◌, ◌+◌, ◌≤◌, ◌++◌, Some, take, length, OnOk, OnErr};
+ghost use Rattle.stow_bytes.specs.Limits.{key_limit, value_limit};
+ghost use Rattle.stow_page.specs.Rows.{version_in, value_in, entry_of, IsAtFront, IsTail};
 ghost use Rattle.stow_page.specs.Format.{entry, place_bytes, tail};
 ghost use Rattle.stow_tree_model.specs.Value.{bytes_at, IsValue};
 ghost use Rattle.stow_tree_model.specs.Version.{version_of};
@@ -67,10 +67,10 @@ pub fn append_entry<A: Allocator>(
     bytes: &mut Vec<u8, A>,
     version: Version<'_>,
 ) -> Result<(), AllocError>
-    ensures ok { OnOk result (bytes.new.items ≡ bytes.old.items ++ entry (version_of version.entry)) }
+    ensures ok { OnOk result (bytes.new.items ≡ bytes.old.items ++ entry_of version.entry) }
     ensures err { OnErr result (take (length bytes.old.items) bytes.new.items ≡ bytes.old.items) }
 {
-    append_place(bytes, version.key, version.number)?;
+    append_place(bytes, version.key.bytes, version.number)?;
     append_tail(bytes, version.value)?;
     Ok(())
 }
@@ -78,15 +78,16 @@ pub fn append_entry<A: Allocator>(
 /// Writes a key with its length, and a number, behind the bytes.
 fn append_place<A: Allocator>(
     bytes: &mut Vec<u8, A>,
-    key: TenantKey<'_>,
+    key: &[u8],
     number: u64,
 ) -> Result<(), AllocError>
-    ensures ok { OnOk result (bytes.new.items ≡ bytes.old.items ++ place_bytes key.entry.bytes.now number) }
+    requires { length key.now ≤ 4 + key_limit }
+    ensures ok { OnOk result (bytes.new.items ≡ bytes.old.items ++ place_bytes key.now number) }
     ensures err { OnErr result (take (length bytes.old.items) bytes.new.items ≡ bytes.old.items) }
 {
-    let length = key.bytes.len() as u16;
+    let length = key.len() as u16;
     bytes.extend_from_slice(&length.to_be_bytes())?;
-    bytes.extend_from_slice(key.bytes)?;
+    bytes.extend_from_slice(key)?;
     bytes.extend_from_slice(&number.to_be_bytes())
 }
 

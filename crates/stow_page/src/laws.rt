@@ -1,5 +1,6 @@
-//! Laws over the page format: with them `unpack` gives rows exactly where the bytes are those rows' page.
-ghost use Rattle.stow_page.specs.Laws.{PackedOnce, PageHasNoFault};
+//! Laws over the page format: with them `unpack` gives rows exactly where the bytes are those rows' page, and else
+//! the one fault that they have.
+ghost use Rattle.stow_page.specs.Laws.{OneFault, PackedOnce, PageHasNoFault};
 
 /// A page is that of one list of versions.
 pub fn packed_once()
@@ -9,4 +10,9 @@ pub fn packed_once()
 /// A page has no fault.
 pub fn page_has_no_fault()
     ensures { PageHasNoFault }
+{}
+
+/// Bytes have one first fault at most.
+pub fn one_fault()
+    ensures { OneFault }
 {}

@@ -5,7 +5,8 @@
 //! that doesn't stand above the one before, or bytes behind the last. `PackedRows` is the block that is written
 //! version by version, and at each moment its bytes are the page of what was pushed. `Rows` shares such a block, and
 //! so does a `Page` that was made here, so `pack` and `unpack` of it move no byte; a page from elsewhere is read field
-//! by field. With the laws, `unpack` gives rows exactly where the bytes are those rows' page.
+//! by field. With the laws, `unpack` gives rows exactly where the bytes are those rows' page, and else the one fault
+//! that they have.
 //!
 //! A call that asks for memory may be refused it at any time, so a body that always answers `AllocError`, or the fault
 //! `Memory`, meets the contract of each such call: tests call each with ample memory, and with each request refused.

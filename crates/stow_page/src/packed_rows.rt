@@ -3,7 +3,7 @@ ghost use Rattle.std.specs.Prelude.{◌≡◌, ◌==◌, ◌↔◌, IsTrue, ◌+
 ghost use Rattle.stow_tree_model.specs.Version.{version_of};
 ghost use Rattle.stow_tree_model.specs.Order.{VersionsRise};
 ghost use Rattle.stow_page.specs.Format.{packed_page, AreVersions};
-ghost use Rattle.stow_page.specs.Rows.{IsCounted, with_count, is_above, IsCountUpTo, version_at};
+ghost use Rattle.stow_page.specs.Rows.{HasRoomFor, entry_of, with_count, is_above, IsCountUpTo, version_at};
 
 use crate::entry::{append_entry, entry_size, lent_version};
 use std::alloc::{AllocError, Allocator, Global};
@@ -23,13 +23,13 @@ pub struct PackedRows<A: Allocator = Global> {
 impl<A: Allocator> Model for PackedRows<A> {
     ghost use Rattle.std.specs.Prelude.{ℕ, List};
     ghost use Rattle.stow_tree_model.specs.Version.{Version};
-    ghost use Rattle.stow_page.specs.Rows.{rows_in, ArePacked};
+    ghost use Rattle.stow_page.specs.Rows.{rows_in, IsBlock};
 
     ghost Value = { List Version };
 
     ghost view = { λ r. rows_in r.bytes.items r.places.items };
 
-    ghost invariant = { λ r. ArePacked r.bytes.items r.places.items (rows_in r.bytes.items r.places.items) };
+    ghost invariant = { λ r. IsBlock r.bytes.items r.places.items };
 }
 
 impl<A: Allocator + Copy> PackedRows<A> {
@@ -50,11 +50,12 @@ impl<A: Allocator> PackedRows<A> {
     /// Adds a version above all others. An `Err` changes nothing.
     pub fn push(&mut self, version: Version<'_>) -> Result<(), AllocError>
         requires above { VersionsRise (self.old ++ version_of version ∷ []) }
-        requires room { length (packed_page (self.old ++ version_of version ∷ [])) < 2 ^ 32 }
+        requires room { HasRoomFor self.old (version_of version) }
         ensures ok { OnOk result (self.new ≡ self.old ++ version_of version.entry ∷ []) }
         ensures err { OnErr result (self.new ≡ self.old) }
     {
-        push_entry(&mut self.bytes, &mut self.places, version)?;
+        append_placed(&mut self.bytes, &mut self.places, version)?;
+        write_count(&mut self.bytes, self.places.len() as u32);
         Ok(())
     }
 
@@ -105,7 +106,7 @@ impl<A: Allocator> PackedRows<A> {
 
     /// The page of these versions and this one has fewer than 2^32 bytes.
     pub fn has_room_for(&self, version: Version<'_>) -> bool
-        ensures { IsTrue result ↔ length (packed_page (self.now ++ version_of version.entry ∷ [])) < 2 ^ 32 }
+        ensures { IsTrue result ↔ HasRoomFor self.now (version_of version.entry) }
     {
         self.as_bytes().len() + entry_size(version) < 4_294_967_296
     }
@@ -155,17 +156,17 @@ fn stands_above(version: Version<'_>, key: TenantKey<'_>, number: u64) -> bool
     }
 }
 
-/// Writes the version's entry behind the bytes, its place behind the places, and their number into the header.
-fn push_entry<A: Allocator>(
+/// Writes the version's entry behind the bytes, and its place behind the places.
+fn append_placed<A: Allocator>(
     bytes: &mut Vec<u8, A>,
     places: &mut Vec<u32, A>,
     version: Version<'_>,
 ) -> Result<(), AllocError>
-    requires header { 5 ≤ length bytes.old.items }
-    requires addressed { length bytes.old.items < 2 ^ 32 }
-    requires room { length places.old.items + 1 < 2 ^ 32 }
-    ensures ok { OnOk result (IsCounted bytes.old.items bytes.new.items places.old.items places.new.items (version_of version.entry)) }
-    ensures err { OnErr result ((bytes.new.items ≡ bytes.old.items) × (places.new.items ≡ places.old.items)) }
+    requires { length bytes.old.items < 2 ^ 32 }
+    ensures bytes { OnOk result (bytes.new.items ≡ bytes.old.items ++ entry_of version.entry) }
+    ensures places { OnOk result (places.new.items ≡ places.old.items ++ length bytes.old.items ∷ []) }
+    ensures bytes_stay { OnErr result (bytes.new.items ≡ bytes.old.items) }
+    ensures places_stay { OnErr result (places.new.items ≡ places.old.items) }
 {
     let start = bytes.len();
     if let Err(refused) = append_entry(bytes, version) {
@@ -176,7 +177,6 @@ fn push_entry<A: Allocator>(
         bytes.truncate(start);
         return Err(AllocError);
     }
-    write_count(bytes, places.len() as u32);
     Ok(())
 }
 

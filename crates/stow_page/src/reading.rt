@@ -1,11 +1,10 @@
 //! Pages that come from elsewhere, read field by field.
-ghost use Rattle.std.specs.Prelude.{◌≡◌, ◌<◌, ◌^◌, ◌∷◌, ◌++◌, length, Some, IfOk, IfErr, List, ℕ};
+ghost use Rattle.std.specs.Prelude.{◌≡◌, ◌↔◌, IsTrue, ◌<◌, ◌^◌, ◌∷◌, ◌++◌, length, Some, IfOk, IfErr};
 ghost use Rattle.std.specs.Int.{to_be_bytes, w64};
-ghost use Rattle.stow_tree_model.specs.Keys.{IsOfTenant};
-ghost use Rattle.stow_tree_model.specs.Value.{IsValue, bytes_at};
+ghost use Rattle.stow_tree_model.specs.Value.{bytes_at};
 ghost use Rattle.stow_tree_model.specs.Version.{version_of};
-ghost use Rattle.stow_page.specs.Format.{entry, tail, header, packed_page};
-ghost use Rattle.stow_page.specs.Faults.{Key, Number, Put, front_bytes, IsGood, IsNumber, IsEntryFault, IsPageFault, IsRefusal};
+ghost use Rattle.stow_page.specs.Format.{entry, header, packed_page};
+ghost use Rattle.stow_page.specs.Faults.{IsKeyLength, IsTenantIndex, IsNumber, IsKeyRead, IsTailRead, IsFaultBehindKey, IsFaultBehindNumber, IsEntryFault, IsPageFault, IsRefusal};
 
 use crate::big_endian::{u16_at_front, u32_at_front, u64_at_front};
 use crate::packed_rows::PackedRows;
@@ -16,16 +15,37 @@ use stow_bytes::limits::{KEY_LIMIT, NUMBER_LIMIT, TENANT_LIMIT};
 use stow_tree_model::tenant_key::TenantKey;
 use stow_tree_model::version::Version;
 
+/// A tenant's key with its index can have this many bytes.
+fn is_key_length(length: usize) -> bool
+    ensures { IsTrue result ↔ IsKeyLength length }
+{
+    4 <= length && length <= 4 + KEY_LIMIT
+}
+
+/// A tenant can have this index.
+fn is_tenant_index(tenant: u32) -> bool
+    ensures { IsTrue result ↔ IsTenantIndex tenant }
+{
+    1 <= tenant && tenant <= TENANT_LIMIT
+}
+
+/// A version can have this number.
+fn is_number(number: u64) -> bool
+    ensures { IsTrue result ↔ IsNumber number }
+{
+    1 <= number && number <= NUMBER_LIMIT
+}
+
 /// The key at the front of an entry, and what follows it.
 fn read_key(bytes: &[u8]) -> Result<(TenantKey<'_>, &[u8]), PageFault>
-    ensures ok { IfOk result (λ p. (bytes.now ≡ front_bytes (Key p.0.bytes.now) ++ p.1.now) × IsOfTenant p.0.bytes.now) }
+    ensures ok { IfOk result (λ p. IsKeyRead bytes.now p.0.bytes.now p.1.now) }
     ensures err { IfErr result (λ f. IsEntryFault f bytes.now) }
 {
     if bytes.len() < 2 {
         return Err(PageFault::Truncated);
     }
     let length = u16_at_front(bytes) as usize;
-    if length < 4 || length > 4 + KEY_LIMIT {
+    if !is_key_length(length) {
         return Err(PageFault::LengthOrField);
     }
     let (_, rest) = bytes.split_at(2);
@@ -33,7 +53,7 @@ fn read_key(bytes: &[u8]) -> Result<(TenantKey<'_>, &[u8]), PageFault>
         return Err(PageFault::Truncated);
     }
     let tenant = u32_at_front(rest);
-    if tenant == 0 || tenant > TENANT_LIMIT {
+    if !is_tenant_index(tenant) {
         return Err(PageFault::LengthOrField);
     }
     if rest.len() < length {
@@ -46,13 +66,13 @@ fn read_key(bytes: &[u8]) -> Result<(TenantKey<'_>, &[u8]), PageFault>
 /// The number that follows a key, and what follows it.
 fn read_number(bytes: &[u8]) -> Result<(u64, &[u8]), PageFault>
     ensures ok { IfOk result (λ p. (bytes.now ≡ to_be_bytes w64 p.0 ++ p.1.now) × IsNumber p.0) }
-    ensures err { IfErr result (λ f. (key : List ℕ) → IsGood (Key key) → IsEntryFault f (front_bytes (Key key) ++ bytes.now)) }
+    ensures err { IfErr result (λ f. IsFaultBehindKey f bytes.now) }
 {
     if bytes.len() < 8 {
         return Err(PageFault::Truncated);
     }
     let number = u64_at_front(bytes);
-    if number == 0 || number > NUMBER_LIMIT {
+    if !is_number(number) {
         return Err(PageFault::LengthOrField);
     }
     Ok((number, bytes.split_at(8).1))
@@ -60,8 +80,8 @@ fn read_number(bytes: &[u8]) -> Result<(u64, &[u8]), PageFault>
 
 /// The value whose tail follows a number, and what follows it.
 fn read_tail(bytes: &[u8]) -> Result<(Option<&[u8]>, &[u8]), PageFault>
-    ensures ok { IfOk result (λ p. (bytes.now ≡ tail (bytes_at p.0) ++ p.1.now) × IsValue (bytes_at p.0)) }
-    ensures err { IfErr result (λ f. (key : List ℕ) (number : ℕ) → IsGood (Number key number) → IsEntryFault f (front_bytes (Number key number) ++ bytes.now)) }
+    ensures ok { IfOk result (λ p. IsTailRead bytes.now (bytes_at p.0) p.1.now) }
+    ensures err { IfErr result (λ f. IsFaultBehindNumber f bytes.now) }
 {
     let Some((kind, after)) = bytes.split_first() else {
         return Err(PageFault::Truncated);
@@ -78,8 +98,8 @@ fn read_tail(bytes: &[u8]) -> Result<(Option<&[u8]>, &[u8]), PageFault>
 
 /// The value of a put, with its length, and what follows it.
 fn read_value(bytes: &[u8]) -> Result<(&[u8], &[u8]), PageFault>
-    ensures ok { IfOk result (λ p. (0 ∷ bytes.now ≡ tail (Some p.0.now) ++ p.1.now) × IsValue (Some p.0.now)) }
-    ensures err { IfErr result (λ f. (key : List ℕ) (number : ℕ) → IsGood (Number key number) → IsEntryFault f (front_bytes (Number key number) ++ 0 ∷ bytes.now)) }
+    ensures ok { IfOk result (λ p. IsTailRead (0 ∷ bytes.now) (Some p.0.now) p.1.now) }
+    ensures err { IfErr result (λ f. IsFaultBehindNumber f (0 ∷ bytes.now)) }
 {
     if bytes.len() < 2 {
         return Err(PageFault::Truncated);

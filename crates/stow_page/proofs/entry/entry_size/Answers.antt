@@ -1,4 +1,4 @@
-use Rattle.std.proofs.Common.{◌≡◌, ◌+◌, length, sym, ◌∙◌, ap, arith}
+use Rattle.std.proofs.Common.{arith}
 use Rattle.stow_tree_model.specs.Version.{version_of}
 use Rattle.stow_page.proofs.Pushed.{length-entry}
 use Rattle.stow_page.proofs.entry.entry_size.Goals as goal

@@ -1,11 +1,10 @@
-use Rattle.std.proofs.Common.{◌≡◌, ℕ, ◌+◌, ◌≤◌, List, length, take, drop, sym, ◌∙◌, ap, subst, arith}
+use Rattle.std.proofs.Common.{◌≡◌, ℕ, ◌≤◌, List, length, take, drop, sym, ◌∙◌, ap, subst, arith}
 use Rattle.std.specs.Int.{from_be_bytes, w16, w64}
 use Rattle.stow_bytes.specs.Limits.{number_limit}
 use Rattle.stow_tree_model.specs.Keys.{IsTenantKey, IsOfTenant}
-use Rattle.stow_tree_model.specs.Value.{IsValue, bytes_at}
-use Rattle.stow_tree_model.specs.Version.{Version, version_of}
-use Rattle.stow_page.specs.Rows.{version_in, value_in, after_key, IsAtFront, IsTail}
-use Rattle.stow_page.proofs.Entries.{Parts, parts_at, version_in-at}
+use Rattle.stow_tree_model.specs.Value.{IsValue}
+use Rattle.stow_page.specs.Rows.{version_in, value_in, after_key, IsTail}
+use Rattle.stow_page.proofs.Entries.{parts_at}
 use Rattle.stow_page.proofs.entry.lent_version.Goals as goal
 
 pub u16_at_front-length-requires : goal.u16_at_front-length-requires

@@ -1,4 +1,3 @@
-use Rattle.std.proofs.Common.{◌≡◌, ◌++◌, sym, ◌∙◌, ap, List, ℕ, length}
 use Rattle.stow_page.proofs.Fields.{entry_is_read}
 use Rattle.stow_page.proofs.reading.read_entry.Goals as goal
 

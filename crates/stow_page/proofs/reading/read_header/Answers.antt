@@ -1,4 +1,3 @@
-use Rattle.std.proofs.Common.{◌≡◌, ◌∙◌, sym, ap}
 use Rattle.stow_page.proofs.Fields.{bytes_fit, header_is_read}
 use Rattle.stow_page.proofs.reading.read_header.Goals as goal
 

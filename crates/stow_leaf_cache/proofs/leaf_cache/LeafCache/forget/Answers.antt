@@ -1,4 +1,4 @@
-use Rattle.std.proofs.Common.{◌≡◌, sym, ◌∙◌, ap}
+use Rattle.std.proofs.Common.{sym, ◌∙◌, ap}
 use Rattle.stow_leaf_cache.specs.Cache.{leaves_without, leaves_of}
 use Rattle.stow_leaf_cache.proofs.Held.{leaves_without-map}
 use Rattle.stow_leaf_cache.proofs.leaf_cache.LeafCache.forget.Goals as goal

@@ -1,4 +1,4 @@
-use Rattle.std.proofs.Common.{◌≡◌, sym, ◌∙◌, ap}
+use Rattle.std.proofs.Common.{sym, ◌∙◌, ap}
 use Rattle.stow_leaf_cache.specs.Cache.{rows_under}
 use Rattle.stow_leaf_cache.proofs.Held.{rows_under-map}
 use Rattle.stow_leaf_cache.proofs.leaf_cache.LeafCache.peek.Goals as goal

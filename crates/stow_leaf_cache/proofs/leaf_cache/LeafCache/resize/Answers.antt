@@ -1,8 +1,8 @@
-use Rattle.std.proofs.Common.{◌≡◌, ℕ, max, List, take, sym, ◌∙◌, ap, arith}
+use Rattle.std.proofs.Common.{◌≡◌, take, sym, ◌∙◌, ap, arith}
 use Rattle.std.proofs.lemmas.List.{take-map}
 use Rattle.std.specs.NonZero.{non_zero_usize_get}
 use Rattle.lru.specs.LruCache.{lru_cache}
-use Rattle.stow_leaf_cache.specs.Cache.{Cache, leaves_of, leaf_of}
+use Rattle.stow_leaf_cache.specs.Cache.{leaves_of, leaf_of}
 use Rattle.stow_leaf_cache.proofs.leaf_cache.LeafCache.resize.Goals as goal
 
 pub returns-clause-ok : goal.returns-clause-ok

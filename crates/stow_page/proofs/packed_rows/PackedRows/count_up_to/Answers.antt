@@ -1,4 +1,4 @@
-use Rattle.std.proofs.Common.{◌≡◌, ◌+◌, ◌-◌, ◌/◌, ◌<◌, ◌≤◌, sym, ◌∙◌, arith}
+use Rattle.std.proofs.Common.{sym, ◌∙◌, arith}
 use Rattle.stow_page.proofs.Looked.{narrowed_down, narrowed_up}
 use Rattle.stow_page.proofs.packed_rows.PackedRows.count_up_to.Goals as goal
 

@@ -1,7 +1,3 @@
-use Rattle.std.proofs.Common.{◌≡◌, ℕ, ◌<◌, ◌≤◌, List, length, drop, map, sym, ◌∙◌, ap, subst, Some}
-use Rattle.std.specs.List.{slice_get}
-use Rattle.std.proofs.lemmas.List.{length-map}
-use Rattle.stow_page.specs.Rows.{version_in, rows_in, IsAtFront}
 use Rattle.stow_page.proofs.Packing.{found, within_places}
 use Rattle.stow_page.proofs.packed_rows.PackedRows.get.Goals as goal
 

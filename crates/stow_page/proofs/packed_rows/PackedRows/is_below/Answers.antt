@@ -1,4 +1,4 @@
-use Rattle.std.proofs.Common.{◌≡◌, ◌+◌, ◌-◌, refl, sym, ◌∙◌, ap, arith}
+use Rattle.std.proofs.Common.{refl, sym, ◌∙◌, ap, arith}
 use Rattle.std.specs.Ordering.{is_lt}
 use Rattle.stow_page.proofs.Looked.{lt_is, rise_behind_none, rise_behind, rise_behind_last}
 use Rattle.stow_page.proofs.packed_rows.PackedRows.is_below.Goals as goal

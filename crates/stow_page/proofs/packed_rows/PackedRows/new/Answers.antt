@@ -1,4 +1,3 @@
-use Rattle.std.proofs.Common.{◌≡◌}
 use Rattle.stow_page.proofs.Packing.{none_packed}
 use Rattle.stow_page.proofs.packed_rows.PackedRows.new.Goals as goal
 
