@@ -27,7 +27,9 @@ leaves_without fence leaves = remove_entry (bytes_eq fence) leaves
 
 -- the leaf under the fence goes first, if there is one
 abbrev pub leaves_used : List ℕ → List Leaf → List Leaf
-leaves_used fence leaves = option_map_or (λ rows. (fence, rows) ∷ leaves_without fence leaves) (rows_under fence leaves) leaves
+leaves_used fence leaves =
+    option_map_or (λ rows. (fence, rows)
+    ∷ leaves_without fence leaves) (rows_under fence leaves) leaves
 
 -- these rows stand under the fence in front; the last leaves fall out that are more than the limit
 abbrev pub leaves_kept : ℕ → List ℕ → List Version → List Leaf → List Leaf
@@ -36,7 +38,8 @@ leaves_kept limit fence rows leaves = take limit ((fence, rows) ∷ leaves_witho
 -- the rows are kept, or, where memory is refused, nothing is held under the fence
 abbrev pub IsOffered : Cache → List ℕ → List Version → List Leaf → Type 0
 IsOffered cache fence rows new =
-    (new ≡ leaves_kept cache.limit fence rows cache.leaves) ⊎ (new ≡ leaves_without fence cache.leaves)
+    (new ≡ leaves_kept cache.limit fence rows cache.leaves)
+    ⊎ (new ≡ leaves_without fence cache.leaves)
 
 -- the cache once the leaf under the fence was used
 abbrev pub cache_used : List ℕ → Cache → Cache

@@ -54,7 +54,8 @@ IsGood (Index n tenant) = IsKeyLength n × IsTenantIndex tenant
 IsGood (Key key) = IsTenantKey key × IsOfTenant key
 IsGood (Number key number) = IsTenantKey key × IsOfTenant key × IsNumber number
 IsGood (Put key number) = IsTenantKey key × IsOfTenant key × IsNumber number
-IsGood (PutLength key number n) = IsTenantKey key × IsOfTenant key × IsNumber number × (n ≤ value_limit)
+IsGood (PutLength key number n) = IsTenantKey key × IsOfTenant key × IsNumber number
+    × (n ≤ value_limit)
 
 -- how many bytes the next field has
 abbrev pub width : Front → ℕ
@@ -112,11 +113,13 @@ IsTailRead bytes value rest = (bytes ≡ tail value ++ rest) × IsValue value
 
 -- behind a good key the bytes have this fault
 abbrev pub IsFaultBehindKey : PageFault → List ℕ → Type 0
-IsFaultBehindKey reason bytes = (key : List ℕ) → IsGood (Key key) → IsEntryFault reason (front_bytes (Key key) ++ bytes)
+IsFaultBehindKey reason bytes = (key : List ℕ) → IsGood (Key key)
+    → IsEntryFault reason (front_bytes (Key key) ++ bytes)
 
 -- behind a good key and number the bytes have this fault
 abbrev pub IsFaultBehindNumber : PageFault → List ℕ → Type 0
-IsFaultBehindNumber reason bytes = (key : List ℕ) (number : ℕ) → IsGood (Number key number) → IsEntryFault reason (front_bytes (Number key number) ++ bytes)
+IsFaultBehindNumber reason bytes = (key : List ℕ) (number : ℕ) → IsGood (Number key number)
+    → IsEntryFault reason (front_bytes (Number key number) ++ bytes)
 
 -- ---- in a page
 
@@ -160,10 +163,12 @@ pub record HasBytesBehind (bytes : List ℕ) : Type 0 where
 
 -- the bytes are no page, and this is the first fault in reading order
 abbrev pub IsPageFault : PageFault → List ℕ → Type 0
-IsPageFault fault.FormatByte bytes = (format : ℕ) × (rest : List ℕ) × (bytes ≡ format ∷ rest) × (format ≢ 1)
+IsPageFault fault.FormatByte bytes = (format : ℕ) × (rest : List ℕ) × (bytes ≡ format ∷ rest)
+    × (format ≢ 1)
 IsPageFault fault.Truncated bytes = EndsInHeader bytes ⊎ HasFaultyEntry fault.Truncated bytes
 IsPageFault fault.Order bytes = HasEntryOutOfOrder bytes
-IsPageFault fault.LengthOrField bytes = HasFaultyEntry fault.LengthOrField bytes ⊎ HasBytesBehind bytes
+IsPageFault fault.LengthOrField bytes = HasFaultyEntry fault.LengthOrField bytes
+    ⊎ HasBytesBehind bytes
 IsPageFault fault.Memory bytes = ⊥
 
 -- why bytes are not unpacked

@@ -14,12 +14,15 @@ pub record AreRows (rows : List Version) : Type 0 where
 
 -- a page is that of one list of versions
 abbrev pub PackedOnce : Type 0
-PackedOnce = (rows others : List Version) → AreRows rows → AreRows others → packed_page rows ≡ packed_page others → rows ≡ others
+PackedOnce = (rows others : List Version) → AreRows rows → AreRows others
+    → packed_page rows ≡ packed_page others → rows ≡ others
 
 -- a page has no fault
 abbrev pub PageHasNoFault : Type 0
-PageHasNoFault = (rows : List Version) (fault : PageFault) → AreRows rows → IsPageFault fault (packed_page rows) → ⊥
+PageHasNoFault = (rows : List Version) (fault : PageFault) → AreRows rows
+    → IsPageFault fault (packed_page rows) → ⊥
 
 -- bytes have one first fault at most
 abbrev pub OneFault : Type 0
-OneFault = (bytes : List ℕ) (one other : PageFault) → IsPageFault one bytes → IsPageFault other bytes → one ≡ other
+OneFault = (bytes : List ℕ) (one other : PageFault) → IsPageFault one bytes
+    → IsPageFault other bytes → one ≡ other

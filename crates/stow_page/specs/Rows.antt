@@ -23,7 +23,12 @@ after_key bytes = drop (from_be_bytes w16 bytes) (drop 2 bytes)
 
 -- the version whose entry stands at the front of these bytes
 unfoldable pub version_in : List ℕ → Version
-version_in bytes = record { key = take (from_be_bytes w16 bytes) (drop 2 bytes); number = from_be_bytes w64 (after_key bytes); value = value_in (drop 8 (after_key bytes)) }
+version_in bytes =
+    record {
+      key = take (from_be_bytes w16 bytes) (drop 2 bytes);
+      number = from_be_bytes w64 (after_key bytes);
+      value = value_in (drop 8 (after_key bytes));
+    }
 
 -- the bytes begin with the version's entry
 pub record IsAtFront (v : Version) (bytes : List ℕ) : Type 0 where
@@ -78,8 +83,10 @@ is_above place v = is_lt (place_cmp place (version_place v))
 -- this many versions stand at the place or below it, and all others above it
 pub record IsCountUpTo (rows : List Version) (place : Place) (count : ℕ) : Type 0 where
   pub within : count ≤ length rows
-  pub up_to : (i : ℕ) (v : Version) → i < count → slice_get rows i ≡ Some v → is_above place v ≡ false
-  pub above : (i : ℕ) (v : Version) → count ≤ i → slice_get rows i ≡ Some v → is_above place v ≡ true
+  pub up_to : (i : ℕ) (v : Version) → i < count → slice_get rows i ≡ Some v
+      → is_above place v ≡ false
+  pub above : (i : ℕ) (v : Version) → count ≤ i → slice_get rows i ≡ Some v
+      → is_above place v ≡ true
 
 -- the version is the key's, and numbered at most this
 abbrev pub is_up_to : List ℕ → ℕ → Version → Bool

@@ -164,7 +164,8 @@ fn append_placed<A: Allocator>(
 ) -> Result<(), AllocError>
     requires { length bytes.old.items < 2 ^ 32 }
     ensures bytes { OnOk result (bytes.new.items ≡ bytes.old.items ++ entry_of version.entry) }
-    ensures places { OnOk result (places.new.items ≡ places.old.items ++ length bytes.old.items ∷ []) }
+    ensures places { OnOk result (places.new.items
+        ≡ places.old.items ++ length bytes.old.items ∷ []) }
     ensures bytes_stay { OnErr result (bytes.new.items ≡ bytes.old.items) }
     ensures places_stay { OnErr result (places.new.items ≡ places.old.items) }
 {
