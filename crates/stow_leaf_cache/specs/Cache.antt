@@ -28,8 +28,8 @@ leaves_without fence leaves = remove_entry (bytes_eq fence) leaves
 -- the leaf under the fence goes first, if there is one
 abbrev pub leaves_used : List ℕ → List Leaf → List Leaf
 leaves_used fence leaves =
-    option_map_or (λ rows. (fence, rows)
-    ∷ leaves_without fence leaves) (rows_under fence leaves) leaves
+    option_map_or (λ rows. (fence, rows) ∷ leaves_without fence leaves)
+    (rows_under fence leaves) leaves
 
 -- these rows stand under the fence in front; the last leaves fall out that are more than the limit
 abbrev pub leaves_kept : ℕ → List ℕ → List Version → List Leaf → List Leaf

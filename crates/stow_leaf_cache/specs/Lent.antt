@@ -11,5 +11,5 @@ module _ (A : RattleType) (heap : alloc.Ghosts A.Denot) (cache : MutBor Cache) w
   abbrev pub ends_used : List ℕ → Fml
   ends_used fence =
       let row = the_row A heap in
-      follows_so row row cache.ghost_name none (λ _ _. ⊤) (λ last. last
-      ≡ cache_used fence cache.now)
+      follows_so row row cache.ghost_name none (λ _ _. ⊤)
+      (λ last. last ≡ cache_used fence cache.now)

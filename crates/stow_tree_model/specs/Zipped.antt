@@ -9,8 +9,8 @@ abbrev pub zip_head : TreeMessage → (List TreeMessage → List TreeMessage) �
     → List TreeMessage
 zip_head a rest [] = a ∷ rest []
 zip_head a rest (b ∷ bs) =
-    by_order (place_cmp (place_of a) (place_of b)) (a ∷ rest (b ∷ bs)) (b ∷ rest bs) (b
-    ∷ zip_head a rest bs)
+    by_order (place_cmp (place_of a) (place_of b)) (a ∷ rest (b ∷ bs)) (b ∷ rest bs)
+    (b ∷ zip_head a rest bs)
 
 -- two lists that rise in one; of two messages of one key and number the second list's
 abbrev pub zipped : List TreeMessage → List TreeMessage → List TreeMessage
