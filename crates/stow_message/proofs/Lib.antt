@@ -6,3 +6,4 @@ pub mod Removed
 pub mod RisingLists
 pub mod Squeezed
 pub mod Stored
+pub mod Taken

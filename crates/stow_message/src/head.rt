@@ -34,7 +34,8 @@ pub(crate) fn carried(op: Op<'_>) -> &[u8]
     }
 }
 
-fn kind(op: Op<'_>) -> u8
+/// The number that stands for the operation.
+pub(crate) fn kind(op: Op<'_>) -> u8
     ensures { result ≡ kind_of (op_of op.entry) }
 {
     match op {

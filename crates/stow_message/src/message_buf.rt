@@ -1,15 +1,15 @@
 //! A buffer of packed messages.
-ghost use Rattle.std.specs.Prelude.{◌≡◌, ◌+◌, ◌-◌, ◌*◌, ◌^◌, ◌<◌, ◌≤◌, ◌==◌, [], ◌++◌, length, map, take, drop, reverse, slice_index_or, IfOk, IsTrue, ◌↔◌};
+ghost use Rattle.std.specs.Prelude.{◌≡◌, ◌+◌, ◌-◌, ◌*◌, ◌^◌, ◌<◌, ◌≤◌, ◌==◌, [], ◌++◌, length, map, take, drop, reverse, slice_index_or, IfOk, IsTrue, ◌↔◌, false};
 ghost use Rattle.std.specs.Ordering.{is_lt, is_eq};
 ghost use Rattle.stow_tree_model.specs.TreeMessage.{message_of};
 ghost use Rattle.stow_tree_model.specs.Order.{place_cmp, place_of, MessagesRise};
 ghost use Rattle.stow_raw.specs.RawBuf.{raw_lists, RawFits};
 ghost use Rattle.stow_message.specs.MessageBuf.{message_list, Fits};
 ghost use Rattle.stow_message.specs.Packed.{message_bytes, message_size, message_at, IsMessage, BeginsWith};
-ghost use Rattle.stow_message.specs.Rising.{is_below, below, placed, IsNew, of_key, in_range, out_of_range, all_placed, AreNew};
+ghost use Rattle.stow_message.specs.Rising.{is_below, below, placed, IsNew, of_key, in_range, out_of_range, all_placed, AreNew, is_same, is_first, AreHeld, without};
 ghost use Rattle.std.specs.List.{All, sum_by, remove_range};
 
-use crate::head::{HEAD, carried, op_with, read_head, size, write_head};
+use crate::head::{HEAD, carried, kind, op_with, read_head, size, write_head};
 use crate::newest::Newest;
 use crate::run::Run;
 use std::alloc::{AllocError, Allocator, Global};
@@ -57,6 +57,16 @@ fn is_message_at(message: Message<'_>, key: &[u8], number: u64) -> bool
         Ordering::Equal => message.number == number,
         _ => false,
     }
+}
+
+/// Whether the messages are one: of one key and number, with one operation.
+fn is_same(a: Message<'_>, b: Message<'_>) -> bool
+    ensures { result ≡ is_same (message_of a.entry) (message_of b.entry) }
+{
+    a.number == b.number
+        && kind(a.op) == kind(b.op)
+        && a.key.bytes == b.key.bytes
+        && carried(a.op) == carried(b.op)
 }
 
 /// The message that begins `at` bytes into the front.
@@ -240,6 +250,64 @@ impl<A: Allocator> MessageBuf<A> {
             into.push(self.message(low + i));
         }
         self.remove(low, count);
+    }
+
+    /// Whether the message at `index` is there and is this one.
+    fn has_at(&self, index: usize, message: Message<'_>) -> bool
+        ensures same { result ≡ is_first (message_of message.entry) (drop index self.now.messages) }
+        ensures within { IsTrue result → index < length self.now.messages }
+    {
+        if index < self.len() {
+            is_same(self.message(index), message)
+        } else {
+            false
+        }
+    }
+
+    /// Whether each message of the batch is held, its operation too.
+    pub fn holds<B: Allocator>(&self, batch: &MessageBuf<B>) -> bool
+        ensures { IsTrue result ↔ AreHeld batch.now.messages self.now.messages }
+    {
+        let mut found = 0;
+        for i in 0..self.len() {
+            if batch.has_at(found, self.message(i)) {
+                found += 1;
+            }
+        }
+        found == batch.len()
+    }
+
+    /// Lets the batch's messages go: their bytes are dead.
+    fn remove_all<B: Allocator>(&mut self, batch: &MessageBuf<B>)
+        requires { AreHeld batch.now.messages self.old.messages }
+        ensures { self.new ≡ message_list (without batch.now.messages self.old.messages)
+            (self.old.used - 4 * length batch.now.messages) self.old.capacity }
+    {
+        let (mut gone, mut kept) = (0, 0);
+        for place in 0..self.raw.slot_count() {
+            let slot = self.raw.slot(place);
+            if batch.has_at(gone, read_message(&self.raw, slot as usize)) {
+                gone += 1;
+            } else {
+                self.raw.set_slot(kept, slot);
+                kept += 1;
+            }
+        }
+        self.raw.remove_slots(kept, batch.len());
+    }
+
+    /// Takes all messages of the batch out, or none where one of them is missing. Their bytes are dead.
+    pub fn take_out<B: Allocator>(&mut self, batch: &MessageBuf<B>) -> bool
+        ensures held { IsTrue result ↔ AreHeld batch.now.messages self.old.messages }
+        ensures taken { IsTrue result → self.new ≡ message_list (without batch.now.messages self.old.messages)
+            (self.old.used - 4 * length batch.now.messages) self.old.capacity }
+        ensures unchanged { result ≡ false → self.new ≡ self.old }
+    {
+        if !self.holds(batch) {
+            return false;
+        }
+        self.remove_all(batch);
+        true
     }
 
     /// Drops the dead bytes, with the help of a block that is at least as large. What that block held is lost.
