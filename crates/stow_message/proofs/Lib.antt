@@ -1,4 +1,5 @@
-pub mod Moved
+pub mod Merged
+pub mod Placed
 pub mod Pushed
 pub mod Ranges
 pub mod Reading

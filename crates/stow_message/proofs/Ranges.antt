@@ -1,6 +1,5 @@
 -- The messages between two places of a rising list.
-use Rattle.std.proofs.Common.{◌≡◌, ℕ, suc, ◌+◌, ◌-◌, ◌<◌, ◌≤◌, Bool, true, false, List, [], ◌∷◌, map, length, take, drop, get_or, refl, sym, ap, ◌∙◌, arith, take-append-drop, length-take, length-drop}
-use Rattle.std.proofs.lemmas.List.{get_or-take, get_or-drop}
+use Rattle.std.proofs.Common.{◌≡◌, ℕ, suc, ◌-◌, ◌<◌, ◌≤◌, Bool, true, false, List, [], ◌∷◌, map, length, take, drop, refl, sym, ap, ◌∙◌, arith, take-append-drop, length-take, length-drop}
 use Rattle.std.specs.Prelude.{max, if◌then◌else◌, not, ◌&&◌}
 use Rattle.std.specs.declared.cmp.Ordering.{Ordering}
 use Rattle.std.specs.declared.cmp.Ordering.TheVariants.{Less, Equal, Greater}
@@ -162,6 +161,3 @@ module _ (from to : List ℕ) (ms : List TreeMessage) (lo hi : ℕ) (e : lo ≡ 
 
   pub range_length : length (in_range from to ms) ≡ hi - lo
   range_length = omega (arith, ap length (range_is from to ms lo hi e f up), length-take (hi - lo) (drop lo ms), length-drop lo ms, range_ends)
-
-  pub range_get : (k : ℕ) (d : TreeMessage) → k < hi - lo → get_or ms (lo + k) d ≡ get_or (in_range from to ms) k d
-  range_get k d lt = sym (get_or-drop lo ms k d) ∙ sym (get_or-take (hi - lo) (drop lo ms) k d lt) ∙ ap (λ l. get_or l k d) (range_is from to ms lo hi e f up)

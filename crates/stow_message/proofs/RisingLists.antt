@@ -98,7 +98,7 @@ greater_is Less e f = absurd (no_path (sym e))
 greater_is Equal e f = absurd (no_path (sym f))
 greater_is Greater e f = refl
 
-new_rises : (m : TreeMessage) (ms : List TreeMessage) → MessagesRise ms → AllByRecursion (λ n. is_eq (place_cmp (place_of n) (place_of m)) ≡ false) ms → MessagesRise (placed m ms)
+pub new_rises : (m : TreeMessage) (ms : List TreeMessage) → MessagesRise ms → AllByRecursion (λ n. is_eq (place_cmp (place_of n) (place_of m)) ≡ false) ms → MessagesRise (placed m ms)
 unfolding IsStrictlySortedBy
 new_rises m [] up new = (tt, tt)
 new_rises m (n ∷ ns) up new = step (is_below (place_of m) n) refl (new_rises m ns up.1 new.1) where

@@ -26,6 +26,9 @@ pub all_bytes-push : (ms : List TreeMessage) (m : TreeMessage) → all_bytes (ms
 all_bytes-push [] m = append-nil (message_bytes m)
 all_bytes-push (n ∷ ns) m = ap (λ l. message_bytes n ++ l) (all_bytes-push ns m) ∙ sym (append_assoc (message_bytes n) (all_bytes ns) (message_bytes m))
 
+pub all_bytes-more : (ms : List TreeMessage) (k : ℕ) (m : TreeMessage) → k < length ms → m ≡ get_or ms k m → all_bytes (take (k + 1) ms) ≡ all_bytes (take k ms) ++ message_bytes m
+all_bytes-more ms k m lt is = ap all_bytes (take_more ms k m lt ∙ ap (λ n. take k ms ++ n ∷ []) (sym is)) ∙ all_bytes-push (take k ms) m
+
 pub all_sizes : (ms : List TreeMessage) → length (all_bytes ms) + 4 * length ms ≡ sum_by message_size ms
 all_sizes [] = refl
 all_sizes (m ∷ ms) = omega (arith, all_sizes ms, length-append (message_bytes m) (all_bytes ms), length-message_bytes m, sum_by-cons message_size m ms)
@@ -114,7 +117,7 @@ module _ (raw : RawLists) (h : IsFilled raw) (ms : List TreeMessage) (are : mess
           g ∙ ap (λ (r : RawLists). message_at (drop at r.front)) e ∙ read_is raw.front at (filled_at raw h k lt at slot) ∙ sym (message_there raw h k lt at slot m) ∙ ap (λ l. get_or l k m) are
 
       pub more_bytes : (m : TreeMessage) → m ≡ get_or ms k m → all_bytes (take k ms) ++ message_bytes m ≡ all_bytes (take (k + 1) ms)
-      more_bytes m g = sym (all_bytes-push (take k ms) m) ∙ ap all_bytes (ap (λ n. take k ms ++ n ∷ []) g ∙ sym (take_more ms k m (omega (arith, counts))))
+      more_bytes m g = sym (all_bytes-more ms k m (omega (arith, lt, counts)) g)
 
       pub more_slots : (next : RawLists) (at : ℕ) → next ≡ raw_lists now.front (set now.slots k at) now.capacity → at ≡ length (all_bytes (take k ms))
           → next ≡ raw_lists raw.front (take (k + 1) (places_from 0 ms) ++ drop (k + 1) raw.slots) raw.capacity

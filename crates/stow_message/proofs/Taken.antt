@@ -17,6 +17,7 @@ use Rattle.stow_message.specs.Packed.{kind_of, op_by, message_size, message_at, 
 use Rattle.stow_message.specs.MessageBuf.{op_is, messages_in, IsFilled}
 use Rattle.stow_message.specs.Rising.{is_same, is_first, without}
 use Rattle.stow_message.proofs.Stored.{all_at, filled_at, read_is, message_there}
+use Rattle.stow_message.proofs.Placed.{itself}
 use Rattle.stow_message.proofs.Ranges.{filter_rises}
 use Rattle.stow_message.proofs.Squeezed.{slot_moved, slot_after}
 use Rattle.stow_message.proofs.RisingLists.{place_total, no_path, of_map, AllAbove, above_all, none_of}
@@ -58,9 +59,6 @@ unfound bs (m ∷ ms) = unfound (next m bs) ms
 abbrev pub kept : {X : Type 0} → (X → TreeMessage) → List TreeMessage → List X → List X
 kept f bs [] = []
 kept f bs (x ∷ xs) = if is_first (f x) bs then kept f (drop 1 bs) xs else x ∷ kept f bs xs
-
-abbrev pub itself : TreeMessage → TreeMessage
-itself m = m
 
 map_kept : {X : Type 0} (f : X → TreeMessage) (bs : List TreeMessage) (xs : List X) → map f (kept f bs xs) ≡ kept itself bs (map f xs)
 map_kept f bs [] = refl
@@ -187,7 +185,7 @@ kept_next f bs xs j i x d t lt here e = let rest = drop (i + 1) xs in
     ap (kept f (drop j bs)) (drop_more xs i d lt) ∙ ap (λ y. if is_first (f y) (drop j bs) then kept f (drop 1 (drop j bs)) rest else y ∷ kept f (drop j bs) rest) (sym here)
     ∙ (λ k. if sym e k then kept f (drop-drop 1 j bs k) rest else x ∷ kept f (drop j bs) rest)
 
-from_drop : {X : Type 0} (xs : List X) (k : ℕ) (x : X) (ys : List X) → drop k xs ≡ x ∷ ys → (k < length xs) × (x ≡ get_or xs k x) × (drop (k + 1) xs ≡ ys)
+pub from_drop : {X : Type 0} (xs : List X) (k : ℕ) (x : X) (ys : List X) → drop k xs ≡ x ∷ ys → (k < length xs) × (x ≡ get_or xs k x) × (drop (k + 1) xs ≡ ys)
 from_drop xs k x ys e = let at : k + 0 ≡ k = omega arith in
     (omega (arith, length-drop k xs, ap length e), ap (λ l. get_or l 0 x) (sym e) ∙ get_or-drop k xs 0 x ∙ ap (λ n. get_or xs n x) at, sym (drop-drop 1 k xs) ∙ ap (drop 1) e)
 

@@ -13,6 +13,11 @@ use Rattle.stow_message.specs.Packed.{kind_of}
 abbrev pub is_below : Place → TreeMessage → Bool
 is_below p m = is_lt (place_cmp (place_of m) p)
 
+-- the first of the messages stands below this one
+abbrev pub is_first_below : TreeMessage → List TreeMessage → Bool
+is_first_below m [] = false
+is_first_below m (n ∷ ns) = is_below (place_of m) n
+
 -- how many messages at the front stand below the place
 abbrev pub below : Place → List TreeMessage → ℕ
 below p [] = 0

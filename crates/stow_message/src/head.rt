@@ -11,6 +11,9 @@ use stow_tree_model::op::Op;
 /// Bytes of a head.
 pub(crate) const HEAD: usize = 13;
 
+/// Bytes of a slot.
+pub(crate) const SLOT: usize = 4;
+
 /// Bytes of a message beside its key and its value: its head and its slot.
 pub(crate) const OVERHEAD: usize = 17;
 

@@ -5,11 +5,11 @@ ghost use Rattle.stow_tree_model.specs.TreeMessage.{message_of};
 ghost use Rattle.stow_tree_model.specs.Order.{place_cmp, place_of, MessagesRise};
 ghost use Rattle.stow_raw.specs.RawBuf.{raw_lists, RawFits};
 ghost use Rattle.stow_message.specs.MessageBuf.{message_list, Fits};
-ghost use Rattle.stow_message.specs.Packed.{message_bytes, message_size, message_at, IsMessage, BeginsWith};
-ghost use Rattle.stow_message.specs.Rising.{is_below, below, placed, IsNew, of_key, in_range, out_of_range, all_placed, AreNew, is_same, is_first, AreHeld, without};
-ghost use Rattle.std.specs.List.{All, sum_by, remove_range};
+ghost use Rattle.stow_message.specs.Packed.{message_bytes, message_size, message_at, IsMessage, BeginsWith, all_bytes};
+ghost use Rattle.stow_message.specs.Rising.{is_below, below, placed, IsNew, of_key, in_range, out_of_range, all_placed, AreNew, is_same, is_first, is_first_below, AreHeld, without};
+ghost use Rattle.std.specs.List.{All, AllByRecursion, sum_by, remove_range};
 
-use crate::head::{HEAD, carried, kind, op_with, read_head, size, write_head};
+use crate::head::{HEAD, SLOT, carried, kind, op_with, read_head, size, write_head};
 use crate::newest::Newest;
 use crate::run::Run;
 use std::alloc::{AllocError, Allocator, Global};
@@ -93,6 +93,32 @@ fn append<A: Allocator>(raw: &mut RawBuf<A>, message: Message<'_>)
     raw.push_front(&write_head(message));
     raw.push_front(message.key.bytes);
     raw.push_front(carried(message.op));
+}
+
+/// Packs the messages of a run after the bytes at the front.
+fn append_all<A: Allocator, B: Allocator>(raw: &mut RawBuf<A>, run: &Run<'_, B>)
+    requires { RawFits raw.old (length (all_bytes run.now)) }
+    ensures { raw.new ≡ raw_lists (raw.old.front ++ all_bytes run.now) raw.old.slots raw.old.capacity }
+{
+    for i in 0..run.len() {
+        append(raw, run.get(i));
+    }
+}
+
+/// Whether a slot is at `index`, and its message stands below this one.
+fn is_slot_below<A: Allocator>(raw: &RawBuf<A>, index: usize, message: Message<'_>) -> bool
+    requires begin { AllByRecursion (λ slot. BeginsWith (drop slot raw.now.front)) (drop index raw.now.slots) }
+    requires small { length raw.now.front < 2 ^ 32 }
+    ensures below { result ≡ is_first_below (message_of message.entry)
+        (map (λ slot. message_at (drop slot raw.now.front)) (drop index raw.now.slots)) }
+    ensures within { IsTrue result → index < length raw.now.slots }
+{
+    if index < raw.slot_count() {
+        let held = read_message(raw, raw.slot(index) as usize);
+        is_message_below(held, message.key.bytes, message.number)
+    } else {
+        false
+    }
 }
 
 impl<A: Allocator> MessageBuf<A> {
@@ -236,6 +262,35 @@ impl<A: Allocator> MessageBuf<A> {
         self.raw.remove_slots(index, count);
     }
 
+    /// Puts the messages of a run to their places, in one pass over the slots.
+    fn push_all<B: Allocator>(&mut self, run: &Run<'_, B>)
+        requires room { self.old.used + sum_by message_size run.now ≤ self.old.capacity }
+        requires valid { All IsMessage run.now }
+        requires rising { MessagesRise run.now }
+        requires new { AreNew run.now self.old.messages }
+        ensures { self.new ≡ message_list (all_placed run.now self.old.messages)
+            (self.old.used + sum_by message_size run.now) self.old.capacity }
+    {
+        let mut at = self.raw.front_len();
+        append_all(&mut self.raw, run);
+        let count = run.len();
+        self.raw.add_slots(count);
+        let (mut place, mut new, mut old) = (0, 0, count);
+        while new < count {
+            let message = run.get(new);
+            if is_slot_below(&self.raw, old, message) {
+                let slot = self.raw.slot(old);
+                self.raw.set_slot(place, slot);
+                old += 1;
+            } else {
+                self.raw.set_slot(place, at as u32);
+                at += size(message) - SLOT;
+                new += 1;
+            }
+            place += 1;
+        }
+    }
+
     /// Moves the messages of the keys from `from` on and below `to` into another buffer. Their bytes here are dead.
     pub fn move_range(&mut self, from: TenantKey<'_>, to: TenantKey<'_>, into: &mut MessageBuf<A>)
         requires room { into.old.used + sum_by message_size (in_range from.bytes.now to.bytes.now self.old.messages) ≤ into.old.capacity }
@@ -245,11 +300,12 @@ impl<A: Allocator> MessageBuf<A> {
     {
         let low = self.search(from.bytes, 0);
         let high = self.search(to.bytes, 0).max(low);
-        let count = high - low;
-        for i in 0..count {
-            into.push(self.message(low + i));
-        }
-        self.remove(low, count);
+        into.push_all(&Run {
+            buf: self,
+            from: low,
+            to: high,
+        });
+        self.remove(low, high - low);
     }
 
     /// Whether the message at `index` is there and is this one.
