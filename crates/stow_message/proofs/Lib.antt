@@ -1,3 +1,4 @@
+pub mod RisingLaws
 pub mod Merged
 pub mod Placed
 pub mod Pushed

@@ -138,7 +138,7 @@ length-filter f (m ∷ ms) = step (f m) (length-filter f ms) where
   step true on = omega arith
   step false on = omega arith
 
-above_filter : (p : Place) (f : TreeMessage → Bool) (ms : List TreeMessage) → AllByRecursion (λ q. place_cmp p q ≡ Less) (map place_of ms) → AllByRecursion (λ q. place_cmp p q ≡ Less) (map place_of (filter f ms))
+pub above_filter : (p : Place) (f : TreeMessage → Bool) (ms : List TreeMessage) → AllByRecursion (λ q. place_cmp p q ≡ Less) (map place_of ms) → AllByRecursion (λ q. place_cmp p q ≡ Less) (map place_of (filter f ms))
 above_filter p f [] h = tt
 above_filter p f (m ∷ ms) h = step (f m) (above_filter p f ms h.1) where
   step : (b : Bool) → AllByRecursion (λ q. place_cmp p q ≡ Less) (map place_of (filter f ms)) → AllByRecursion (λ q. place_cmp p q ≡ Less) (map place_of (if b then m ∷ filter f ms else filter f ms))

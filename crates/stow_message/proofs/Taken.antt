@@ -34,7 +34,7 @@ and_parts : (a b : Bool) → (a && b) ≡ true → (a ≡ true) × (b ≡ true)
 and_parts true b e = (refl, e)
 and_parts false b e = absurd (no_path e)
 
-same_is : (m n : TreeMessage) → is_same m n ≡ true → m ≡ n
+pub same_is : (m n : TreeMessage) → is_same m n ≡ true → m ≡ n
 same_is m n e = let p = and_parts _ _ e in let q = and_parts _ _ p.1 in let r = and_parts _ _ q.1 in
     let number : m.number ≡ n.number = eqb-true m.number n.number p.0 in let kind : kind_of m.op ≡ kind_of n.op = eqb-true (kind_of m.op) (kind_of n.op) q.0 in
     let key : m.key ≡ n.key = (bytes_eq-Decides m.key n.key).0 r.0 in let value : bytes_in m.op ≡ bytes_in n.op = (bytes_eq-Decides (bytes_in m.op) (bytes_in n.op)).0 r.1 in
@@ -69,7 +69,7 @@ map_kept f bs (x ∷ xs) = step (is_first (f x) bs) (map_kept f (drop 1 bs) xs) 
   step false one other = ap (λ l. f x ∷ l) other
 
 -- what stands above all of a list stands above what is found in it
-unfound_above : (p : Place) (bs ms : List TreeMessage) → AllAbove p ms → unfound bs ms ≡ [] → AllAbove p bs
+pub unfound_above : (p : Place) (bs ms : List TreeMessage) → AllAbove p ms → unfound bs ms ≡ [] → AllAbove p bs
 unfound_above p bs [] h e = subst (AllAbove p) (sym e) tt
 unfound_above p [] (m ∷ ms) h e = tt
 unfound_above p (b ∷ bs) (m ∷ ms) h e = step (is_same b m) refl (unfound_above p bs ms h.1) (unfound_above p (b ∷ bs) ms h.1) e where
@@ -196,7 +196,7 @@ rest_goes ps ss k g e f = let whole : take k ps ≡ ps = take_all k ps (omega (a
     ∙ (λ i. take-append-le k ps (drop k ss) (omega (arith, e)) i ++ drop_all (k + g) (ps ++ drop k ss) (omega (arith, length-append ps (drop k ss), length-drop k ss, e, f)) i)
     ∙ append-nil (take k ps) ∙ whole
 
-without_rises : (bs ms : List TreeMessage) → MessagesRise ms → MessagesRise (without bs ms)
+pub without_rises : (bs ms : List TreeMessage) → MessagesRise ms → MessagesRise (without bs ms)
 without_rises [] ms up = up
 without_rises (b ∷ bs) ms up = without_rises bs (filter (Other b) ms) (filter_rises (Other b) ms up)
 
