@@ -1,4 +1,6 @@
-pub mod Moved
+pub mod RisingLaws
+pub mod Merged
+pub mod Placed
 pub mod Pushed
 pub mod Ranges
 pub mod Reading
@@ -6,3 +8,4 @@ pub mod Removed
 pub mod RisingLists
 pub mod Squeezed
 pub mod Stored
+pub mod Taken

@@ -1,6 +1,5 @@
 -- The messages between two places of a rising list.
-use Rattle.std.proofs.Common.{◌≡◌, ℕ, suc, ◌+◌, ◌-◌, ◌<◌, ◌≤◌, Bool, true, false, List, [], ◌∷◌, map, length, take, drop, get_or, refl, sym, ap, ◌∙◌, arith, take-append-drop, length-take, length-drop}
-use Rattle.std.proofs.lemmas.List.{get_or-take, get_or-drop}
+use Rattle.std.proofs.Common.{◌≡◌, ℕ, suc, ◌-◌, ◌<◌, ◌≤◌, Bool, true, false, List, [], ◌∷◌, map, length, take, drop, refl, sym, ap, ◌∙◌, arith, take-append-drop, length-take, length-drop}
 use Rattle.std.specs.Prelude.{max, if◌then◌else◌, not, ◌&&◌}
 use Rattle.std.specs.declared.cmp.Ordering.{Ordering}
 use Rattle.std.specs.declared.cmp.Ordering.TheVariants.{Less, Equal, Greater}
@@ -139,7 +138,7 @@ length-filter f (m ∷ ms) = step (f m) (length-filter f ms) where
   step true on = omega arith
   step false on = omega arith
 
-above_filter : (p : Place) (f : TreeMessage → Bool) (ms : List TreeMessage) → AllByRecursion (λ q. place_cmp p q ≡ Less) (map place_of ms) → AllByRecursion (λ q. place_cmp p q ≡ Less) (map place_of (filter f ms))
+pub above_filter : (p : Place) (f : TreeMessage → Bool) (ms : List TreeMessage) → AllByRecursion (λ q. place_cmp p q ≡ Less) (map place_of ms) → AllByRecursion (λ q. place_cmp p q ≡ Less) (map place_of (filter f ms))
 above_filter p f [] h = tt
 above_filter p f (m ∷ ms) h = step (f m) (above_filter p f ms h.1) where
   step : (b : Bool) → AllByRecursion (λ q. place_cmp p q ≡ Less) (map place_of (filter f ms)) → AllByRecursion (λ q. place_cmp p q ≡ Less) (map place_of (if b then m ∷ filter f ms else filter f ms))
@@ -162,6 +161,3 @@ module _ (from to : List ℕ) (ms : List TreeMessage) (lo hi : ℕ) (e : lo ≡ 
 
   pub range_length : length (in_range from to ms) ≡ hi - lo
   range_length = omega (arith, ap length (range_is from to ms lo hi e f up), length-take (hi - lo) (drop lo ms), length-drop lo ms, range_ends)
-
-  pub range_get : (k : ℕ) (d : TreeMessage) → k < hi - lo → get_or ms (lo + k) d ≡ get_or (in_range from to ms) k d
-  range_get k d lt = sym (get_or-drop lo ms k d) ∙ sym (get_or-take (hi - lo) (drop lo ms) k d lt) ∙ ap (λ l. get_or l k d) (range_is from to ms lo hi e f up)

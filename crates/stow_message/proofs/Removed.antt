@@ -11,7 +11,7 @@ use Rattle.stow_raw.specs.RawBuf.{RawLists, raw_lists, raw_used}
 use Rattle.stow_message.specs.Packed.{message_size, message_at, BeginsWith}
 use Rattle.stow_message.specs.MessageBuf.{messages_in, IsFilled}
 
-all_dropped : {X : Type 0} (P : X → Type 0) (xs : List X) (j : ℕ) → AllByRecursion P xs → AllByRecursion P (drop j xs)
+pub all_dropped : {X : Type 0} (P : X → Type 0) (xs : List X) (j : ℕ) → AllByRecursion P xs → AllByRecursion P (drop j xs)
 all_dropped P xs zero h = h
 all_dropped P [] (suc j) h = h
 all_dropped P (x ∷ xs) (suc j) h = all_dropped P xs j h.1

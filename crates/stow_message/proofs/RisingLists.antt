@@ -79,7 +79,7 @@ abbrev pub all_by : {X : Type 0} (P : X → Type 0) (xs : List X) → All P xs �
 all_by P [] h = tt
 all_by P (x ∷ xs) h = (h 0 x (omega arith), all_by P xs (λ i d lt. h (suc i) d (omega arith)))
 
-abbrev AllAbove : Place → List TreeMessage → Type 0
+abbrev pub AllAbove : Place → List TreeMessage → Type 0
 AllAbove p ms = AllByRecursion (λ q. place_cmp p q ≡ Less) (map place_of ms)
 
 above_placed : (p : Place) (m : TreeMessage) (ns : List TreeMessage) → place_cmp p (place_of m) ≡ Less → AllAbove p ns → AllAbove p (placed m ns)
@@ -89,7 +89,7 @@ above_placed p m (n ∷ ns) less h = step (is_below (place_of m) n) (above_place
   step true on = (h.0, on)
   step false on = (less, h)
 
-above_all : (p q : Place) (ns : List TreeMessage) → place_cmp p q ≡ Less → AllAbove q ns → AllAbove p ns
+pub above_all : (p q : Place) (ns : List TreeMessage) → place_cmp p q ≡ Less → AllAbove q ns → AllAbove p ns
 above_all p q [] less h = tt
 above_all p q (n ∷ ns) less h = (place_total.trans p q (place_of n) less h.0, above_all p q ns less h.1)
 
@@ -98,7 +98,7 @@ greater_is Less e f = absurd (no_path (sym e))
 greater_is Equal e f = absurd (no_path (sym f))
 greater_is Greater e f = refl
 
-new_rises : (m : TreeMessage) (ms : List TreeMessage) → MessagesRise ms → AllByRecursion (λ n. is_eq (place_cmp (place_of n) (place_of m)) ≡ false) ms → MessagesRise (placed m ms)
+pub new_rises : (m : TreeMessage) (ms : List TreeMessage) → MessagesRise ms → AllByRecursion (λ n. is_eq (place_cmp (place_of n) (place_of m)) ≡ false) ms → MessagesRise (placed m ms)
 unfolding IsStrictlySortedBy
 new_rises m [] up new = (tt, tt)
 new_rises m (n ∷ ns) up new = step (is_below (place_of m) n) refl (new_rises m ns up.1 new.1) where
@@ -122,7 +122,7 @@ sum-placed m [] = sum_by-cons message_size m []
 sum-placed m (n ∷ ns) = sum_step m n ns (is_below (place_of m) n) (sum-placed m ns)
 
 -- after a message above the place all are above it
-none_of : (p : Place) (ms : List TreeMessage) → AllAbove p ms → AllByRecursion (λ n. is_eq (place_cmp (place_of n) p) ≡ false) ms
+pub none_of : (p : Place) (ms : List TreeMessage) → AllAbove p ms → AllByRecursion (λ n. is_eq (place_cmp (place_of n) p) ≡ false) ms
 none_of p [] h = tt
 none_of p (m ∷ ms) h = (ap is_eq (place_total.antisymm (place_of m) p ∙ ap ordering_reverse h.0), none_of p ms h.1)
 

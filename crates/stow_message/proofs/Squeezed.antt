@@ -1,6 +1,6 @@
 -- A block whose messages stand one after another.
-use Rattle.std.proofs.Common.{◌≡◌, ℕ, zero, suc, ◌+◌, ◌*◌, ◌<◌, ◌≤◌, List, [], ◌∷◌, ◌++◌, map, length, take, drop, set, get_or, refl, sym, ap, subst, ◌∙◌, arith, length-append, length-take, length-drop, append_assoc, take_all}
-use Rattle.std.proofs.lemmas.List.{append-nil, drop_at, set_at, take_more, drop_more, get_or_at, drop_all}
+use Rattle.std.proofs.Common.{◌≡◌, ℕ, zero, suc, ◌+◌, ◌-◌, ◌*◌, ◌<◌, ◌≤◌, List, [], ◌∷◌, ◌++◌, map, length, take, drop, set, get_or, refl, sym, ap, subst, ◌∙◌, arith, length-append, length-take, length-drop, append_assoc, take_all}
+use Rattle.std.proofs.lemmas.List.{append-nil, drop_at, set_at, take_more, drop_more, drop_all, get_or-drop, get_or-append_right}
 use Rattle.std.proofs.lemmas.List.Sums.{sum_by-cons}
 use Rattle.std.specs.List.{AllByRecursion, sum_by}
 use Rattle.stow_tree_model.specs.TreeMessage.{TreeMessage}
@@ -25,6 +25,9 @@ place_is at (m ∷ ms) (suc k) d lt = let on = place_is (at + length (message_by
 pub all_bytes-push : (ms : List TreeMessage) (m : TreeMessage) → all_bytes (ms ++ m ∷ []) ≡ all_bytes ms ++ message_bytes m
 all_bytes-push [] m = append-nil (message_bytes m)
 all_bytes-push (n ∷ ns) m = ap (λ l. message_bytes n ++ l) (all_bytes-push ns m) ∙ sym (append_assoc (message_bytes n) (all_bytes ns) (message_bytes m))
+
+pub all_bytes-more : (ms : List TreeMessage) (k : ℕ) (m : TreeMessage) → k < length ms → m ≡ get_or ms k m → all_bytes (take (k + 1) ms) ≡ all_bytes (take k ms) ++ message_bytes m
+all_bytes-more ms k m lt is = ap all_bytes (take_more ms k m lt ∙ ap (λ n. take k ms ++ n ∷ []) (sym is)) ∙ all_bytes-push (take k ms) m
 
 pub all_sizes : (ms : List TreeMessage) → length (all_bytes ms) + 4 * length ms ≡ sum_by message_size ms
 all_sizes [] = refl
@@ -72,14 +75,15 @@ squeezed_filled ms capacity ok up fits small = record {
 }
 
 -- one more slot is at its new place
-pub slot_moved : (ps ss : List ℕ) (k p : ℕ) → length ps ≡ length ss → k < length ss → p ≡ get_or ps k p → set (take k ps ++ drop k ss) k p ≡ take (k + 1) ps ++ drop (k + 1) ss
-slot_moved ps ss k p long lt e = let rest = drop (k + 1) ss in
+pub slot_moved : (ps ss : List ℕ) (k p : ℕ) → k < length ps → k < length ss → p ≡ get_or ps k p → set (take k ps ++ drop k ss) k p ≡ take (k + 1) ps ++ drop (k + 1) ss
+slot_moved ps ss k p within lt e = let rest = drop (k + 1) ss in
     ap (λ l. set (take k ps ++ l) k p) (drop_more ss k 0 lt) ∙ set_at (take k ps) (get_or ss k 0) rest p k (omega (arith, length-take k ps))
-    ∙ sym (append_assoc (take k ps) (p ∷ []) rest) ∙ ap (λ l. l ++ rest) (ap (λ q. take k ps ++ q ∷ []) e ∙ sym (take_more ps k p (omega arith)))
+    ∙ sym (append_assoc (take k ps) (p ∷ []) rest) ∙ ap (λ l. l ++ rest) (ap (λ q. take k ps ++ q ∷ []) e ∙ sym (take_more ps k p within))
 
--- the slot that comes next is still at its old place
-pub slot_still : (ps ss : List ℕ) (k d : ℕ) → length ps ≡ length ss → k < length ss → get_or (take k ps ++ drop k ss) k d ≡ get_or ss k d
-slot_still ps ss k d long lt = ap (λ l. get_or (take k ps ++ l) k d) (drop_more ss k d lt) ∙ get_or_at (take k ps) (get_or ss k d) (drop (k + 1) ss) d k (omega (arith, length-take k ps))
+-- a slot that comes later is still at its old place
+pub slot_after : (ps ss : List ℕ) (k i d : ℕ) → k ≤ length ps → k ≤ i → i < length ss → get_or (take k ps ++ drop k ss) i d ≡ get_or ss i d
+slot_after ps ss k i d within le lt = let at : k + (i - k) ≡ i = omega (arith, le) in
+    get_or-append_right (take k ps) (drop k ss) k i d (omega (arith, length-take k ps)) le ∙ get_or-drop k ss (i - k) d ∙ ap (λ n. get_or ss n d) at
 
 pub taken_within : (ms : List TreeMessage) (k : ℕ) → length (all_bytes (take k ms)) ≤ length (all_bytes ms)
 taken_within ms zero = omega arith
@@ -103,7 +107,7 @@ module _ (raw : RawLists) (h : IsFilled raw) (ms : List TreeMessage) (are : mess
 
     module _ (lt : k < length raw.slots) where
       pub next_slot : (at : ℕ) → at ≡ get_or now.slots k 0 → at ≡ get_or raw.slots k 0
-      next_slot at f = f ∙ ap (λ (r : RawLists). get_or r.slots k 0) e ∙ slot_still (places_from 0 ms) raw.slots k 0 (length-places 0 ms ∙ counts) lt
+      next_slot at f = f ∙ ap (λ (r : RawLists). get_or r.slots k 0) e ∙ slot_after (places_from 0 ms) raw.slots k k 0 (omega (arith, length-places 0 ms, counts, lt)) (omega arith) lt
 
       pub next_begins : (at : ℕ) → at ≡ get_or now.slots k 0 → BeginsWith (drop at now.front)
       next_begins at f = subst (λ (r : RawLists). BeginsWith (drop at r.front)) (sym e) (filled_at raw h k lt at (next_slot at f))
@@ -113,12 +117,12 @@ module _ (raw : RawLists) (h : IsFilled raw) (ms : List TreeMessage) (are : mess
           g ∙ ap (λ (r : RawLists). message_at (drop at r.front)) e ∙ read_is raw.front at (filled_at raw h k lt at slot) ∙ sym (message_there raw h k lt at slot m) ∙ ap (λ l. get_or l k m) are
 
       pub more_bytes : (m : TreeMessage) → m ≡ get_or ms k m → all_bytes (take k ms) ++ message_bytes m ≡ all_bytes (take (k + 1) ms)
-      more_bytes m g = sym (all_bytes-push (take k ms) m) ∙ ap all_bytes (ap (λ n. take k ms ++ n ∷ []) g ∙ sym (take_more ms k m (omega (arith, counts))))
+      more_bytes m g = sym (all_bytes-more ms k m (omega (arith, lt, counts)) g)
 
       pub more_slots : (next : RawLists) (at : ℕ) → next ≡ raw_lists now.front (set now.slots k at) now.capacity → at ≡ length (all_bytes (take k ms))
           → next ≡ raw_lists raw.front (take (k + 1) (places_from 0 ms) ++ drop (k + 1) raw.slots) raw.capacity
       more_slots next at f g = let here : at ≡ get_or (places_from 0 ms) k at = omega (arith, g, place_is 0 ms k at (omega (arith, counts))) in
-          f ∙ (λ j. raw_lists (e j).front (set (e j).slots k at) (e j).capacity) ∙ ap (λ l. raw_lists raw.front l raw.capacity) (slot_moved (places_from 0 ms) raw.slots k at (length-places 0 ms ∙ counts) lt here)
+          f ∙ (λ j. raw_lists (e j).front (set (e j).slots k at) (e j).capacity) ∙ ap (λ l. raw_lists raw.front l raw.capacity) (slot_moved (places_from 0 ms) raw.slots k at (omega (arith, length-places 0 ms, counts, lt)) lt here)
 
     pub all_moved : length raw.slots ≤ k → now.slots ≡ places_from 0 ms
     all_moved le = ap (λ (r : RawLists). r.slots) e

@@ -1,3 +1,4 @@
+pub mod Laws
 pub mod MessageBuf
 pub mod Packed
 pub mod Rising

@@ -1,14 +1,22 @@
 -- Lists of messages that rise by key and number.
-use Rattle.std.specs.Prelude.{◌≡◌, ℕ, suc, List, [], ◌∷◌, Bool, if◌then◌else◌, not, ◌&&◌, false}
+use Rattle.std.specs.Prelude.{◌≡◌, ℕ, suc, List, [], ◌∷◌, Bool, if◌then◌else◌, not, ◌&&◌, ◌==◌, false}
 use Rattle.std.specs.Ordering.{is_lt, is_eq}
-use Rattle.std.specs.List.{All, filter}
+use Rattle.std.specs.List.{All, Contains, filter}
+use Rattle.std.specs.Str.{bytes_eq}
 use Rattle.stow_bytes.specs.Bytes.{bytes_cmp}
+use Rattle.stow_tree_model.specs.Op.{bytes_in}
 use Rattle.stow_tree_model.specs.TreeMessage.{TreeMessage}
 use Rattle.stow_tree_model.specs.Order.{Place, place_cmp, place_of}
+use Rattle.stow_message.specs.Packed.{kind_of}
 
 -- the message stands below the place
 abbrev pub is_below : Place → TreeMessage → Bool
 is_below p m = is_lt (place_cmp (place_of m) p)
+
+-- the first of the messages stands below this one
+abbrev pub is_first_below : TreeMessage → List TreeMessage → Bool
+is_first_below m [] = false
+is_first_below m (n ∷ ns) = is_below (place_of m) n
 
 -- how many messages at the front stand below the place
 abbrev pub below : Place → List TreeMessage → ℕ
@@ -47,3 +55,21 @@ all_placed (m ∷ ms) ns = all_placed ms (placed m ns)
 -- none of these messages' keys and numbers are there
 abbrev pub AreNew : List TreeMessage → List TreeMessage → Type 0
 AreNew ms ns = All (λ m. IsNew m ns) ms
+
+-- the messages are one: of one key and number, with one operation
+abbrev pub is_same : TreeMessage → TreeMessage → Bool
+is_same m n = m.number == n.number && (kind_of m.op == kind_of n.op && (bytes_eq m.key n.key && bytes_eq (bytes_in m.op) (bytes_in n.op)))
+
+-- the first of the batch is this message
+abbrev pub is_first : TreeMessage → List TreeMessage → Bool
+is_first m [] = false
+is_first m (b ∷ bs) = is_same b m
+
+-- each message of the batch is there, with its operation
+abbrev pub AreHeld : List TreeMessage → List TreeMessage → Type 0
+AreHeld batch ms = All (Contains ms) batch
+
+-- the list without the messages of the batch's keys and numbers
+abbrev pub without : List TreeMessage → List TreeMessage → List TreeMessage
+without [] ms = ms
+without (b ∷ bs) ms = without bs (filter (λ m. not (is_eq (place_cmp (place_of m) (place_of b)))) ms)

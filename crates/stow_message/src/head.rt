@@ -11,6 +11,9 @@ use stow_tree_model::op::Op;
 /// Bytes of a head.
 pub(crate) const HEAD: usize = 13;
 
+/// Bytes of a slot.
+pub(crate) const SLOT: usize = 4;
+
 /// Bytes of a message beside its key and its value: its head and its slot.
 pub(crate) const OVERHEAD: usize = 17;
 
@@ -34,7 +37,8 @@ pub(crate) fn carried(op: Op<'_>) -> &[u8]
     }
 }
 
-fn kind(op: Op<'_>) -> u8
+/// The number that stands for the operation.
+pub(crate) fn kind(op: Op<'_>) -> u8
     ensures { result ≡ kind_of (op_of op.entry) }
 {
     match op {

@@ -6,6 +6,7 @@
 #![tactic(auto)]
 
 pub mod head;
+pub mod laws;
 pub mod message_buf;
 pub mod newest;
 pub mod run;

@@ -1,15 +1,15 @@
 //! A buffer of packed messages.
-ghost use Rattle.std.specs.Prelude.{◌≡◌, ◌+◌, ◌-◌, ◌*◌, ◌^◌, ◌<◌, ◌≤◌, ◌==◌, [], ◌++◌, length, map, take, drop, reverse, slice_index_or, IfOk, IsTrue, ◌↔◌};
+ghost use Rattle.std.specs.Prelude.{◌≡◌, ◌+◌, ◌-◌, ◌*◌, ◌^◌, ◌<◌, ◌≤◌, ◌==◌, [], ◌++◌, length, map, take, drop, reverse, slice_index_or, IfOk, IsTrue, ◌↔◌, false};
 ghost use Rattle.std.specs.Ordering.{is_lt, is_eq};
 ghost use Rattle.stow_tree_model.specs.TreeMessage.{message_of};
 ghost use Rattle.stow_tree_model.specs.Order.{place_cmp, place_of, MessagesRise};
 ghost use Rattle.stow_raw.specs.RawBuf.{raw_lists, RawFits};
 ghost use Rattle.stow_message.specs.MessageBuf.{message_list, Fits};
-ghost use Rattle.stow_message.specs.Packed.{message_bytes, message_size, message_at, IsMessage, BeginsWith};
-ghost use Rattle.stow_message.specs.Rising.{is_below, below, placed, IsNew, of_key, in_range, out_of_range, all_placed, AreNew};
-ghost use Rattle.std.specs.List.{All, sum_by, remove_range};
+ghost use Rattle.stow_message.specs.Packed.{message_bytes, message_size, message_at, IsMessage, BeginsWith, all_bytes};
+ghost use Rattle.stow_message.specs.Rising.{is_below, below, placed, IsNew, of_key, in_range, out_of_range, all_placed, AreNew, is_same, is_first, is_first_below, AreHeld, without};
+ghost use Rattle.std.specs.List.{All, AllByRecursion, sum_by, remove_range};
 
-use crate::head::{HEAD, carried, op_with, read_head, size, write_head};
+use crate::head::{HEAD, SLOT, carried, kind, op_with, read_head, size, write_head};
 use crate::newest::Newest;
 use crate::run::Run;
 use std::alloc::{AllocError, Allocator, Global};
@@ -59,6 +59,16 @@ fn is_message_at(message: Message<'_>, key: &[u8], number: u64) -> bool
     }
 }
 
+/// Whether the messages are one: of one key and number, with one operation.
+fn is_same(a: Message<'_>, b: Message<'_>) -> bool
+    ensures { result ≡ is_same (message_of a.entry) (message_of b.entry) }
+{
+    a.number == b.number
+        && kind(a.op) == kind(b.op)
+        && a.key.bytes == b.key.bytes
+        && carried(a.op) == carried(b.op)
+}
+
 /// The message that begins `at` bytes into the front.
 fn read_message<A: Allocator>(raw: &RawBuf<A>, at: usize) -> Message<'_>
     requires begins { BeginsWith (drop at raw.now.front) }
@@ -83,6 +93,32 @@ fn append<A: Allocator>(raw: &mut RawBuf<A>, message: Message<'_>)
     raw.push_front(&write_head(message));
     raw.push_front(message.key.bytes);
     raw.push_front(carried(message.op));
+}
+
+/// Packs the messages of a run after the bytes at the front.
+fn append_all<A: Allocator, B: Allocator>(raw: &mut RawBuf<A>, run: &Run<'_, B>)
+    requires { RawFits raw.old (length (all_bytes run.now)) }
+    ensures { raw.new ≡ raw_lists (raw.old.front ++ all_bytes run.now) raw.old.slots raw.old.capacity }
+{
+    for i in 0..run.len() {
+        append(raw, run.get(i));
+    }
+}
+
+/// Whether a slot is at `index`, and its message stands below this one.
+fn is_slot_below<A: Allocator>(raw: &RawBuf<A>, index: usize, message: Message<'_>) -> bool
+    requires begin { AllByRecursion (λ slot. BeginsWith (drop slot raw.now.front)) (drop index raw.now.slots) }
+    requires small { length raw.now.front < 2 ^ 32 }
+    ensures below { result ≡ is_first_below (message_of message.entry)
+        (map (λ slot. message_at (drop slot raw.now.front)) (drop index raw.now.slots)) }
+    ensures within { IsTrue result → index < length raw.now.slots }
+{
+    if index < raw.slot_count() {
+        let held = read_message(raw, raw.slot(index) as usize);
+        is_message_below(held, message.key.bytes, message.number)
+    } else {
+        false
+    }
 }
 
 impl<A: Allocator> MessageBuf<A> {
@@ -226,6 +262,35 @@ impl<A: Allocator> MessageBuf<A> {
         self.raw.remove_slots(index, count);
     }
 
+    /// Puts the messages of a run to their places, in one pass over the slots.
+    fn push_all<B: Allocator>(&mut self, run: &Run<'_, B>)
+        requires room { self.old.used + sum_by message_size run.now ≤ self.old.capacity }
+        requires valid { All IsMessage run.now }
+        requires rising { MessagesRise run.now }
+        requires new { AreNew run.now self.old.messages }
+        ensures { self.new ≡ message_list (all_placed run.now self.old.messages)
+            (self.old.used + sum_by message_size run.now) self.old.capacity }
+    {
+        let mut at = self.raw.front_len();
+        append_all(&mut self.raw, run);
+        let count = run.len();
+        self.raw.add_slots(count);
+        let (mut place, mut new, mut old) = (0, 0, count);
+        while new < count {
+            let message = run.get(new);
+            if is_slot_below(&self.raw, old, message) {
+                let slot = self.raw.slot(old);
+                self.raw.set_slot(place, slot);
+                old += 1;
+            } else {
+                self.raw.set_slot(place, at as u32);
+                at += size(message) - SLOT;
+                new += 1;
+            }
+            place += 1;
+        }
+    }
+
     /// Moves the messages of the keys from `from` on and below `to` into another buffer. Their bytes here are dead.
     pub fn move_range(&mut self, from: TenantKey<'_>, to: TenantKey<'_>, into: &mut MessageBuf<A>)
         requires room { into.old.used + sum_by message_size (in_range from.bytes.now to.bytes.now self.old.messages) ≤ into.old.capacity }
@@ -235,11 +300,70 @@ impl<A: Allocator> MessageBuf<A> {
     {
         let low = self.search(from.bytes, 0);
         let high = self.search(to.bytes, 0).max(low);
-        let count = high - low;
-        for i in 0..count {
-            into.push(self.message(low + i));
+        into.push_all(&Run {
+            buf: self,
+            from: low,
+            to: high,
+        });
+        self.remove(low, high - low);
+    }
+
+    /// Whether the message at `index` is there and is this one.
+    fn has_at(&self, index: usize, message: Message<'_>) -> bool
+        ensures same { result ≡ is_first (message_of message.entry) (drop index self.now.messages) }
+        ensures within { IsTrue result → index < length self.now.messages }
+    {
+        if index < self.len() {
+            is_same(self.message(index), message)
+        } else {
+            false
         }
-        self.remove(low, count);
+    }
+
+    /// Whether each message of the batch is held, its operation too.
+    pub fn holds<B: Allocator>(&self, batch: &MessageBuf<B>) -> bool
+        ensures { IsTrue result ↔ AreHeld batch.now.messages self.now.messages }
+    {
+        let mut found = 0;
+        for i in 0..self.len() {
+            if batch.has_at(found, self.message(i)) {
+                found += 1;
+            }
+        }
+        found == batch.len()
+    }
+
+    /// Lets the batch's messages go: their bytes are dead.
+    fn remove_all<B: Allocator>(&mut self, batch: &MessageBuf<B>)
+        requires { AreHeld batch.now.messages self.old.messages }
+        ensures { self.new ≡ message_list (without batch.now.messages self.old.messages)
+            (self.old.used - 4 * length batch.now.messages) self.old.capacity }
+    {
+        let (mut gone, mut kept) = (0, 0);
+        for place in 0..self.raw.slot_count() {
+            let slot = self.raw.slot(place);
+            if batch.has_at(gone, read_message(&self.raw, slot as usize)) {
+                gone += 1;
+            } else {
+                self.raw.set_slot(kept, slot);
+                kept += 1;
+            }
+        }
+        self.raw.remove_slots(kept, batch.len());
+    }
+
+    /// Takes all messages of the batch out, or none where one of them is missing. Their bytes are dead.
+    pub fn take_out<B: Allocator>(&mut self, batch: &MessageBuf<B>) -> bool
+        ensures held { IsTrue result ↔ AreHeld batch.now.messages self.old.messages }
+        ensures taken { IsTrue result → self.new ≡ message_list (without batch.now.messages self.old.messages)
+            (self.old.used - 4 * length batch.now.messages) self.old.capacity }
+        ensures unchanged { result ≡ false → self.new ≡ self.old }
+    {
+        if !self.holds(batch) {
+            return false;
+        }
+        self.remove_all(batch);
+        true
     }
 
     /// Drops the dead bytes, with the help of a block that is at least as large. What that block held is lost.

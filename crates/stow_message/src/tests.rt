@@ -177,6 +177,28 @@ fn an_interval_moves_without_memory(rt: HostRuntime) -> Result<(), Fail> {
 }
 
 #[test]
+fn a_batch_goes_whole_or_not_at_all(rt: HostRuntime) -> Result<(), Fail> {
+    let plain = rt.alloc();
+    let heap = Refusing::new(rt.alloc());
+    let mut buf = four(&heap, &plain)?;
+    let mut batch = MessageBuf::with_capacity(plain, 200)?;
+    let (a, b) = (
+        TenantKeyBuf::new(plain, 1, b"a")?,
+        TenantKeyBuf::new(plain, 1, b"b")?,
+    );
+    heap.set(Plan::RefuseAll);
+    push(&mut batch, a.as_key(), 2, b"aa");
+    push(&mut batch, b.as_key(), 3, b"not");
+    assert!(rt; !buf.take_out(&batch) && buf.len() == 4 && buf.used() == 98);
+    batch.reset();
+    push(&mut batch, b.as_key(), 3, b"new");
+    push(&mut batch, a.as_key(), 2, b"aa");
+    assert!(rt; buf.take_out(&batch) && buf.len() == 2 && buf.used() == 90);
+    assert!(rt; heap.asked() == 0);
+    Ok(())
+}
+
+#[test]
 fn dead_bytes_go_without_memory(rt: HostRuntime) -> Result<(), Fail> {
     let plain = rt.alloc();
     let heap = Refusing::new(rt.alloc());
