@@ -20,7 +20,8 @@ op_by (suc zero) bytes = Gone
 op_by (suc (suc kind)) bytes = Append bytes
 
 abbrev pub head_of : TreeMessage → List ℕ
-head_of m = to_be_bytes w16 (length m.key) ++ (to_be_bytes w64 m.number ++ (kind_of m.op ∷ to_be_bytes w16 (length (bytes_in m.op))))
+head_of m = to_be_bytes w16 (length m.key)
+    ++ (to_be_bytes w64 m.number ++ (kind_of m.op ∷ to_be_bytes w16 (length (bytes_in m.op))))
 
 unfoldable pub message_bytes : TreeMessage → List ℕ
 message_bytes m = head_of m ++ (m.key ++ bytes_in m.op)

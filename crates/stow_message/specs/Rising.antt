@@ -58,7 +58,10 @@ AreNew ms ns = All (λ m. IsNew m ns) ms
 
 -- the messages are one: of one key and number, with one operation
 abbrev pub is_same : TreeMessage → TreeMessage → Bool
-is_same m n = m.number == n.number && (kind_of m.op == kind_of n.op && (bytes_eq m.key n.key && bytes_eq (bytes_in m.op) (bytes_in n.op)))
+is_same m n =
+    m.number == n.number
+    && (kind_of m.op == kind_of n.op
+    && (bytes_eq m.key n.key && bytes_eq (bytes_in m.op) (bytes_in n.op)))
 
 -- the first of the batch is this message
 abbrev pub is_first : TreeMessage → List TreeMessage → Bool
@@ -72,4 +75,5 @@ AreHeld batch ms = All (Contains ms) batch
 -- the list without the messages of the batch's keys and numbers
 abbrev pub without : List TreeMessage → List TreeMessage → List TreeMessage
 without [] ms = ms
-without (b ∷ bs) ms = without bs (filter (λ m. not (is_eq (place_cmp (place_of m) (place_of b)))) ms)
+without (b ∷ bs) ms =
+    without bs (filter (λ m. not (is_eq (place_cmp (place_of m) (place_of b)))) ms)

@@ -4,7 +4,7 @@ ghost use Rattle.std.specs.Ordering.{is_lt, is_eq};
 ghost use Rattle.stow_tree_model.specs.TreeMessage.{message_of};
 ghost use Rattle.stow_tree_model.specs.Order.{place_cmp, place_of, MessagesRise};
 ghost use Rattle.stow_raw.specs.RawBuf.{raw_lists, RawFits};
-ghost use Rattle.stow_message.specs.MessageBuf.{message_list, Fits};
+ghost use Rattle.stow_message.specs.MessageBuf.{message_list, Fits, with_message, with_messages, without_batch, without_range};
 ghost use Rattle.stow_message.specs.Packed.{message_bytes, message_size, message_at, IsMessage, BeginsWith, all_bytes};
 ghost use Rattle.stow_message.specs.Rising.{is_below, below, placed, IsNew, of_key, in_range, out_of_range, all_placed, AreNew, is_same, is_first, is_first_below, AreHeld, without};
 ghost use Rattle.std.specs.List.{All, AllByRecursion, sum_by, remove_range};
@@ -88,7 +88,9 @@ fn read_message<A: Allocator>(raw: &RawBuf<A>, at: usize) -> Message<'_>
 /// Packs the message after the bytes at the front.
 fn append<A: Allocator>(raw: &mut RawBuf<A>, message: Message<'_>)
     requires { RawFits raw.old (length (message_bytes (message_of message))) }
-    ensures { raw.new ≡ raw_lists (raw.old.front ++ message_bytes (message_of message.entry)) raw.old.slots raw.old.capacity }
+    ensures { raw.new
+        ≡ raw_lists (raw.old.front
+        ++ message_bytes (message_of message.entry)) raw.old.slots raw.old.capacity }
 {
     raw.push_front(&write_head(message));
     raw.push_front(message.key.bytes);
@@ -98,7 +100,8 @@ fn append<A: Allocator>(raw: &mut RawBuf<A>, message: Message<'_>)
 /// Packs the messages of a run after the bytes at the front.
 fn append_all<A: Allocator, B: Allocator>(raw: &mut RawBuf<A>, run: &Run<'_, B>)
     requires { RawFits raw.old (length (all_bytes run.now)) }
-    ensures { raw.new ≡ raw_lists (raw.old.front ++ all_bytes run.now) raw.old.slots raw.old.capacity }
+    ensures { raw.new
+        ≡ raw_lists (raw.old.front ++ all_bytes run.now) raw.old.slots raw.old.capacity }
 {
     for i in 0..run.len() {
         append(raw, run.get(i));
@@ -107,7 +110,8 @@ fn append_all<A: Allocator, B: Allocator>(raw: &mut RawBuf<A>, run: &Run<'_, B>)
 
 /// Whether a slot is at `index`, and its message stands below this one.
 fn is_slot_below<A: Allocator>(raw: &RawBuf<A>, index: usize, message: Message<'_>) -> bool
-    requires begin { AllByRecursion (λ slot. BeginsWith (drop slot raw.now.front)) (drop index raw.now.slots) }
+    requires begin { AllByRecursion (λ slot. BeginsWith (drop slot raw.now.front))
+        (drop index raw.now.slots) }
     requires small { length raw.now.front < 2 ^ 32 }
     ensures below { result ≡ is_first_below (message_of message.entry)
         (map (λ slot. message_at (drop slot raw.now.front)) (drop index raw.now.slots)) }
@@ -204,8 +208,9 @@ impl<A: Allocator> MessageBuf<A> {
 
     /// Puts a message to its place.
     pub fn push(&mut self, message: Message<'_>)
-        requires { Fits self.old (message_of message) × IsNew (message_of message) self.old.messages }
-        ensures { self.new ≡ message_list (placed (message_of message.entry) self.old.messages) (self.old.used + message_size (message_of message.entry)) self.old.capacity }
+        requires { Fits self.old (message_of message)
+            × IsNew (message_of message) self.old.messages }
+        ensures { self.new ≡ with_message (message_of message.entry) self.old }
     {
         let index = self.search(message.key.bytes, message.number);
         let at = self.raw.front_len() as u32;
@@ -230,7 +235,8 @@ impl<A: Allocator> MessageBuf<A> {
 
     /// The messages of the keys from `from` on and below `to`, in their order, lent.
     pub fn in_range(&self, from: TenantKey<'_>, to: TenantKey<'_>) -> Run<'_, A>
-        ensures messages { result ≡ in_range from.entry.bytes.now to.entry.bytes.now self.now.messages }
+        ensures messages { result
+            ≡ in_range from.entry.bytes.now to.entry.bytes.now self.now.messages }
         ensures small { length result < 4294967296 }
     {
         let low = self.search(from.bytes, 0);
@@ -244,7 +250,9 @@ impl<A: Allocator> MessageBuf<A> {
 
     /// How many bytes the messages of the keys from `from` on and below `to` take, their slots among them.
     pub fn range_bytes(&self, from: TenantKey<'_>, to: TenantKey<'_>) -> usize
-        ensures { result ≡ sum_by message_size (in_range from.entry.bytes.now to.entry.bytes.now self.now.messages) }
+        ensures { result
+            ≡ sum_by message_size
+            (in_range from.entry.bytes.now to.entry.bytes.now self.now.messages) }
     {
         let run = self.in_range(from, to);
         let mut total = 0;
@@ -257,7 +265,9 @@ impl<A: Allocator> MessageBuf<A> {
     /// Lets the `count` messages from `index` on go: their bytes are dead.
     fn remove(&mut self, index: usize, count: usize)
         requires { index + count ≤ length self.old.messages }
-        ensures { self.new ≡ message_list (remove_range self.old.messages index (index + count)) (self.old.used - 4 * count) self.old.capacity }
+        ensures { self.new
+            ≡ message_list (remove_range self.old.messages index (index + count))
+            (self.old.used - 4 * count) self.old.capacity }
     {
         self.raw.remove_slots(index, count);
     }
@@ -293,10 +303,13 @@ impl<A: Allocator> MessageBuf<A> {
 
     /// Moves the messages of the keys from `from` on and below `to` into another buffer. Their bytes here are dead.
     pub fn move_range(&mut self, from: TenantKey<'_>, to: TenantKey<'_>, into: &mut MessageBuf<A>)
-        requires room { into.old.used + sum_by message_size (in_range from.bytes.now to.bytes.now self.old.messages) ≤ into.old.capacity }
-        requires new { AreNew (in_range from.bytes.now to.bytes.now self.old.messages) into.old.messages }
-        ensures rest { self.new ≡ message_list (out_of_range from.entry.bytes.now to.entry.bytes.now self.old.messages) (self.old.used - 4 * length (in_range from.entry.bytes.now to.entry.bytes.now self.old.messages)) self.old.capacity }
-        ensures moved { into.new ≡ message_list (all_placed (in_range from.entry.bytes.now to.entry.bytes.now self.old.messages) into.old.messages) (into.old.used + sum_by message_size (in_range from.entry.bytes.now to.entry.bytes.now self.old.messages)) into.old.capacity }
+        requires room { into.old.used + sum_by message_size
+            (in_range from.bytes.now to.bytes.now self.old.messages) ≤ into.old.capacity }
+        requires new { AreNew
+            (in_range from.bytes.now to.bytes.now self.old.messages) into.old.messages }
+        ensures rest { self.new ≡ without_range from.entry.bytes.now to.entry.bytes.now self.old }
+        ensures moved { into.new ≡ with_messages
+            (in_range from.entry.bytes.now to.entry.bytes.now self.old.messages) into.old }
     {
         let low = self.search(from.bytes, 0);
         let high = self.search(to.bytes, 0).max(low);
@@ -355,8 +368,7 @@ impl<A: Allocator> MessageBuf<A> {
     /// Takes all messages of the batch out, or none where one of them is missing. Their bytes are dead.
     pub fn take_out<B: Allocator>(&mut self, batch: &MessageBuf<B>) -> bool
         ensures held { IsTrue result ↔ AreHeld batch.now.messages self.old.messages }
-        ensures taken { IsTrue result → self.new ≡ message_list (without batch.now.messages self.old.messages)
-            (self.old.used - 4 * length batch.now.messages) self.old.capacity }
+        ensures taken { IsTrue result → self.new ≡ without_batch batch.now.messages self.old }
         ensures unchanged { result ≡ false → self.new ≡ self.old }
     {
         if !self.holds(batch) {
@@ -369,7 +381,9 @@ impl<A: Allocator> MessageBuf<A> {
     /// Drops the dead bytes, with the help of a block that is at least as large. What that block held is lost.
     pub fn squeeze(&mut self, spare: &mut RawBuf<A>)
         requires { self.old.capacity ≤ spare.old.capacity }
-        ensures squeezed { self.new ≡ message_list self.old.messages (sum_by message_size self.old.messages) self.old.capacity }
+        ensures squeezed { self.new
+            ≡ message_list self.old.messages
+            (sum_by message_size self.old.messages) self.old.capacity }
         ensures spare { spare.new.capacity ≡ spare.old.capacity }
     {
         spare.reset();

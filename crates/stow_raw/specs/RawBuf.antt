@@ -12,8 +12,9 @@ abbrev pub raw_lists : List ℕ → List ℕ → ℕ → RawLists
 raw_lists front slots capacity = record { front = front; slots = slots; capacity = capacity }
 
 abbrev pub raw_lists_code : Coded RawLists
-raw_lists_code = code_by (List ℕ
-    × (List ℕ × ℕ)) (coded× (coded_list coded_ℕ) (coded× (coded_list coded_ℕ) coded_ℕ))
+raw_lists_code =
+    code_by (List ℕ × (List ℕ × ℕ))
+    (coded× (coded_list coded_ℕ) (coded× (coded_list coded_ℕ) coded_ℕ))
     (λ b. (b.front, (b.slots, b.capacity))) (λ p. raw_lists p.0 p.1.0 p.1.1) (λ _. refl)
 
 -- the bytes in use
