@@ -8,7 +8,9 @@ pub mod cutting;
 pub mod joining;
 pub mod keeping;
 pub mod kept;
+pub mod merging;
 pub mod pins;
 pub mod survey;
 #[cfg(test)]
 mod tests;
+mod writing;
