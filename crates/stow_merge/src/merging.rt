@@ -41,7 +41,7 @@ pub fn merge_into_pages<A: Allocator + Copy, B: Allocator + Copy, C: Allocator>(
 }
 
 /// The versions of rows, lent.
-fn lent_rows<'r, A: Allocator + Copy, C: Allocator>(
+pub(crate) fn lent_rows<'r, A: Allocator + Copy, C: Allocator>(
     alloc: A,
     rows: &'r Rows<C>,
 ) -> Result<Vec<Version<'r>, A>, AllocError>
