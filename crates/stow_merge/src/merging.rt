@@ -64,7 +64,8 @@ fn paged<A: Allocator + Copy, B: Allocator + Copy>(
     target: u32,
 ) -> Result<Vec<Rows<A>, A>, AllocError>
     requires { CanMerge (versions_in survey.now survey.now.kept.items) }
-    ensures { IfOk result (λ pages. ArePagesOf (versions_in survey.now survey.now.kept.items) target pages.items) }
+    ensures { let versions = versions_in survey.now survey.now.kept.items in
+        IfOk result (λ pages. ArePagesOf versions target pages.items) }
 {
     let keys = by_key(alloc, survey.kept.as_slice())?;
     let sizes = sizes_of(alloc, survey, keys.as_slice())?;

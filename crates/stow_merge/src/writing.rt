@@ -222,7 +222,8 @@ pub(crate) fn write_pages<A: Allocator + Copy, B: Allocator + Copy>(
     ends: &[usize],
 ) -> Result<Vec<Rows<A>, A>, AllocError>
     requires { AllByRecursion CanPack (pages_at (keys_in survey.now keys.now) 0 ends.now) }
-    ensures { IfOk result (λ pages. pages.items ≡ pages_at (keys_in survey.now keys.now) 0 ends.now) }
+    ensures { IfOk result (λ pages. pages.items
+        ≡ pages_at (keys_in survey.now keys.now) 0 ends.now) }
 {
     let mut folded = Vec::new(alloc);
     let mut pages = Vec::new(alloc);
