@@ -1,3 +1,9 @@
 pub mod Pieces
 pub mod PinLemmas
 pub mod CutLemmas
+pub mod Lists
+pub mod KeyLemmas
+pub mod PageLemmas
+pub mod WritingLemmas
+pub mod PagedLemmas
+pub mod FewLemmas

@@ -2,3 +2,5 @@ pub mod PinLists
 pub mod Pins
 pub mod Kept
 pub mod Cuts
+pub mod Pages
+pub mod Writing

@@ -1,6 +1,6 @@
 //! A leaf's rows and a batch in one order.
 ghost use Rattle.std.specs.Prelude.{◌≡◌, ◌+◌, ◌<◌, ◌≤◌, List, map, length, IfOk};
-ghost use Rattle.stow_tree_model.specs.Merged.{row_message, rows_set};
+ghost use Rattle.stow_tree_model.specs.Merged.{rows_set};
 ghost use Rattle.stow_tree_model.specs.Messages.{with_all, in_order};
 ghost use Rattle.stow_tree_model.specs.Order.{place_cmp, place_of, version_place, MessagesRise, VersionsRise};
 ghost use Rattle.stow_tree_model.specs.TreeMessage.{message_of};
@@ -9,7 +9,7 @@ ghost use Rattle.stow_tree_model.specs.Version.{version_of};
 use std::alloc::{AllocError, Allocator};
 use std::cmp::Ordering;
 use stow_tree_model::message::Message;
-use stow_tree_model::op::Op;
+use stow_tree_model::rows::row_as_message;
 use stow_tree_model::version::Version;
 
 /// The messages of a leaf's rows and of a batch, in order, lent. Where both have one of a key and number, it is the
@@ -62,18 +62,4 @@ fn compare(row: &Version<'_>, message: &Message<'_>) -> Ordering
         .bytes
         .cmp(message.key.bytes)
         .then(row.number.cmp(&message.number))
-}
-
-fn row_as_message<'a>(row: Version<'a>) -> Message<'a>
-    ensures { message_of result ≡ row_message (version_of row.entry) }
-{
-    let op = match row.value {
-        None => Op::Gone,
-        Some(value) => Op::Put(value),
-    };
-    Message {
-        key: row.key,
-        number: row.number,
-        op,
-    }
 }

@@ -85,7 +85,7 @@ fn nth<'a>(messages: &[Message<'a>], i: usize) -> Option<Message<'a>>
     }
 }
 
-fn is_same(a: TenantKey<'_>, b: TenantKey<'_>) -> bool
+pub(crate) fn is_same(a: TenantKey<'_>, b: TenantKey<'_>) -> bool
     ensures { result ≡ same_key a.entry.bytes.now b.entry.bytes.now }
 {
     a.bytes.cmp(b.bytes).is_eq()

@@ -1,4 +1,8 @@
 //! What a merge keeps.
+ghost use Rattle.std.specs.Prelude.{◌≤◌};
+ghost use Rattle.stow_bytes.specs.Limits.{number_limit};
+ghost use Rattle.stow_tree_model.specs.Keys.{IsOfTenant};
+
 use stow_tree_model::tenant_key::TenantKey;
 
 /// A version that a merge keeps, told by where its bytes stand among the joined messages, so that an append is
@@ -11,4 +15,6 @@ pub struct Kept<'a> {
     pub from: Option<usize>,
     /// The message after the last whose bytes the value has.
     pub to: usize,
+    pub ghost is_of_tenant: { IsOfTenant key.bytes.now },
+    pub ghost is_numbered: { (1 ≤ number) × (number ≤ number_limit) },
 }

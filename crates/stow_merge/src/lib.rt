@@ -1,14 +1,24 @@
 //! A leaf with a batch of messages under pins.
 //!
+//! `merge_into_pages` merges a leaf's rows with messages that a buffer lends, and writes what stays into pages. Read in
+//! order these hold exactly what the definition of a merge keeps; no key stands in two of them, one above the leaf
+//! target holds one key, and one is empty only where nothing stays (`specs/Pages.antt`). One walk over rows and
+//! messages finds what stays (`survey_of`), one over what stays finds its sizes and the cuts, and one writes: a value
+//! that one message carries goes from there into the page, and only appends are folded before. A caller knows that the
+//! merged values are within the limit, or asks `has_short_values`.
+//!
 //! A call that asks for memory may be refused it at any time, so a body that always answers `AllocError` meets
-//! its contract: tests call each with ample memory.
+//! its contract: tests call each with ample memory. That pages are about even stands in no contract.
 #![tactic(auto)]
 
 pub mod cutting;
+pub mod fitting;
 pub mod joining;
 pub mod keeping;
 pub mod kept;
+pub mod merging;
 pub mod pins;
 pub mod survey;
 #[cfg(test)]
 mod tests;
+mod writing;

@@ -62,14 +62,14 @@ impl<'a, A: Allocator + Copy> Survey<'a, A> {
     }
 }
 
-/// The messages from one of them to before another.
-fn between<'m, 'a>(messages: &'m [Message<'a>], from: usize, to: usize) -> &'m [Message<'a>]
-    ensures { result.now ≡ drop from (take to messages.now) }
+/// The items from one of them to before another.
+pub(crate) fn between<T>(items: &[T], from: usize, to: usize) -> &[T]
+    ensures { result.now ≡ drop from (take to items.now) }
 {
-    let front = if to <= messages.len() {
-        &messages[..to]
+    let front = if to <= items.len() {
+        &items[..to]
     } else {
-        messages
+        items
     };
     if from <= front.len() {
         &front[from..]
@@ -93,7 +93,7 @@ fn append_all<B: Allocator + Copy>(
 }
 
 /// The bytes that an operation carries.
-fn carried<'a>(op: Op<'a>) -> &'a [u8]
+pub(crate) fn carried<'a>(op: Op<'a>) -> &'a [u8]
     ensures { result.now ≡ bytes_in (op_of op.entry) }
 {
     match op {

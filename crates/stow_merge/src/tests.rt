@@ -3,11 +3,14 @@
 ghost use Rattle.std.specs.Prelude.{◌<◌};
 
 use crate::cutting::cut;
+use crate::fitting::has_short_values;
+use crate::merging::merge_into_pages;
 use crate::pins::Pins;
-use crate::survey::{Survey, survey_of};
 use std::alloc::{AllocError, Allocator, Global};
 use std::process::Abort;
 use std::test::Fail;
+use stow_page::packed_rows::PackedRows;
+use stow_page::rows::Rows;
 use stow_refusing::{Plan, Refusing};
 use stow_tree_model::message::Message;
 use stow_tree_model::op::Op;
@@ -163,37 +166,54 @@ fn random_batch<'a>(
     Ok(batch)
 }
 
-/// Whether the survey's versions are those of the plain merge.
-fn are_same(alloc: Global, survey: &Survey<'_>, plain: &[VersionBuf]) -> Result<bool, AllocError> {
-    let kept = survey.kept.as_slice();
-    if kept.len() != plain.len() {
-        return Ok(false);
-    }
-    for i in 0..kept.len() {
-        if i >= plain.len() {
-            return Ok(false);
-        }
-        let mut bytes = Vec::new(alloc);
-        survey.append_value(kept[i], &mut bytes)?;
-        let same_value = match &plain[i].value {
-            None => kept[i].from.is_none(),
-            Some(value) => kept[i].from.is_some() && value.as_slice() == bytes.as_slice(),
-        };
-        let same_place = kept[i].key.bytes == plain[i].key.as_key().bytes
-            && kept[i].number == plain[i].number;
-        if !same_value || !same_place {
-            return Ok(false);
+/// The rows in one block.
+fn packed(alloc: Global, rows: &[Version<'_>]) -> Result<Rows, AllocError> {
+    let mut packed = PackedRows::new(alloc)?;
+    for row in rows {
+        if packed.is_below(*row) && packed.has_room_for(*row) {
+            packed.push(*row)?;
         }
     }
-    Ok(true)
+    Rows::new(alloc, packed)
 }
 
-fn is_as_plain(
+fn is_version(row: Version<'_>, wanted: &VersionBuf) -> bool {
+    let same_value = match (row.value, &wanted.value) {
+        (None, None) => true,
+        (Some(bytes), Some(wanted)) => bytes == wanted.as_slice(),
+        _ => false,
+    };
+    same_value && row.key.bytes == wanted.key.as_key().bytes && row.number == wanted.number
+}
+
+/// Whether the pages, read in order, hold the versions of the plain merge.
+fn are_same<A: Allocator + Copy>(pages: &[Rows<A>], plain: &[VersionBuf]) -> bool {
+    let mut left = plain;
+    for page in pages {
+        let len = page.len();
+        for i in 0..len {
+            let row = page.get(i);
+            match left.split_first() {
+                None => return false,
+                Some((wanted, rest)) => {
+                    if !is_version(row, wanted) {
+                        return false;
+                    }
+                    left = rest;
+                }
+            }
+        }
+    }
+    left.is_empty()
+}
+
+/// How many pages a random merge has, or none where it isn't the plain one.
+fn pages_as_plain(
     rt: &impl Abort,
     alloc: Global,
     keys: &[TenantKeyBuf],
     state: &mut u64,
-) -> Result<bool, AllocError> {
+) -> Result<usize, AllocError> {
     let rows = random_rows(alloc, keys, state)?;
     let batch = random_batch(alloc, keys, state)?;
     let mut pins = Pins::new(alloc);
@@ -206,14 +226,21 @@ fn is_as_plain(
         }
     }
     let plain = merge(alloc, rows.as_slice(), batch.as_slice(), listed.as_slice())?;
-    assert!(rt; versions_rise(rows.as_slice()));
+    let leaf = packed(alloc, rows.as_slice())?;
     assert!(rt; messages_rise(batch.as_slice()));
-    let survey = survey_of(alloc, rows.as_slice(), batch.as_slice(), &pins)?;
-    are_same(alloc, &survey, plain.as_slice())
+    let short = has_short_values(alloc, &leaf, batch.as_slice(), &pins)?;
+    assert!(rt; short);
+    let target = u32::try_from(below(state, 200)).unwrap_or(30);
+    let pages = merge_into_pages(alloc, &leaf, batch.as_slice(), &pins, target)?;
+    if are_same(pages.as_slice(), plain.as_slice()) {
+        Ok(pages.len())
+    } else {
+        Ok(0)
+    }
 }
 
 #[test]
-fn random_surveys_are_plain_merges(rt: HostRuntime) -> Result<(), Fail> {
+fn random_merges_are_plain_merges(rt: HostRuntime) -> Result<(), Fail> {
     let alloc = rt.alloc();
     let keys = [
         TenantKeyBuf::new(alloc, 1, b"a")?,
@@ -221,36 +248,63 @@ fn random_surveys_are_plain_merges(rt: HostRuntime) -> Result<(), Fail> {
         TenantKeyBuf::new(alloc, 2, b"a")?,
     ];
     let mut state = 1;
+    let mut most = 0;
     for round in 0..200u64 {
-        assert!(rt;
-            is_as_plain(&rt, alloc, keys.as_slice(), &mut state)?,
-            "round {round}"
-        );
+        let pages = pages_as_plain(&rt, alloc, keys.as_slice(), &mut state)?;
+        assert!(rt; pages > 0, "round {round}");
+        most = most.max(pages);
     }
+    assert_eq!(rt; most, 3);
     Ok(())
 }
 
 #[test]
-fn survey_withstands_each_refusal(rt: HostRuntime) -> Result<(), Fail> {
+fn merge_withstands_each_refusal(rt: HostRuntime) -> Result<(), Fail> {
     let alloc = rt.alloc();
     let heap = Refusing::new(alloc);
-    let keys = [TenantKeyBuf::new(alloc, 1, b"a")?];
+    let keys = [
+        TenantKeyBuf::new(alloc, 1, b"a")?,
+        TenantKeyBuf::new(alloc, 1, b"b")?,
+    ];
     let mut state = 5;
     let rows = random_rows(alloc, keys.as_slice(), &mut state)?;
     let batch = random_batch(alloc, keys.as_slice(), &mut state)?;
     let pins = Pins::new(alloc);
-    assert!(rt; versions_rise(rows.as_slice()));
+    let plain = merge(alloc, rows.as_slice(), batch.as_slice(), &[])?;
+    let leaf = packed(alloc, rows.as_slice())?;
     assert!(rt; messages_rise(batch.as_slice()));
+    let short = has_short_values(alloc, &leaf, batch.as_slice(), &pins)?;
+    assert!(rt; short);
     let mut refusals = 0u64;
     for round in 0..100u64 {
         heap.set(Plan::RefuseAt(round));
-        let survey = survey_of(&heap, rows.as_slice(), batch.as_slice(), &pins);
+        let merged = merge_into_pages(&heap, &leaf, batch.as_slice(), &pins, 30);
         if heap.asked() <= round {
             break;
         }
         refusals = round + 1;
-        assert!(rt; survey.is_err(), "request {round}");
+        assert!(rt; merged.is_err(), "request {round}");
+        heap.set(Plan::Grant);
+        let again = merge_into_pages(&heap, &leaf, batch.as_slice(), &pins, 30)?;
+        assert!(rt; are_same(again.as_slice(), plain.as_slice()));
     }
-    assert!(rt; refusals >= 2, "{refusals} refusals");
+    assert!(rt; refusals >= 10, "{refusals} refusals");
+    Ok(())
+}
+
+#[test]
+fn values_within_the_limit_alone_are_merged(rt: HostRuntime) -> Result<(), Fail> {
+    let alloc = rt.alloc();
+    let key = TenantKeyBuf::new(alloc, 1, b"a")?;
+    let longest = vec![in alloc; b'x'; 65_535]?;
+    let row = version(key.as_key(), 1, Some(longest.as_slice())).ok_or("range")?;
+    let leaf = packed(alloc, &[row])?;
+    let pins = Pins::new(alloc);
+    for suffix in [b"".as_slice(), b"y"] {
+        let batch = [message(key.as_key(), 2, Op::Append(suffix)).ok_or("range")?];
+        assert!(rt; messages_rise(batch.as_slice()));
+        let short = has_short_values(alloc, &leaf, batch.as_slice(), &pins)?;
+        assert!(rt; short == suffix.is_empty());
+    }
     Ok(())
 }

@@ -10,6 +10,7 @@ pub mod numbered_value;
 pub mod op;
 pub mod pin;
 pub mod plain;
+pub mod rows;
 pub mod tenant_key;
 pub mod tenant_key_buf;
 #[cfg(test)]

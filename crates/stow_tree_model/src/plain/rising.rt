@@ -5,8 +5,9 @@ ghost use Rattle.stow_tree_model.specs.Order.{place_cmp, place_of, MessagesRise,
 ghost use Rattle.stow_tree_model.specs.TreeMessage.{message_of};
 ghost use Rattle.stow_tree_model.specs.Version.{version_of};
 
-use super::sorting::{compare, row_as_message};
+use super::sorting::compare;
 use crate::message::Message;
+use crate::rows::row_as_message;
 use crate::version::Version;
 
 /// Whether each message stands above the one before it, and so above all before it.

@@ -8,7 +8,7 @@ ghost use Rattle.stow_tree_model.specs.Version.{version_of};
 ghost use Rattle.stow_tree_model.specs.Zipped.{zipped};
 
 use crate::message::Message;
-use crate::op::Op;
+use crate::rows::row_as_message;
 use crate::version::Version;
 use std::alloc::{AllocError, Allocator};
 use std::cmp::Ordering;
@@ -91,18 +91,4 @@ pub fn row_messages<'a, A: Allocator + Copy>(
         messages.push(row_as_message(*row))?;
     }
     Ok(messages)
-}
-
-pub fn row_as_message<'a>(row: Version<'a>) -> Message<'a>
-    ensures { message_of result ≡ row_message (version_of row.entry) }
-{
-    let op = match row.value {
-        None => Op::Gone,
-        Some(value) => Op::Put(value),
-    };
-    Message {
-        key: row.key,
-        number: row.number,
-        op,
-    }
 }

@@ -1,0 +1,61 @@
+-- From kept versions to their pages.
+use Rattle.std.proofs.Common.{◌≡◌, ℕ, ◌-◌, ◌<◌, ◌≤◌, ◌^◌, List, [], ◌∷◌, length, map, refl, ap, ◌∙◌, sym, subst, inl, inr}
+use Rattle.std.specs.Prelude.{Result, Ok, Err, IfOk}
+use Rattle.std.specs.Borrow.{Bor}
+use Rattle.std.specs.List.{AllByRecursion}
+use Rattle.std.proofs.lemmas.List.{length-map}
+use Rattle.stow_page.specs.Format.{entries}
+use Rattle.stow_tree_model.specs.Order.{VersionsRise}
+use Rattle.stow_tree_model.specs.Version.{Version}
+use Rattle.stow_merge.specs.Cuts.{ArePages}
+use Rattle.stow_merge.specs.Pages.{read_in_order, HaveShortValues, AreLeafPages, ArePagesOf}
+use Rattle.stow_merge.specs.Writing.{versions_in, keys_in, AreRuns, AreSizes, IsShortKey, CanMerge, CanPack, pages_at, at_least_one_page}
+use Rattle.stow_merge.specs.declared.kept.Kept as coded
+use Rattle.stow_merge.specs.declared.survey.Survey.{Survey}
+use Rattle.stow_merge.proofs.KeyLemmas.{KeysRise, runs_rise, runs_read}
+use Rattle.stow_merge.proofs.PageLemmas.{AreWritten, written, keys_short, can_pack}
+
+pub if_ok : {X E : Type 0} (r : Result X E) (P Q : X → Type 0) → ((x : X) → P x → Q x) → IfOk r P → IfOk r Q
+if_ok (Ok x) P Q h p = h x p
+if_ok (Err e) P Q h p = tt
+
+-- versions key by key
+pub record AreKeys (versions : List Version) (keys : List (List Version)) : Type 0 where
+  pub rise : KeysRise keys
+  pub are : read_in_order keys ≡ versions
+
+of_runs : {A : Type 0} (survey : Survey A) (keys : List (Bor (List coded.Kept))) → map (versions_in survey) (map (λ key. key.now) keys) ≡ keys_in survey keys
+of_runs survey [] = refl
+of_runs survey (key ∷ keys) = ap (λ vs. versions_in survey key.now ∷ vs) (of_runs survey keys)
+
+pub are_keys : {A : Type 0} (survey : Survey A) (kept : List coded.Kept) (keys : List (Bor (List coded.Kept))) → VersionsRise (versions_in survey kept) → AreRuns kept (map (λ key. key.now) keys) → AreKeys (versions_in survey kept) (keys_in survey keys)
+are_keys survey kept keys rise h = subst (AreKeys (versions_in survey kept)) (of_runs survey keys) (record {
+  rise = runs_rise survey kept (map (λ key. key.now) keys) h rise;
+  are = runs_read survey kept (map (λ key. key.now) keys) h;
+})
+
+pub are_short : (versions : List Version) (keys : List (List Version)) → CanMerge versions → AreKeys versions keys → AllByRecursion IsShortKey keys
+are_short versions keys can h = keys_short versions [] keys can (sym h.are) h.rise
+
+small_of : (keys : List (List Version)) → AllByRecursion (λ size. size ≤ 4327440) (map (λ key. length (entries key)) keys) → AllByRecursion (λ key. length (entries key) ≤ 4327440) keys
+small_of [] h = tt
+small_of (key ∷ keys) h = (h.0, small_of keys h.1)
+
+pub are_written : (target room : ℕ) (versions : List Version) (keys : List (List Version)) (sizes ends : List ℕ) → target < 2 ^ 32 → room ≡ target - 5 → AreKeys versions keys → AreSizes keys sizes → ArePages sizes room 0 ends (length sizes)
+    → AreWritten target keys 0 (pages_at keys 0 ends)
+are_written target room versions keys sizes ends low r h s cuts =
+    written target keys ends 0 low h.rise (small_of keys (subst (AllByRecursion (λ size. size ≤ 4327440)) s.are s.are_small))
+    (subst (λ n. ArePages (map (λ key. length (entries key)) keys) n 0 ends (length keys)) r
+    (subst (λ n. ArePages (map (λ key. length (entries key)) keys) room 0 ends n) (length-map keys (λ key. length (entries key)))
+    (subst (λ ss. ArePages ss room 0 ends (length ss)) s.are cuts)))
+
+pub can_write : (target : ℕ) (versions : List Version) (keys pages : List (List Version)) → CanMerge versions → AreKeys versions keys → AreWritten target keys 0 pages → AllByRecursion CanPack pages
+can_write target versions keys pages can h w =
+    can_pack pages w.have_room (subst VersionsRise (sym (w.are ∙ h.are)) can.rise) (subst HaveShortValues (sym (w.are ∙ h.are)) can.are_short)
+
+filled : (target : ℕ) (versions : List Version) (pages : List (List Version)) → AreLeafPages target pages → read_in_order pages ≡ versions → ArePagesOf versions target (at_least_one_page pages)
+filled target versions [] all e = record { are = e; are_cut = inl refl }
+filled target versions (page ∷ pages) all e = record { are = e; are_cut = inr ((λ z. cc), all) }
+
+pub pages_of : (target : ℕ) (versions : List Version) (keys pages : List (List Version)) → AreKeys versions keys → AreWritten target keys 0 pages → ArePagesOf versions target (at_least_one_page pages)
+pages_of target versions keys pages h w = filled target versions pages w.are_leaf_pages (w.are ∙ h.are)

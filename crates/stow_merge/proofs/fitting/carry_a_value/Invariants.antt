@@ -1,0 +1,8 @@
+use Rattle.std.proofs.Common.{◌≡◌, ◌+◌, length, map, take}
+use Rattle.stow_bytes.specs.Limits.{value_limit}
+use Rattle.stow_tree_model.specs.TreeMessage.{message_of}
+use Rattle.stow_merge.proofs.WritingLemmas.{carried}
+use Rattle.stow_merge.proofs.fitting.carry_a_value.Given as goal
+
+abbrev pub invariant-loop-i : goal.invariant-loop-i
+invariant-loop-i l = l.left + length (carried (map message_of (take l.i l.messages))) ≡ value_limit

@@ -1,0 +1,6 @@
+use Rattle.stow_merge.specs.Writing.{versions_in, IsShortKey}
+use Rattle.stow_merge.proofs.Lists.{all_mapped_at}
+use Rattle.stow_merge.proofs.writing.sizes_of.Goals as goal
+
+pub key_size-requires : goal.key_size-requires
+key_size-requires g c = all_mapped_at IsShortKey (λ key. versions_in c.args.survey.now key.now) c.args.keys.now c.loop-i.i c.index-keys-i.result c.requires c.loop-i-test.true c.index-keys-i.is

@@ -1,0 +1,89 @@
+//! The merge of a leaf with a batch.
+ghost use Rattle.std.specs.Prelude.{◌≡◌, ◌+◌, ◌<◌, ◌≤◌, length, map, IfOk};
+ghost use Rattle.stow_merge.specs.Pages.{HaveShortValues, ArePagesOf};
+ghost use Rattle.stow_merge.specs.Pins.{pins_in};
+ghost use Rattle.stow_merge.specs.Writing.{versions_in, CanMerge, at_least_one_page};
+ghost use Rattle.stow_tree_model.specs.Merged.{merged};
+ghost use Rattle.stow_tree_model.specs.Order.{MessagesRise, VersionsRise};
+ghost use Rattle.stow_tree_model.specs.TreeMessage.{message_of};
+ghost use Rattle.stow_tree_model.specs.Version.{version_of};
+
+use crate::cutting::cut;
+use crate::pins::Pins;
+use crate::survey::{Survey, survey_of};
+use crate::writing::{by_key, sizes_of, write_pages};
+use std::alloc::{AllocError, Allocator};
+use stow_page::packed_rows::PackedRows;
+use stow_page::rows::Rows;
+use stow_tree_model::message::Message;
+use stow_tree_model::version::Version;
+
+/// The bytes of a page before its first entry.
+const HEADER_SIZE: u32 = 5;
+
+/// The pages of a leaf's rows after a batch under pins, cut between keys by the leaf target, in bytes of a page. Where
+/// no version stays there is one page, which is empty. `Err` where memory was refused.
+pub fn merge_into_pages<A: Allocator + Copy, B: Allocator + Copy, C: Allocator>(
+    alloc: A,
+    rows: &Rows<C>,
+    batch: &[Message<'_>],
+    pins: &Pins<B>,
+    target: u32,
+) -> Result<Vec<Rows<A>, A>, AllocError>
+    requires batch { MessagesRise (map message_of batch.now) }
+    requires values { HaveShortValues (merged rows.now (map message_of batch.now) (pins_in pins.now)) }
+    ensures { IfOk result (λ pages. ArePagesOf
+        (merged rows.now (map message_of batch.now) (pins_in pins.now)) target pages.items) }
+{
+    let lent = lent_rows(alloc, rows)?;
+    let survey = survey_of(alloc, lent.as_slice(), batch, pins)?;
+    paged(alloc, &survey, target)
+}
+
+/// The versions of rows, lent.
+pub(crate) fn lent_rows<'r, A: Allocator + Copy, C: Allocator>(
+    alloc: A,
+    rows: &'r Rows<C>,
+) -> Result<Vec<Version<'r>, A>, AllocError>
+    ensures all { IfOk result (λ lent. map version_of lent.items ≡ rows.now) }
+    ensures rise { VersionsRise rows.now }
+{
+    let len = rows.len();
+    let mut lent = Vec::new(alloc);
+    lent.reserve(len)?;
+    for i in 0..len {
+        lent.push(rows.get(i))?;
+    }
+    Ok(lent)
+}
+
+/// The kept versions in pages.
+fn paged<A: Allocator + Copy, B: Allocator + Copy>(
+    alloc: A,
+    survey: &Survey<'_, B>,
+    target: u32,
+) -> Result<Vec<Rows<A>, A>, AllocError>
+    requires { CanMerge (versions_in survey.now survey.now.kept.items) }
+    ensures { let versions = versions_in survey.now survey.now.kept.items in
+        IfOk result (λ pages. ArePagesOf versions target pages.items) }
+{
+    let keys = by_key(alloc, survey.kept.as_slice())?;
+    let sizes = sizes_of(alloc, survey, keys.as_slice())?;
+    let ends = cut(alloc, sizes.as_slice(), target.saturating_sub(HEADER_SIZE))?;
+    let pages = write_pages(alloc, survey, keys.as_slice(), ends.as_slice())?;
+    at_least_one(alloc, pages)
+}
+
+/// The pages, or an empty one where there are none.
+fn at_least_one<A: Allocator + Copy>(
+    alloc: A,
+    mut pages: Vec<Rows<A>, A>,
+) -> Result<Vec<Rows<A>, A>, AllocError>
+    ensures { IfOk result (λ filled. filled.items ≡ at_least_one_page pages.items) }
+{
+    if pages.is_empty() {
+        let page = Rows::new(alloc, PackedRows::new(alloc)?)?;
+        pages.push(page)?;
+    }
+    Ok(pages)
+}

@@ -1,0 +1,237 @@
+//! Kept versions in pages.
+ghost use Rattle.std.specs.Prelude.{◌≡◌, ◌≢◌, ◌+◌, ◌<◌, ◌≤◌, ◌^◌, [], ◌∷◌, ◌++◌, length, map, take, drop, IfOk, OnOk};
+ghost use Rattle.std.specs.List.{flat_map, AllByRecursion};
+ghost use Rattle.stow_bytes.specs.Limits.{value_limit};
+ghost use Rattle.stow_merge.specs.Kept.{kept_version};
+ghost use Rattle.stow_merge.specs.Pages.{read_in_order};
+ghost use Rattle.stow_merge.specs.Writing.{version_in, versions_in, keys_in, IsRun, AreRuns, IsFolded, CanPack, IsShortKey, AreSizes, pages_at};
+ghost use Rattle.stow_page.specs.Format.{entry, entries, tail};
+ghost use Rattle.stow_tree_model.specs.Op.{bytes_in};
+ghost use Rattle.stow_tree_model.specs.TreeMessage.{message_of};
+ghost use Rattle.stow_tree_model.specs.Value.{bytes_at, IsValue};
+ghost use Rattle.stow_tree_model.specs.Version.{version_of};
+
+use crate::keeping::is_same;
+use crate::kept::Kept;
+use crate::survey::{Survey, between, carried};
+use std::alloc::{AllocError, Allocator};
+use stow_page::packed_rows::PackedRows;
+use stow_page::rows::Rows;
+use stow_tree_model::message::Message;
+use stow_tree_model::tenant_key::TenantKey;
+use stow_tree_model::version::Version;
+
+/// The kept versions key by key, lent.
+pub(crate) fn by_key<'k, A: Allocator + Copy>(
+    alloc: A,
+    kept: &'k [Kept<'k>],
+) -> Result<Vec<&'k [Kept<'k>], A>, AllocError>
+    ensures { IfOk result (λ keys. AreRuns kept.now (map (λ key. key.now) keys.items)) }
+{
+    let mut keys = Vec::new(alloc);
+    let mut at = 0;
+    while at < kept.len() {
+        let rest = &kept[at..];
+        let length = run_length(rest[0].key, rest);
+        keys.push(&rest[..length])?;
+        at += length;
+    }
+    Ok(keys)
+}
+
+/// How many versions at the front are of the key.
+fn run_length(key: TenantKey<'_>, kept: &[Kept<'_>]) -> usize
+    ensures run { IsRun key.entry.bytes.now (take result kept.now) (drop result kept.now) }
+    ensures within { result ≤ length kept.now }
+{
+    for i in 0..kept.len() {
+        if !is_same(key, kept[i].key) {
+            return i;
+        }
+    }
+    kept.len()
+}
+
+/// How many bytes the entries of each key have.
+pub(crate) fn sizes_of<A: Allocator + Copy, B: Allocator + Copy>(
+    alloc: A,
+    survey: &Survey<'_, B>,
+    keys: &[&[Kept<'_>]],
+) -> Result<Vec<u32, A>, AllocError>
+    requires { AllByRecursion IsShortKey (keys_in survey.now keys.now) }
+    ensures { IfOk result (λ sizes. AreSizes (keys_in survey.now keys.now) sizes.items) }
+{
+    let mut sizes = Vec::new(alloc);
+    for i in 0..keys.len() {
+        sizes.push(key_size(survey, keys[i]))?;
+    }
+    Ok(sizes)
+}
+
+/// How many bytes the entries of a key's versions have.
+fn key_size<B: Allocator + Copy>(survey: &Survey<'_, B>, key: &[Kept<'_>]) -> u32
+    requires { IsShortKey (versions_in survey.now key.now) }
+    ensures size { result ≡ length (entries (versions_in survey.now key.now)) }
+    ensures small { result ≤ 4327440 }
+{
+    let mut size = 0;
+    for i in 0..key.len() {
+        size += size_of(survey, key[i]);
+    }
+    size
+}
+
+/// How many bytes a version's entry has.
+fn size_of<B: Allocator + Copy>(survey: &Survey<'_, B>, version: Kept<'_>) -> u32
+    requires { IsValue (version_in survey.now version).value }
+    ensures size { result ≡ length (entry (version_in survey.now version.entry)) }
+    ensures small { result ≤ 66576 }
+{
+    (10 + version.key.bytes.len() + tail_size(survey, version)) as u32
+}
+
+/// How many bytes the tail of a version's value has, or that of none.
+fn tail_size<B: Allocator + Copy>(survey: &Survey<'_, B>, version: Kept<'_>) -> usize
+    requires { IsValue (version_in survey.now version).value }
+    ensures size { result ≡ length (tail (version_in survey.now version.entry).value) }
+    ensures small { result ≤ 65538 }
+{
+    match version.from {
+        None => 1,
+        Some(from) => 3 + carried_size(between(survey.joined.as_slice(), from, version.to)),
+    }
+}
+
+/// How many bytes messages carry, which are together within the limit of values.
+fn carried_size(messages: &[Message<'_>]) -> usize
+    requires { length (flat_map (λ m. bytes_in m.op) (map message_of messages.now)) ≤ value_limit }
+    ensures { result ≡ length (flat_map (λ m. bytes_in m.op) (map message_of messages.now)) }
+{
+    let mut size = 0;
+    for i in 0..messages.len() {
+        size += carried(messages[i].op).len();
+    }
+    size
+}
+
+/// Folds a version's value into the bytes where more than one message carries it.
+fn fold<B: Allocator + Copy, C: Allocator + Copy>(
+    survey: &Survey<'_, B>,
+    version: Kept<'_>,
+    bytes: &mut Vec<u8, C>,
+) -> Result<(), AllocError>
+    ensures { OnOk result (IsFolded survey.now version.entry bytes.new.items) }
+{
+    if let Some(from) = version.from {
+        if between(survey.joined.as_slice(), from, version.to).len() != 1 {
+            bytes.clear();
+            survey.append_value(version, bytes)?;
+        }
+    }
+    Ok(())
+}
+
+/// Writes a kept version behind those of a page, its value lent by the one message that carries it, or by the bytes
+/// that more were folded into.
+fn write_version<'s, A: Allocator + Copy, B: Allocator + Copy>(
+    packed: &mut PackedRows<A>,
+    survey: &'s Survey<'s, B>,
+    version: Kept<'s>,
+    folded: &'s [u8],
+) -> Result<(), AllocError>
+    requires pack { CanPack (packed.old ++ version_in survey.now version ∷ []) }
+    requires value { IsValue (version_in survey.now version).value }
+    requires folded { IsFolded survey.now version folded.now }
+    ensures { OnOk result (packed.new ≡ packed.old ++ version_in survey.now version.entry ∷ []) }
+{
+    packed.push(Version {
+        key: version.key,
+        number: version.number,
+        value: value_of(survey, version, folded),
+    })
+}
+
+/// A kept version's value, lent.
+fn value_of<'s, B: Allocator + Copy>(
+    survey: &'s Survey<'s, B>,
+    version: Kept<'s>,
+    folded: &'s [u8],
+) -> Option<&'s [u8]>
+    requires { IsFolded survey.now version folded.now }
+    ensures { bytes_at result ≡ (version_in survey.now version.entry).value }
+{
+    match version.from {
+        None => None,
+        Some(from) => Some(carried_or(between(survey.joined.as_slice(), from, version.to), folded)),
+    }
+}
+
+/// The bytes of the one message, or those that more were folded into.
+fn carried_or<'s>(messages: &'s [Message<'s>], folded: &'s [u8]) -> &'s [u8]
+    requires { length messages.now ≢ 1
+        → folded.now ≡ flat_map (λ m. bytes_in m.op) (map message_of messages.now) }
+    ensures { result.now ≡ flat_map (λ m. bytes_in m.op) (map message_of messages.now) }
+{
+    if messages.len() == 1 {
+        carried(messages[0].op)
+    } else {
+        folded
+    }
+}
+
+/// Writes a key's versions behind those of a page.
+fn write_key<A: Allocator + Copy, B: Allocator + Copy>(
+    packed: &mut PackedRows<A>,
+    survey: &Survey<'_, B>,
+    key: &[Kept<'_>],
+    folded: &mut Vec<u8, A>,
+) -> Result<(), AllocError>
+    requires { CanPack (packed.old ++ versions_in survey.now key.now) }
+    ensures { OnOk result (packed.new ≡ packed.old ++ versions_in survey.now key.now) }
+{
+    for i in 0..key.len() {
+        let version = key[i];
+        fold(survey, version, folded)?;
+        write_version(packed, &*survey, version, folded.as_slice())?;
+    }
+    Ok(())
+}
+
+/// The page of some keys.
+fn write_page<A: Allocator + Copy, B: Allocator + Copy>(
+    alloc: A,
+    survey: &Survey<'_, B>,
+    keys: &[&[Kept<'_>]],
+    folded: &mut Vec<u8, A>,
+) -> Result<Rows<A>, AllocError>
+    requires { CanPack (read_in_order (keys_in survey.now keys.now)) }
+    ensures { IfOk result (λ page. page ≡ read_in_order (keys_in survey.now keys.now)) }
+{
+    let mut packed = PackedRows::new(alloc)?;
+    for i in 0..keys.len() {
+        write_key(&mut packed, survey, keys[i], folded)?;
+    }
+    Rows::new(alloc, packed)
+}
+
+/// The pages of keys, each up to before one of these keys.
+pub(crate) fn write_pages<A: Allocator + Copy, B: Allocator + Copy>(
+    alloc: A,
+    survey: &Survey<'_, B>,
+    keys: &[&[Kept<'_>]],
+    ends: &[usize],
+) -> Result<Vec<Rows<A>, A>, AllocError>
+    requires { AllByRecursion CanPack (pages_at (keys_in survey.now keys.now) 0 ends.now) }
+    ensures { IfOk result (λ pages. pages.items
+        ≡ pages_at (keys_in survey.now keys.now) 0 ends.now) }
+{
+    let mut folded = Vec::new(alloc);
+    let mut pages = Vec::new(alloc);
+    let mut from = 0;
+    for i in 0..ends.len() {
+        let page = write_page(alloc, survey, between(keys, from, ends[i]), &mut folded)?;
+        pages.push(page)?;
+        from = ends[i];
+    }
+    Ok(pages)
+}
