@@ -13,4 +13,5 @@ pub record IsPage (sizes : List ℕ) (room from to : ℕ) : Type 0 where
 -- pages from one key to before another, each beginning where the one before ends
 abbrev pub ArePages : List ℕ → ℕ → ℕ → List ℕ → ℕ → Type 0
 ArePages sizes room from [] to = from ≡ to
-ArePages sizes room from (next ∷ ends) to = IsPage sizes room from next × ArePages sizes room next ends to
+ArePages sizes room from (next ∷ ends) to = IsPage sizes room from next
+    × ArePages sizes room next ends to

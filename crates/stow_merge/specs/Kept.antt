@@ -17,7 +17,8 @@ value_between messages (Some from) to = Some (bytes_between messages from to)
 
 -- what the code's type stands for
 abbrev pub kept_version : List TreeMessage → coded.Kept → Version
-kept_version messages k = record { key = k.key.bytes.now; number = k.number; value = value_between messages k.from k.to }
+kept_version messages k =
+    record { key = k.key.bytes.now; number = k.number; value = value_between messages k.from k.to }
 
 -- where the bytes of a key's value begin after one more operation
 abbrev pub start_after : ℕ → Op → Option ℕ → Option ℕ

@@ -20,7 +20,8 @@ pub record HaveOneKey (versions : List Version) : Type 0 where
 
 -- each key of some versions is below each key of others
 pub record KeysBelow (versions others : List Version) : Type 0 where
-  pub are_below : (v w : Version) → Contains versions v → Contains others w → bytes_cmp v.key w.key ≡ Less
+  pub are_below : (v w : Version) → Contains versions v → Contains others w
+      → bytes_cmp v.key w.key ≡ Less
 
 -- a page has a version at least, and those of one key alone where it is above the target; its keys are below those of later pages
 pub record IsLeafPage (target : ℕ) (page later : List Version) : Type 0 where
@@ -30,9 +31,11 @@ pub record IsLeafPage (target : ℕ) (page later : List Version) : Type 0 where
 
 abbrev pub AreLeafPages : ℕ → List (List Version) → Type 0
 AreLeafPages target [] = Unit {0}
-AreLeafPages target (page ∷ pages) = IsLeafPage target page (read_in_order pages) × AreLeafPages target pages
+AreLeafPages target (page ∷ pages) = IsLeafPage target page (read_in_order pages)
+    × AreLeafPages target pages
 
 -- the pages hold exactly the versions, in order; there is an empty one only where there are no versions
-pub record ArePagesOf (versions : List Version) (target : ℕ) (pages : List (List Version)) : Type 0 where
+pub record ArePagesOf (versions : List Version) (target : ℕ)
+    (pages : List (List Version)) : Type 0 where
   pub are : read_in_order pages ≡ versions
   pub are_cut : (pages ≡ [] ∷ []) ⊎ ((pages ≢ []) × AreLeafPages target pages)

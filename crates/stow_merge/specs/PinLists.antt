@@ -25,4 +25,5 @@ room_at lists tenant = room_of (slice_get lists tenant)
 
 -- each number is above those before it
 abbrev pub AreRising : List ℕ → Type 0
-AreRising numbers = (i j : ℕ) → i < j → j < length numbers → slice_index numbers i < slice_index numbers j
+AreRising numbers = (i j : ℕ) → i < j → j < length numbers
+    → slice_index numbers i < slice_index numbers j

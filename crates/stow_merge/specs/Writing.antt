@@ -29,11 +29,14 @@ pub record IsRun (key : List ℕ) (run rest : List coded.Kept) : Type 0 where
 -- kept versions key by key
 abbrev pub AreRuns : List coded.Kept → List (List coded.Kept) → Type 0
 AreRuns kept [] = kept ≡ []
-AreRuns kept (run ∷ runs) = (rest : List coded.Kept) × (key : List ℕ) × (run ≢ []) × (kept ≡ run ++ rest) × IsRun key run rest × AreRuns rest runs
+AreRuns kept (run ∷ runs) = (rest : List coded.Kept) × (key : List ℕ) × (run ≢ [])
+    × (kept ≡ run ++ rest) × IsRun key run rest × AreRuns rest runs
 
 -- where more than one message carries a version's value, the bytes are that value
-pub record IsFolded {A : Type 0} (survey : Survey A) (k : coded.Kept) (bytes : List ℕ) : Type 0 where
-  pub are : (from : ℕ) → k.from ≡ Some from → length (drop from (take k.to survey.joined.items)) ≢ 1 → bytes ≡ bytes_between (map message_of survey.joined.items) from k.to
+pub record IsFolded {A : Type 0} (survey : Survey A) (k : coded.Kept)
+    (bytes : List ℕ) : Type 0 where
+  pub are : (from : ℕ) → k.from ≡ Some from → length (drop from (take k.to survey.joined.items)) ≢ 1
+      → bytes ≡ bytes_between (map message_of survey.joined.items) from k.to
 
 -- versions of which a page can be made
 pub record CanPack (versions : List Version) : Type 0 where
@@ -54,13 +57,15 @@ pub record AreSizes (keys : List (List Version)) (sizes : List ℕ) : Type 0 whe
 -- the pages of keys, each from one key to before another
 abbrev pub pages_at : List (List Version) → ℕ → List ℕ → List (List Version)
 pages_at keys from [] = []
-pages_at keys from (next ∷ ends) = read_in_order (drop from (take next keys)) ∷ pages_at keys next ends
+pages_at keys from (next ∷ ends) =
+    read_in_order (drop from (take next keys)) ∷ pages_at keys next ends
 
 -- versions that a merge can write: those of one key are few
 pub record CanMerge (versions : List Version) : Type 0 where
   pub rise : VersionsRise versions
   pub are_short : HaveShortValues versions
-  pub are_few : (before key after : List Version) → versions ≡ before ++ (key ++ after) → HaveOneKey key → length key ≤ 65
+  pub are_few : (before key after : List Version) → versions ≡ before ++ (key ++ after)
+      → HaveOneKey key → length key ≤ 65
 
 -- the pages, or an empty one where there are none
 abbrev pub at_least_one_page : List (List Version) → List (List Version)

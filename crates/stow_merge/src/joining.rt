@@ -56,7 +56,8 @@ pub fn join<'a, A: Allocator + Copy>(
 }
 
 fn compare(row: &Version<'_>, message: &Message<'_>) -> Ordering
-    ensures { result ≡ place_cmp (version_place (version_of row.now)) (place_of (message_of message.now)) }
+    ensures { result
+        ≡ place_cmp (version_place (version_of row.now)) (place_of (message_of message.now)) }
 {
     row.key
         .bytes

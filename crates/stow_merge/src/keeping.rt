@@ -107,7 +107,9 @@ fn keeps<B: Allocator + Copy>(
     newer: Option<Message<'_>>,
     message: Message<'_>,
 ) -> bool
-    ensures { result ≡ is_kept (pins_in pins.now) (option_map message_of newer.entry) (message_of message.entry) }
+    ensures { result
+        ≡ is_kept (pins_in pins.now) (option_map message_of newer.entry)
+        (message_of message.entry) }
 {
     match newer {
         None => true,

@@ -31,7 +31,8 @@ pub fn merge_into_pages<A: Allocator + Copy, B: Allocator + Copy, C: Allocator>(
     target: u32,
 ) -> Result<Vec<Rows<A>, A>, AllocError>
     requires batch { MessagesRise (map message_of batch.now) }
-    requires values { HaveShortValues (merged rows.now (map message_of batch.now) (pins_in pins.now)) }
+    requires values { HaveShortValues
+        (merged rows.now (map message_of batch.now) (pins_in pins.now)) }
     ensures { IfOk result (λ pages. ArePagesOf
         (merged rows.now (map message_of batch.now) (pins_in pins.now)) target pages.items) }
 {
