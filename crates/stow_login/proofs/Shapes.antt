@@ -56,11 +56,11 @@ err_items table None found is e = e ∙ ap (λ f. ok_or f fault.WrongShape) (sym
 
 -- ---- as many as there may be
 
-pub counted_out : (table : Members) (items : Items) → items_in table ≡ Ok items → (count items ≡ 0) ⊎ (tenant_limit < count items) → entries_of table ≡ Err fault.WrongCount
-counted_out table items is out = rw is (grind (arith, nat_tests, out))
+pub limited_out : (table : Members) (items : Items) → items_in table ≡ Ok items → (count items ≡ 0) ⊎ (tenant_limit < count items) → entries_of table ≡ Err fault.WrongCount
+limited_out table items is out = rw is (grind (arith, nat_tests, out))
 
-pub counted_in : (table : Members) (items : Items) → items_in table ≡ Ok items → count items ≢ 0 → count items ≤ tenant_limit → entries_of table ≡ entries_after [] items
-counted_in table items is some few = rw is (grind (arith, nat_tests, some, few))
+pub limited_in : (table : Members) (items : Items) → items_in table ≡ Ok items → count items ≢ 0 → count items ≤ tenant_limit → entries_of table ≡ entries_after [] items
+limited_in table items is some few = rw is (grind (arith, nat_tests, some, few))
 
 -- the first of the items that are left has a fault
 pub fault_here : (table : Members) (earlier : List Entry) (vs : List Value) (i : ℕ) (v : Value) (e : TenantsFault) → entries_of table ≡ entries_after earlier (items_view (drop i vs)) → i < length vs → v ≡ get_or vs i v

@@ -16,7 +16,7 @@ use Rattle.toml.specs.Parse.{parse_document}
 use Rattle.stow_model.specs.Login.{Entry}
 use Rattle.stow_login.specs.declared.tenants_fault.TenantsFault.{TenantsFault}
 use Rattle.stow_login.specs.declared.tenants_fault.TenantsFault.TheVariants as fault
-use Rattle.stow_login.specs.TenantFile.{◌>>=◌, count, items_in, counted, tenant_limit, four_fields, text_at, number_at, is_name, valid_name, is_used, unused_name, short_salt, salt_limit, salt_in, digest_length, digest_in, quota_in, entry_in, entries_after, entries_of, IsByRule, HaveOwnNames, EntriesAreByRule}
+use Rattle.stow_login.specs.TenantFile.{◌>>=◌, count, items_in, limited, tenant_limit, four_fields, text_at, number_at, is_name, valid_name, is_used, unused_name, short_salt, salt_limit, salt_in, digest_length, digest_in, quota_in, entry_in, entries_after, entries_of, IsByRule, HaveOwnNames, EntriesAreByRule}
 
 -- ---- steps that gave a value
 
@@ -120,8 +120,8 @@ entries_ok (item value items) earlier entries e all own =
 pub entries_are_by_rule_lem : EntriesAreByRule
 entries_are_by_rule_lem text entries e =
     let table = bind_ok (ok_or (parse_document text) fault.NotToml) entries_of entries e in
-    let items = bind_ok (items_in table.0) (λ items. counted items >>= entries_after []) entries table.2 in
-    let tenants = bind_ok (counted items.0) (entries_after []) entries items.2 in
+    let items = bind_ok (items_in table.0) (λ items. limited items >>= entries_after []) entries table.2 in
+    let tenants = bind_ok (limited items.0) (entries_after []) entries items.2 in
     let some = passed (nat_le 1 (count items.0) && nat_le (count items.0) tenant_limit) items.0 tenants.0 fault.WrongCount tenants.1 in
     let (low, high) = and_parts (nat_le 1 (count items.0)) (nat_le (count items.0) tenant_limit) some.0 in
     let read = entries_ok tenants.0 [] entries tenants.2 tt tt in

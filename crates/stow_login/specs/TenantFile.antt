@@ -75,8 +75,8 @@ items_in members =
     else Err fault.WrongShape
 
 -- as many as there may be
-abbrev pub counted : Items → Result Items TenantsFault
-counted items =
+abbrev pub limited : Items → Result Items TenantsFault
+limited items =
     if nat_le 1 (count items) && nat_le (count items) tenant_limit then Ok items
     else Err fault.WrongCount
 
@@ -160,7 +160,7 @@ entries_after earlier (item value items) =
 abbrev pub entries_of : Members → Result (List Entry) TenantsFault
 entries_of members = do
   items ← items_in members
-  tenants ← counted items
+  tenants ← limited items
   entries_after [] tenants
 
 -- the entries of a text, or the first fault

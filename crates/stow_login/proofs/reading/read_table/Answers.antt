@@ -4,14 +4,14 @@ use Rattle.std.proofs.lemmas.Bool.{eqb-true, eq-eqb}
 use Rattle.toml.specs.View.{table_view, items_view}
 use Rattle.stow_login.specs.TenantFile.{entries_after, entries_of}
 use Rattle.stow_login.specs.declared.tenants_fault.TenantsFault.TheVariants.{OutOfMemory}
-use Rattle.stow_login.proofs.Shapes.{count_of_items, counted_out, counted_in, fault_here}
+use Rattle.stow_login.proofs.Shapes.{count_of_items, limited_out, limited_in, fault_here}
 use Rattle.stow_login.proofs.reading.read_table.Goals as goal
 use Rattle.stow_login.proofs.reading.read_table.Goals.{then-is_empty-via-then-is_empty, then-is_empty-via-else-is_empty+then-items-gt-TENANT_LIMIT}
 
 pub returns-then-is_empty-clause-err : goal.returns-then-is_empty-clause-err
 returns-then-is_empty-clause-err g c =
     let items = c.in_ok-items.items.now in
-    inr (counted_out (table_view c.args.table.now) (items_view items) c.in_ok-items.ensures.ok (elim c.then-is_empty.branch [
+    inr (limited_out (table_view c.args.table.now) (items_view items) c.in_ok-items.ensures.ok (elim c.then-is_empty.branch [
       | then-is_empty-via-then-is_empty w ↦ inl (count_of_items items ∙ eqb-true (length items) 0 (sym c.is_empty.ensures ∙ w.if-is_empty.true))
       | then-is_empty-via-else-is_empty+then-items-gt-TENANT_LIMIT w ↦ inr (subst (λ n. 65535 < n) (sym (count_of_items items)) w.if-items-gt-TENANT_LIMIT.true)
     ]))
@@ -20,7 +20,7 @@ pub loop-item-init : goal.loop-item-init
 loop-item-init g c =
     let items = c.in_ok-items.items.now in
     record {
-      left = counted_in (table_view c.args.table.now) (items_view items) c.in_ok-items.ensures.ok
+      left = limited_in (table_view c.args.table.now) (items_view items) c.in_ok-items.ensures.ok
           (λ none. false≢true (c.if-is_empty.ensures ∙ eq-eqb (length items) 0 (sym (count_of_items items) ∙ none)))
           (rw (count_of_items items) c.if-items-gt-TENANT_LIMIT.false)
           ∙ ap (λ ts. entries_after ts (items_view items)) (sym c.new-tenants.ensures);
