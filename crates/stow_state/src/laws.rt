@@ -1,4 +1,5 @@
 //! Laws over the definitions: functions that do nothing, and whose contracts are the laws.
+ghost use Rattle.stow_state.specs.Changes.{ChangesByRows, OwnRowsMove, EarlierRowsStay, WritesAreWritten};
 ghost use Rattle.stow_state.specs.Rows.{RowsByValue, OtherRowsStay, AgreeingRows};
 
 /// A tenant's rows are what its keys have by the messages.
@@ -14,4 +15,24 @@ pub fn other_rows_stay()
 /// Sets that agree show the same rows at each pin, and from the bound on.
 pub fn agreeing_rows()
     ensures { AgreeingRows }
+{}
+
+/// There is a message for a key just where its row changes, and it makes the row.
+pub fn changes_by_rows()
+    ensures { ChangesByRows }
+{}
+
+/// A call's messages move the caller's rows as its write does.
+pub fn own_rows_move()
+    ensures { OwnRowsMove }
+{}
+
+/// A call's messages leave the caller's rows at earlier numbers.
+pub fn earlier_rows_stay()
+    ensures { EarlierRowsStay }
+{}
+
+/// The write of one row is a write, and so is the removal of some.
+pub fn writes_are_written()
+    ensures { WritesAreWritten }
 {}
