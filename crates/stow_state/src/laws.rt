@@ -1,6 +1,7 @@
 //! Laws over the definitions: functions that do nothing, and whose contracts are the laws.
 ghost use Rattle.stow_state.specs.Changes.{ChangesByRows, OwnRowsMove, EarlierRowsStay, WritesAreWritten};
 ghost use Rattle.stow_state.specs.Rows.{RowsByValue, OtherRowsStay, AgreeingRows};
+ghost use Rattle.stow_state.specs.Steps.{OwnStepWrites, CallIsOwnStep, OtherViewsStay, StaysSound, StepIsThere, RunsAlone};
 
 /// A tenant's rows are what its keys have by the messages.
 pub fn rows_by_value()
@@ -35,4 +36,34 @@ pub fn earlier_rows_stay()
 /// The write of one row is a write, and so is the removal of some.
 pub fn writes_are_written()
     ensures { WritesAreWritten }
+{}
+
+/// A tenant's own step writes once at most.
+pub fn own_step_writes()
+    ensures { OwnStepWrites }
+{}
+
+/// A call is the caller's own step.
+pub fn call_is_own_step()
+    ensures { CallIsOwnStep }
+{}
+
+/// A step leaves every other tenant's store.
+pub fn other_views_stay()
+    ensures { OtherViewsStay }
+{}
+
+/// A new state is sound, and so is what a step leads to from a sound one.
+pub fn stays_sound()
+    ensures { StaysSound }
+{}
+
+/// From a sound state each event can be a step.
+pub fn step_is_there()
+    ensures { StepIsThere }
+{}
+
+/// In a run from a new state each tenant's store and what it is told are those of its own run, alone.
+pub fn runs_alone()
+    ensures { RunsAlone }
 {}
