@@ -11,6 +11,7 @@ use Rattle.std.proofs.lemmas.Map.Views.{any-filter_same}
 use Rattle.stow_model.specs.Store.{Rows, Version, rows_without}
 use Rattle.stow_tree_model.specs.Keys.{packed, own_key}
 use Rattle.stow_tree_model.specs.Op.{Op}
+use Rattle.stow_tree_model.specs.TreeMessage.{TreeMessage}
 use Rattle.stow_tree_model.specs.Order.{Place}
 use Rattle.stow_tree_model.specs.Operations.{NumberedValue, applied, latest, or_else}
 use Rattle.stow_tree_model.specs.Messages.{Messages, ops_of, ops_in, value, with_all}
@@ -19,9 +20,9 @@ use Rattle.stow_tree_model.proofs.Orders.{key_cases}
 use Rattle.stow_tree_model.proofs.Packed.{own_key-packed}
 use Rattle.stow_tree_model.proofs.Latest.{latest_same}
 use Rattle.stow_tree_model.proofs.Histories.{ops_in-at, ops_in-skip}
-use Rattle.stow_tree_model.proofs.SetLemmas.{ops-with_all}
+use Rattle.stow_tree_model.proofs.SetLemmas.{ops-with_all, set_by_ops_law}
 use Rattle.stow_state.specs.Rows.{version_of, rows_at}
-use Rattle.stow_state.specs.Changes.{is_same_row, keys_of_both, changed_keys, op_to, message_to, changes, op_between, AreWritten, ChangesByRows, OwnRowsMove, EarlierRowsStay, WritesAreWritten}
+use Rattle.stow_state.specs.Changes.{is_same_row, keys_of_both, changed_keys, op_to, message_to, changes, op_between, AreOwn, AreWritten, ChangesByRows, ChangesOnce, OwnRowsMove, EarlierRowsStay, WritesAreWritten}
 use Rattle.stow_state.proofs.Rows.{rows_by_value_law, rows_by_values, same_rows}
 
 -- ---- the same row
@@ -113,6 +114,40 @@ changes_by_rows_law tenant number before after k =
     ∙ ap (λ b. not (is_same_row (finite.get before k) (finite.get after k)) && b) (any-keys_of_both before after k)
     )
     ∙ by_rows (finite.get before k) (finite.get after k)
+
+own_messages : (tenant number : ℕ) (rows : Rows) (keys : List (List ℕ)) → AreOwn tenant number (map (message_to tenant number rows) keys)
+own_messages tenant number rows [] = tt
+own_messages tenant number rows (k ∷ keys) = ((ap (packed tenant) (own_key-packed tenant k), refl), own_messages tenant number rows keys)
+
+-- there is no message for a key that is not the tenant's
+ops_in-others : (tenant number : ℕ) (ms : List TreeMessage) (key : List ℕ) (n : ℕ) → AreOwn tenant number ms → packed tenant (own_key key) ≢ key → ops_in ms key n ≡ None
+ops_in-others tenant number [] key n own ne = refl
+ops_in-others tenant number (x ∷ ms) key n own ne =
+    ops_in-skip x ms key n (λ e. let k : key ≡ x.key = ap (λ (p : Place). p.0) e in ne (ap (λ y. packed tenant (own_key y)) k ∙ own.0.0 ∙ sym k))
+    ∙ ops_in-others tenant number ms key n own.1 ne
+
+own_elsewhere : (tenant number : ℕ) (ms : List TreeMessage) (key : List ℕ) (n : ℕ) → AreOwn tenant number ms → n ≢ number → ops_in ms key n ≡ None
+own_elsewhere tenant number [] key n own ne = refl
+own_elsewhere tenant number (x ∷ ms) key n own ne =
+    ops_in-skip x ms key n (λ e. ne (ap (λ (p : Place). p.1) e ∙ own.0.1)) ∙ own_elsewhere tenant number ms key n own.1 ne
+
+pub changes_once_law : ChangesOnce
+unfolding changes
+changes_once_law m tenant number before after ms own is = set_by_ops_law (with_all m ms) (with_all m (changes tenant number before after)) (λ key n.
+    let own' : AreOwn tenant number (changes tenant number before after) = own_messages tenant number after (changed_keys before after) in
+    let same : ops_in ms key n ≡ ops_in (changes tenant number before after) key n =
+    ⊎_elim
+    (λ (e : n ≡ number). ⊎_elim
+    (λ (k : (packed tenant (own_key key) ≡ key) × (same_key (packed tenant (own_key key)) key ≡ true)).
+    subst (λ y. ops_in ms y n ≡ ops_in (changes tenant number before after) y n) k.0
+    (subst (λ x. ops_in ms (packed tenant (own_key key)) x ≡ ops_in (changes tenant number before after) (packed tenant (own_key key)) x) (sym e)
+    (is (own_key key) ∙ sym (changes_by_rows_law tenant number before after (own_key key)))))
+    (λ (k : (packed tenant (own_key key) ≢ key) × (same_key (packed tenant (own_key key)) key ≡ false)).
+    ops_in-others tenant number ms key n own k.0 ∙ sym (ops_in-others tenant number (changes tenant number before after) key n own' k.0))
+    (key_cases (packed tenant (own_key key)) key))
+    (λ (ne : n ≢ number). own_elsewhere tenant number ms key n own ne ∙ sym (own_elsewhere tenant number (changes tenant number before after) key n own' ne))
+    (cases_eq n number) in
+    ops-with_all m ms key n ∙ ap (λ o. or_else o (ops_of m key n)) same ∙ sym (ops-with_all m (changes tenant number before after) key n))
 
 none_passes : (p : List ℕ → Bool) (ks : List (List ℕ)) → ((k : List ℕ) → p k ≡ false) → filter p ks ≡ []
 none_passes p [] h = refl

@@ -254,7 +254,7 @@ step_is_there_law state event sound index = record {
 
 -- ---- runs
 
-new_view : (quotas : ℕ → ℕ) (tenant : ℕ) → view (new_state quotas) tenant ≡ empty_store (quotas tenant)
+pub new_view : (quotas : ℕ → ℕ) (tenant : ℕ) → view (new_state quotas) tenant ≡ empty_store (quotas tenant)
 unfolding view
 new_view quotas tenant = λ i. record {
   rows = no_rows i;

@@ -1,9 +1,10 @@
 -- The messages of a call: one for each key whose row it changes.
 use Rattle.std.specs.Prelude.{◌≡◌, ◌⊎◌, ℕ, suc, ◌<◌, Bool, true, false, not, List, ◌++◌, filter, map, Option, Some, None, IfSome, if◌then◌else◌, ◌==◌, ◌&&◌}
 use Rattle.std.specs.FinMap as finite
+use Rattle.std.specs.List.{AllByRecursion}
 use Rattle.std.specs.Str.{bytes_eq}
 use Rattle.stow_model.specs.Store.{Rows, Version, rows_without}
-use Rattle.stow_tree_model.specs.Keys.{packed}
+use Rattle.stow_tree_model.specs.Keys.{packed, own_key}
 use Rattle.stow_tree_model.specs.Op.{Op, Put, Gone}
 use Rattle.stow_tree_model.specs.TreeMessage.{TreeMessage}
 use Rattle.stow_tree_model.specs.Operations.{NoneAbove}
@@ -37,7 +38,7 @@ abbrev pub message_to : ℕ → ℕ → Rows → List ℕ → TreeMessage
 message_to tenant number rows key =
     record { key = packed tenant key; number = number; op = op_to (finite.get rows key) }
 
--- a tenant's messages that make rows of others, one for each key whose row changes, all with the number
+-- a tenant's messages that make the rows others: one for each key whose row changes, with the number
 unfoldable pub changes : ℕ → ℕ → Rows → Rows → List TreeMessage
 changes tenant number before after =
     map (message_to tenant number after) (changed_keys before after)
@@ -45,6 +46,11 @@ changes tenant number before after =
 -- the operation between a key's row before and after, if they differ
 abbrev pub op_between : Option Version → Option Version → Option Op
 op_between before after = if is_same_row before after then None else Some (op_to after)
+
+-- the messages are of keys that the tenant itself names, with the number
+abbrev pub AreOwn : ℕ → ℕ → List TreeMessage → Type 0
+AreOwn tenant number ms =
+    AllByRecursion (λ m. (packed tenant (own_key m.key) ≡ m.key) × (m.number ≡ number)) ms
 
 -- rows after a write: each is as before, or is gone, or has the write's number
 abbrev pub AreWritten : ℕ → Rows → Rows → Type 0
@@ -59,6 +65,14 @@ abbrev pub ChangesByRows : Type 0
 ChangesByRows = (tenant number : ℕ) (before after : Rows) (key : List ℕ)
     → ops_in (changes tenant number before after) (packed tenant key) number
     ≡ op_between (finite.get before key) (finite.get after key)
+
+-- whatever list of the tenant's messages makes the same rows, it makes the same set
+abbrev pub ChangesOnce : Type 0
+ChangesOnce = (m : Messages) (tenant number : ℕ) (before after : Rows) (ms : List TreeMessage)
+    → AreOwn tenant number ms
+    → ((key : List ℕ) → ops_in ms (packed tenant key) number
+    ≡ op_between (finite.get before key) (finite.get after key))
+    → with_all m ms ≡ with_all m (changes tenant number before after)
 
 -- a call's messages move the caller's rows as its write does
 abbrev pub OwnRowsMove : Type 0

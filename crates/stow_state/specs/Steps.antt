@@ -51,8 +51,8 @@ moved_tenant own store =
 abbrev pub with_tenant : (ℕ → TenantState) → ℕ → TenantState → ℕ → TenantState
 with_tenant tenants tenant own other = if other == tenant then own else tenants other
 
--- the state once a tenant's store is this: a message with the tenant's next number for each key whose row changes, and
--- what it has beside them
+-- the state once a tenant's store is this: a message with the tenant's next number for each key whose
+-- row changes, and what the tenant has beside its messages
 abbrev pub after_call : SharedState → ℕ → Store → SharedState
 after_call state tenant store =
     record {
@@ -71,8 +71,8 @@ unfoldable pub reply_to : SharedState → SharedEvent → Option Reply
 reply_to state (Call tenant event) = (step (view state tenant) event).1
 reply_to state Maintenance = None
 
--- An event is one step: the state moves, and its messages may then give way to others that mean the same under the
--- snapshots' numbers and from each tenant's last write on.
+-- An event is one step: the state moves, and its messages may then give way to others that mean the
+-- same at the snapshots' numbers and from each tenant's last write on.
 pub record SharedStep (old : SharedState) (event : SharedEvent) (told : Option Reply)
     (new : SharedState) : Type 0 where
   pub has_index : HasIndex event

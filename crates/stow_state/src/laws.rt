@@ -1,5 +1,6 @@
 //! Laws over the definitions: functions that do nothing, and whose contracts are the laws.
-ghost use Rattle.stow_state.specs.Changes.{ChangesByRows, OwnRowsMove, EarlierRowsStay, WritesAreWritten};
+ghost use Rattle.stow_state.specs.Changes.{ChangesByRows, ChangesOnce, OwnRowsMove, EarlierRowsStay, WritesAreWritten};
+ghost use Rattle.stow_state.specs.Examples.{Examples};
 ghost use Rattle.stow_state.specs.Rows.{RowsByValue, OtherRowsStay, AgreeingRows};
 ghost use Rattle.stow_state.specs.Steps.{OwnStepWrites, CallIsOwnStep, OtherViewsStay, StaysSound, StepIsThere, RunsAlone};
 
@@ -21,6 +22,11 @@ pub fn agreeing_rows()
 /// There is a message for a key just where its row changes, and it makes the row.
 pub fn changes_by_rows()
     ensures { ChangesByRows }
+{}
+
+/// Whatever list of a tenant's messages makes the same rows, it makes the same set.
+pub fn changes_once()
+    ensures { ChangesOnce }
 {}
 
 /// A call's messages move the caller's rows as its write does.
@@ -66,4 +72,9 @@ pub fn step_is_there()
 /// In a run from a new state each tenant's store and what it is told are those of its own run, alone.
 pub fn runs_alone()
     ensures { RunsAlone }
+{}
+
+/// The definitions hold of their examples, and not of what they leave out.
+pub fn examples()
+    ensures { Examples }
 {}
