@@ -1,7 +1,8 @@
 -- The definitions at examples.
 use Rattle.std.proofs.Common.{◌≡◌, ◌≢◌, ℕ, Bool, true, false, List, [], ◌∷◌, ◌++◌, Some, None, is_some, refl, ap, ◌∙◌, sym, subst, arith, ⊎_elim, inr, cond}
 use Rattle.std.specs.Prelude.{map, filter, not, if◌then◌else◌, ◌==◌, codes, IfSome}
-use Rattle.std.specs.Ordering.{nat_cmp}
+use Rattle.std.specs.Ordering.{nat_cmp, eq_by_cmp}
+use Rattle.std.specs.Option.{unwrap_or}
 use Rattle.std.specs.Cmp.{nat_cmp_total}
 use Rattle.std.specs.Cmp.Lexicographic.{nat_list_cmp_total}
 use Rattle.std.specs.FinMap as finite
@@ -31,10 +32,10 @@ use Rattle.stow_state.specs.Rows.{version_of, rows_at}
 use Rattle.stow_state.specs.Changes.{is_same_row, op_to, changes, AreWritten}
 use Rattle.stow_state.specs.State.{TenantState, SharedState, copies, view, pins_in, lasts_in, IsSound}
 use Rattle.stow_state.specs.Steps.{Call, Maintenance, moved, reply_to, SharedStep, KeepsRows, WritesRows}
-use Rattle.stow_state.specs.Examples.{version, one_row, message, three_messages, of_two_tenants, OfRows, two_rows, other_row, OfChanges, with_snapshot, written_tenant, of_two_writers, OfViews, set_a, no_writes, told_ok, with_messages_and_snapshot, OfSteps, store_of_one, OfWrites, Examples}
+use Rattle.stow_state.specs.Examples.{version, one_row, message, three_messages, of_two_tenants, OfRows, two_rows, other_row, OfChanges, OfSnapshots, with_snapshot, written_tenant, of_two_writers, OfViews, set_a, no_writes, told_ok, with_messages_and_snapshot, OfSteps, store_of_one, OfWrites, Examples}
 use Rattle.stow_state.proofs.Rows.{rows_by_value_law, same_rows}
 use Rattle.stow_state.proofs.Changes.{changes-none, writes_are_written_law}
-use Rattle.stow_state.proofs.Snapshots.{entries-empty}
+use Rattle.stow_state.proofs.Snapshots.{get-numbers_of, entries-empty}
 use Rattle.stow_state.proofs.Steps.{new_sound, step_sound, step_is_there_law, new_view}
 
 -- ---- rows
@@ -153,6 +154,18 @@ of_changes = record {
 one_snapshot : (n : ℕ) → finite.entries (finite.insert (finite.empty {X = ℕ} {R = nat_cmp}) 1 n) ≡ (1, n) ∷ []
 one_snapshot n = finite.entries-insert nat_cmp_total finite.empty 1 n ∙ ap (put nat_cmp 1 n) entries-empty
 
+had_one : (id : ℕ) → finite.get (finite.insert (finite.empty {X = ℕ} {R = nat_cmp}) 1 1) id ≡ cond (eq_by_cmp nat_cmp id 1) (Some 1) None
+had_one id = finite.get-insert nat_cmp_total finite.empty 1 1 id ∙ ap (cond (eq_by_cmp nat_cmp id 1) (Some 1)) (finite.get-empty nat_cmp id)
+
+of_snapshots : OfSnapshots
+of_snapshots =
+    let own : TenantState = with_snapshot 1 (written_tenant 2) in
+    record {
+      kept = get-numbers_of own (1 ∷ 2 ∷ []) 1 ∙ ap (λ o. Some (unwrap_or o 2)) (had_one 1);
+      taken = get-numbers_of own (1 ∷ 2 ∷ []) 2 ∙ ap (λ o. Some (unwrap_or o 2)) (had_one 2);
+      dropped = get-numbers_of own (2 ∷ []) 1;
+    }
+
 first_view : view of_two_writers 1 ≡ record (empty_store 9) {
   rows = one_row (version 2 (codes "xy"));
   last = 2;
@@ -257,4 +270,4 @@ of_writes = record {
 }
 
 pub examples_law : Examples
-examples_law = (of_rows, of_changes, of_views, of_steps, of_writes)
+examples_law = (of_rows, of_changes, of_snapshots, of_views, of_steps, of_writes)

@@ -50,7 +50,7 @@ is_some-copies m tenant (s ∷ es) id =
     ap (λ (o : Option Rows). is_some o) (finite.get-insert nat_cmp_total (copies m tenant es) s.0 (rows_at m tenant s.1) id)
     ∙ either (eq_by_cmp nat_cmp id s.0) (rows_at m tenant s.1) s.1 (finite.get (copies m tenant es) id) (find nat_cmp id es) (is_some-copies m tenant es id)
 
-get-numbers_of : (own : TenantState) (ids : List ℕ) (q : ℕ) → finite.get (numbers_of own ids) q ≡ cond (list_any (eq_by_cmp nat_cmp q) ids) (Some (unwrap_or (finite.get own.snapshots q) own.last)) None
+pub get-numbers_of : (own : TenantState) (ids : List ℕ) (q : ℕ) → finite.get (numbers_of own ids) q ≡ cond (list_any (eq_by_cmp nat_cmp q) ids) (Some (unwrap_or (finite.get own.snapshots q) own.last)) None
 get-numbers_of own [] q = finite.get-empty nat_cmp q
 get-numbers_of own (id ∷ ids) q =
     finite.get-insert nat_cmp_total (numbers_of own ids) id (unwrap_or (finite.get own.snapshots id) own.last) q

@@ -18,7 +18,7 @@ use Rattle.stow_tree_model.proofs.SetLemmas.{ops-with_all, others_stay_law}
 use Rattle.stow_state.specs.Rows.{IsIndex, version_of, rows_at}
 use Rattle.stow_state.specs.Changes.{changed_keys, message_to, changes}
 use Rattle.stow_state.specs.State.{TenantState, SharedState, copies, store_in, view, pins_in, lasts_in, IsSound, new_state}
-use Rattle.stow_state.specs.Steps.{SharedEvent, Call, Maintenance, HasIndex, IsElsewhere, numbers_of, moved_tenant, with_tenant, after_call, moved, reply_to, SharedStep, ToldEvent, SharedRun, line_with, line_of, replies_with, replies_of, KeepsRows, WritesRows, WritesOnce, CallIsOwnStep, OtherViewsStay, StaysSound, StepIsThere, RunsAlone}
+use Rattle.stow_state.specs.Steps.{SharedEvent, Call, Maintenance, HasIndex, IsElsewhere, numbers_of, moved_tenant, with_tenant, after_call, moved, reply_to, SharedStep, ToldEvent, SharedRun, line_with, line_of, replies_with, replies_of, KeepsRows, WritesRows, WritesOnce, CallIsOwnStep, OtherViewsStay, StaysSound, StepIsThere, RunsAlone, TwoSharedRuns}
 use Rattle.stow_state.proofs.Rows.{rows_by_value_law, same_rows, other_rows_stay_law, agreeing_rows_law}
 use Rattle.stow_state.proofs.Changes.{changes-elsewhere, changes-none, earlier_rows_stay_law, own_rows_move_law}
 use Rattle.stow_state.proofs.Snapshots.{copies_same, numbers_stay, entries-empty}
@@ -301,3 +301,9 @@ runs_alone_law quotas [] last tenant index e = (ap (λ (x : SharedState). view x
 runs_alone_law quotas (newest ∷ earlier) last tenant index run =
     alone_step run.0 last newest.0 newest.1 tenant (quotas tenant) (line_of tenant earlier) (replies_of tenant earlier) index
     (run_sound quotas earlier run.0 run.1) run.2 (runs_alone_law quotas earlier run.0 tenant index run.1)
+
+pub two_shared_runs_law : TwoSharedRuns
+two_shared_runs_law quotas quotas' steps steps' last last' tenant tenant' index index' quota line run run' =
+    let a = runs_alone_law quotas steps last tenant index run in
+    let b = runs_alone_law quotas' steps' last' tenant' index' run' in
+    (a.0 ∙ (λ i. store_after (quota i) (line i)) ∙ sym b.0, a.1 ∙ (λ i. replies_after (quota i) (line i)) ∙ sym b.1)

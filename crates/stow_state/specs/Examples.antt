@@ -1,5 +1,7 @@
 -- Definitions at examples, and at what they leave out.
 use Rattle.std.specs.Prelude.{◌≡◌, ℕ, true, false, List, [], ◌∷◌, Option, Some, None, codes, if◌then◌else◌, ◌==◌}
+use Rattle.std.specs.Ordering.{nat_cmp}
+use Rattle.std.specs.FinMap.{FinMap}
 use Rattle.std.specs.FinMap as map
 use Rattle.stow_model.specs.declared.simple_string.SimpleString.TheVariants as simple
 use Rattle.stow_model.specs.Reply.{Reply}
@@ -13,7 +15,7 @@ use Rattle.stow_tree_model.specs.Examples.{two_writes, last_write}
 use Rattle.stow_state.specs.Rows.{IsIndex, is_of, rows_at}
 use Rattle.stow_state.specs.Changes.{is_same_row, changes, op_between, AreOwn, AreWritten}
 use Rattle.stow_state.specs.State.{TenantState, SharedState, view, IsSound, new_tenant, new_state}
-use Rattle.stow_state.specs.Steps.{Call, Maintenance, HasIndex, IsElsewhere, moved, SharedStep, ToldEvent, SharedRun, line_of, replies_of, KeepsRows, WritesRows, WritesOnce}
+use Rattle.stow_state.specs.Steps.{Call, Maintenance, HasIndex, IsElsewhere, numbers_of, moved, SharedStep, ToldEvent, SharedRun, line_of, replies_of, KeepsRows, WritesRows, WritesOnce}
 
 abbrev pub version : ℕ → List ℕ → Version
 version n value = record { number = n; value = value }
@@ -91,6 +93,20 @@ abbrev pub unsound : SharedState
 unsound =
     record { messages = set_of (message 1 1 Gone ∷ []); tenants = λ tenant. written_tenant 0 }
 
+-- the snapshots 1 and 2, where the tenant had 1 before
+abbrev pub two_snapshots : FinMap nat_cmp ℕ
+two_snapshots = numbers_of (with_snapshot 1 (written_tenant 2)) (1 ∷ 2 ∷ [])
+
+-- 2 alone
+abbrev pub later_snapshot : FinMap nat_cmp ℕ
+later_snapshot = numbers_of (with_snapshot 1 (written_tenant 2)) (2 ∷ [])
+
+-- the numbers of snapshots
+pub record OfSnapshots : Type 0 where
+  pub kept : map.get two_snapshots 1 ≡ Some 1
+  pub taken : map.get two_snapshots 2 ≡ Some 2
+  pub dropped : map.get later_snapshot 1 ≡ None
+
 -- one tenant's store in the state of all
 pub record OfViews : Type 0 where
   pub first : view of_two_writers 1 ≡ record (empty_store 9) {
@@ -116,11 +132,12 @@ no_writes = new_state (λ tenant. 9)
 abbrev pub told_ok : Option Reply
 told_ok = Some (reply.Simple simple.Ok)
 
--- the state with these messages, each tenant's last write being the second; the first tenant may have a snapshot of its first
+-- the state with these messages, after two writes of each tenant ..
 abbrev pub with_messages : Messages → SharedState
 with_messages messages =
     record { messages = messages; tenants = λ tenant. written_tenant 2 }
 
+-- .. and with a snapshot that the first tenant took between its two
 abbrev pub with_messages_and_snapshot : Messages → SharedState
 with_messages_and_snapshot messages =
     record {
@@ -168,4 +185,4 @@ pub record OfWrites : Type 0 where
 
 -- all of them
 abbrev pub Examples : Type 0
-Examples = OfRows × OfChanges × OfViews × OfSteps × OfWrites
+Examples = OfRows × OfChanges × OfSnapshots × OfViews × OfSteps × OfWrites

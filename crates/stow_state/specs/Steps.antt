@@ -51,8 +51,8 @@ moved_tenant own store =
 abbrev pub with_tenant : (ℕ → TenantState) → ℕ → TenantState → ℕ → TenantState
 with_tenant tenants tenant own other = if other == tenant then own else tenants other
 
--- the state once a tenant's store is this: a message with the tenant's next number for each key whose
--- row changes, and what the tenant has beside its messages
+-- the state once a tenant's store is this: a message with the tenant's next number for each key
+-- whose row changes, and what the tenant has beside its messages
 abbrev pub after_call : SharedState → ℕ → Store → SharedState
 after_call state tenant store =
     record {
@@ -89,7 +89,7 @@ ToldEvent = SharedEvent × Option Reply
 abbrev pub SharedRun : SharedState → List ToldEvent → SharedState → Type 0
 SharedRun first [] last = last ≡ first
 SharedRun first (newest ∷ earlier) last =
-    (before : SharedState) × SharedRun first earlier before × SharedStep before newest.0 newest.1 last
+    (mid : SharedState) × SharedRun first earlier mid × SharedStep mid newest.0 newest.1 last
 
 abbrev pub line_with : ℕ → SharedEvent → List OwnEvent → List OwnEvent
 line_with tenant (Call caller event) line = if caller == tenant then event ∷ line else line
@@ -157,10 +157,21 @@ abbrev pub StepIsThere : Type 0
 StepIsThere = (state : SharedState) (event : SharedEvent) → IsSound state → HasIndex event
     → SharedStep state event (reply_to state event) (moved state event)
 
--- In a run from a new state each tenant's store and what it is told are those of its own run, alone.
+-- in a run from a new state each tenant's store and what it is told are those of its own run, alone
 abbrev pub RunsAlone : Type 0
 RunsAlone =
     (quotas : ℕ → ℕ) (steps : List ToldEvent) (last : SharedState) (tenant : ℕ) → IsIndex tenant
     → SharedRun (new_state quotas) steps last
     → (view last tenant ≡ store_after (quotas tenant) (line_of tenant steps))
     × (replies_of tenant steps ≡ replies_after (quotas tenant) (line_of tenant steps))
+
+-- two runs, in which a tenant has the same quota and the same comes to its store, leave it the same and
+-- tell it the same, whatever its indexes are and whatever else the runs hold
+abbrev pub TwoSharedRuns : Type 0
+TwoSharedRuns =
+    (quotas quotas' : ℕ → ℕ) (steps steps' : List ToldEvent) (last last' : SharedState)
+    (tenant tenant' : ℕ) → IsIndex tenant → IsIndex tenant' → quotas tenant ≡ quotas' tenant'
+    → line_of tenant steps ≡ line_of tenant' steps' → SharedRun (new_state quotas) steps last
+    → SharedRun (new_state quotas') steps' last'
+    → (view last tenant ≡ view last' tenant')
+    × (replies_of tenant steps ≡ replies_of tenant' steps')

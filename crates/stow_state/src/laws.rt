@@ -2,7 +2,7 @@
 ghost use Rattle.stow_state.specs.Changes.{ChangesByRows, ChangesOnce, OwnRowsMove, EarlierRowsStay, WritesAreWritten};
 ghost use Rattle.stow_state.specs.Examples.{Examples};
 ghost use Rattle.stow_state.specs.Rows.{RowsByValue, OtherRowsStay, AgreeingRows};
-ghost use Rattle.stow_state.specs.Steps.{OwnStepWrites, CallIsOwnStep, OtherViewsStay, StaysSound, StepIsThere, RunsAlone};
+ghost use Rattle.stow_state.specs.Steps.{OwnStepWrites, CallIsOwnStep, OtherViewsStay, StaysSound, StepIsThere, RunsAlone, TwoSharedRuns};
 
 /// A tenant's rows are what its keys have by the messages.
 pub fn rows_by_value()
@@ -72,6 +72,11 @@ pub fn step_is_there()
 /// In a run from a new state each tenant's store and what it is told are those of its own run, alone.
 pub fn runs_alone()
     ensures { RunsAlone }
+{}
+
+/// Two runs, in which a tenant has the same quota and the same comes to its store, leave it the same and tell it the same.
+pub fn two_shared_runs()
+    ensures { TwoSharedRuns }
 {}
 
 /// The definitions hold of their examples, and not of what they leave out.
