@@ -1,8 +1,8 @@
 -- The messages of a call.
-use Rattle.std.proofs.Common.{◌≡◌, ◌≢◌, ℕ, suc, ◌<◌, Bool, true, false, List, [], ◌∷◌, Option, Some, None, is_some, refl, ap, ◌∙◌, sym, subst, arith, ⊎_elim, inl, inr, ◌⊎◌, cond, eqb}
-use Rattle.std.specs.Prelude.{map, filter, not, if◌then◌else◌, ◌&&◌, ◌||◌, IfSome}
+use Rattle.std.proofs.Common.{◌≡◌, ◌≢◌, ℕ, zero, suc, ◌<◌, ◌≤◌, Bool, true, false, List, [], ◌∷◌, Option, Some, None, is_some, refl, ap, ◌∙◌, sym, subst, arith, ⊎_elim, inl, inr, ◌⊎◌, cond, eqb}
+use Rattle.std.specs.Prelude.{map, filter, not, if◌then◌else◌, ◌&&◌, ◌||◌, IfSome, IsSome}
 use Rattle.std.specs.FinMap as finite
-use Rattle.std.specs.List.{list_any}
+use Rattle.std.specs.List.{list_any, AllByRecursion}
 use Rattle.std.specs.Str.{bytes_eq}
 use Rattle.std.specs.Cmp.Lexicographic.{bytes_decides, nat_list_cmp_total}
 use Rattle.std.proofs.lemmas.Bool.{cases_eq, cases_Bool, eq-eqb, ne_eqb, cond-true, cond-false, and_from, and_left, and_right, or_left}
@@ -10,10 +10,10 @@ use Rattle.std.proofs.lemmas.List.Folds.{list_any-append}
 use Rattle.std.proofs.lemmas.Map.Views.{any-filter_same}
 use Rattle.stow_model.specs.Store.{Rows, Version, rows_without}
 use Rattle.stow_tree_model.specs.Keys.{packed, own_key}
-use Rattle.stow_tree_model.specs.Op.{Op}
+use Rattle.stow_tree_model.specs.Op.{Op, Gone}
 use Rattle.stow_tree_model.specs.TreeMessage.{TreeMessage}
 use Rattle.stow_tree_model.specs.Order.{Place}
-use Rattle.stow_tree_model.specs.Operations.{NumberedValue, applied, latest, or_else}
+use Rattle.stow_tree_model.specs.Operations.{NumberedValue, Operations, numbered, value_in, outcome as operated, applied, latest, or_else}
 use Rattle.stow_tree_model.specs.Messages.{Messages, ops_of, ops_in, value, with_all}
 use Rattle.stow_tree_model.specs.Merged.{same_key}
 use Rattle.stow_tree_model.proofs.Orders.{key_cases}
@@ -22,7 +22,7 @@ use Rattle.stow_tree_model.proofs.Latest.{latest_same}
 use Rattle.stow_tree_model.proofs.Histories.{ops_in-at, ops_in-skip}
 use Rattle.stow_tree_model.proofs.SetLemmas.{ops-with_all, set_by_ops_law}
 use Rattle.stow_state.specs.Rows.{version_of, rows_at}
-use Rattle.stow_state.specs.Changes.{is_same_row, keys_of_both, changed_keys, op_to, message_to, changes, op_between, AreOwn, AreWritten, ChangesByRows, ChangesOnce, OwnRowsMove, EarlierRowsStay, WritesAreWritten}
+use Rattle.stow_state.specs.Changes.{is_same_row, keys_of_both, changed_keys, op_to, message_to, changes, op_between, AreOwn, AreBelow, put_message, gone_message, AreWritten, RowsAreBelow, WritesByMessages, ChangesByRows, ChangesOnce, OwnRowsMove, EarlierRowsStay, WritesAreWritten}
 use Rattle.stow_state.proofs.Rows.{rows_by_value_law, rows_by_values, same_rows}
 
 -- ---- the same row
@@ -221,3 +221,113 @@ some_written rows (key ∷ keys) number k = ⊎_elim
 
 pub writes_are_written_law : WritesAreWritten
 writes_are_written_law = record { of_one = one_written; of_some = some_written }
+
+-- ---- the numbers of rows
+
+numbered_below : (n : ℕ) (v : Option (List ℕ)) → IfSome (numbered n v) (λ x. x.number ≤ n)
+numbered_below n None = tt
+numbered_below n (Some v) = omega arith
+
+applied_below : (n : ℕ) (o : Option Op) (before : Option NumberedValue) → IfSome before (λ x. x.number ≤ n) → IfSome (applied n o before) (λ x. x.number ≤ n)
+applied_below n None before h = h
+applied_below n (Some op) before h = numbered_below n (operated op (value_in before))
+
+one_higher : (n : ℕ) (o : Option NumberedValue) → IfSome o (λ x. x.number ≤ n) → IfSome o (λ x. x.number ≤ suc n)
+one_higher n None h = tt
+one_higher n (Some v) h = omega arith
+
+latest_below : (f : Operations) (n : ℕ) → IfSome (latest f n) (λ x. x.number ≤ n)
+unfolding latest
+latest_below f zero = applied_below 0 (f 0) None tt
+latest_below f (suc n) = applied_below (suc n) (f (suc n)) (latest f n) (one_higher n (latest f n) (latest_below f n))
+
+as_version : (n : ℕ) (o : Option NumberedValue) → IfSome o (λ x. x.number ≤ n) → IfSome (version_of o) (λ v. v.number < suc n)
+as_version n None h = tt
+as_version n (Some v) h = omega arith
+
+pub rows_are_below_law : RowsAreBelow
+rows_are_below_law m tenant n q = subst (λ o. IfSome o (λ v. v.number < suc n)) (sym (rows_by_value_law m tenant n q)) (as_version n (value m (packed tenant q) n) (latest_below (ops_of m (packed tenant q)) n))
+
+-- ---- the messages of writes
+
+-- a row of an older write is another
+other_number : (number : ℕ) (value : List ℕ) (o : Option Version) → IfSome o (λ v. v.number < number) → is_same_row o (Some (record { number = number; value = value })) ≡ false
+other_number number value None h = refl
+other_number number value (Some v) h = and_left (eqb v.number number) (bytes_eq v.value value) (ne_eqb v.number number (λ e. absurd (omega arith)))
+
+op_to_same : (o : Option Version) → op_between o o ≡ None
+op_to_same o = cond-true _ _ _ (same_itself o)
+
+one_put : (m : Messages) (tenant number : ℕ) (rows : Rows) (key value : List ℕ) → AreBelow number rows
+    → with_all m (put_message tenant number key value ∷ []) ≡ with_all m (changes tenant number rows (finite.insert rows key (record { number = number; value = value })))
+one_put m tenant number rows key value below =
+    let after : Rows = finite.insert rows key (record { number = number; value = value }) in
+    changes_once_law m tenant number rows after (put_message tenant number key value ∷ []) ((ap (packed tenant) (own_key-packed tenant key), refl), tt) (λ k.
+    let got : finite.get after k ≡ cond (same_key k key) (Some (record { number = number; value = value })) (finite.get rows k) = finite.get-insert nat_list_cmp_total rows key _ k in
+    ⊎_elim
+    (λ (s : (k ≡ key) × (same_key k key ≡ true)).
+    ap (λ y. ops_in (put_message tenant number key value ∷ []) (packed tenant y) number) s.0
+    ∙ ops_in-at (put_message tenant number key value) []
+    ∙ sym (ap (op_between (finite.get rows k)) (got ∙ cond-true _ _ _ s.1) ∙ cond-false _ _ _ (other_number number value (finite.get rows k) (below k))))
+    (λ (s : (k ≢ key) × (same_key k key ≡ false)).
+    ops_in-skip (put_message tenant number key value) [] (packed tenant k) number (λ e. s.0 (sym (own_key-packed tenant k) ∙ ap (λ (p : Place). own_key p.0) e ∙ own_key-packed tenant key))
+    ∙ sym (ap (op_between (finite.get rows k)) (got ∙ cond-false _ _ _ s.1) ∙ op_to_same (finite.get rows k)))
+    (key_cases k key))
+
+-- without these keys a row is gone or as it was
+get-rows_without : (keys : List (List ℕ)) (rows : Rows) (k : List ℕ) → finite.get (rows_without keys rows) k ≡ cond (list_any (same_key k) keys) None (finite.get rows k)
+get-rows_without [] rows k = refl
+get-rows_without (key ∷ keys) rows k =
+    get-rows_without keys (finite.remove rows key) k
+    ∙ ap (cond (list_any (same_key k) keys) None) (finite.get-remove nat_list_cmp_total rows key k)
+    ∙ either (same_key k key) (list_any (same_key k) keys)
+  where
+    either : (a b : Bool) → cond b None (cond a None (finite.get rows k)) ≡ cond (a || b) None (finite.get rows k)
+    either true true = refl
+    either true false = refl
+    either false true = refl
+    either false false = refl
+
+gone_own : (tenant number : ℕ) (keys : List (List ℕ)) → AreOwn tenant number (map (gone_message tenant number) keys)
+gone_own tenant number [] = tt
+gone_own tenant number (k ∷ keys) = ((ap (packed tenant) (own_key-packed tenant k), refl), gone_own tenant number keys)
+
+-- a key that has a row and is taken away
+taken : (rows : Rows) (keys : List (List ℕ)) (k : List ℕ) → AllByRecursion (λ key. IsSome (finite.get rows key)) keys → list_any (same_key k) keys ≡ true → IsSome (finite.get rows k)
+taken rows [] k all e = cc
+taken rows (key ∷ keys) k all e = ⊎_elim
+    (λ (s : (k ≡ key) × (same_key k key ≡ true)). subst (λ y. IsSome (finite.get rows y)) (sym s.0) all.0)
+    (λ (s : (k ≢ key) × (same_key k key ≡ false)). taken rows keys k all.1 (sym (ap (λ b. b || list_any (same_key k) keys) s.1) ∙ e))
+    (key_cases k key)
+
+ops_in-gone : (tenant number : ℕ) (keys : List (List ℕ)) (k : List ℕ) → ops_in (map (gone_message tenant number) keys) (packed tenant k) number ≡ cond (list_any (same_key k) keys) (Some Gone) None
+ops_in-gone tenant number [] k = refl
+ops_in-gone tenant number (x ∷ keys) k = ⊎_elim
+    (λ (s : (k ≡ x) × (same_key k x ≡ true)).
+    ap (λ y. ops_in (map (gone_message tenant number) (x ∷ keys)) (packed tenant y) number) s.0
+    ∙ ops_in-at (gone_message tenant number x) (map (gone_message tenant number) keys)
+    ∙ sym (cond-true _ _ _ (or_left (same_key k x) (list_any (same_key k) keys) s.1)))
+    (λ (s : (k ≢ x) × (same_key k x ≡ false)).
+    ops_in-skip (gone_message tenant number x) (map (gone_message tenant number) keys) (packed tenant k) number
+    (λ e. s.0 (sym (own_key-packed tenant k) ∙ ap (λ (p : Place). own_key p.0) e ∙ own_key-packed tenant x))
+    ∙ ops_in-gone tenant number keys k
+    ∙ sym (ap (λ b. cond (b || list_any (same_key k) keys) (Some Gone) None) s.1))
+    (key_cases k x)
+
+gone_between : (o : Option Version) → IsSome o → op_between o None ≡ Some Gone
+gone_between None h = cc
+gone_between (Some v) h = refl
+
+some_gone : (m : Messages) (tenant number : ℕ) (rows : Rows) (keys : List (List ℕ)) → AllByRecursion (λ key. IsSome (finite.get rows key)) keys
+    → with_all m (map (gone_message tenant number) keys) ≡ with_all m (changes tenant number rows (rows_without keys rows))
+some_gone m tenant number rows keys all = changes_once_law m tenant number rows (rows_without keys rows) (map (gone_message tenant number) keys) (gone_own tenant number keys) (λ k.
+    ops_in-gone tenant number keys k
+    ∙ ⊎_elim
+    (λ (h : list_any (same_key k) keys ≡ true).
+    cond-true _ _ _ h ∙ sym (ap (op_between (finite.get rows k)) (get-rows_without keys rows k ∙ cond-true _ _ _ h) ∙ gone_between (finite.get rows k) (taken rows keys k all h)))
+    (λ (h : list_any (same_key k) keys ≡ false).
+    cond-false _ _ _ h ∙ sym (ap (op_between (finite.get rows k)) (get-rows_without keys rows k ∙ cond-false _ _ _ h) ∙ op_to_same (finite.get rows k)))
+    (cases_Bool (list_any (same_key k) keys)))
+
+pub writes_by_messages_law : WritesByMessages
+writes_by_messages_law = record { of_one = one_put; of_some = some_gone; of_none = changes-none }

@@ -8,17 +8,18 @@ use Rattle.std.proofs.lemmas.Bool.{cases_eq, eq-eqb, ne_eqb, cond-true, cond-fal
 use Rattle.stow_model.specs.Reply.{Reply}
 use Rattle.stow_model.specs.Store.{Store, Rows, OwnEvent, step, empty_store, store_after, replies_after, with_reply}
 use Rattle.stow_tree_model.specs.Keys.{packed, tenant_of}
+use Rattle.stow_tree_model.specs.TreeMessage.{TreeMessage}
 use Rattle.stow_tree_model.specs.Order.{place_cmp}
 use Rattle.stow_tree_model.specs.Operations.{NoneAbove, or_else}
 use Rattle.stow_tree_model.specs.Messages.{Messages, ops_of, ops_in, with_all, IsCall}
-use Rattle.stow_tree_model.specs.Agreement.{PinsBelow}
+use Rattle.stow_tree_model.specs.Agreement.{Agree, PinsBelow}
 use Rattle.stow_tree_model.proofs.Packed.{tenant_of-packed}
 use Rattle.stow_tree_model.proofs.Histories.{latest_none}
 use Rattle.stow_tree_model.proofs.SetLemmas.{ops-with_all, others_stay_law}
 use Rattle.stow_state.specs.Rows.{IsIndex, version_of, rows_at}
 use Rattle.stow_state.specs.Changes.{changed_keys, message_to, changes}
 use Rattle.stow_state.specs.State.{TenantState, SharedState, copies, store_in, view, pins_in, lasts_in, IsSound, new_state}
-use Rattle.stow_state.specs.Steps.{SharedEvent, Call, Maintenance, HasIndex, IsElsewhere, numbers_of, moved_tenant, with_tenant, after_call, moved, reply_to, SharedStep, ToldEvent, SharedRun, line_with, line_of, replies_with, replies_of, KeepsRows, WritesRows, WritesOnce, CallIsOwnStep, OtherViewsStay, StaysSound, StepIsThere, RunsAlone, TwoSharedRuns}
+use Rattle.stow_state.specs.Steps.{SharedEvent, Call, Maintenance, HasIndex, IsElsewhere, numbers_of, moved_tenant, with_tenant, after_call, moved, reply_to, SharedStep, ToldEvent, SharedRun, line_with, line_of, replies_with, replies_of, KeepsRows, WritesRows, WritesOnce, CallIsOwnStep, OtherViewsStay, StaysSound, StepIsThere, StepsByParts, RunsAlone, TwoSharedRuns}
 use Rattle.stow_state.proofs.Rows.{rows_by_value_law, same_rows, other_rows_stay_law, agreeing_rows_law}
 use Rattle.stow_state.proofs.Changes.{changes-elsewhere, changes-none, earlier_rows_stay_law, own_rows_move_law}
 use Rattle.stow_state.proofs.Snapshots.{copies_same, numbers_stay, entries-empty}
@@ -251,6 +252,28 @@ step_is_there_law state event sound index = record {
     right_below = moved_below state event sound index key;
   };
 }
+
+step_of_call : (old new : SharedState) (tenant : ℕ) (event : OwnEvent) (ms : List TreeMessage) → IsSound old → IsIndex tenant
+    → with_all old.messages ms ≡ with_all old.messages (changes tenant (suc (lasts_in old tenant)) (view old tenant).rows (next_store old tenant event).rows)
+    → new.messages ≡ with_all old.messages ms
+    → new.tenants ≡ with_tenant old.tenants tenant (moved_tenant (old.tenants tenant) (next_store old tenant event))
+    → SharedStep old (Call tenant event) (step (view old tenant) event).1 new
+unfolding moved reply_to
+step_of_call old new tenant event ms sound index same messages tenants =
+    let s = step_is_there_law old (Call tenant event) sound index in
+    record {
+      has_index = index;
+      reply_is = refl;
+      tenants_are = tenants;
+      messages_agree = subst (λ (x : Messages). Agree (moved old (Call tenant event)).messages x (pins_in (moved old (Call tenant event))) (lasts_in (moved old (Call tenant event)))) (sym (messages ∙ same)) s.messages_agree;
+    }
+
+step_of_maintenance : (old new : SharedState) → new.tenants ≡ old.tenants → Agree old.messages new.messages (pins_in old) (lasts_in old) → SharedStep old Maintenance None new
+unfolding moved reply_to
+step_of_maintenance old new tenants agree = record { has_index = tt; reply_is = refl; tenants_are = tenants; messages_agree = agree }
+
+pub steps_by_parts_law : StepsByParts
+steps_by_parts_law = record { of_call = step_of_call; of_maintenance = step_of_maintenance }
 
 -- ---- runs
 

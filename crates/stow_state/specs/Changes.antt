@@ -1,5 +1,5 @@
 -- The messages of a call: one for each key whose row it changes.
-use Rattle.std.specs.Prelude.{◌≡◌, ◌⊎◌, ℕ, suc, ◌<◌, Bool, true, false, not, List, ◌++◌, filter, map, Option, Some, None, IfSome, if◌then◌else◌, ◌==◌, ◌&&◌}
+use Rattle.std.specs.Prelude.{◌≡◌, ◌⊎◌, ℕ, suc, ◌<◌, Bool, true, false, not, List, [], ◌∷◌, ◌++◌, filter, map, Option, Some, None, IfSome, IsSome, if◌then◌else◌, ◌==◌, ◌&&◌}
 use Rattle.std.specs.FinMap as finite
 use Rattle.std.specs.List.{AllByRecursion}
 use Rattle.std.specs.Str.{bytes_eq}
@@ -38,7 +38,7 @@ abbrev pub message_to : ℕ → ℕ → Rows → List ℕ → TreeMessage
 message_to tenant number rows key =
     record { key = packed tenant key; number = number; op = op_to (finite.get rows key) }
 
--- a tenant's messages that make the rows others: one for each key whose row changes, with the number
+-- a tenant's messages from rows to others: one for each key whose row changes, with the number
 unfoldable pub changes : ℕ → ℕ → Rows → Rows → List TreeMessage
 changes tenant number before after =
     map (message_to tenant number after) (changed_keys before after)
@@ -51,6 +51,21 @@ op_between before after = if is_same_row before after then None else Some (op_to
 abbrev pub AreOwn : ℕ → ℕ → List TreeMessage → Type 0
 AreOwn tenant number ms =
     AllByRecursion (λ m. (packed tenant (own_key m.key) ≡ m.key) × (m.number ≡ number)) ms
+
+-- the row of each key has a number below this, where there is one
+abbrev pub AreBelow : ℕ → Rows → Type 0
+AreBelow number rows = (key : List ℕ)
+    → IfSome (finite.get rows key) (λ version. version.number < number)
+
+-- the message that puts a value under the tenant's key
+abbrev pub put_message : ℕ → ℕ → List ℕ → List ℕ → TreeMessage
+put_message tenant number key value =
+    record { key = packed tenant key; number = number; op = Put value }
+
+-- the message that takes the tenant's key away
+abbrev pub gone_message : ℕ → ℕ → List ℕ → TreeMessage
+gone_message tenant number key =
+    record { key = packed tenant key; number = number; op = Gone }
 
 -- rows after a write: each is as before, or is gone, or has the write's number
 abbrev pub AreWritten : ℕ → Rows → Rows → Type 0
@@ -94,3 +109,21 @@ pub record WritesAreWritten : Type 0 where
       (finite.insert rows key (record { number = number; value = value }))
   pub of_some : (rows : Rows) (keys : List (List ℕ)) (number : ℕ)
       → AreWritten number rows (rows_without keys rows)
+
+-- no row is shown before the number of its write
+abbrev pub RowsAreBelow : Type 0
+RowsAreBelow = (m : Messages) (tenant n : ℕ) → AreBelow (suc n) (rows_at m tenant n)
+
+-- The messages of the write of one row are a put alone, and those of the removal of rows that are there
+-- a removal for each; where no row changes there is none.
+pub record WritesByMessages : Type 0 where
+  pub of_one : (m : Messages) (tenant number : ℕ) (rows : Rows) (key value : List ℕ)
+      → AreBelow number rows
+      → with_all m (put_message tenant number key value ∷ [])
+      ≡ with_all m (changes tenant number rows
+      (finite.insert rows key (record { number = number; value = value })))
+  pub of_some : (m : Messages) (tenant number : ℕ) (rows : Rows) (keys : List (List ℕ))
+      → AllByRecursion (λ key. IsSome (finite.get rows key)) keys
+      → with_all m (map (gone_message tenant number) keys)
+      ≡ with_all m (changes tenant number rows (rows_without keys rows))
+  pub of_none : (tenant number : ℕ) (rows : Rows) → changes tenant number rows rows ≡ []

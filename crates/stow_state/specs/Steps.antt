@@ -6,6 +6,7 @@ use Rattle.std.specs.FinMap as map
 use Rattle.std.specs.Option.{unwrap_or}
 use Rattle.stow_model.specs.Reply.{Reply}
 use Rattle.stow_model.specs.Store.{Store, OwnEvent, step, store_after, replies_after, with_reply}
+use Rattle.stow_tree_model.specs.TreeMessage.{TreeMessage}
 use Rattle.stow_tree_model.specs.Messages.{with_all}
 use Rattle.stow_tree_model.specs.Agreement.{Agree}
 use Rattle.stow_state.specs.Rows.{IsIndex}
@@ -165,8 +166,8 @@ RunsAlone =
     → (view last tenant ≡ store_after (quotas tenant) (line_of tenant steps))
     × (replies_of tenant steps ≡ replies_after (quotas tenant) (line_of tenant steps))
 
--- two runs, in which a tenant has the same quota and the same comes to its store, leave it the same and
--- tell it the same, whatever its indexes are and whatever else the runs hold
+-- two runs, in which a tenant has the same quota and the same comes to its store, leave it the same
+-- and tell it the same, whatever its indexes are and whatever else the runs hold
 abbrev pub TwoSharedRuns : Type 0
 TwoSharedRuns =
     (quotas quotas' : ℕ → ℕ) (steps steps' : List ToldEvent) (last last' : SharedState)
@@ -175,3 +176,19 @@ TwoSharedRuns =
     → SharedRun (new_state quotas') steps' last'
     → (view last tenant ≡ view last' tenant')
     × (replies_of tenant steps ≡ replies_of tenant' steps')
+
+-- A call is a step where the tenant's messages were added that its own step asks for, in whatever list,
+-- and what it has beside them moved; a set that agrees with the one before is a step of maintenance.
+pub record StepsByParts : Type 0 where
+  pub of_call : (old new : SharedState) (tenant : ℕ) (event : OwnEvent) (ms : List TreeMessage)
+      → IsSound old → IsIndex tenant
+      → with_all old.messages ms
+      ≡ with_all old.messages (changes tenant (suc (lasts_in old tenant))
+      (view old tenant).rows (step (view old tenant) event).0.rows)
+      → new.messages ≡ with_all old.messages ms
+      → new.tenants ≡ with_tenant old.tenants tenant
+      (moved_tenant (old.tenants tenant) (step (view old tenant) event).0)
+      → SharedStep old (Call tenant event) (step (view old tenant) event).1 new
+  pub of_maintenance : (old new : SharedState) → new.tenants ≡ old.tenants
+      → Agree old.messages new.messages (pins_in old) (lasts_in old)
+      → SharedStep old Maintenance None new

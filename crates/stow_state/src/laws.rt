@@ -1,8 +1,8 @@
 //! Laws over the definitions: functions that do nothing, and whose contracts are the laws.
-ghost use Rattle.stow_state.specs.Changes.{ChangesByRows, ChangesOnce, OwnRowsMove, EarlierRowsStay, WritesAreWritten};
+ghost use Rattle.stow_state.specs.Changes.{ChangesByRows, ChangesOnce, OwnRowsMove, EarlierRowsStay, WritesAreWritten, RowsAreBelow, WritesByMessages};
 ghost use Rattle.stow_state.specs.Examples.{Examples};
 ghost use Rattle.stow_state.specs.Rows.{RowsByValue, OtherRowsStay, AgreeingRows};
-ghost use Rattle.stow_state.specs.Steps.{OwnStepWrites, CallIsOwnStep, OtherViewsStay, StaysSound, StepIsThere, RunsAlone, TwoSharedRuns};
+ghost use Rattle.stow_state.specs.Steps.{OwnStepWrites, CallIsOwnStep, OtherViewsStay, StaysSound, StepIsThere, StepsByParts, RunsAlone, TwoSharedRuns};
 
 /// A tenant's rows are what its keys have by the messages.
 pub fn rows_by_value()
@@ -44,6 +44,16 @@ pub fn writes_are_written()
     ensures { WritesAreWritten }
 {}
 
+/// No row is shown before the number of its write.
+pub fn rows_are_below()
+    ensures { RowsAreBelow }
+{}
+
+/// The messages of the write of one row are a put alone, those of the removal of rows that are there a removal for each.
+pub fn writes_by_messages()
+    ensures { WritesByMessages }
+{}
+
 /// A tenant's own step writes once at most.
 pub fn own_step_writes()
     ensures { OwnStepWrites }
@@ -67,6 +77,11 @@ pub fn stays_sound()
 /// From a sound state each event can be a step.
 pub fn step_is_there()
     ensures { StepIsThere }
+{}
+
+/// A call is a step where the messages were added that the tenant's own step asks for, and a set that agrees is one too.
+pub fn steps_by_parts()
+    ensures { StepsByParts }
 {}
 
 /// In a run from a new state each tenant's store and what it is told are those of its own run, alone.
