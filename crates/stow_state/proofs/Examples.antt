@@ -1,5 +1,5 @@
 -- The definitions at examples.
-use Rattle.std.proofs.Common.{◌≡◌, ◌≢◌, ℕ, Bool, true, false, List, [], ◌∷◌, ◌++◌, Some, None, is_some, refl, ap, ◌∙◌, sym, subst, arith, ⊎_elim, inr, cond}
+use Rattle.std.proofs.Common.{◌≡◌, ◌≢◌, ℕ, ◌<◌, Bool, true, false, List, [], ◌∷◌, ◌++◌, Some, None, is_some, refl, ap, ◌∙◌, sym, subst, arith, ⊎_elim, inr, cond}
 use Rattle.std.specs.Prelude.{map, filter, not, if◌then◌else◌, ◌==◌, codes, IfSome}
 use Rattle.std.specs.Ordering.{nat_cmp, eq_by_cmp}
 use Rattle.std.specs.Option.{unwrap_or}
@@ -125,6 +125,10 @@ has_number : (b : Bool) (v : Version) → IfSome (cond b (Some v) None) (λ w. w
 has_number true v = refl
 has_number false v = tt
 
+is_below : (b : Bool) (v : Version) (n : ℕ) → v.number < n → IfSome (cond b (Some v) None) (λ w. w.number < n)
+is_below true v n l = l
+is_below false v n l = tt
+
 not_written : AreWritten 2 two_rows (other_row 1) → ⊥
 unfolding two_entries one_entry
 not_written h = ⊎_elim
@@ -145,6 +149,8 @@ of_changes = record {
   none_between = refl;
   own = ((refl, refl), tt);
   not_own = λ h. let e : 1 ≡ 2 = ap tenant_of h.0.0 in absurd (omega arith);
+  below = λ key. subst (λ o. IfSome o (λ v. v.number < 2)) (sym (get-other 1 key)) (is_below (same_key key (codes "a")) (version 1 (codes "y")) 2 (omega arith));
+  not_below = λ h. let l : 1 < 1 = subst (λ o. IfSome o (λ v. v.number < 1)) (get-other 1 (codes "a")) (h (codes "a")) in absurd (omega arith);
   written = λ key. inr (subst (λ o. IfSome o (λ v. v.number ≡ 2)) (sym (get-other 2 key)) (has_number (same_key key (codes "a")) (version 2 (codes "y"))));
   not_written = not_written;
 }
