@@ -8,6 +8,7 @@ use Rattle.std.specs.Cmp.Lexicographic.{nat_list_cmp_total}
 use Rattle.std.specs.FinMap as finite
 use Rattle.std.specs.FinMap.{find, put}
 use Rattle.std.specs.List.{AllByRecursion}
+use Rattle.std.specs.List.Sorted.{IsStrictlySortedBy}
 use Rattle.std.proofs.lemmas.Bool.{cond-false}
 use Rattle.stow_bytes.specs.Bytes.{bytes_cmp}
 use Rattle.stow_model.specs.Command.{reading}
@@ -82,7 +83,7 @@ unfolding latest
 second_row = one_known three_messages 1 2 (version 2 (codes "xy")) (refl, (refl, (refl, tt))) refl
 
 of_rows : OfRows
-unfolding latest
+unfolding latest IsStrictlySortedBy
 of_rows = record {
   own = refl;
   not_own = refl;
@@ -90,6 +91,8 @@ of_rows = record {
   first = first_row;
   second = second_row;
   other = one_known three_messages 2 2 (version 1 (codes "z")) (refl, (refl, (refl, tt))) refl;
+  rising = ((refl, tt), (tt, tt));
+  not_rising = λ h. let e = h.0.0 in cc;
   index = omega arith;
   not_index = λ l. absurd (omega arith);
 }

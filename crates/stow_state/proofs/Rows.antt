@@ -1,14 +1,18 @@
 -- One tenant's rows.
-use Rattle.std.proofs.Common.{◌≡◌, ◌≢◌, ℕ, ◌≤◌, true, false, List, [], ◌∷◌, Option, Some, None, refl, ap, ◌∙◌, sym, subst, ⊎_elim, inl, inr, ◌⊎◌, cond}
-use Rattle.std.specs.Prelude.{map, Contains}
-use Rattle.std.specs.Ordering.{eq_by_cmp}
+use Rattle.std.proofs.Common.{◌≡◌, ◌≢◌, ℕ, ◌≤◌, Bool, true, false, List, [], ◌∷◌, Option, Some, None, refl, ap, ◌∙◌, sym, subst, ⊎_elim, inl, inr, ◌⊎◌, cond}
+use Rattle.std.specs.Prelude.{map, filter, Contains, T, ◌&&◌}
+use Rattle.std.specs.Ordering.{eq_by_cmp, is_lt}
 use Rattle.std.specs.Cmp.Lexicographic.{nat_list_cmp_total}
 use Rattle.std.specs.FinMap as finite
-use Rattle.std.specs.FinMap.{find}
+use Rattle.std.specs.FinMap.{find, is_sorted}
+use Rattle.std.specs.FinMap.Entries.{below_all, same_entries, is_sorted-where_key, find-where_key}
+use Rattle.std.specs.List.Sorted.{IsStrictlySortedBy}
+use Rattle.std.specs.declared.cmp.Ordering.TheVariants.{Less}
+use Rattle.stow_bytes.specs.Bytes.{bytes_cmp}
 use Rattle.std.specs.List.{AllByRecursion}
 use Rattle.std.proofs.lemmas.Bool.{cond-true, cond-false}
 use Rattle.std.proofs.lemmas.Map.Lookups.{exact_bytes}
-use Rattle.stow_model.specs.Store.{Rows, Version}
+use Rattle.stow_model.specs.Store.{Rows, Version, Shown, is_within}
 use Rattle.stow_tree_model.specs.Keys.{packed, own_key, tenant_of}
 use Rattle.stow_tree_model.specs.Op.{Op}
 use Rattle.stow_tree_model.specs.Order.{Place, place_cmp}
@@ -19,7 +23,7 @@ use Rattle.stow_tree_model.proofs.Orders.{key_cases, place_cases}
 use Rattle.stow_tree_model.proofs.Packed.{own_key-packed, tenant_of-packed}
 use Rattle.stow_tree_model.proofs.Histories.{latest_none}
 use Rattle.stow_tree_model.proofs.SetLemmas.{others_stay_law}
-use Rattle.stow_state.specs.Rows.{is_of, version_of, with_row, rows_among, rows_at, RowsByValue, OtherRowsStay, AgreeingRows}
+use Rattle.stow_state.specs.Rows.{is_of, version_of, with_row, rows_among, rows_at, RowsByValue, OtherRowsStay, AgreeingRows, RowsRise, IntervalInOrder}
 
 pub get-with_row : (k : List ℕ) (v : Option Version) (rows : Rows) (q : List ℕ) → finite.get (with_row k v rows) q ≡ cond (same_key q k) v (finite.get rows q)
 get-with_row k None rows q = finite.get-remove nat_list_cmp_total rows k q
@@ -90,3 +94,27 @@ agreeing_rows_law l m pins bound tenant n index a shown = rows_by_values l m ten
     (λ (p : Contains (pins tenant) n). (a (packed tenant q)).at_pins n (subst (λ t. Contains (pins t) n) (sym own) p))
     (λ (p : bound tenant ≤ n). (a (packed tenant q)).from_bound n (subst (λ t. bound t ≤ n) (sym own) p))
     shown)
+
+-- ---- rows in order
+
+both : (a b : Bool) → T a → T b → T (a && b)
+both true b p q = q
+both false b p q = p
+
+below : (key : List ℕ) (rows : List Shown) → AllByRecursion (λ k. bytes_cmp key k ≡ Less) (map (λ row. row.0) rows) → T (below_all bytes_cmp key rows)
+below key [] h = tt
+below key (row ∷ rows) h = both _ _ (subst (λ r. T (is_lt r)) (sym h.0) tt) (below key rows h.1)
+
+sorted : (rows : List Shown) → RowsRise rows → T (is_sorted bytes_cmp rows)
+unfolding IsStrictlySortedBy
+sorted [] h = tt
+sorted (row ∷ rows) h = both _ _ (below row.0 rows h.0) (sorted rows h.1)
+
+pub interval_in_order_law : IntervalInOrder
+interval_in_order_law m tenant n from to rows rises is =
+    let own : Rows = rows_at m tenant n in
+    same_entries bytes_cmp nat_list_cmp_total exact_bytes (filter (λ row. is_within from to row.0) (finite.entries own)) rows
+    (is_sorted-where_key bytes_cmp (is_within from to) (finite.entries own) (finite.entries_sorted own)) (sorted rows rises)
+    (λ q. find-where_key bytes_cmp (is_within from to) q (λ x e. ap (is_within from to) (sym (exact_bytes q x e))) (finite.entries own)
+    ∙ ap (λ (o : Option Version). cond (is_within from to q) o None) (sym (finite.get-entries own q) ∙ rows_by_value_law m tenant n q)
+    ∙ sym (is q))

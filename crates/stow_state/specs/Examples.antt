@@ -12,7 +12,7 @@ use Rattle.stow_tree_model.specs.Op.{Op, Put, Gone, Append}
 use Rattle.stow_tree_model.specs.TreeMessage.{TreeMessage}
 use Rattle.stow_tree_model.specs.Messages.{Messages, set_of}
 use Rattle.stow_tree_model.specs.Examples.{two_writes, last_write}
-use Rattle.stow_state.specs.Rows.{IsIndex, is_of, rows_at}
+use Rattle.stow_state.specs.Rows.{IsIndex, is_of, rows_at, RowsRise}
 use Rattle.stow_state.specs.Changes.{is_same_row, changes, op_between, AreOwn, AreBelow, AreWritten}
 use Rattle.stow_state.specs.State.{TenantState, SharedState, view, IsSound, new_tenant, new_state}
 use Rattle.stow_state.specs.Steps.{Call, Maintenance, HasIndex, IsElsewhere, numbers_of, moved, SharedStep, ToldEvent, SharedRun, line_of, replies_of, KeepsRows, WritesRows, WritesOnce}
@@ -45,6 +45,10 @@ pub record OfRows : Type 0 where
   pub first : rows_at of_two_tenants 1 1 ≡ one_row (version 1 (codes "x"))
   pub second : rows_at of_two_tenants 1 2 ≡ one_row (version 2 (codes "xy"))
   pub other : rows_at of_two_tenants 2 2 ≡ one_row (version 1 (codes "z"))
+  pub rising : RowsRise
+      ((codes "a", version 1 (codes "x")) ∷ (codes "b", version 1 (codes "x")) ∷ [])
+  pub not_rising : RowsRise
+      ((codes "b", version 1 (codes "x")) ∷ (codes "a", version 1 (codes "x")) ∷ []) → ⊥
   pub index : IsIndex 65535
   pub not_index : IsIndex 4294967296 → ⊥
 

@@ -1,7 +1,11 @@
 -- One tenant's rows in the messages of all.
-use Rattle.std.specs.Prelude.{◌≡◌, ◌≢◌, ◌⊎◌, ℕ, ◌<◌, ◌≤◌, ◌^◌, Bool, List, [], ◌∷◌, Option, Some, None, Contains, if◌then◌else◌}
+use Rattle.std.specs.Prelude.{◌≡◌, ◌≢◌, ◌⊎◌, ℕ, ◌<◌, ◌≤◌, ◌^◌, Bool, List, [], ◌∷◌, Option, Some, None, Contains, filter, if◌then◌else◌}
+use Rattle.std.specs.Prelude.{map as list_map}
 use Rattle.std.specs.FinMap as map
-use Rattle.stow_model.specs.Store.{Rows, Version}
+use Rattle.std.specs.FinMap.{find}
+use Rattle.std.specs.List.Sorted.{IsStrictlySortedBy}
+use Rattle.stow_bytes.specs.Bytes.{bytes_cmp}
+use Rattle.stow_model.specs.Store.{Rows, Version, Shown, is_within}
 use Rattle.stow_tree_model.specs.Keys.{packed, own_key}
 use Rattle.stow_tree_model.specs.Operations.{NumberedValue}
 use Rattle.stow_tree_model.specs.TreeMessage.{TreeMessage}
@@ -57,3 +61,15 @@ abbrev pub AgreeingRows : Type 0
 AgreeingRows = (l m : Messages) (pins : TenantPins) (bound : TenantBounds) (tenant n : ℕ)
     → IsIndex tenant → Agree l m pins bound → (Contains (pins tenant) n ⊎ (bound tenant ≤ n))
     → rows_at l tenant n ≡ rows_at m tenant n
+
+-- each row's key is above those before it
+abbrev pub RowsRise : List Shown → Type 0
+RowsRise rows = IsStrictlySortedBy bytes_cmp (list_map (λ row. row.0) rows)
+
+-- a list that rises, with what each of the tenant's keys in the interval has, is the interval's rows
+-- in order
+abbrev pub IntervalInOrder : Type 0
+IntervalInOrder = (m : Messages) (tenant n : ℕ) (from to : List ℕ) (rows : List Shown) → RowsRise rows
+    → ((key : List ℕ) → find bytes_cmp key rows
+    ≡ (if is_within from to key then version_of (value m (packed tenant key) n) else None))
+    → filter (λ row. is_within from to row.0) (map.entries (rows_at m tenant n)) ≡ rows

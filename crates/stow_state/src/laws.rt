@@ -1,7 +1,7 @@
 //! Laws over the definitions: functions that do nothing, and whose contracts are the laws.
 ghost use Rattle.stow_state.specs.Changes.{ChangesByRows, ChangesOnce, OwnRowsMove, EarlierRowsStay, WritesAreWritten, RowsAreBelow, WritesByMessages};
 ghost use Rattle.stow_state.specs.Examples.{Examples};
-ghost use Rattle.stow_state.specs.Rows.{RowsByValue, OtherRowsStay, AgreeingRows};
+ghost use Rattle.stow_state.specs.Rows.{RowsByValue, OtherRowsStay, AgreeingRows, IntervalInOrder};
 ghost use Rattle.stow_state.specs.Steps.{OwnStepWrites, CallIsOwnStep, OtherViewsStay, StaysSound, StepIsThere, StepsByParts, RunsAlone, TwoSharedRuns};
 
 /// A tenant's rows are what its keys have by the messages.
@@ -17,6 +17,11 @@ pub fn other_rows_stay()
 /// Sets that agree show the same rows at each pin, and from the bound on.
 pub fn agreeing_rows()
     ensures { AgreeingRows }
+{}
+
+/// A list that rises, with what each of the tenant's keys in an interval has, is the interval's rows in order.
+pub fn interval_in_order()
+    ensures { IntervalInOrder }
 {}
 
 /// There is a message for a key just where its row changes, and it makes the row.
