@@ -10,7 +10,7 @@ use Rattle.std.proofs.lemmas.List.Folds.{list_any-append}
 use Rattle.std.proofs.lemmas.Map.Views.{any-filter_same}
 use Rattle.stow_model.specs.Store.{Rows, Version, rows_without}
 use Rattle.stow_tree_model.specs.Keys.{packed, own_key}
-use Rattle.stow_tree_model.specs.Op.{Op, Gone}
+use Rattle.stow_tree_model.specs.Op.{Op, Put, Gone}
 use Rattle.stow_tree_model.specs.TreeMessage.{TreeMessage}
 use Rattle.stow_tree_model.specs.Order.{Place}
 use Rattle.stow_tree_model.specs.Operations.{NumberedValue, Operations, numbered, value_in, outcome as operated, applied, latest, or_else}
@@ -60,31 +60,47 @@ same_itself a = ⊎_elim (λ (h : (a ≡ a) × (is_same_row a a ≡ true)). h.1)
 same_is : (k x : List ℕ) → same_key k x ≡ true → k ≡ x
 same_is k x e = ⊎_elim (λ (h : (k ≡ x) × (same_key k x ≡ true)). h.0) (λ (h : (k ≢ x) × (same_key k x ≡ false)). let z : false ≡ true = sym h.1 ∙ e in cc) (key_cases k x)
 
-ops_in-messages : (tenant number : ℕ) (rows : Rows) (keys : List (List ℕ)) (k : List ℕ) → ops_in (map (message_to tenant number rows) keys) (packed tenant k) number ≡ cond (list_any (same_key k) keys) (Some (op_to (finite.get rows k))) None
-ops_in-messages tenant number rows [] k = refl
-ops_in-messages tenant number rows (x ∷ keys) k = ⊎_elim
+-- messages of a tenant's keys, with one number
+abbrev messages_of : ℕ → ℕ → (List ℕ → Op) → List (List ℕ) → List TreeMessage
+messages_of tenant number op keys = map (λ key. record { key = packed tenant key; number = number; op = op key }) keys
+
+messages_own : (tenant number : ℕ) (op : List ℕ → Op) (keys : List (List ℕ)) → AreOwn tenant number (messages_of tenant number op keys)
+messages_own tenant number op [] = tt
+messages_own tenant number op (k ∷ keys) = ((ap (packed tenant) (own_key-packed tenant k), refl), messages_own tenant number op keys)
+
+ops_in-messages : (tenant number : ℕ) (op : List ℕ → Op) (keys : List (List ℕ)) (k : List ℕ) → ops_in (messages_of tenant number op keys) (packed tenant k) number ≡ cond (list_any (same_key k) keys) (Some (op k)) None
+ops_in-messages tenant number op [] k = refl
+ops_in-messages tenant number op (x ∷ keys) k =
+    let first : TreeMessage = record { key = packed tenant x; number = number; op = op x } in
+    ⊎_elim
     (λ (s : (k ≡ x) × (same_key k x ≡ true)).
-    ap (λ y. ops_in (map (message_to tenant number rows) (x ∷ keys)) (packed tenant y) number) s.0
-    ∙ ops_in-at (message_to tenant number rows x) (map (message_to tenant number rows) keys)
-    ∙ ap (λ y. Some (op_to (finite.get rows y))) (sym s.0)
+    ap (λ y. ops_in (messages_of tenant number op (x ∷ keys)) (packed tenant y) number) s.0
+    ∙ ops_in-at first (messages_of tenant number op keys)
+    ∙ ap (λ y. Some (op y)) (sym s.0)
     ∙ sym (cond-true _ _ _ (or_left (same_key k x) (list_any (same_key k) keys) s.1)))
     (λ (s : (k ≢ x) × (same_key k x ≡ false)).
-    ops_in-skip (message_to tenant number rows x) (map (message_to tenant number rows) keys) (packed tenant k) number
+    ops_in-skip first (messages_of tenant number op keys) (packed tenant k) number
     (λ e. s.0 (sym (own_key-packed tenant k) ∙ ap (λ (p : Place). own_key p.0) e ∙ own_key-packed tenant x))
-    ∙ ops_in-messages tenant number rows keys k
-    ∙ sym (ap (λ b. cond (b || list_any (same_key k) keys) (Some (op_to (finite.get rows k))) None) s.1))
+    ∙ ops_in-messages tenant number op keys k
+    ∙ sym (ap (λ b. cond (b || list_any (same_key k) keys) (Some (op k)) None) s.1))
     (key_cases k x)
 
--- none at another number
-ops_in-elsewhere : (tenant number : ℕ) (rows : Rows) (keys : List (List ℕ)) (key : List ℕ) (n : ℕ) → n ≢ number → ops_in (map (message_to tenant number rows) keys) key n ≡ None
-ops_in-elsewhere tenant number rows [] key n ne = refl
-ops_in-elsewhere tenant number rows (x ∷ keys) key n ne =
-    ops_in-skip (message_to tenant number rows x) (map (message_to tenant number rows) keys) key n (λ e. ne (ap (λ (p : Place). p.1) e))
-    ∙ ops_in-elsewhere tenant number rows keys key n ne
+-- there is none at another number
+own_elsewhere : (tenant number : ℕ) (ms : List TreeMessage) (key : List ℕ) (n : ℕ) → AreOwn tenant number ms → n ≢ number → ops_in ms key n ≡ None
+own_elsewhere tenant number [] key n own ne = refl
+own_elsewhere tenant number (x ∷ ms) key n own ne =
+    ops_in-skip x ms key n (λ e. ne (ap (λ (p : Place). p.1) e ∙ own.0.1)) ∙ own_elsewhere tenant number ms key n own.1 ne
+
+-- what makes a key's row what it is in these rows
+abbrev op_in : Rows → List ℕ → Op
+op_in rows key = op_to (finite.get rows key)
+
+changes_own : (tenant number : ℕ) (before after : Rows) → AreOwn tenant number (changes tenant number before after)
+unfolding changes
+changes_own tenant number before after = messages_own tenant number (op_in after) (changed_keys before after)
 
 pub changes-elsewhere : (tenant number : ℕ) (before after : Rows) (key : List ℕ) (n : ℕ) → n ≢ number → ops_in (changes tenant number before after) key n ≡ None
-unfolding changes
-changes-elsewhere tenant number before after key n ne = ops_in-elsewhere tenant number after (changed_keys before after) key n ne
+changes-elsewhere tenant number before after key n ne = own_elsewhere tenant number (changes tenant number before after) key n (changes_own tenant number before after) ne
 
 any-keys_of_both : (before after : Rows) (k : List ℕ) → list_any (same_key k) (keys_of_both before after) ≡ (is_some (finite.get before k) || (not (is_some (finite.get before k)) && is_some (finite.get after k)))
 any-keys_of_both before after k =
@@ -107,17 +123,13 @@ by_rows (Some b) (Some a) = differ (is_same_row (Some b) (Some a)) (not (is_some
 pub changes_by_rows_law : ChangesByRows
 unfolding changes
 changes_by_rows_law tenant number before after k =
-    ops_in-messages tenant number after (changed_keys before after) k
+    ops_in-messages tenant number (op_in after) (changed_keys before after) k
     ∙ ap (λ b. cond b (Some (op_to (finite.get after k))) None) (
     any-filter_same (same_key k) (λ key. not (is_same_row (finite.get before key) (finite.get after key))) (not (is_same_row (finite.get before k) (finite.get after k)))
     (λ x e. ap (λ y. not (is_same_row (finite.get before y) (finite.get after y))) (sym (same_is k x e))) (keys_of_both before after)
     ∙ ap (λ b. not (is_same_row (finite.get before k) (finite.get after k)) && b) (any-keys_of_both before after k)
     )
     ∙ by_rows (finite.get before k) (finite.get after k)
-
-own_messages : (tenant number : ℕ) (rows : Rows) (keys : List (List ℕ)) → AreOwn tenant number (map (message_to tenant number rows) keys)
-own_messages tenant number rows [] = tt
-own_messages tenant number rows (k ∷ keys) = ((ap (packed tenant) (own_key-packed tenant k), refl), own_messages tenant number rows keys)
 
 -- there is no message for a key that is not the tenant's
 ops_in-others : (tenant number : ℕ) (ms : List TreeMessage) (key : List ℕ) (n : ℕ) → AreOwn tenant number ms → packed tenant (own_key key) ≢ key → ops_in ms key n ≡ None
@@ -126,15 +138,9 @@ ops_in-others tenant number (x ∷ ms) key n own ne =
     ops_in-skip x ms key n (λ e. let k : key ≡ x.key = ap (λ (p : Place). p.0) e in ne (ap (λ y. packed tenant (own_key y)) k ∙ own.0.0 ∙ sym k))
     ∙ ops_in-others tenant number ms key n own.1 ne
 
-own_elsewhere : (tenant number : ℕ) (ms : List TreeMessage) (key : List ℕ) (n : ℕ) → AreOwn tenant number ms → n ≢ number → ops_in ms key n ≡ None
-own_elsewhere tenant number [] key n own ne = refl
-own_elsewhere tenant number (x ∷ ms) key n own ne =
-    ops_in-skip x ms key n (λ e. ne (ap (λ (p : Place). p.1) e ∙ own.0.1)) ∙ own_elsewhere tenant number ms key n own.1 ne
-
 pub changes_once_law : ChangesOnce
-unfolding changes
 changes_once_law m tenant number before after ms own is = set_by_ops_law (with_all m ms) (with_all m (changes tenant number before after)) (λ key n.
-    let own' : AreOwn tenant number (changes tenant number before after) = own_messages tenant number after (changed_keys before after) in
+    let own' : AreOwn tenant number (changes tenant number before after) = changes_own tenant number before after in
     let same : ops_in ms key n ≡ ops_in (changes tenant number before after) key n =
     ⊎_elim
     (λ (e : n ≡ number). ⊎_elim
@@ -262,15 +268,15 @@ one_put : (m : Messages) (tenant number : ℕ) (rows : Rows) (key value : List �
     → with_all m (put_message tenant number key value ∷ []) ≡ with_all m (changes tenant number rows (finite.insert rows key (record { number = number; value = value })))
 one_put m tenant number rows key value below =
     let after : Rows = finite.insert rows key (record { number = number; value = value }) in
-    changes_once_law m tenant number rows after (put_message tenant number key value ∷ []) ((ap (packed tenant) (own_key-packed tenant key), refl), tt) (λ k.
+    changes_once_law m tenant number rows after (put_message tenant number key value ∷ []) (messages_own tenant number (λ k. Put value) (key ∷ [])) (λ k.
     let got : finite.get after k ≡ cond (same_key k key) (Some (record { number = number; value = value })) (finite.get rows k) = finite.get-insert nat_list_cmp_total rows key _ k in
-    ⊎_elim
+    ops_in-messages tenant number (λ y. Put value) (key ∷ []) k
+    ∙ ⊎_elim
     (λ (s : (k ≡ key) × (same_key k key ≡ true)).
-    ap (λ y. ops_in (put_message tenant number key value ∷ []) (packed tenant y) number) s.0
-    ∙ ops_in-at (put_message tenant number key value) []
+    ap (λ b. cond (b || false) (Some (Put value)) None) s.1
     ∙ sym (ap (op_between (finite.get rows k)) (got ∙ cond-true _ _ _ s.1) ∙ cond-false _ _ _ (other_number number value (finite.get rows k) (below k))))
     (λ (s : (k ≢ key) × (same_key k key ≡ false)).
-    ops_in-skip (put_message tenant number key value) [] (packed tenant k) number (λ e. s.0 (sym (own_key-packed tenant k) ∙ ap (λ (p : Place). own_key p.0) e ∙ own_key-packed tenant key))
+    ap (λ b. cond (b || false) (Some (Put value)) None) s.1
     ∙ sym (ap (op_between (finite.get rows k)) (got ∙ cond-false _ _ _ s.1) ∙ op_to_same (finite.get rows k)))
     (key_cases k key))
 
@@ -288,10 +294,6 @@ get-rows_without (key ∷ keys) rows k =
     either false true = refl
     either false false = refl
 
-gone_own : (tenant number : ℕ) (keys : List (List ℕ)) → AreOwn tenant number (map (gone_message tenant number) keys)
-gone_own tenant number [] = tt
-gone_own tenant number (k ∷ keys) = ((ap (packed tenant) (own_key-packed tenant k), refl), gone_own tenant number keys)
-
 -- a key that has a row and is taken away
 taken : (rows : Rows) (keys : List (List ℕ)) (k : List ℕ) → AllByRecursion (λ key. IsSome (finite.get rows key)) keys → list_any (same_key k) keys ≡ true → IsSome (finite.get rows k)
 taken rows [] k all e = cc
@@ -300,28 +302,14 @@ taken rows (key ∷ keys) k all e = ⊎_elim
     (λ (s : (k ≢ key) × (same_key k key ≡ false)). taken rows keys k all.1 (sym (ap (λ b. b || list_any (same_key k) keys) s.1) ∙ e))
     (key_cases k key)
 
-ops_in-gone : (tenant number : ℕ) (keys : List (List ℕ)) (k : List ℕ) → ops_in (map (gone_message tenant number) keys) (packed tenant k) number ≡ cond (list_any (same_key k) keys) (Some Gone) None
-ops_in-gone tenant number [] k = refl
-ops_in-gone tenant number (x ∷ keys) k = ⊎_elim
-    (λ (s : (k ≡ x) × (same_key k x ≡ true)).
-    ap (λ y. ops_in (map (gone_message tenant number) (x ∷ keys)) (packed tenant y) number) s.0
-    ∙ ops_in-at (gone_message tenant number x) (map (gone_message tenant number) keys)
-    ∙ sym (cond-true _ _ _ (or_left (same_key k x) (list_any (same_key k) keys) s.1)))
-    (λ (s : (k ≢ x) × (same_key k x ≡ false)).
-    ops_in-skip (gone_message tenant number x) (map (gone_message tenant number) keys) (packed tenant k) number
-    (λ e. s.0 (sym (own_key-packed tenant k) ∙ ap (λ (p : Place). own_key p.0) e ∙ own_key-packed tenant x))
-    ∙ ops_in-gone tenant number keys k
-    ∙ sym (ap (λ b. cond (b || list_any (same_key k) keys) (Some Gone) None) s.1))
-    (key_cases k x)
-
 gone_between : (o : Option Version) → IsSome o → op_between o None ≡ Some Gone
 gone_between None h = cc
 gone_between (Some v) h = refl
 
 some_gone : (m : Messages) (tenant number : ℕ) (rows : Rows) (keys : List (List ℕ)) → AllByRecursion (λ key. IsSome (finite.get rows key)) keys
     → with_all m (map (gone_message tenant number) keys) ≡ with_all m (changes tenant number rows (rows_without keys rows))
-some_gone m tenant number rows keys all = changes_once_law m tenant number rows (rows_without keys rows) (map (gone_message tenant number) keys) (gone_own tenant number keys) (λ k.
-    ops_in-gone tenant number keys k
+some_gone m tenant number rows keys all = changes_once_law m tenant number rows (rows_without keys rows) (map (gone_message tenant number) keys) (messages_own tenant number (λ key. Gone) keys) (λ k.
+    ops_in-messages tenant number (λ key. Gone) keys k
     ∙ ⊎_elim
     (λ (h : list_any (same_key k) keys ≡ true).
     cond-true _ _ _ h ∙ sym (ap (op_between (finite.get rows k)) (get-rows_without keys rows k ∙ cond-true _ _ _ h) ∙ gone_between (finite.get rows k) (taken rows keys k all h)))

@@ -114,8 +114,8 @@ pub record WritesAreWritten : Type 0 where
 abbrev pub RowsAreBelow : Type 0
 RowsAreBelow = (m : Messages) (tenant n : ℕ) → AreBelow (suc n) (rows_at m tenant n)
 
--- The messages of the write of one row are a put alone, and those of the removal of rows that are there
--- a removal for each; where no row changes there is none.
+-- The messages of the write of one row are a put alone, and those of the removal of rows that are
+-- there a removal for each; where no row changes there is none.
 pub record WritesByMessages : Type 0 where
   pub of_one : (m : Messages) (tenant number : ℕ) (rows : Rows) (key value : List ℕ)
       → AreBelow number rows

@@ -43,6 +43,10 @@ rows_among messages tenant n (place ∷ places) =
 unfoldable pub rows_at : Messages → ℕ → ℕ → Rows
 rows_at messages tenant n = rows_among messages tenant n (map.keys messages)
 
+-- each row's key is above those before it
+abbrev pub RowsRise : List Shown → Type 0
+RowsRise rows = IsStrictlySortedBy bytes_cmp (list_map (λ row. row.0) rows)
+
 -- ---- the laws
 
 -- a tenant's rows are what its keys have
@@ -62,14 +66,11 @@ AgreeingRows = (l m : Messages) (pins : TenantPins) (bound : TenantBounds) (tena
     → IsIndex tenant → Agree l m pins bound → (Contains (pins tenant) n ⊎ (bound tenant ≤ n))
     → rows_at l tenant n ≡ rows_at m tenant n
 
--- each row's key is above those before it
-abbrev pub RowsRise : List Shown → Type 0
-RowsRise rows = IsStrictlySortedBy bytes_cmp (list_map (λ row. row.0) rows)
-
--- a list that rises, with what each of the tenant's keys in the interval has, is the interval's rows
--- in order
+-- a list that rises, with what each of the tenant's keys in the interval has, is the rows of the
+-- interval in order
 abbrev pub IntervalInOrder : Type 0
-IntervalInOrder = (m : Messages) (tenant n : ℕ) (from to : List ℕ) (rows : List Shown) → RowsRise rows
+IntervalInOrder =
+    (m : Messages) (tenant n : ℕ) (from to : List ℕ) (rows : List Shown) → RowsRise rows
     → ((key : List ℕ) → find bytes_cmp key rows
     ≡ (if is_within from to key then version_of (value m (packed tenant key) n) else None))
     → filter (λ row. is_within from to row.0) (map.entries (rows_at m tenant n)) ≡ rows

@@ -177,8 +177,9 @@ TwoSharedRuns =
     → (view last tenant ≡ view last' tenant')
     × (replies_of tenant steps ≡ replies_of tenant' steps')
 
--- A call is a step where the tenant's messages were added that its own step asks for, in whatever list,
--- and what it has beside them moved; a set that agrees with the one before is a step of maintenance.
+-- A call is a step where the messages were added that the tenant's own step asks for, in whatever
+-- list, and what it has beside them moved. A set that agrees with the one before is a step of
+-- maintenance.
 pub record StepsByParts : Type 0 where
   pub of_call : (old new : SharedState) (tenant : ℕ) (event : OwnEvent) (ms : List TreeMessage)
       → IsSound old → IsIndex tenant
