@@ -1,0 +1,332 @@
+-- The steps of the shared state.
+use Rattle.std.proofs.Common.{◌≡◌, ◌≢◌, ℕ, suc, ◌<◌, ◌≤◌, true, List, [], ◌∷◌, Option, None, refl, ap, ◌∙◌, sym, subst, arith, ⊎_elim, inl, inr, cond, eqb}
+use Rattle.std.specs.Prelude.{map, Contains}
+use Rattle.std.specs.Ordering.{nat_cmp}
+use Rattle.std.specs.FinMap.{FinMap}
+use Rattle.std.specs.FinMap as finite
+use Rattle.std.proofs.lemmas.Bool.{cases_eq, eq-eqb, ne_eqb, cond-true, cond-false}
+use Rattle.stow_model.specs.Reply.{Reply}
+use Rattle.stow_model.specs.Store.{Store, Rows, OwnEvent, step, empty_store, store_after, replies_after, with_reply}
+use Rattle.stow_tree_model.specs.Keys.{packed, tenant_of}
+use Rattle.stow_tree_model.specs.TreeMessage.{TreeMessage}
+use Rattle.stow_tree_model.specs.Order.{place_cmp}
+use Rattle.stow_tree_model.specs.Operations.{NoneAbove, or_else}
+use Rattle.stow_tree_model.specs.Messages.{Messages, ops_of, ops_in, with_all, IsCall}
+use Rattle.stow_tree_model.specs.Agreement.{Agree, PinsBelow}
+use Rattle.stow_tree_model.proofs.Packed.{tenant_of-packed}
+use Rattle.stow_tree_model.proofs.Histories.{latest_none}
+use Rattle.stow_tree_model.proofs.SetLemmas.{ops-with_all, others_stay_law}
+use Rattle.stow_state.specs.Rows.{IsIndex, version_of, rows_at}
+use Rattle.stow_state.specs.Changes.{changed_keys, message_to, changes}
+use Rattle.stow_state.specs.State.{TenantState, SharedState, copies, store_in, view, pins_in, lasts_in, IsSound, new_state}
+use Rattle.stow_state.specs.Steps.{SharedEvent, Call, Maintenance, HasIndex, IsElsewhere, numbers_of, moved_tenant, with_tenant, after_call, moved, reply_to, SharedStep, ToldEvent, SharedRun, line_with, line_of, replies_with, replies_of, KeepsRows, WritesRows, WritesOnce, CallIsOwnStep, OtherViewsStay, StaysSound, StepIsThere, StepsByParts, RunsAlone, TwoSharedRuns}
+use Rattle.stow_state.proofs.Rows.{rows_by_value_law, same_rows, other_rows_stay_law, agreeing_rows_law}
+use Rattle.stow_state.proofs.Changes.{changes-elsewhere, changes-none, earlier_rows_stay_law, own_rows_move_law}
+use Rattle.stow_state.proofs.Snapshots.{copies_same, numbers_stay, entries-empty}
+use Rattle.stow_state.proofs.Writes.{own_step_writes_law}
+
+-- ---- the messages of a call
+
+call_of : (tenant number : ℕ) (rows : Rows) (keys : List (List ℕ)) → IsIndex tenant → IsCall tenant number (map (message_to tenant number rows) keys)
+call_of tenant number rows [] index = tt
+call_of tenant number rows (k ∷ keys) index = ((tenant_of-packed tenant k index, refl), call_of tenant number rows keys index)
+
+changes_call : (tenant number : ℕ) (before after : Rows) → IsIndex tenant → IsCall tenant number (changes tenant number before after)
+unfolding changes
+changes_call tenant number before after index = call_of tenant number after (changed_keys before after) index
+
+-- ---- one tenant's part
+
+with_own : (tenants : ℕ → TenantState) (tenant : ℕ) (own : TenantState) → with_tenant tenants tenant own tenant ≡ own
+with_own tenants tenant own = cond-true (eqb tenant tenant) _ _ (eq-eqb tenant tenant refl)
+
+with_other : (tenants : ℕ → TenantState) (tenant other : ℕ) (own : TenantState) → other ≢ tenant → with_tenant tenants tenant own other ≡ tenants other
+with_other tenants tenant other own ne = cond-false (eqb other tenant) _ _ (ne_eqb other tenant ne)
+
+-- stores of the same rows and counts
+store_same : (l m : Messages) (tenant : ℕ) (own : TenantState) → rows_at l tenant own.last ≡ rows_at m tenant own.last → ((n : ℕ) → Contains (finite.values own.snapshots) n → rows_at l tenant n ≡ rows_at m tenant n) → store_in l tenant own ≡ store_in m tenant own
+store_same l m tenant own rows at_pins = λ i. record {
+  rows = rows i;
+  last = own.last;
+  snapshots = copies_same l m tenant (finite.entries own.snapshots) at_pins i;
+  next = own.next;
+  quota = own.quota;
+  commands = own.commands;
+  refusals = own.refusals;
+}
+
+-- ---- a call
+
+-- what the tenant's own step does to its store
+abbrev next_store : SharedState → ℕ → OwnEvent → Store
+next_store state tenant event = (step (view state tenant) event).0
+
+writes : (state : SharedState) (tenant : ℕ) (event : OwnEvent) → WritesOnce (view state tenant) (next_store state tenant event)
+writes state tenant event = own_step_writes_law (view state tenant) event
+
+-- a call's snapshots have the numbers that they had
+snapshots_after : (state : SharedState) (tenant : ℕ) (event : OwnEvent) → numbers_of (state.tenants tenant) (finite.keys (next_store state tenant event).snapshots) ≡ (state.tenants tenant).snapshots
+unfolding view
+snapshots_after state tenant event =
+    ap (λ (c : FinMap nat_cmp Rows). numbers_of (state.tenants tenant) (finite.keys c)) (writes state tenant event).snapshots_stay
+    ∙ numbers_stay state.messages tenant (state.tenants tenant)
+
+last_after : (state : SharedState) (tenant : ℕ) (event : OwnEvent) → lasts_in state tenant ≤ (next_store state tenant event).last
+unfolding view
+last_after state tenant event = ⊎_elim
+    (λ (k : KeepsRows (view state tenant) (next_store state tenant event)). let e = k.0 in omega arith)
+    (λ (w : WritesRows (view state tenant) (next_store state tenant event)). let e = w.0 in omega arith)
+    (writes state tenant event).rows_move
+
+own_below : (state : SharedState) (tenant : ℕ) → IsIndex tenant → IsSound state → (q : List ℕ) → NoneAbove (lasts_in state tenant) (ops_of state.messages (packed tenant q))
+own_below state tenant index sound q = subst (λ t. NoneAbove (lasts_in state t) (ops_of state.messages (packed tenant q))) (tenant_of-packed tenant q index) (sound.messages_below (packed tenant q))
+
+rows_after : (state : SharedState) (tenant : ℕ) (event : OwnEvent) → IsIndex tenant → IsSound state
+    → rows_at (after_call state tenant (next_store state tenant event)).messages tenant (next_store state tenant event).last ≡ (next_store state tenant event).rows
+unfolding view
+rows_after state tenant event index sound =
+    let m : Messages = (after_call state tenant (next_store state tenant event)).messages in
+    let last : ℕ = lasts_in state tenant in
+    ⊎_elim
+    (λ (k : KeepsRows (view state tenant) (next_store state tenant event)).
+    ap (rows_at m tenant) k.0
+    ∙ earlier_rows_stay_law state.messages tenant (suc last) last (view state tenant).rows (next_store state tenant event).rows (omega arith)
+    ∙ sym k.1)
+    (λ (w : WritesRows (view state tenant) (next_store state tenant event)).
+    ap (rows_at m tenant) w.0
+    ∙ own_rows_move_law state.messages tenant last (next_store state tenant event).rows (own_below state tenant index sound) w.1)
+    (writes state tenant event).rows_move
+
+copies_after : (state : SharedState) (tenant : ℕ) (event : OwnEvent) → IsSound state
+    → copies (after_call state tenant (next_store state tenant event)).messages tenant (finite.entries (numbers_of (state.tenants tenant) (finite.keys (next_store state tenant event).snapshots))) ≡ (next_store state tenant event).snapshots
+unfolding view
+copies_after state tenant event sound =
+    let m : Messages = (after_call state tenant (next_store state tenant event)).messages in
+    ap (λ (ids : FinMap nat_cmp ℕ). copies m tenant (finite.entries ids)) (snapshots_after state tenant event)
+    ∙ copies_same m state.messages tenant (finite.entries (state.tenants tenant).snapshots) (λ n c.
+    earlier_rows_stay_law state.messages tenant (suc (lasts_in state tenant)) n (view state tenant).rows (next_store state tenant event).rows
+    (let low : n ≤ lasts_in state tenant = sound.pins_below tenant n c in omega arith))
+    ∙ sym (writes state tenant event).snapshots_stay
+
+moved_view : (state : SharedState) (tenant : ℕ) (event : OwnEvent) → IsIndex tenant → IsSound state → view (moved state (Call tenant event)) tenant ≡ next_store state tenant event
+unfolding view moved
+moved_view state tenant event index sound =
+    let s : Store = next_store state tenant event in
+    ap (store_in (after_call state tenant s).messages tenant) (with_own state.tenants tenant (moved_tenant (state.tenants tenant) s))
+    ∙ (λ i. record {
+      rows = rows_after state tenant event index sound i;
+      last = s.last;
+      snapshots = copies_after state tenant event sound i;
+      next = s.next;
+      quota = s.quota;
+      commands = s.commands;
+      refusals = s.refusals;
+    })
+
+moved_other : (state : SharedState) (tenant other : ℕ) (event : OwnEvent) → IsIndex tenant → IsIndex other → other ≢ tenant → view (moved state (Call tenant event)) other ≡ view state other
+unfolding view moved
+moved_other state tenant other event index index' ne =
+    let s : Store = next_store state tenant event in
+    let ms = changes tenant (suc (lasts_in state tenant)) (view state tenant).rows s.rows in
+    let stay : (n : ℕ) → rows_at (with_all state.messages ms) other n ≡ rows_at state.messages other n = λ n.
+    other_rows_stay_law state.messages tenant (suc (lasts_in state tenant)) ms other n (changes_call tenant (suc (lasts_in state tenant)) (view state tenant).rows s.rows index) index' ne in
+    ap (store_in (with_all state.messages ms) other) (with_other state.tenants tenant other (moved_tenant (state.tenants tenant) s) ne)
+    ∙ store_same (with_all state.messages ms) state.messages other (state.tenants other) (stay (state.tenants other).last) (λ n c. stay n)
+
+-- ---- sets that agree
+
+agreed_view : (old new : SharedState) (event : SharedEvent) (told : Option Reply) (tenant : ℕ) → IsIndex tenant → SharedStep old event told new → view new tenant ≡ view (moved old event) tenant
+unfolding view
+agreed_view old new event told tenant index s =
+    let mid : SharedState = moved old event in
+    let own : TenantState = mid.tenants tenant in
+    ap (λ (ts : ℕ → TenantState). store_in new.messages tenant (ts tenant)) s.tenants_are
+    ∙ sym (store_same mid.messages new.messages tenant own
+    (agreeing_rows_law mid.messages new.messages (pins_in mid) (lasts_in mid) tenant own.last index s.messages_agree (inr (omega arith)))
+    (λ n c. agreeing_rows_law mid.messages new.messages (pins_in mid) (lasts_in mid) tenant n index s.messages_agree (inl c)))
+
+pub call_is_own_step_law : CallIsOwnStep
+unfolding reply_to
+call_is_own_step_law old new tenant event told sound s =
+    let store : view new tenant ≡ next_store old tenant event = agreed_view old new (Call tenant event) told tenant s.has_index s ∙ moved_view old tenant event s.has_index sound in
+    λ i. (store i, s.reply_is i)
+
+elsewhere : (old new : SharedState) (event : SharedEvent) (told : Option Reply) (other : ℕ) → IsIndex other → HasIndex event → IsElsewhere other event → view (moved old event) other ≡ view old other
+unfolding moved
+elsewhere old new (Call tenant event) told other index h ne = moved_other old tenant other event h index ne
+elsewhere old new Maintenance told other index h ne = refl
+
+pub other_views_stay_law : OtherViewsStay
+other_views_stay_law old new event told other index ne s = agreed_view old new event told other index s ∙ elsewhere old new event told other index s.has_index ne
+
+-- ---- soundness
+
+-- the tenants' snapshots stay below their last writes
+pins_after : (old : SharedState) (event : SharedEvent) → IsSound old → PinsBelow (pins_in (moved old event)) (lasts_in (moved old event))
+unfolding moved
+pins_after old Maintenance sound t p c = sound.pins_below t p c
+pins_after old (Call tenant event) sound t p c =
+    let s : Store = next_store old tenant event in
+    let own : TenantState = moved_tenant (old.tenants tenant) s in
+    ⊎_elim
+    (λ (e : t ≡ tenant).
+    let is : with_tenant old.tenants tenant own t ≡ own = cond-true (eqb t tenant) _ _ (eq-eqb t tenant e) in
+    let d : Contains (finite.values (old.tenants tenant).snapshots) p = subst (λ (ids : FinMap nat_cmp ℕ). Contains (finite.values ids) p) (snapshots_after old tenant event) (subst (λ (x : TenantState). Contains (finite.values x.snapshots) p) is c) in
+    let low : p ≤ lasts_in old tenant = sound.pins_below tenant p d in
+    let high : lasts_in old tenant ≤ s.last = last_after old tenant event in
+    subst (λ (x : TenantState). p ≤ x.last) (sym is) (omega arith))
+    (λ (ne : t ≢ tenant).
+    let is : with_tenant old.tenants tenant own t ≡ old.tenants t = with_other old.tenants tenant t own ne in
+    subst (λ (x : TenantState). p ≤ x.last) (sym is) (sound.pins_below t p (subst (λ (x : TenantState). Contains (finite.values x.snapshots) p) is c)))
+    (cases_eq t tenant)
+
+same_state : (new : SharedState) (tenants : ℕ → TenantState) → new.tenants ≡ tenants → ((key : List ℕ) → NoneAbove (tenants (tenant_of key)).last (ops_of new.messages key)) → PinsBelow (λ t. finite.values (tenants t).snapshots) (λ t. (tenants t).last) → IsSound new
+same_state new tenants e below pins = record {
+  messages_below = subst (λ (ts : ℕ → TenantState). (key : List ℕ) → NoneAbove (ts (tenant_of key)).last (ops_of new.messages key)) (sym e) below;
+  pins_below = subst (λ (ts : ℕ → TenantState). PinsBelow (λ t. finite.values (ts t).snapshots) (λ t. (ts t).last)) (sym e) pins;
+}
+
+pub step_sound : (old new : SharedState) (event : SharedEvent) (told : Option Reply) → IsSound old → SharedStep old event told new → IsSound new
+step_sound old new event told sound s = same_state new (moved old event).tenants s.tenants_are (λ key. (s.messages_agree key).right_below) (pins_after old event sound)
+
+nothing_in : (quotas : ℕ → ℕ) (key : List ℕ) (n : ℕ) → ops_of (new_state quotas).messages key n ≡ None
+nothing_in quotas key n = finite.get-empty place_cmp (key, n)
+
+no_values : (p : ℕ) → Contains (finite.values (finite.empty {X = ℕ} {R = nat_cmp})) p → ⊥
+no_values p c = none p (subst (λ (es : List (ℕ × ℕ)). Contains (map (λ e. e.1) es) p) entries-empty c)
+  where
+    none : (n : ℕ) → Contains [] n → ⊥
+    none n (k, l, e) = absurd (omega arith)
+
+pub new_sound : (quotas : ℕ → ℕ) → IsSound (new_state quotas)
+new_sound quotas = record {
+  messages_below = λ key n l. nothing_in quotas key n;
+  pins_below = λ t p c. absurd (no_values p c);
+}
+
+pub stays_sound_law : StaysSound
+stays_sound_law = record { of_new = new_sound; of_step = step_sound }
+
+-- ---- each event can be a step
+
+-- a call adds no message above the caller's last write
+call_below : (state : SharedState) (tenant : ℕ) (event : OwnEvent) (key : List ℕ) (n : ℕ) → (next_store state tenant event).last < n
+    → ops_in (changes tenant (suc (lasts_in state tenant)) (view state tenant).rows (next_store state tenant event).rows) key n ≡ None
+unfolding view
+call_below state tenant event key n l = ⊎_elim
+    (λ (k : KeepsRows (view state tenant) (next_store state tenant event)).
+    ap (λ (rows : Rows). ops_in (changes tenant (suc (lasts_in state tenant)) (view state tenant).rows rows) key n) k.1
+    ∙ ap (λ ms. ops_in ms key n) (changes-none tenant (suc (lasts_in state tenant)) (view state tenant).rows))
+    (λ (w : WritesRows (view state tenant) (next_store state tenant event)).
+    changes-elsewhere tenant (suc (lasts_in state tenant)) (view state tenant).rows (next_store state tenant event).rows key n (λ e. let z = w.0 in absurd (omega arith)))
+    (writes state tenant event).rows_move
+
+moved_below : (state : SharedState) (event : SharedEvent) → IsSound state → HasIndex event → (key : List ℕ) → NoneAbove (lasts_in (moved state event) (tenant_of key)) (ops_of (moved state event).messages key)
+unfolding moved
+moved_below state Maintenance sound index key n l = sound.messages_below key n l
+moved_below state (Call tenant event) sound index key n l =
+    let s : Store = next_store state tenant event in
+    let ms = changes tenant (suc (lasts_in state tenant)) (view state tenant).rows s.rows in
+    let own : TenantState = moved_tenant (state.tenants tenant) s in
+    ⊎_elim
+    (λ (e : tenant_of key ≡ tenant).
+    let is : with_tenant state.tenants tenant own (tenant_of key) ≡ own = cond-true (eqb (tenant_of key) tenant) _ _ (eq-eqb (tenant_of key) tenant e) in
+    let above : s.last < n = subst (λ (x : TenantState). x.last < n) is l in
+    let low : lasts_in state tenant ≤ s.last = last_after state tenant event in
+    ops-with_all state.messages ms key n
+    ∙ (λ i. or_else (call_below state tenant event key n above i) (sound.messages_below key n (subst (λ t. lasts_in state t < n) (sym e) (omega arith)) i)))
+    (λ (ne : tenant_of key ≢ tenant).
+    ap (λ f. f n) (others_stay_law state.messages tenant (suc (lasts_in state tenant)) ms key (changes_call tenant (suc (lasts_in state tenant)) (view state tenant).rows s.rows index) ne)
+    ∙ sound.messages_below key n (subst (λ (x : TenantState). x.last < n) (with_other state.tenants tenant (tenant_of key) own ne) l))
+    (cases_eq (tenant_of key) tenant)
+
+pub step_is_there_law : StepIsThere
+step_is_there_law state event sound index = record {
+  has_index = index;
+  reply_is = refl;
+  tenants_are = refl;
+  messages_agree = λ key. record {
+    at_pins = λ p c. refl;
+    from_bound = λ n l. refl;
+    left_below = moved_below state event sound index key;
+    right_below = moved_below state event sound index key;
+  };
+}
+
+step_of_call : (old new : SharedState) (tenant : ℕ) (event : OwnEvent) (ms : List TreeMessage) → IsSound old → IsIndex tenant
+    → with_all old.messages ms ≡ with_all old.messages (changes tenant (suc (lasts_in old tenant)) (view old tenant).rows (next_store old tenant event).rows)
+    → new.messages ≡ with_all old.messages ms
+    → new.tenants ≡ with_tenant old.tenants tenant (moved_tenant (old.tenants tenant) (next_store old tenant event))
+    → SharedStep old (Call tenant event) (step (view old tenant) event).1 new
+unfolding moved reply_to
+step_of_call old new tenant event ms sound index same messages tenants =
+    let s = step_is_there_law old (Call tenant event) sound index in
+    record {
+      has_index = index;
+      reply_is = refl;
+      tenants_are = tenants;
+      messages_agree = subst (λ (x : Messages). Agree (moved old (Call tenant event)).messages x (pins_in (moved old (Call tenant event))) (lasts_in (moved old (Call tenant event)))) (sym (messages ∙ same)) s.messages_agree;
+    }
+
+step_of_maintenance : (old new : SharedState) → new.tenants ≡ old.tenants → Agree old.messages new.messages (pins_in old) (lasts_in old) → SharedStep old Maintenance None new
+unfolding moved reply_to
+step_of_maintenance old new tenants agree = record { has_index = tt; reply_is = refl; tenants_are = tenants; messages_agree = agree }
+
+pub steps_by_parts_law : StepsByParts
+steps_by_parts_law = record { of_call = step_of_call; of_maintenance = step_of_maintenance }
+
+-- ---- runs
+
+pub new_view : (quotas : ℕ → ℕ) (tenant : ℕ) → view (new_state quotas) tenant ≡ empty_store (quotas tenant)
+unfolding view
+new_view quotas tenant = λ i. record {
+  rows = no_rows i;
+  last = 0;
+  snapshots = copies finite.empty tenant (entries-empty i);
+  next = 1;
+  quota = quotas tenant;
+  commands = 0;
+  refusals = 0;
+}
+  where
+    no_rows : rows_at finite.empty tenant 0 ≡ finite.empty
+    no_rows = same_rows _ _ (λ q.
+        rows_by_value_law finite.empty tenant 0 q
+        ∙ ap version_of (latest_none (ops_of finite.empty (packed tenant q)) 0 (λ k l. nothing_in quotas (packed tenant q) k))
+        ∙ sym (finite.get-empty _ q))
+
+run_sound : (quotas : ℕ → ℕ) (steps : List ToldEvent) (last : SharedState) → SharedRun (new_state quotas) steps last → IsSound last
+run_sound quotas [] last e = subst IsSound (sym e) (new_sound quotas)
+run_sound quotas (newest ∷ earlier) last run = step_sound run.0 last newest.0 newest.1 (run_sound quotas earlier run.0 run.1) run.2
+
+-- the tenant's store and replies are those of its own run
+abbrev IsAlone : ℕ → List OwnEvent → List Reply → Store → Type 0
+IsAlone quota line replies store = (store ≡ store_after quota line) × (replies ≡ replies_after quota line)
+
+alone_step : (old new : SharedState) (event : SharedEvent) (told : Option Reply) (tenant quota : ℕ) (line : List OwnEvent) (replies : List Reply) → IsIndex tenant → IsSound old → SharedStep old event told new → IsAlone quota line replies (view old tenant) → IsAlone quota (line_with tenant event line) (replies_with tenant event told replies) (view new tenant)
+unfolding store_after replies_after
+alone_step old new Maintenance told tenant quota line replies index sound s is = (other_views_stay_law old new Maintenance told tenant index tt s ∙ is.0, is.1)
+alone_step old new (Call caller event) told tenant quota line replies index sound s is = ⊎_elim
+    (λ (e : caller ≡ tenant).
+    let t : eqb caller tenant ≡ true = eq-eqb caller tenant e in
+    let own = call_is_own_step_law old new tenant event told sound (subst (λ c. SharedStep old (Call c event) told new) e s) in
+    let both : ◌≡◌ {A = Store × Option Reply} (view new tenant, told) (step (store_after quota line) event) = own ∙ ap (λ (x : Store). step x event) is.0 in
+    subst (λ b. IsAlone quota (cond b (event ∷ line) line) (cond b (with_reply told replies) replies) (view new tenant)) (sym t)
+    (ap (λ (x : Store × Option Reply). x.0) both, (λ i. with_reply (both i).1 (is.1 i))))
+    (λ (ne : caller ≢ tenant).
+    subst (λ b. IsAlone quota (cond b (event ∷ line) line) (cond b (with_reply told replies) replies) (view new tenant)) (sym (ne_eqb caller tenant ne))
+    (other_views_stay_law old new (Call caller event) told tenant index (λ e. ne (sym e)) s ∙ is.0, is.1))
+    (cases_eq caller tenant)
+
+pub runs_alone_law : RunsAlone
+unfolding store_after replies_after
+runs_alone_law quotas [] last tenant index e = (ap (λ (x : SharedState). view x tenant) e ∙ new_view quotas tenant, refl)
+runs_alone_law quotas (newest ∷ earlier) last tenant index run =
+    alone_step run.0 last newest.0 newest.1 tenant (quotas tenant) (line_of tenant earlier) (replies_of tenant earlier) index
+    (run_sound quotas earlier run.0 run.1) run.2 (runs_alone_law quotas earlier run.0 tenant index run.1)
+
+pub two_shared_runs_law : TwoSharedRuns
+two_shared_runs_law quotas quotas' steps steps' last last' tenant tenant' index index' quota line run run' =
+    let a = runs_alone_law quotas steps last tenant index run in
+    let b = runs_alone_law quotas' steps' last' tenant' index' run' in
+    (a.0 ∙ (λ i. store_after (quota i) (line i)) ∙ sym b.0, a.1 ∙ (λ i. replies_after (quota i) (line i)) ∙ sym b.1)
