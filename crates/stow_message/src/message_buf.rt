@@ -206,6 +206,18 @@ impl<A: Allocator> MessageBuf<A> {
         !is_message_at(self.message(index), message.key.bytes, message.number)
     }
 
+    /// Whether no message of the run has the key and number of one that is held.
+    pub fn are_new<B: Allocator>(&self, run: &Run<'_, B>) -> bool
+        ensures { IsTrue result ↔ AreNew run.now self.now.messages }
+    {
+        for i in 0..run.len() {
+            if !self.is_new(run.get(i)) {
+                return false;
+            }
+        }
+        true
+    }
+
     /// Puts a message to its place.
     pub fn push(&mut self, message: Message<'_>)
         requires { Fits self.old (message_of message)
