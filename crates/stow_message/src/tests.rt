@@ -1,7 +1,7 @@
 //! Worked rows, random calls beside a sorted vector, and the calls that take no memory with all of it refused.
 ghost use Rattle.std.specs.Prelude.{◌≡◌, ◌<◌};
 
-use crate::head::size;
+use crate::head::{carried, kind, size};
 use crate::message_buf::MessageBuf;
 use crate::newest::Newest;
 use crate::run::Run;
@@ -102,9 +102,12 @@ fn key_of<A: Allocator>(alloc: A, rank: u8) -> Result<TenantKeyBuf<A>, AllocErro
     TenantKeyBuf::new(alloc, rank as u32 / 4 + 1, &[rank % 4])
 }
 
-/// Whether the message is the one of this rank and number.
+/// Whether the message is the put of this rank and number.
 fn is_of(message: Message<'_>, (rank, number): (u8, u64)) -> bool {
-    message.key.bytes == [0, 0, 0, rank / 4 + 1, rank % 4].as_slice() && message.number == number
+    message.key.bytes == [0, 0, 0, rank / 4 + 1, rank % 4].as_slice()
+        && message.number == number
+        && kind(message.op) == 0
+        && carried(message.op) == [rank].as_slice()
 }
 
 /// Whether these are the messages of the run.
