@@ -4,15 +4,16 @@ use Rattle.std.proofs.lemmas.List.{length-map, drop-append-le, drop_at}
 use Rattle.std.specs.List.{AllByRecursion, sum_by, insert}
 use Rattle.std.specs.List.Sorted.{IsStrictlySortedBy}
 use Rattle.stow_tree_model.specs.Op.{bytes_in}
-use Rattle.stow_tree_model.specs.TreeMessage.{TreeMessage}
+use Rattle.stow_tree_model.specs.TreeMessage.{TreeMessage, message_of}
+use Rattle.stow_tree_model.specs.declared.message.Message as coded
 use Rattle.stow_tree_model.specs.Order.{place_of, MessagesRise}
 use Rattle.stow_raw.specs.RawBuf.{RawLists, raw_lists, raw_used}
 use Rattle.stow_message.specs.Packed.{head_of, message_bytes, message_size, IsMessage, message_at, BeginsWith}
-use Rattle.stow_message.specs.MessageBuf.{messages_in, IsFilled}
+use Rattle.stow_message.specs.MessageBuf.{MessageList, message_list, Fits, with_message, messages_in, IsFilled}
 use Rattle.stow_message.specs.Rising.{below, placed, IsNew}
 use Rattle.stow_message.proofs.Reading.{length-message_bytes, message_read}
 use Rattle.stow_message.proofs.Stored.{room, read_is}
-use Rattle.stow_message.proofs.RisingLists.{placed_is, placed_rises, sum-placed}
+use Rattle.stow_message.proofs.RisingLists.{below_within, placed_is, placed_rises, sum-placed}
 
 -- bytes that begin with a message still do with more after them
 pub still_begins : (bs more : List ℕ) → BeginsWith bs → BeginsWith (bs ++ more)
@@ -92,6 +93,45 @@ module _ (raw : RawLists) (h : IsFilled raw) (m : TreeMessage) (ok : IsMessage m
     pub after_slot : (s : RawLists) (i at : ℕ) → s ≡ raw_lists r.front (insert r.slots i at) r.capacity → i ≡ below (place_of m) (messages_in raw) → at ≡ length raw.front → s ≡ pushed
     after_slot s i at last here slot =
         last ∙ (λ j. raw_lists (e j).front (insert (e j).slots i at) (e j).capacity) ∙ (λ j. raw_lists (raw.front ++ message_bytes m) (insert raw.slots (here j) (slot j)) raw.capacity)
+
+-- a push into a block: its message's bytes stand at the front, and its slot comes
+pub record Push (raw r : RawLists) (v : MessageList) (m : TreeMessage) (index : ℕ) : Type 0 where
+  pub room : (index ≤ length r.slots) × (raw_used r + 4 ≤ r.capacity)
+  pub filled : (last : RawLists) (at : ℕ) → at ≡ length raw.front → last ≡ raw_lists r.front (insert r.slots index at) r.capacity → IsFilled last
+  pub is : (last : RawLists) (at : ℕ) → at ≡ length raw.front → last ≡ raw_lists r.front (insert r.slots index at) r.capacity
+      → message_list (messages_in last) (raw_used last) last.capacity ≡ with_message m v
+
+module _ (raw : RawLists) (h : IsFilled raw) (v : MessageList) (view : message_list (messages_in raw) (raw_used raw) raw.capacity ≡ v) (message : coded.Message) (asked : Fits v (message_of message) × IsNew (message_of message) v.messages) where
+  abbrev lent : TreeMessage
+  lent = message_of message
+
+  is_valid : IsMessage lent
+  is_valid = record { is_key = message.key.is_key; is_of_tenant = message.is_of_tenant; is_numbered = message.is_numbered; is_short = message.is_short }
+
+  fits : raw_used raw + message_size lent ≤ raw.capacity
+  fits = subst (λ (w : MessageList). w.used + message_size lent ≤ w.capacity) (sym view) asked.0
+
+  pub bytes_fit : raw_used raw + length (message_bytes lent) ≤ raw.capacity
+  bytes_fit = omega (arith, fits, length-message_bytes lent)
+
+  module _ (r : RawLists) (e : r ≡ raw_lists (raw.front ++ message_bytes lent) raw.slots raw.capacity) (index : ℕ) (i : index ≡ below (place_of lent) v.messages) where
+    here : index ≡ below (place_of lent) (messages_in raw)
+    here = i ∙ ap (λ (w : MessageList). below (place_of lent) w.messages) (sym view)
+
+    new_here : IsNew lent (messages_in raw)
+    new_here = subst (λ (w : MessageList). IsNew lent w.messages) (sym view) asked.1
+
+    last_is : (last : RawLists) (at : ℕ) → at ≡ length raw.front → last ≡ raw_lists r.front (insert r.slots index at) r.capacity → last ≡ pushed raw h lent is_valid
+    last_is last at f g = after_slot raw h lent is_valid r e last index at g here f
+
+    pub push : Push raw r v lent index
+    push = record {
+      room = (omega (arith, here, below_within (place_of lent) (messages_in raw), slots_of_messages raw, ap length (slots_same raw h lent is_valid r e)), slot_fits raw h lent is_valid r e fits);
+      filled = λ last at f g. subst IsFilled (sym (last_is last at f g)) (pushed_filled raw h lent is_valid new_here fits);
+      is = λ last at f g. ap (λ (b : RawLists). message_list (messages_in b) (raw_used b) b.capacity) (last_is last at f g)
+          ∙ (λ j. message_list (pushed_messages raw h lent is_valid j) (pushed_used raw h lent is_valid j) raw.capacity)
+          ∙ ap (with_message lent) view;
+    }
 
 -- a message is packed in three parts
 module _ (raw r₁ r₂ r₃ : RawLists) (m : TreeMessage) (hs vs : List ℕ) (e₁ : r₁ ≡ raw_lists (raw.front ++ hs) raw.slots raw.capacity) (e₂ : r₂ ≡ raw_lists (r₁.front ++ m.key) r₁.slots r₁.capacity)

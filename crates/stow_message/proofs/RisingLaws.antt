@@ -1,12 +1,11 @@
 -- The laws of rising lists of messages.
 use Rattle.std.proofs.Common.{◌≡◌, ℕ, zero, suc, ◌<◌, Bool, true, false, List, [], ◌∷◌, length, drop, get_or, refl, sym, ap, subst, ◌∙◌, arith, inl, inr}
-use Rattle.std.specs.Prelude.{◌⊎◌, ◌↔◌, if◌then◌else◌, not}
-use Rattle.std.specs.declared.cmp.Ordering.TheVariants.{Less}
+use Rattle.std.specs.Prelude.{◌⊎◌, if◌then◌else◌, not}
 use Rattle.std.specs.Ordering.{is_lt, ordering_reverse}
 use Rattle.std.specs.List.{Contains, filter}
 use Rattle.std.specs.List.Sorted.{IsStrictlySortedBy}
 use Rattle.stow_tree_model.specs.TreeMessage.{TreeMessage}
-use Rattle.stow_tree_model.specs.Order.{Place, place_cmp, place_of, MessagesRise}
+use Rattle.stow_tree_model.specs.Order.{Place, place_of, MessagesRise}
 use Rattle.stow_message.specs.Laws.{PlacedRises, AllPlacedRise, AllPlacedHold, RangeAndRest, MoveKeepsAll, TakenAndRest, RestsRise, SizesAddUp}
 use Rattle.stow_message.specs.Rising.{is_below, is_same, is_first, placed, all_placed, is_between, in_range, out_of_range, without}
 use Rattle.stow_message.proofs.Placed.{itself, merged, put_in, merged_is, all_placed_rises, all_other, sum-all_placed}

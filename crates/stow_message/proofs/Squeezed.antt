@@ -2,14 +2,15 @@
 use Rattle.std.proofs.Common.{◌≡◌, ℕ, zero, suc, ◌+◌, ◌-◌, ◌*◌, ◌<◌, ◌≤◌, List, [], ◌∷◌, ◌++◌, map, length, take, drop, set, get_or, refl, sym, ap, subst, ◌∙◌, arith, length-append, length-take, length-drop, append_assoc, take_all}
 use Rattle.std.proofs.lemmas.List.{append-nil, drop_at, set_at, take_more, drop_more, drop_all, get_or-drop, get_or-append_right}
 use Rattle.std.proofs.lemmas.List.Sums.{sum_by-cons}
-use Rattle.std.specs.List.{AllByRecursion, sum_by}
+use Rattle.std.specs.List.{All, AllByRecursion, sum_by}
 use Rattle.stow_tree_model.specs.TreeMessage.{TreeMessage}
 use Rattle.stow_tree_model.specs.Order.{MessagesRise}
 use Rattle.stow_raw.specs.RawBuf.{RawLists, raw_lists, raw_used}
 use Rattle.stow_message.specs.Packed.{message_bytes, message_size, IsMessage, message_at, BeginsWith, all_bytes, places_from}
-use Rattle.stow_message.specs.MessageBuf.{messages_in, IsFilled}
+use Rattle.stow_message.specs.MessageBuf.{MessageList, message_list, messages_in, IsFilled}
 use Rattle.stow_message.proofs.Reading.{length-message_bytes, message_read}
-use Rattle.stow_message.proofs.Stored.{filled_at, message_there, read_is}
+use Rattle.stow_message.proofs.RisingLists.{all_by}
+use Rattle.stow_message.proofs.Stored.{filled_at, filled_valid, message_there, read_is}
 use Rattle.stow_message.proofs.Pushed.{slots_of_messages}
 
 pub length-places : (at : ℕ) (ms : List TreeMessage) → length (places_from at ms) ≡ length ms
@@ -127,3 +128,72 @@ module _ (raw : RawLists) (h : IsFilled raw) (ms : List TreeMessage) (are : mess
     pub all_moved : length raw.slots ≤ k → now.slots ≡ places_from 0 ms
     all_moved le = ap (λ (r : RawLists). r.slots) e
         ∙ (λ j. take_all k (places_from 0 ms) (omega (arith, length-places 0 ms, counts)) j ++ drop_all k raw.slots le j) ∙ append-nil (places_from 0 ms)
+
+-- a turn of a squeeze: the message at k is read at its old place, and goes to the spare block
+pub record Turn (raw now spare : RawLists) (v : MessageList) (k size : ℕ) : Type 0 where
+  pub slot : k < length now.slots
+  pub small : length now.front < 4294967296
+  pub place : length spare.front < 4294967296
+  pub begins : (at : ℕ) → at ≡ get_or now.slots k 0 → BeginsWith (drop at now.front)
+  pub room : (at : ℕ) → at ≡ get_or now.slots k 0 → (m : TreeMessage) → m ≡ message_at (drop at now.front) → v.capacity ≤ size
+      → raw_used spare + length (message_bytes m) ≤ spare.capacity
+  pub bytes : (at : ℕ) → at ≡ get_or now.slots k 0 → (m : TreeMessage) → m ≡ message_at (drop at now.front) → (next : RawLists)
+      → next ≡ raw_lists (spare.front ++ message_bytes m) spare.slots spare.capacity → next ≡ raw_lists (all_bytes (take (k + 1) v.messages)) [] size
+  pub slots : (place : ℕ) → place ≡ length spare.front → (next : RawLists) → next ≡ raw_lists now.front (set now.slots k place) now.capacity
+      → next ≡ raw_lists raw.front (take (k + 1) (places_from 0 v.messages) ++ drop (k + 1) raw.slots) raw.capacity
+
+-- the end of a squeeze: the front is empty, and the spare block's bytes go there
+pub record End (cleared : RawLists) (v : MessageList) (bytes : List ℕ) : Type 0 where
+  pub room : raw_used cleared + length bytes ≤ cleared.capacity
+  pub filled : (last : RawLists) → last ≡ raw_lists (cleared.front ++ bytes) cleared.slots cleared.capacity → IsFilled last
+  pub is : (last : RawLists) → last ≡ raw_lists (cleared.front ++ bytes) cleared.slots cleared.capacity
+      → message_list (messages_in last) (raw_used last) last.capacity ≡ message_list v.messages (sum_by message_size v.messages) v.capacity
+
+module _ (raw : RawLists) (h : IsFilled raw) (v : MessageList) (view : message_list (messages_in raw) (raw_used raw) raw.capacity ≡ v) where
+  abbrev ms : List TreeMessage
+  ms = v.messages
+
+  are : messages_in raw ≡ ms
+  are = ap (λ (w : MessageList). w.messages) view
+
+  capacity_is : raw.capacity ≡ v.capacity
+  capacity_is = ap (λ (w : MessageList). w.capacity) view
+
+  module _ (k : ℕ) (now : RawLists) (e : now ≡ raw_lists raw.front (take k (places_from 0 ms) ++ drop k raw.slots) raw.capacity) (spare : RawLists) (size : ℕ) (s : spare ≡ raw_lists (all_bytes (take k ms)) [] size) where
+    pub turn : k < length raw.slots → Turn raw now spare v k size
+    turn lt =
+        let fit = bytes_fit raw h ms are k in
+        let reads = λ (at : ℕ) (f : at ≡ get_or now.slots k 0) (m : TreeMessage) (g : m ≡ message_at (drop at now.front)). more_bytes raw h ms are k now e lt m (next_message raw h ms are k now e lt at f m g) in
+        record {
+          slot = omega (arith, slots_long raw h ms are k now e (omega arith), lt);
+          small = omega (arith, ap (λ (r : RawLists). length r.front) e, h.within);
+          place = omega (arith, ap (λ (r : RawLists). length r.front) s, taken_within ms k, fit, h.within);
+          begins = λ at f. next_begins raw h ms are k now e lt at f;
+          room = λ at f m g more. omega (arith, ap raw_used s, ap (λ (r : RawLists). r.capacity) s, length-append (all_bytes (take k ms)) (message_bytes m), ap length (reads at f m g), taken_within ms (k + 1), fit, capacity_is, more);
+          bytes = λ at f m g next i. i ∙ (λ j. raw_lists ((s j).front ++ message_bytes m) (s j).slots (s j).capacity) ∙ ap (λ l. raw_lists l [] size) (reads at f m g);
+          slots = λ place f next i. more_slots raw h ms are k now e lt next place i (f ∙ ap (λ (r : RawLists). length r.front) s);
+        }
+
+    module _ (past : length raw.slots ≤ k) (n : ℕ) (whole : n ≡ length spare.front) (bytes : List ℕ) (f : bytes ≡ take n spare.front) (cleared : RawLists) (g : cleared ≡ raw_lists [] now.slots now.capacity) where
+      cleared_is : cleared ≡ raw_lists [] (places_from 0 ms) raw.capacity
+      cleared_is = g ∙ (λ j. raw_lists [] (all_moved raw h ms are k now e past j) (e j).capacity)
+
+      bytes_are : bytes ≡ all_bytes ms
+      bytes_are = f ∙ take_all n spare.front (omega (arith, whole)) ∙ ap (λ (r : RawLists). r.front) s ∙ ap all_bytes (take_all k ms (omega (arith, past, ap length are, slots_of_messages raw)))
+
+      last_is : (last : RawLists) → last ≡ raw_lists (cleared.front ++ bytes) cleared.slots cleared.capacity → last ≡ squeezed ms raw.capacity
+      last_is last i = i ∙ (λ j. raw_lists ((cleared_is j).front ++ bytes_are j) (cleared_is j).slots (cleared_is j).capacity)
+
+      valid : AllByRecursion IsMessage ms
+      valid = all_by IsMessage ms (subst (All IsMessage) are (filled_valid raw h))
+
+      squeezed_whole : IsFilled (squeezed ms raw.capacity)
+      squeezed_whole = squeezed_filled ms raw.capacity valid (subst MessagesRise are h.rising) (omega (arith, h.live, ap (sum_by message_size) are, h.within)) h.within.1
+
+      pub end : End cleared v bytes
+      end = record {
+        room = omega (arith, ap raw_used cleared_is, ap (λ (r : RawLists). r.capacity) cleared_is, ap length bytes_are, length-places 0 ms, bytes_fit raw h ms are k);
+        filled = λ last i. subst IsFilled (sym (last_is last i)) squeezed_whole;
+        is = λ last i. ap (λ (r : RawLists). message_list (messages_in r) (raw_used r) r.capacity) (last_is last i)
+            ∙ (λ j. message_list (squeezed_messages ms raw.capacity valid j) (squeezed_used ms raw.capacity j) (capacity_is j));
+      }

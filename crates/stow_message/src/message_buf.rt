@@ -1,5 +1,5 @@
 //! A buffer of packed messages.
-ghost use Rattle.std.specs.Prelude.{◌≡◌, ◌+◌, ◌-◌, ◌*◌, ◌^◌, ◌<◌, ◌≤◌, ◌==◌, [], ◌++◌, length, map, take, drop, reverse, slice_index_or, IfOk, IsTrue, ◌↔◌, false};
+ghost use Rattle.std.specs.Prelude.{◌≡◌, ◌+◌, ◌-◌, ◌*◌, ◌^◌, ◌<◌, ◌≤◌, ◌==◌, [], ◌++◌, length, map, take, drop, max, reverse, slice_index_or, IfOk, IsTrue, ◌↔◌, false};
 ghost use Rattle.std.specs.Ordering.{is_lt, is_eq};
 ghost use Rattle.stow_tree_model.specs.TreeMessage.{message_of};
 ghost use Rattle.stow_tree_model.specs.Order.{place_cmp, place_of, MessagesRise};
@@ -183,7 +183,16 @@ impl<A: Allocator> MessageBuf<A> {
         ensures valid { All IsMessage self.now.messages }
         ensures small { length self.now.messages < 4294967296 }
     {
-        let (mut low, mut high) = (0, self.len());
+        self.search_between(0, self.len(), key, number)
+    }
+
+    /// The first index from `low` on whose message doesn't stand below the key and number: it is at most `high`.
+    fn search_between(&self, mut low: usize, mut high: usize, key: &[u8], number: u64) -> usize
+        requires order { (low ≤ high) × (high ≤ length self.now.messages) }
+        requires end { below (key.now, number) self.now.messages ≤ high }
+        requires rising { MessagesRise self.now.messages }
+        ensures { result ≡ max (below (key.now, number) self.now.messages) low }
+    {
         while low < high {
             let middle = low + (high - low) / 2;
             if is_message_below(self.message(middle), key, number) {
@@ -195,6 +204,24 @@ impl<A: Allocator> MessageBuf<A> {
         low
     }
 
+    /// The first index from `from` on whose message doesn't stand below the key and number, in steps that double.
+    fn search_from(&self, from: usize, key: &[u8], number: u64) -> usize
+        requires { from ≤ length self.now.messages }
+        ensures { result ≡ max (below (key.now, number) self.now.messages) from }
+    {
+        let len = self.len();
+        let (mut low, mut step) = (from, 1);
+        while low + step <= len {
+            let last = low + step - 1;
+            if !is_message_below(self.message(last), key, number) {
+                return self.search_between(low, last, key, number);
+            }
+            low = last + 1;
+            step *= 2;
+        }
+        self.search_between(low, len, key, number)
+    }
+
     /// Whether no message of this one's key and number is held.
     pub fn is_new(&self, message: Message<'_>) -> bool
         ensures { IsTrue result ↔ IsNew (message_of message.entry) self.now.messages }
@@ -204,6 +231,18 @@ impl<A: Allocator> MessageBuf<A> {
             return true;
         }
         !is_message_at(self.message(index), message.key.bytes, message.number)
+    }
+
+    /// Whether no message of the run has the key and number of one that is held.
+    pub fn are_new<B: Allocator>(&self, run: &Run<'_, B>) -> bool
+        ensures { IsTrue result ↔ AreNew run.now self.now.messages }
+    {
+        for i in 0..run.len() {
+            if !self.is_new(run.get(i)) {
+                return false;
+            }
+        }
+        true
     }
 
     /// Puts a message to its place.
@@ -223,12 +262,12 @@ impl<A: Allocator> MessageBuf<A> {
         ensures { result ≡ reverse (of_key key.entry.bytes.now self.now.messages) }
     {
         let from = self.search(key.bytes, 0);
-        let to = self.search(key.bytes, u64::MAX);
+        let to = self.search_from(from, key.bytes, u64::MAX);
         Newest {
             run: Run {
                 buf: self,
                 from,
-                to: to.max(from),
+                to,
             },
         }
     }
@@ -240,11 +279,10 @@ impl<A: Allocator> MessageBuf<A> {
         ensures small { length result < 4294967296 }
     {
         let low = self.search(from.bytes, 0);
-        let high = self.search(to.bytes, 0);
         Run {
             buf: self,
             from: low,
-            to: high.max(low),
+            to: self.search_from(low, to.bytes, 0),
         }
     }
 
@@ -312,7 +350,7 @@ impl<A: Allocator> MessageBuf<A> {
             (in_range from.entry.bytes.now to.entry.bytes.now self.old.messages) into.old }
     {
         let low = self.search(from.bytes, 0);
-        let high = self.search(to.bytes, 0).max(low);
+        let high = self.search_from(low, to.bytes, 0);
         into.push_all(&Run {
             buf: self,
             from: low,

@@ -1,9 +1,10 @@
 //! Worked rows, random calls beside a sorted vector, and the calls that take no memory with all of it refused.
 ghost use Rattle.std.specs.Prelude.{◌≡◌, ◌<◌};
-ghost use Rattle.stow_tree_model.specs.Keys.{tenant_of};
 
-use crate::head::size;
+use crate::head::{carried, kind, size};
 use crate::message_buf::MessageBuf;
+use crate::newest::Newest;
+use crate::run::Run;
 use std::alloc::{AllocError, Allocator};
 use std::test::Fail;
 use stow_raw::raw_buf::RawBuf;
@@ -13,17 +14,9 @@ use stow_tree_model::op::Op;
 use stow_tree_model::tenant_key::TenantKey;
 use stow_tree_model::tenant_key_buf::TenantKeyBuf;
 
-#[tactic(auto, unfolding(stow_tree_model::specs::Keys::tenant_of))]
-fn tenant(key: &TenantKey<'_>) -> u32
-    ensures { result ≡ tenant_of key.now.bytes.now }
-{
-    let bytes = key.bytes;
-    u32::from_be_bytes([bytes[0], bytes[1], bytes[2], bytes[3]])
-}
-
 /// The put of a value, if all is within the limits.
 fn put<'a>(key: TenantKey<'a>, number: u64, value: &'a [u8]) -> Option<Message<'a>> {
-    let index = tenant(&key);
+    let index = key.tenant();
     if index == 0 || index > 65_535 || number == 0 || number > 9_223_372_036_854_775_807 {
         return None;
     }
@@ -83,42 +76,233 @@ fn random(seed: u64, end: u64) -> (u64, u64)
     ((next >> 33) % end, next)
 }
 
-/// Whether the buffer holds just these, each a key's bytes and a number.
-fn holds<A: Allocator>(buf: &MessageBuf<A>, all: &[([u8; 5], u64)]) -> bool {
-    let mut same = buf.len() == all.len();
-    for i in 0..buf.len() {
-        let message = buf.message(i);
-        same = same
-            && all.get(i).is_some_and(|m| m.0.as_slice() == message.key.bytes
-                && m.1 == message.number);
+/// A buffer, and beside it a sorted vector of its messages: the rank of each one's key, and its number.
+#[derive(Drop)]
+struct Both<A: Allocator, B: Allocator> {
+    buf: MessageBuf<A>,
+    plain: Vec<(u8, u64), B>,
+}
+
+/// An empty buffer beside an empty vector.
+fn empty<A: Allocator, B: Allocator>(
+    heap: A,
+    alloc: B,
+    capacity: usize,
+) -> Result<Both<A, B>, AllocError>
+    requires { capacity < 4294967296 }
+{
+    Ok(Both {
+        buf: MessageBuf::with_capacity(heap, capacity)?,
+        plain: Vec::new(alloc),
+    })
+}
+
+/// The key of a rank, four to a tenant.
+fn key_of<A: Allocator>(alloc: A, rank: u8) -> Result<TenantKeyBuf<A>, AllocError> {
+    TenantKeyBuf::new(alloc, rank as u32 / 4 + 1, &[rank % 4])
+}
+
+/// Whether the message is the put of this rank and number.
+fn is_of(message: Message<'_>, (rank, number): (u8, u64)) -> bool {
+    message.key.bytes == [0, 0, 0, rank / 4 + 1, rank % 4].as_slice()
+        && message.number == number
+        && kind(message.op) == 0
+        && carried(message.op) == [rank].as_slice()
+}
+
+/// Whether these are the messages of the run.
+fn are_same<A: Allocator>(run: &Run<'_, A>, plain: &[(u8, u64)]) -> bool {
+    let mut same = run.len() == plain.len();
+    for (i, one) in plain.iter().enumerate() {
+        same = same && i < run.len() && is_of(run.get(i), *one);
     }
     same
 }
 
-#[test]
-fn random_pushes_beside_a_sorted_vector(rt: HostRuntime) -> Result<(), Fail> {
-    let alloc = rt.alloc();
-    let mut buf = MessageBuf::with_capacity(alloc, 20_000)?;
-    let mut all: Vec<([u8; 5], u64)> = Vec::new(alloc);
-    let mut seed = 7;
-    for turn in 0..300u64 {
-        let (tenant, one) = random(seed, 3);
-        let (letter, two) = random(one, 4);
-        let (number, three) = random(two, 40);
-        seed = three;
-        let name = [0, 0, 0, tenant as u8 + 1, letter as u8];
-        let key = TenantKeyBuf::new(alloc, tenant as u32 + 1, &[letter as u8])?;
-        let is_new = !all.contains(&(name, number + 1));
-        assert!(rt;
-            push(&mut buf, key.as_key(), number + 1, &name) == is_new,
-            "turn {turn}"
-        );
-        if is_new {
-            all.push((name, number + 1))?;
-            all.sort()?;
+/// Whether these are the messages, from the last one on.
+fn are_newest<A: Allocator>(newest: &Newest<'_, A>, plain: &[(u8, u64)]) -> bool {
+    let mut same = newest.len() == plain.len();
+    for (i, one) in plain.iter().rev().enumerate() {
+        same = same && i < newest.len() && is_of(newest.get(i), *one);
+    }
+    same
+}
+
+/// Those of the ranks from `from` on and below `to`.
+fn between<A: Allocator>(
+    alloc: A,
+    plain: &[(u8, u64)],
+    (from, to): (u8, u8),
+) -> Result<Vec<(u8, u64), A>, AllocError> {
+    let mut among = Vec::new(alloc);
+    for one in plain {
+        if from <= one.0 && one.0 < to {
+            among.push(*one)?;
         }
     }
-    assert!(rt; all.len() > 150 && holds(&buf, &all));
+    Ok(among)
+}
+
+/// Whether the buffer lends just what the vector holds: all of it, an interval, and one key.
+fn agrees<A: Allocator, B: Allocator + Copy>(
+    both: &Both<A, B>,
+    alloc: B,
+    (from, to): (u8, u8),
+) -> Result<bool, AllocError> {
+    let (low, high) = (key_of(alloc, from)?, key_of(alloc, to)?);
+    let (first, last) = (key_of(alloc, 0)?, key_of(alloc, 12)?);
+    let among = between(alloc, &both.plain, (from, to))?;
+    let of_key = between(alloc, &both.plain, (from, from.saturating_add(1)))?;
+    Ok(
+        are_same(
+            &both.buf.in_range(first.as_key(), last.as_key()),
+            &both.plain,
+        ) && are_same(&both.buf.in_range(low.as_key(), high.as_key()), &among)
+            && are_newest(&both.buf.of_key(low.as_key()), &of_key),
+    )
+}
+
+/// Puts a message into both, where it is new.
+fn push_both<A: Allocator, B: Allocator + Copy>(
+    both: &mut Both<A, B>,
+    alloc: B,
+    one: (u8, u64),
+) -> Result<bool, AllocError> {
+    let key = key_of(alloc, one.0)?;
+    let is_new = !both.plain.contains(&one);
+    if is_new {
+        both.plain.push(one)?;
+        both.plain.sort()?;
+    }
+    Ok(push(&mut both.buf, key.as_key(), one.1, &[one.0]) == is_new)
+}
+
+/// Moves the messages of an interval of ranks from one to the other, where they fit and are new there.
+fn move_both<A: Allocator, B: Allocator + Copy>(
+    from: &mut Both<A, B>,
+    into: &mut Both<A, B>,
+    alloc: B,
+    (low, high): (u8, u8),
+) -> Result<bool, AllocError> {
+    let (first, last) = (key_of(alloc, low)?, key_of(alloc, high)?);
+    let moved = between(alloc, &from.plain, (low, high))?;
+    let is_new = moved.iter().all(|one| !into.plain.contains(one));
+    if is_new {
+        into.plain.extend_from_slice(&moved)?;
+        into.plain.sort()?;
+        from.plain.retain(|one| one.0 < low || high <= one.0);
+    }
+    Ok(
+        moves(
+            &mut from.buf,
+            (first.as_key(), last.as_key()),
+            &mut into.buf,
+        ) == is_new,
+    )
+}
+
+/// Moves the interval, where that may be.
+fn moves<A: Allocator>(
+    buf: &mut MessageBuf<A>,
+    (from, to): (TenantKey<'_>, TenantKey<'_>),
+    into: &mut MessageBuf<A>,
+) -> bool {
+    let may_move = buf.range_bytes(from, to) <= into.capacity() - into.used()
+        && into.are_new(&buf.in_range(from, to));
+    if may_move {
+        buf.move_range(from, to, into);
+    }
+    may_move
+}
+
+/// Takes the messages of the batch out of both, where all of them are there.
+fn take_both<A: Allocator, B: Allocator>(both: &mut Both<A, B>, batch: &Both<A, B>) -> bool {
+    let is_held = batch.plain.iter().all(|one| both.plain.contains(one));
+    if is_held {
+        both.plain.retain(|one| !batch.plain.contains(one));
+    }
+    both.buf.take_out(&batch.buf) == is_held
+}
+
+/// Takes a batch of two messages out of both: this one, and the one in the middle.
+fn take_two<A: Allocator, B: Allocator + Copy>(
+    both: &mut Both<A, B>,
+    batch: &mut Both<A, B>,
+    alloc: B,
+    one: (u8, u64),
+) -> Result<bool, AllocError> {
+    batch.buf.reset();
+    batch.plain.clear();
+    let mut same = push_both(batch, alloc, one)?;
+    if let Some(middle) = both.plain.get(both.plain.len() / 2) {
+        same = push_both(batch, alloc, *middle)? && same;
+    }
+    Ok(take_both(both, batch) && same)
+}
+
+/// Squeezes the buffer. No byte is dead after that: each message takes 23.
+fn squeeze_both<A: Allocator, B: Allocator>(both: &mut Both<A, B>, spare: &mut RawBuf<A>) -> bool {
+    if both.buf.capacity() <= spare.capacity() {
+        both.buf.squeeze(spare);
+    }
+    both.buf.used() == both.plain.len().saturating_mul(23)
+}
+
+/// A number from 1 on and below 20, the two ranks of an interval, and the next seed.
+fn random_call(seed: u64) -> (u64, (u8, u8), u64)
+    ensures { (result.1.0 < 12) × (result.1.1 < 13) }
+{
+    let (number, one) = random(seed, 19);
+    let (from, two) = random(one, 12);
+    let (to, three) = random(two, 13);
+    (number + 1, (from as u8, to as u8), three)
+}
+
+/// One call of a random kind on both sides, with random arguments.
+fn random_step<A: Allocator, B: Allocator + Copy>(
+    (left, right): (&mut Both<A, B>, &mut Both<A, B>),
+    (batch, spare): (&mut Both<A, B>, &mut RawBuf<A>),
+    alloc: B,
+    (kind, number, ranks): (u64, u64, (u8, u8)),
+) -> Result<bool, AllocError> {
+    match kind {
+        0 => move_both(left, right, alloc, ranks),
+        1 => move_both(right, left, alloc, ranks),
+        2 => Ok(squeeze_both(left, spare) && squeeze_both(right, spare)),
+        3 => take_two(left, batch, alloc, (ranks.0, number)),
+        4 => push_both(right, alloc, (ranks.0, number)),
+        _ => push_both(left, alloc, (ranks.0, number)),
+    }
+}
+
+#[test]
+fn random_calls_beside_sorted_vectors(rt: HostRuntime) -> Result<(), Fail> {
+    let (alloc, heap) = (rt.alloc(), Refusing::new(rt.alloc()));
+    let (mut left, mut right) = (empty(&heap, alloc, 9_000)?, empty(&heap, alloc, 9_000)?);
+    let (mut batch, mut spare) = (
+        empty(&heap, alloc, 60)?,
+        RawBuf::with_capacity(&heap, 9_000)?,
+    );
+    heap.set(Plan::RefuseAll);
+    let mut seed = 7;
+    for turn in 0..400u64 {
+        let (kind, one) = random(seed, 9);
+        let (number, ranks, two) = random_call(one);
+        seed = two;
+        let call = (kind, number, ranks);
+        let same = random_step(
+            (&mut left, &mut right),
+            (&mut batch, &mut spare),
+            alloc,
+            call,
+        )?;
+        assert!(rt; same, "turn {turn}");
+        assert!(rt;
+            agrees(&left, alloc, ranks)? && agrees(&right, alloc, ranks)?,
+            "turn {turn}"
+        );
+    }
+    assert!(rt; left.plain.len() > 20 && right.plain.len() > 20 && heap.asked() == 0);
     Ok(())
 }
 

@@ -1,0 +1,7 @@
+use Rattle.std.proofs.Common.{ℕ, ◌<◌, get_or}
+use Rattle.stow_tree_model.specs.TreeMessage.{TreeMessage}
+use Rattle.stow_message.specs.Rising.{IsNew}
+use Rattle.stow_message.proofs.message_buf.MessageBuf.are_new.Given as goal
+
+abbrev pub invariant-loop-i : goal.invariant-loop-i
+invariant-loop-i g l = (k : ℕ) (d : TreeMessage) → k < l.i → IsNew (get_or l.run k d) l.self.messages
