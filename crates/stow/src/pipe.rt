@@ -5,7 +5,6 @@ use crate::failure::{Failure, Place};
 use std::alloc::Allocator;
 use std::io;
 use std::io::{ErrorKind, Read, Write};
-use stow_bytes::byte_string::ByteString;
 use stow_house::house::House;
 use stow_house::step_result::StepResult;
 use stow_model::event::Event;
@@ -16,6 +15,9 @@ const CONNECTION: u32 = 1;
 
 /// The most bytes that are read at once.
 const PIECE: usize = 4096;
+
+/// The most bytes of room for replies that are kept from one piece to the next.
+const KEPT_REPLIES: usize = 65_536;
 
 /// Why the messages that came were served no further.
 #[derive(Clone, Copy)]
@@ -46,10 +48,15 @@ pub fn pipe<'a, A: Allocator + Copy, R: Read, W: Write>(
         if count == 0 {
             break;
         }
-        feed(alloc, house, &piece[..count])?;
+        if let StepResult::NoMemory = house.feed(alloc, CONNECTION, &piece[..count]) {
+            return Err(Failure::Memory);
+        }
         let served = serve(alloc, house, &mut replies);
         Place::Output.check(output.write_all(replies.as_slice()))?;
         replies.clear();
+        if replies.capacity() > KEPT_REPLIES {
+            replies = Vec::new(alloc);
+        }
         match served {
             Served::Waiting => {}
             Served::Closed => break,
@@ -72,18 +79,6 @@ fn read_some<'a, R: Read>(input: &mut R, piece: &mut [u8]) -> Result<usize, Fail
         }
     }
     Err(Failure::at(Place::Input, io::Error::from(ErrorKind::Interrupted)))
-}
-
-fn feed<'a, A: Allocator + Copy>(
-    alloc: A,
-    house: &mut House<A>,
-    bytes: &[u8],
-) -> Result<(), Failure<'a>> {
-    let piece = Event::Piece(CONNECTION, ByteString::from_slice(alloc, bytes)?);
-    match house.step(alloc, &piece) {
-        StepResult::NoMemory => Err(Failure::Memory),
-        _ => Ok(()),
-    }
 }
 
 /// Serves every message that is whole, and adds the replies.

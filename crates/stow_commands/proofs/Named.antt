@@ -1,58 +1,42 @@
 -- What words are, from their first word.
-use Rattle.std.proofs.Common.{◌≡◌, ℕ, ◌≤◌, true, false, List, [], ◌∷◌, length, get_or, take, drop, ◌-◌, refl, ap, ◌∙◌, sym, arith}
+use Rattle.std.proofs.Common.{◌≡◌, ℕ, true, false, List, [], ◌∷◌, ap, ◌∙◌}
 use lib.Chars.{codes}
-use Rattle.std.proofs.lemmas.Grind.{common_steps}
 use Rattle.std.proofs.lemmas.Bool.{cond-true, cond-false}
 use Rattle.stow_model.specs.declared.refusal.Refusal.TheVariants as refusal
 use Rattle.stow_model.specs.Command.{is_named, Refused, reading, reading_among, commands, ForStore, kind_of, login_kind, quit_kind}
 
--- the words after the first
-rest_of : (w : List ℕ) (words : List (List ℕ)) → take (length (w ∷ words) - 1) (drop 1 (w ∷ words)) ≡ words
-rest_of w words = grind (arith, common_steps)
-
 -- ---- to a connection
 
-pub kind_auth : (words : List (List ℕ)) (n : List ℕ) → 1 ≤ length words → n ≡ get_or words 0 n
-    → is_named n (codes "auth") ≡ true → kind_of words ≡ login_kind (take (length words - 1) (drop 1 words))
+pub kind_auth : (words rest : List (List ℕ)) (n : List ℕ) → words ≡ n ∷ rest
+    → is_named n (codes "auth") ≡ true → kind_of words ≡ login_kind rest
 unfolding kind_of
-kind_auth [] n some e auth = absurd (omega arith)
-kind_auth (w ∷ words) n some e auth = cond-true (is_named w (codes "auth")) _ _ (ap (λ x. is_named x (codes "auth")) (sym e) ∙ auth)
-    ∙ ap login_kind (sym (rest_of w words))
+kind_auth words rest n e auth = ap kind_of e ∙ cond-true (is_named n (codes "auth")) _ _ auth
 
-pub kind_quit : (words : List (List ℕ)) (n : List ℕ) → 1 ≤ length words → n ≡ get_or words 0 n
-    → is_named n (codes "auth") ≡ false → is_named n (codes "quit") ≡ true → kind_of words ≡ quit_kind (take (length words - 1) (drop 1 words))
+pub kind_quit : (words rest : List (List ℕ)) (n : List ℕ) → words ≡ n ∷ rest
+    → is_named n (codes "auth") ≡ false → is_named n (codes "quit") ≡ true → kind_of words ≡ quit_kind rest
 unfolding kind_of
-kind_quit [] n some e auth quit = absurd (omega arith)
-kind_quit (w ∷ words) n some e auth quit =
-    cond-false (is_named w (codes "auth")) _ _ (ap (λ x. is_named x (codes "auth")) (sym e) ∙ auth)
-    ∙ cond-true (is_named w (codes "quit")) _ _ (ap (λ x. is_named x (codes "quit")) (sym e) ∙ quit)
-    ∙ ap quit_kind (sym (rest_of w words))
+kind_quit words rest n e auth quit =
+    ap kind_of e ∙ cond-false (is_named n (codes "auth")) _ _ auth ∙ cond-true (is_named n (codes "quit")) _ _ quit
 
-pub kind_other : (words : List (List ℕ)) (n : List ℕ) → 1 ≤ length words → n ≡ get_or words 0 n
+pub kind_other : (words rest : List (List ℕ)) (n : List ℕ) → words ≡ n ∷ rest
     → is_named n (codes "auth") ≡ false → is_named n (codes "quit") ≡ false → kind_of words ≡ ForStore
 unfolding kind_of
-kind_other [] n some e auth quit = absurd (omega arith)
-kind_other (w ∷ words) n some e auth quit =
-    cond-false (is_named w (codes "auth")) _ _ (ap (λ x. is_named x (codes "auth")) (sym e) ∙ auth)
-    ∙ cond-false (is_named w (codes "quit")) _ _ (ap (λ x. is_named x (codes "quit")) (sym e) ∙ quit)
+kind_other words rest n e auth quit =
+    ap kind_of e ∙ cond-false (is_named n (codes "auth")) _ _ auth ∙ cond-false (is_named n (codes "quit")) _ _ quit
 
-pub kind_none : (words : List (List ℕ)) → length words ≡ 0 → kind_of words ≡ ForStore
+pub kind_none : (words : List (List ℕ)) → words ≡ [] → kind_of words ≡ ForStore
 unfolding kind_of
-kind_none [] e = refl
-kind_none (w ∷ words) e = absurd (omega arith)
+kind_none words e = ap kind_of e
 
 -- ---- to a store
 
-pub reads_named : (words : List (List ℕ)) (n : List ℕ) → 1 ≤ length words → n ≡ get_or words 0 n
-    → reading words ≡ reading_among commands n (take (length words - 1) (drop 1 words))
+pub reads_named : (words rest : List (List ℕ)) (n : List ℕ) → words ≡ n ∷ rest → reading words ≡ reading_among commands n rest
 unfolding reading
-reads_named [] n some e = absurd (omega arith)
-reads_named (w ∷ words) n some e = (λ i. reading_among commands (sym e i) (sym (rest_of w words) i))
+reads_named words rest n e = ap reading e
 
-pub reads_none : (words : List (List ℕ)) → length words ≡ 0 → reading words ≡ Refused refusal.UnknownCommand
+pub reads_none : (words : List (List ℕ)) → words ≡ [] → reading words ≡ Refused refusal.UnknownCommand
 unfolding reading
-reads_none [] e = refl
-reads_none (w ∷ words) e = absurd (omega arith)
+reads_none words e = ap reading e
 
 -- what words are to a connection
 pub ruleset kinds = (kind_auth, kind_quit, kind_other, kind_none)

@@ -2,6 +2,7 @@
 use Rattle.std.specs.Prelude.{Result, Ok, Err}
 use Rattle.stow_model.specs.declared.refusal.Refusal.{Refusal}
 use Rattle.stow_model.specs.Command as meant
+use Rattle.stow_model.specs.LentWords.{words_in}
 use Rattle.stow_model.specs.Command.{Reading, Understood, Refused}
 use Rattle.stow_commands.specs.declared.command.Command as coded
 use Rattle.stow_commands.specs.declared.command.Command.TheVariants as command
@@ -22,20 +23,20 @@ update_of (update.Set value condition) = meant.Set value.now (condition_of condi
 update_of (update.Append suffix) = meant.Append suffix.now
 update_of (update.Add amount) = meant.Add amount
 
--- the command, whatever allocator its words have their memory from
-abbrev pub command_of : {A : Type 0} → coded.Command A → meant.Command
+-- what the code's type stands for
+abbrev pub command_of : coded.Command → meant.Command
 command_of command.Ping = meant.Ping
 command_of (command.Echo text) = meant.Echo text.now
 command_of (command.Get key) = meant.Get key.now
-command_of (command.GetMany keys) = meant.GetMany keys.now
-command_of (command.Exists keys) = meant.Exists keys.now
+command_of (command.GetMany keys) = meant.GetMany (words_in keys)
+command_of (command.Exists keys) = meant.Exists (words_in keys)
 command_of (command.Length key) = meant.Length key.now
 command_of (command.Range from to count) = meant.Range from.now to.now count
-command_of (command.Del keys) = meant.Del keys.now
+command_of (command.Del keys) = meant.Del (words_in keys)
 command_of (command.Change key update) = meant.Change key.now (update_of update)
 
 -- a command, or the first refusal that applies
-abbrev pub reading_of : {A : Type 0} → Result (coded.Command A) Refusal → Reading
+abbrev pub reading_of : Result coded.Command Refusal → Reading
 reading_of (Ok command) = Understood (command_of command)
 reading_of (Err refusal) = Refused refusal
 

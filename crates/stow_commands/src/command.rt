@@ -2,6 +2,7 @@
 ghost use Rattle.std.specs.Prelude.{◌≡◌, pos, negsuc, [], ◌∷◌, option_map};
 ghost use Rattle.std.specs.List.{list_any};
 ghost use Rattle.stow_model.specs.Command as meant;
+ghost use Rattle.stow_model.specs.LentWords.{words_in};
 ghost use Rattle.stow_model.specs.NumberText.{number_of, count_of};
 ghost use Rattle.stow_commands.specs.Commands.{condition_of, command_of, reading_of};
 
@@ -9,8 +10,8 @@ use crate::condition::Condition;
 use crate::name::is_named;
 use crate::number::number;
 use crate::update::Update;
-use std::alloc::{Allocator, Global};
-use stow_bytes::byte_string::ByteString;
+use std::alloc::Allocator;
+use stow_model::lent_words::LentWords;
 use stow_model::refusal::Refusal;
 use stow_model::words::Words;
 
@@ -25,42 +26,40 @@ const COUNT_LIMIT: i64 = 1024;
 
 /// A request to a tenant's store, in the words that it was read from.
 #[derive(Clone, Copy)]
-pub enum Command<'a, A: Allocator = Global> {
+pub enum Command<'a> {
     Ping,
     /// ECHO, and PING with a text.
     Echo(&'a [u8]),
     Get(&'a [u8]),
     /// MGET.
-    GetMany(&'a [ByteString<A>]),
-    Exists(&'a [ByteString<A>]),
+    GetMany(LentWords<'a>),
+    Exists(LentWords<'a>),
     /// STRLEN.
     Length(&'a [u8]),
     /// The lower end, the upper end, of which an empty one is none, and how many rows at most.
     Range(&'a [u8], &'a [u8], u32),
-    Del(&'a [ByteString<A>]),
+    Del(LentWords<'a>),
     /// SET, APPEND, INCR, DECR and INCRBY of a key.
     Change(&'a [u8], Update<'a>),
 }
 
-impl<'a, A: Allocator> Command<'a, A> {
+impl<'a> Command<'a> {
     /// The command that the words are, or the first refusal that applies: of the name, the number of
     /// arguments, options, numbers among the arguments, then the length of each key.
     #[tactic(auto, using(crate::proofs::Named::readings))]
-    pub fn read(words: &'a Words<A>) -> Result<Command<'a, A>, Refusal>
+    pub fn read<A: Allocator>(words: &'a Words<A>) -> Result<Command<'a>, Refusal>
         ensures { reading_of result ≡ meant.reading words.now }
     {
-        let [name, arguments @ ..] = words.as_slice() else {
-            return Err(Refusal::UnknownCommand);
-        };
-        read_named(name.as_slice(), arguments)
+        match words.lent().split_first() {
+            Some((name, arguments)) => read_named(name, arguments),
+            None => Err(Refusal::UnknownCommand),
+        }
     }
 }
 
-fn read_named<'a, A: Allocator>(
-    name: &[u8],
-    arguments: &'a [ByteString<A>],
-) -> Result<Command<'a, A>, Refusal>
-    ensures { reading_of result ≡ meant.reading_among meant.commands name.now arguments.now }
+fn read_named<'a>(name: &[u8], arguments: LentWords<'a>) -> Result<Command<'a>, Refusal>
+    ensures { reading_of result
+        ≡ meant.reading_among meant.commands name.now (words_in arguments.entry) }
 {
     if is_named(name, b"ping") {
         read_ping(arguments)
@@ -93,8 +92,8 @@ fn read_named<'a, A: Allocator>(
     }
 }
 
-fn read_ping<A: Allocator>(arguments: &[ByteString<A>]) -> Result<Command<'_, A>, Refusal>
-    ensures { reading_of result ≡ meant.reading_ping arguments.now }
+fn read_ping(arguments: LentWords<'_>) -> Result<Command<'_>, Refusal>
+    ensures { reading_of result ≡ meant.reading_ping (words_in arguments.entry) }
 {
     if arguments.is_empty() {
         return Ok(Command::Ping);
@@ -102,26 +101,26 @@ fn read_ping<A: Allocator>(arguments: &[ByteString<A>]) -> Result<Command<'_, A>
     read_echo(arguments)
 }
 
-fn read_echo<A: Allocator>(arguments: &[ByteString<A>]) -> Result<Command<'_, A>, Refusal>
-    ensures { reading_of result ≡ meant.of_text meant.Echo arguments.now }
+fn read_echo(arguments: LentWords<'_>) -> Result<Command<'_>, Refusal>
+    ensures { reading_of result ≡ meant.of_text meant.Echo (words_in arguments.entry) }
 {
-    match arguments {
-        [text] => Ok(Command::Echo(text.as_slice())),
-        _ => Err(Refusal::WrongArgumentCount),
+    match arguments.only() {
+        Some(text) => Ok(Command::Echo(text)),
+        None => Err(Refusal::WrongArgumentCount),
     }
 }
 
-fn read_get<A: Allocator>(arguments: &[ByteString<A>]) -> Result<Command<'_, A>, Refusal>
-    ensures { reading_of result ≡ meant.of_key meant.Get arguments.now }
+fn read_get(arguments: LentWords<'_>) -> Result<Command<'_>, Refusal>
+    ensures { reading_of result ≡ meant.of_key meant.Get (words_in arguments.entry) }
 {
-    match arguments {
-        [key] => with_key(key, Command::Get(key.as_slice())),
-        _ => Err(Refusal::WrongArgumentCount),
+    match arguments.only() {
+        Some(key) => with_key(key, Command::Get(key)),
+        None => Err(Refusal::WrongArgumentCount),
     }
 }
 
-fn read_get_many<A: Allocator>(arguments: &[ByteString<A>]) -> Result<Command<'_, A>, Refusal>
-    ensures { reading_of result ≡ meant.of_keys meant.GetMany arguments.now }
+fn read_get_many(arguments: LentWords<'_>) -> Result<Command<'_>, Refusal>
+    ensures { reading_of result ≡ meant.of_keys meant.GetMany (words_in arguments.entry) }
 {
     if arguments.is_empty() {
         return Err(Refusal::WrongArgumentCount);
@@ -129,8 +128,8 @@ fn read_get_many<A: Allocator>(arguments: &[ByteString<A>]) -> Result<Command<'_
     with_keys(arguments, Command::GetMany(arguments))
 }
 
-fn read_exists<A: Allocator>(arguments: &[ByteString<A>]) -> Result<Command<'_, A>, Refusal>
-    ensures { reading_of result ≡ meant.of_keys meant.Exists arguments.now }
+fn read_exists(arguments: LentWords<'_>) -> Result<Command<'_>, Refusal>
+    ensures { reading_of result ≡ meant.of_keys meant.Exists (words_in arguments.entry) }
 {
     if arguments.is_empty() {
         return Err(Refusal::WrongArgumentCount);
@@ -138,39 +137,35 @@ fn read_exists<A: Allocator>(arguments: &[ByteString<A>]) -> Result<Command<'_, 
     with_keys(arguments, Command::Exists(arguments))
 }
 
-fn read_length<A: Allocator>(arguments: &[ByteString<A>]) -> Result<Command<'_, A>, Refusal>
-    ensures { reading_of result ≡ meant.of_key meant.Length arguments.now }
+fn read_length(arguments: LentWords<'_>) -> Result<Command<'_>, Refusal>
+    ensures { reading_of result ≡ meant.of_key meant.Length (words_in arguments.entry) }
 {
-    match arguments {
-        [key] => with_key(key, Command::Length(key.as_slice())),
-        _ => Err(Refusal::WrongArgumentCount),
+    match arguments.only() {
+        Some(key) => with_key(key, Command::Length(key)),
+        None => Err(Refusal::WrongArgumentCount),
     }
 }
 
-fn read_range<A: Allocator>(arguments: &[ByteString<A>]) -> Result<Command<'_, A>, Refusal>
-    ensures { reading_of result ≡ meant.reading_range arguments.now }
+fn read_range(arguments: LentWords<'_>) -> Result<Command<'_>, Refusal>
+    ensures { reading_of result ≡ meant.reading_range (words_in arguments.entry) }
 {
-    let [from, to, count] = arguments else {
+    let Some((from, to, count)) = arguments.three() else {
         return Err(Refusal::WrongArgumentCount);
     };
-    match row_count(count.as_slice()) {
+    match row_count(count) {
         Some(count) => with_ends(from, to, count),
         None => Err(Refusal::NotAnInteger),
     }
 }
 
-fn with_ends<'a, A: Allocator>(
-    from: &'a ByteString<A>,
-    to: &'a ByteString<A>,
-    count: u32,
-) -> Result<Command<'a, A>, Refusal>
+fn with_ends<'a>(from: &'a [u8], to: &'a [u8], count: u32) -> Result<Command<'a>, Refusal>
     ensures { reading_of result
         ≡ meant.with_keys (from.now ∷ to.now ∷ []) (meant.Range from.now to.now count) }
 {
     if is_long_key(from) || is_long_key(to) {
         return Err(Refusal::KeyTooLong);
     }
-    Ok(Command::Range(from.as_slice(), to.as_slice(), count))
+    Ok(Command::Range(from, to, count))
 }
 
 /// How many rows at most: a number of 0 to 1,024.
@@ -183,29 +178,27 @@ fn row_count(text: &[u8]) -> Option<u32>
     }
 }
 
-fn read_set<A: Allocator>(arguments: &[ByteString<A>]) -> Result<Command<'_, A>, Refusal>
-    ensures { reading_of result ≡ meant.reading_set arguments.now }
+fn read_set(arguments: LentWords<'_>) -> Result<Command<'_>, Refusal>
+    ensures { reading_of result ≡ meant.reading_set (words_in arguments.entry) }
 {
-    match arguments {
-        [key, value] => set(key, value, Condition::Always),
-        [key, value, option] => match condition(option.as_slice()) {
-            Some(condition) => set(key, value, condition),
-            None => Err(Refusal::SyntaxError),
-        },
-        _ => Err(Refusal::WrongArgumentCount),
+    if let Some((key, value)) = arguments.two() {
+        return set(key, value, Condition::Always);
+    }
+    let Some((key, value, option)) = arguments.three() else {
+        return Err(Refusal::WrongArgumentCount);
+    };
+    match condition(option) {
+        Some(condition) => set(key, value, condition),
+        None => Err(Refusal::SyntaxError),
     }
 }
 
-fn set<'a, A: Allocator>(
-    key: &'a ByteString<A>,
-    value: &'a ByteString<A>,
-    condition: Condition,
-) -> Result<Command<'a, A>, Refusal>
+fn set<'a>(key: &'a [u8], value: &'a [u8], condition: Condition) -> Result<Command<'a>, Refusal>
     ensures { reading_of result
         ≡ meant.with_keys (key.now ∷ []) (meant.Change key.now (meant.Set value.now (condition_of condition))) }
 {
-    let update = Update::Set(value.as_slice(), condition);
-    with_key(key, Command::Change(key.as_slice(), update))
+    let update = Update::Set(value, condition);
+    with_key(key, Command::Change(key, update))
 }
 
 /// The third argument of a SET.
@@ -221,50 +214,50 @@ fn condition(option: &[u8]) -> Option<Condition>
     }
 }
 
-fn read_append<A: Allocator>(arguments: &[ByteString<A>]) -> Result<Command<'_, A>, Refusal>
-    ensures { reading_of result ≡ meant.reading_append arguments.now }
+fn read_append(arguments: LentWords<'_>) -> Result<Command<'_>, Refusal>
+    ensures { reading_of result ≡ meant.reading_append (words_in arguments.entry) }
 {
-    let [key, suffix] = arguments else {
+    let Some((key, suffix)) = arguments.two() else {
         return Err(Refusal::WrongArgumentCount);
     };
-    let update = Update::Append(suffix.as_slice());
-    with_key(key, Command::Change(key.as_slice(), update))
+    let update = Update::Append(suffix);
+    with_key(key, Command::Change(key, update))
 }
 
-fn read_increment<A: Allocator>(arguments: &[ByteString<A>]) -> Result<Command<'_, A>, Refusal>
+fn read_increment(arguments: LentWords<'_>) -> Result<Command<'_>, Refusal>
     ensures { reading_of result
-        ≡ meant.of_key (λ key. meant.Change key (meant.Add (pos 1))) arguments.now }
+        ≡ meant.of_key (λ key. meant.Change key (meant.Add (pos 1))) (words_in arguments.entry) }
 {
-    match arguments {
-        [key] => with_key(key, Command::Change(key.as_slice(), Update::Add(1))),
-        _ => Err(Refusal::WrongArgumentCount),
+    match arguments.only() {
+        Some(key) => with_key(key, Command::Change(key, Update::Add(1))),
+        None => Err(Refusal::WrongArgumentCount),
     }
 }
 
-fn read_decrement<A: Allocator>(arguments: &[ByteString<A>]) -> Result<Command<'_, A>, Refusal>
+fn read_decrement(arguments: LentWords<'_>) -> Result<Command<'_>, Refusal>
     ensures { reading_of result
-        ≡ meant.of_key (λ key. meant.Change key (meant.Add (negsuc 0))) arguments.now }
+        ≡ meant.of_key (λ key. meant.Change key (meant.Add (negsuc 0))) (words_in arguments.entry) }
 {
-    match arguments {
-        [key] => with_key(key, Command::Change(key.as_slice(), Update::Add(-1))),
-        _ => Err(Refusal::WrongArgumentCount),
+    match arguments.only() {
+        Some(key) => with_key(key, Command::Change(key, Update::Add(-1))),
+        None => Err(Refusal::WrongArgumentCount),
     }
 }
 
-fn read_add<A: Allocator>(arguments: &[ByteString<A>]) -> Result<Command<'_, A>, Refusal>
-    ensures { reading_of result ≡ meant.reading_add arguments.now }
+fn read_add(arguments: LentWords<'_>) -> Result<Command<'_>, Refusal>
+    ensures { reading_of result ≡ meant.reading_add (words_in arguments.entry) }
 {
-    let [key, amount] = arguments else {
+    let Some((key, amount)) = arguments.two() else {
         return Err(Refusal::WrongArgumentCount);
     };
-    match number(amount.as_slice()) {
-        Some(amount) => with_key(key, Command::Change(key.as_slice(), Update::Add(amount))),
+    match number(amount) {
+        Some(amount) => with_key(key, Command::Change(key, Update::Add(amount))),
         None => Err(Refusal::NotAnInteger),
     }
 }
 
-fn read_del<A: Allocator>(arguments: &[ByteString<A>]) -> Result<Command<'_, A>, Refusal>
-    ensures { reading_of result ≡ meant.reading_del arguments.now }
+fn read_del(arguments: LentWords<'_>) -> Result<Command<'_>, Refusal>
+    ensures { reading_of result ≡ meant.reading_del (words_in arguments.entry) }
 {
     if arguments.is_empty() {
         return Err(Refusal::WrongArgumentCount);
@@ -276,10 +269,7 @@ fn read_del<A: Allocator>(arguments: &[ByteString<A>]) -> Result<Command<'_, A>,
 }
 
 /// The command, unless its key is too long.
-fn with_key<'a, A: Allocator>(
-    key: &ByteString<A>,
-    command: Command<'a, A>,
-) -> Result<Command<'a, A>, Refusal>
+fn with_key<'a>(key: &[u8], command: Command<'a>) -> Result<Command<'a>, Refusal>
     ensures { reading_of result ≡ meant.with_keys (key.now ∷ []) (command_of command.entry) }
 {
     if is_long_key(key) {
@@ -289,11 +279,9 @@ fn with_key<'a, A: Allocator>(
 }
 
 /// The command, unless one of its keys is too long.
-fn with_keys<'a, A: Allocator>(
-    keys: &[ByteString<A>],
-    command: Command<'a, A>,
-) -> Result<Command<'a, A>, Refusal>
-    ensures { reading_of result ≡ meant.with_keys keys.now (command_of command.entry) }
+fn with_keys<'a>(keys: LentWords<'_>, command: Command<'a>) -> Result<Command<'a>, Refusal>
+    ensures { reading_of result
+        ≡ meant.with_keys (words_in keys.entry) (command_of command.entry) }
 {
     if has_long_key(keys) {
         return Err(Refusal::KeyTooLong);
@@ -301,19 +289,21 @@ fn with_keys<'a, A: Allocator>(
     Ok(command)
 }
 
-fn is_long_key<A: Allocator>(key: &ByteString<A>) -> bool
+fn is_long_key(key: &[u8]) -> bool
     ensures { result ≡ meant.is_long_key key.now }
 {
     key.len() > KEY_LIMIT
 }
 
-fn has_long_key<A: Allocator>(keys: &[ByteString<A>]) -> bool
-    ensures { result ≡ list_any meant.is_long_key keys.now }
+fn has_long_key(keys: LentWords<'_>) -> bool
+    ensures { result ≡ list_any meant.is_long_key (words_in keys.entry) }
 {
-    for key in keys {
+    let mut left = keys;
+    while let Some((key, later)) = left.split_first() {
         if is_long_key(key) {
             return true;
         }
+        left = later;
     }
     false
 }

@@ -1,11 +1,11 @@
 //! What words are to a connection.
 ghost use Rattle.std.specs.Prelude.{◌≡◌};
 ghost use Rattle.stow_model.specs.Command as meant;
+ghost use Rattle.stow_model.specs.LentWords.{words_in};
 ghost use Rattle.stow_commands.specs.Commands.{meaning};
 
 use crate::name::is_named;
-use std::alloc::Allocator;
-use stow_bytes::byte_string::ByteString;
+use stow_model::lent_words::LentWords;
 
 /// What words are to a connection.
 #[derive(Clone, Copy)]
@@ -21,13 +21,12 @@ pub enum Kind<'a> {
 
 /// What the words are to a connection.
 #[tactic(auto, using(crate::proofs::Named::kinds))]
-pub fn kind_of<A: Allocator>(words: &[ByteString<A>]) -> Kind<'_>
-    ensures { meaning result ≡ meant.kind_of words.now }
+pub fn kind_of(words: LentWords<'_>) -> Kind<'_>
+    ensures { meaning result ≡ meant.kind_of (words_in words.entry) }
 {
-    let [name, arguments @ ..] = words else {
+    let Some((name, arguments)) = words.split_first() else {
         return Kind::ForStore;
     };
-    let name = name.as_slice();
     if is_named(name, b"auth") {
         login_kind(arguments)
     } else if is_named(name, b"quit") {
@@ -37,20 +36,21 @@ pub fn kind_of<A: Allocator>(words: &[ByteString<A>]) -> Kind<'_>
     }
 }
 
-fn login_kind<A: Allocator>(arguments: &[ByteString<A>]) -> Kind<'_>
-    ensures { meaning result ≡ meant.login_kind arguments.now }
+fn login_kind(arguments: LentWords<'_>) -> Kind<'_>
+    ensures { meaning result ≡ meant.login_kind (words_in arguments.entry) }
 {
-    match arguments {
-        [name, password] => Kind::Login(name.as_slice(), password.as_slice()),
-        _ => Kind::Malformed,
+    match arguments.two() {
+        Some((name, password)) => Kind::Login(name, password),
+        None => Kind::Malformed,
     }
 }
 
-fn quit_kind<A: Allocator>(arguments: &[ByteString<A>]) -> Kind<'_>
-    ensures { meaning result ≡ meant.quit_kind arguments.now }
+fn quit_kind(arguments: LentWords<'_>) -> Kind<'_>
+    ensures { meaning result ≡ meant.quit_kind (words_in arguments.entry) }
 {
-    match arguments {
-        [] => Kind::Quit,
-        _ => Kind::Malformed,
+    if arguments.is_empty() {
+        Kind::Quit
+    } else {
+        Kind::Malformed
     }
 }

@@ -13,11 +13,19 @@ use stow_model::words::Words;
 use stow_refusing::{Plan, Refusing};
 
 fn words_of<A: Allocator + Copy>(alloc: A, line: &str) -> Result<Words<A>, AllocError> {
-    let mut words = Vec::new(alloc);
+    let mut words = Words::new(alloc);
     for word in line.split_whitespace() {
-        words.push(ByteString::from_slice(alloc, word.as_bytes())?)?;
+        words.push(word.as_bytes())?;
     }
-    Ok(Words::from_vec(words))
+    Ok(words)
+}
+
+/// How many keys the words of a DEL name.
+fn deleted<A: Allocator>(words: &Words<A>) -> usize {
+    match Command::read(words) {
+        Ok(Command::Del(keys)) => keys.len(),
+        _ => 0,
+    }
 }
 
 #[test]
@@ -26,9 +34,8 @@ fn words_are_read_without_memory(rt: HostRuntime) -> Result<(), Fail> {
     let deletion = words_of(&heap, "dEl a b")?;
     let login = words_of(&heap, "Auth ann bc")?;
     heap.set(Plan::RefuseAll);
-    let command = Command::read(&deletion);
-    assert!(rt; matches!(command, Ok(Command::Del(keys)) if keys.len() == 2));
-    assert!(rt; matches!(kind_of(login.as_slice()), Kind::Login(b"ann", b"bc")));
+    assert_eq!(rt; deleted(&deletion), 2);
+    assert!(rt; matches!(kind_of(login.lent()), Kind::Login(b"ann", b"bc")));
     assert_eq!(rt; heap.asked(), 0);
     Ok(())
 }

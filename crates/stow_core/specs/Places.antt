@@ -5,9 +5,7 @@ use Rattle.std.specs.List.{list_any}
 use Rattle.std.specs.Map.{lookup}
 use Rattle.std.specs.Str.{bytes_eq}
 use Rattle.std.specs.declared.vec.Vec.{Vec}
-use Rattle.stow_model.specs.declared.item.Item.{Item}
-use Rattle.stow_model.specs.Item.{item_of}
-use Rattle.stow_model.specs.Store.{Version, row_items}
+use Rattle.stow_model.specs.Store.{Version}
 use Rattle.stow_core.specs.declared.version.Version as coded
 
 -- what the code's type stands for, whatever allocator it has its memory from
@@ -63,9 +61,3 @@ FindsNone old new keys = (q : List ℕ)
 abbrev pub PutsPlace : Places → Places → List ℕ → Option Version → Type 0
 PutsPlace old new key version = (q : List ℕ)
     → place new q ≡ (if bytes_eq key q then Some version else place old q)
-
--- a row's items are told behind the others
-abbrev pub AddsRow : {A : Type 0} → List (Item A) → List (Item A) → List ℕ → coded.Version A
-    → Type 0
-AddsRow old new key version = map item_of new
-    ≡ map item_of old ++ row_items (key, version_of version)

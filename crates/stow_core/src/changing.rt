@@ -17,6 +17,7 @@ use crate::prepared::Prepared;
 use crate::preparing::only_counted;
 use crate::version::Version;
 use std::alloc::{AllocError, Allocator};
+use std::mem;
 use stow_bytes::byte_string::ByteString;
 use stow_commands::outcome::Outcome;
 use stow_commands::outcome_fault::OutcomeFault;
@@ -28,6 +29,7 @@ impl<A: Allocator + Copy> Core<A> {
     /// Finds what a change of a key's row says, by the value that the row has.
     pub(crate) fn prepare_change(
         &mut self,
+        buffer: &mut Vec<u8, A>,
         alloc: A,
         tenant: u32,
         key: &[u8],
@@ -40,11 +42,10 @@ impl<A: Allocator + Copy> Core<A> {
         ensures tenant { IfOk result (λ p. p.tenant ≡ tenant) }
         ensures answer { Prepares self.old tenant result (changes key.now update.entry) }
     {
-        let mut buffer = Vec::new(alloc);
-        let present = value_in(self.row(&mut buffer, tenant, key)?);
+        let present = value_in(self.row(buffer, tenant, key)?);
         match update.outcome(alloc, present) {
             Ok(Outcome::Written(value, reply)) => {
-                self.prepare_write(alloc, tenant, ByteString::from_vec(buffer), value, reply)
+                self.prepare_write(buffer, alloc, tenant, value, reply)
             }
             Ok(Outcome::Unchanged(reply)) => Ok(only_counted(tenant, reply)),
             Err(OutcomeFault::Refused(refusal)) => Ok(only_counted(tenant, Reply::Error(refusal))),
@@ -52,27 +53,30 @@ impl<A: Allocator + Copy> Core<A> {
         }
     }
 
-    /// Makes room for a row's value. The key is one among the keys of all.
+    /// Makes room for a row's value. The buffer has the row's key among the keys of all, and the change
+    /// keeps it.
     fn prepare_write(
         &mut self,
+        buffer: &mut Vec<u8, A>,
         alloc: A,
         tenant: u32,
-        key: ByteString<A>,
         value: ByteString<A>,
         reply: Reply<A>,
     ) -> Result<Prepared<A>, AllocError>
         requires is_tenant { IsTenant self.old.entries tenant }
-        requires own_key { AreKeysOf tenant (key ∷ []) }
+        requires own_key { AreKeysOf tenant (buffer.old.items ∷ []) }
         ensures stores { (t : ℕ) → store_of self.new t ≡ store_of self.old t }
         ensures entries { self.new.entries ≡ self.old.entries }
         ensures room { IfOk result (λ p. HasRoom self.new p) }
         ensures tenant { IfOk result (λ p. p.tenant ≡ tenant) }
-        ensures answer { Prepares self.old tenant result (writes_row key value (reply_of reply)) }
+        ensures answer { Prepares self.old tenant result
+            (writes_row buffer.old.items value (reply_of reply)) }
     {
         if !self.can_write(tenant) {
             return Ok(only_counted(tenant, Reply::Error(Refusal::WriteNumbersUsedUp)));
         }
-        self.places.make(alloc, key.as_slice())?;
+        self.places.make(alloc, buffer.as_slice())?;
+        let key = ByteString::from_vec(mem::replace(buffer, Vec::new(alloc)));
         Ok(Prepared {
             tenant,
             change: Change::Put(key, value),

@@ -47,7 +47,7 @@ impl<A: Allocator + Copy> Core<A> {
     {
         let index = tenant as usize - 1;
         let account = self.accounts[index].written();
-        self.places.remove_all(keys.as_slice());
+        self.places.remove_all(keys.lent());
         self.accounts[index] = account;
     }
 }

@@ -1,22 +1,11 @@
 //! Keys of all tenants in one order.
 ghost use Rattle.std.specs.Prelude.{◌≡◌, IfOk, OnOk, map};
+ghost use Rattle.stow_model.specs.LentWords.{words_in};
 ghost use Rattle.stow_core.specs.Keys.{packed};
 
 use std::alloc::{AllocError, Allocator};
-use stow_bytes::byte_string::ByteString;
-
-/// A tenant's key among the keys of all.
-pub fn packed_key<A: Allocator>(
-    alloc: A,
-    tenant: u32,
-    key: &[u8],
-) -> Result<ByteString<A>, AllocError>
-    ensures { IfOk result (λ k. k ≡ packed tenant key.now) }
-{
-    let mut bytes = Vec::new(alloc);
-    pack_into(&mut bytes, tenant, key)?;
-    Ok(ByteString::from_vec(bytes))
-}
+use stow_model::lent_words::LentWords;
+use stow_model::words::Words;
 
 /// Writes a tenant's key, among the keys of all, in place of what the buffer has.
 pub fn pack_into<A: Allocator>(
@@ -32,17 +21,19 @@ pub fn pack_into<A: Allocator>(
     buffer.extend_from_slice(key)
 }
 
-/// A tenant's keys among the keys of all.
+/// A tenant's keys among the keys of all. Each is packed in the buffer first.
 pub fn packed_keys<A: Allocator + Copy>(
+    buffer: &mut Vec<u8, A>,
     alloc: A,
     tenant: u32,
-    keys: &[ByteString<A>],
-) -> Result<Vec<ByteString<A>, A>, AllocError>
-    ensures { IfOk result (λ ks. ks.items ≡ map (packed tenant) keys.now) }
+    keys: LentWords<'_>,
+) -> Result<Words<A>, AllocError>
+    ensures { IfOk result (λ ks. ks ≡ map (packed tenant) (words_in keys.entry)) }
 {
-    let mut all = Vec::new(alloc);
-    for key in keys {
-        all.push(packed_key(alloc, tenant, key.as_slice())?)?;
+    let mut all = Words::new(alloc);
+    for index in 0..keys.len() {
+        pack_into(buffer, tenant, keys.get(index))?;
+        all.push(buffer.as_slice())?;
     }
     Ok(all)
 }

@@ -56,6 +56,8 @@ pub struct Core<A: Allocator = Global> {
     tenants: Arc<Tenants<A>, A>,
     accounts: Vec<Account, A>,
     places: Places<A>,
+    /// Where keys are packed. Its bytes mean nothing between calls, so that its memory serves one after another.
+    buffer: Vec<u8, A>,
 }
 
 impl<A: Allocator> Model for Core<A> {
@@ -83,6 +85,7 @@ impl<A: Allocator + Copy> Core<A> {
             tenants,
             accounts,
             places: Places::new(alloc),
+            buffer: Vec::new(alloc),
         })
     }
 

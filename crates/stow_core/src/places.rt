@@ -1,19 +1,20 @@
 //! Places that rows stand in.
-ghost use Rattle.std.specs.Prelude.{◌≡◌, ℕ, List, [], map, Option, Some, None, IfOk, OnOk, OnErr};
+ghost use Rattle.std.specs.Prelude.{◌≡◌, ◌++◌, ℕ, List, [], Option, Some, None, IfOk, OnOk, OnErr};
 ghost use Rattle.std.specs.Prelude.{IsOk, is_some, option_map};
-ghost use Rattle.stow_model.specs.Item.{item_of};
+ghost use Rattle.stow_model.specs.LentWords.{words_in};
+ghost use Rattle.stow_model.specs.Store.{row_items};
 ghost use Rattle.stow_core.specs.Places.{place, look_up, HasPlace, version_of, version_at};
-ghost use Rattle.stow_core.specs.Places.{Finds, FindsNone, PutsPlace, AddsRow};
+ghost use Rattle.stow_core.specs.Places.{Finds, FindsNone, PutsPlace};
 ghost use Rattle.stow_core.specs.State.{told_rows};
 
 use crate::interval::Interval;
-use crate::keys::packed_key;
+use crate::keys::pack_into;
 use crate::version::Version;
 use std::alloc::{AllocError, Allocator, Global};
 use std::collections::BTreeMap;
 use std::marker::Model;
-use stow_bytes::byte_string::ByteString;
-use stow_model::item::Item;
+use stow_model::items::Items;
+use stow_model::lent_words::LentWords;
 
 /// Rows in the order of their keys, and places that wait for a value, which a write may fill with no
 /// memory.
@@ -54,16 +55,17 @@ impl<A: Allocator + Copy> Places<A> {
     /// key and its value, copied. It takes time in proportion to the places that it goes over.
     pub fn first_rows(
         &self,
+        buffer: &mut Vec<u8, A>,
         alloc: A,
         interval: Interval<'_>,
         count: u32,
-    ) -> Result<Vec<Item<A>, A>, AllocError>
-        ensures { IfOk result (λ v. map item_of v.items ≡ told_rows self.now interval.entry count) }
+    ) -> Result<Items<A>, AllocError>
+        ensures { IfOk result (λ items. items ≡ told_rows self.now interval.entry count) }
     {
-        let lower = packed_key(alloc, interval.tenant, interval.from)?.into_vec();
-        let mut items = Vec::new(alloc);
+        pack_into(buffer, interval.tenant, interval.from)?;
+        let mut items = room_for_rows(alloc, count)?;
         let mut left = count;
-        for (key, version) in self.map.range(&lower..) {
+        for (key, version) in self.map.range(&*buffer..) {
             let Some(own) = interval.own_key(key.as_slice()) else {
                 break;
             };
@@ -71,7 +73,7 @@ impl<A: Allocator + Copy> Places<A> {
                 break;
             }
             if let Some(version) = version {
-                push_row(&mut items, alloc, own, version)?;
+                push_row(&mut items, own, version)?;
                 left -= 1;
             }
         }
@@ -98,11 +100,11 @@ impl<A: Allocator + Copy> Places<A> {
     }
 
     /// Takes out all of these keys. It takes no memory.
-    pub fn remove_all(&mut self, keys: &[ByteString<A>])
-        ensures { FindsNone self.old self.new keys.now }
+    pub fn remove_all(&mut self, keys: LentWords<'_>)
+        ensures { FindsNone self.old self.new (words_in keys.entry) }
     {
-        for key in keys {
-            self.remove(key.as_slice());
+        for index in 0..keys.len() {
+            self.remove(keys.get(index));
         }
     }
 
@@ -128,17 +130,22 @@ impl<A: Allocator + Copy> Places<A> {
     }
 }
 
+/// No rows, with room for the first of so many.
+fn room_for_rows<A: Allocator + Copy>(alloc: A, count: u32) -> Result<Items<A>, AllocError>
+    ensures { IfOk result (λ items. items ≡ []) }
+{
+    let rows = count.min(64) as usize;
+    Items::with_capacity(alloc, 2 * rows, 64 * rows)
+}
+
 /// Adds a row's key and its value, copied.
-fn push_row<A: Allocator + Copy>(
-    items: &mut Vec<Item<A>, A>,
-    alloc: A,
+fn push_row<A: Allocator>(
+    items: &mut Items<A>,
     key: &[u8],
     version: &Version<A>,
 ) -> Result<(), AllocError>
-    ensures { OnOk result (AddsRow items.old.items items.new.items key.now version.now) }
+    ensures { OnOk result (items.new ≡ items.old ++ row_items (key.now, version_of version.now)) }
 {
-    items.push(Item::Bulk(ByteString::from_slice(alloc, key)?))?;
-    let value = ByteString::from_slice(alloc, version.value.as_slice())?;
-    items.push(Item::Bulk(value))?;
-    Ok(())
+    items.push_bulk(key)?;
+    items.push_bulk(version.value.as_slice())
 }

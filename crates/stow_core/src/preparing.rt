@@ -10,6 +10,7 @@ use crate::change::Change;
 use crate::interval::Interval;
 use crate::prepared::Prepared;
 use std::alloc::{AllocError, Allocator};
+use std::mem;
 use stow_bytes::byte_string::ByteString;
 use stow_commands::command::Command;
 use stow_model::reply::Reply;
@@ -22,12 +23,33 @@ impl<A: Allocator + Copy> Core<A> {
         tenant != 0 && tenant as usize <= self.accounts.len()
     }
 
-    /// Finds what a command says in the tenant's own rows.
+    /// Finds what a command says in the tenant's own rows. Its keys are packed in the core's buffer.
     pub(crate) fn prepare_command(
         &mut self,
         alloc: A,
         tenant: u32,
-        command: Command<'_, A>,
+        command: Command<'_>,
+    ) -> Result<Prepared<A>, AllocError>
+        requires { IsTenant self.old.entries tenant }
+        ensures stores { (t : ℕ) → store_of self.new t ≡ store_of self.old t }
+        ensures entries { self.new.entries ≡ self.old.entries }
+        ensures room { IfOk result (λ p. HasRoom self.new p) }
+        ensures tenant { IfOk result (λ p. p.tenant ≡ tenant) }
+        ensures answer { Prepares self.old tenant result (serves (command_of command.entry)) }
+    {
+        let mut buffer = mem::replace(&mut self.buffer, Vec::new(alloc));
+        let prepared = self.prepare_in(&mut buffer, alloc, tenant, command);
+        self.buffer = buffer;
+        prepared
+    }
+
+    /// The same with keys packed in a buffer, whose memory a change may keep.
+    fn prepare_in(
+        &mut self,
+        buffer: &mut Vec<u8, A>,
+        alloc: A,
+        tenant: u32,
+        command: Command<'_>,
     ) -> Result<Prepared<A>, AllocError>
         requires { IsTenant self.old.entries tenant }
         ensures stores { (t : ℕ) → store_of self.new t ≡ store_of self.old t }
@@ -39,16 +61,16 @@ impl<A: Allocator + Copy> Core<A> {
         let reply = match command {
             Command::Ping => Reply::Simple(SimpleString::Pong),
             Command::Echo(text) => Reply::Bulk(ByteString::from_slice(alloc, text)?),
-            Command::Get(key) => self.value(alloc, tenant, key)?,
-            Command::GetMany(keys) => self.values(alloc, tenant, keys)?,
-            Command::Exists(keys) => self.count_rows(alloc, tenant, keys)?,
-            Command::Length(key) => self.value_length(alloc, tenant, key)?,
+            Command::Get(key) => self.value(buffer, alloc, tenant, key)?,
+            Command::GetMany(keys) => self.values(buffer, alloc, tenant, keys)?,
+            Command::Exists(keys) => self.count_rows(buffer, tenant, keys)?,
+            Command::Length(key) => self.value_length(buffer, tenant, key)?,
             Command::Range(from, to, count) => {
-                self.rows_within(alloc, Interval { tenant, from, to }, count)?
+                self.rows_within(buffer, alloc, Interval { tenant, from, to }, count)?
             }
-            Command::Del(keys) => return self.prepare_del(alloc, tenant, keys),
+            Command::Del(keys) => return self.prepare_del(buffer, alloc, tenant, keys),
             Command::Change(key, update) => {
-                return self.prepare_change(alloc, tenant, key, update);
+                return self.prepare_change(buffer, alloc, tenant, key, update);
             }
         };
         Ok(only_counted(tenant, reply))

@@ -1,6 +1,6 @@
 //! Replies that are read from a tenant's rows.
-ghost use Rattle.std.specs.Prelude.{◌≡◌, IfOk, OnOk};
-ghost use Rattle.stow_model.specs.Item.{item_of};
+ghost use Rattle.std.specs.Prelude.{◌≡◌, ◌++◌, ◌∷◌, [], IfOk, OnOk};
+ghost use Rattle.stow_model.specs.LentWords.{words_in};
 ghost use Rattle.stow_model.specs.Reply.{reply_of};
 ghost use Rattle.stow_model.specs.Login.{IsTenant};
 ghost use Rattle.stow_model.specs.Command.{Get, GetMany, Exists, Length};
@@ -16,8 +16,8 @@ use crate::keys::pack_into;
 use crate::version::Version;
 use std::alloc::{AllocError, Allocator};
 use stow_bytes::byte_string::ByteString;
-use stow_model::item::Item;
 use stow_model::items::Items;
+use stow_model::lent_words::LentWords;
 use stow_model::reply::Reply;
 
 impl<A: Allocator + Copy> Core<A> {
@@ -37,12 +37,17 @@ impl<A: Allocator + Copy> Core<A> {
     }
 
     /// The value of a key, or null.
-    pub(crate) fn value(&self, alloc: A, tenant: u32, key: &[u8]) -> Result<Reply<A>, AllocError>
+    pub(crate) fn value(
+        &self,
+        buffer: &mut Vec<u8, A>,
+        alloc: A,
+        tenant: u32,
+        key: &[u8],
+    ) -> Result<Reply<A>, AllocError>
         requires { IsTenant self.now.entries tenant }
         ensures { IfOk result (λ r. reply_of r ≡ read_reply self.now tenant (Get key.now)) }
     {
-        let mut buffer = Vec::new(alloc);
-        match self.row(&mut buffer, tenant, key)? {
+        match self.row(buffer, tenant, key)? {
             Some(version) => {
                 let value = ByteString::from_slice(alloc, version.value.as_slice())?;
                 Ok(Reply::Bulk(value))
@@ -54,36 +59,37 @@ impl<A: Allocator + Copy> Core<A> {
     /// The value of each key, or null.
     pub(crate) fn values(
         &self,
+        buffer: &mut Vec<u8, A>,
         alloc: A,
         tenant: u32,
-        keys: &[ByteString<A>],
+        keys: LentWords<'_>,
     ) -> Result<Reply<A>, AllocError>
         requires { IsTenant self.now.entries tenant }
-        ensures { IfOk result (λ r. reply_of r ≡ read_reply self.now tenant (GetMany keys.now)) }
+        ensures { IfOk result
+            (λ r. reply_of r ≡ read_reply self.now tenant (GetMany (words_in keys.entry))) }
     {
-        let mut buffer = Vec::new(alloc);
-        let mut items = Vec::new(alloc);
-        for key in keys {
-            let row = self.row(&mut buffer, tenant, key.as_slice())?;
-            items.push(item_of_row(alloc, row)?)?;
+        let mut items = Items::with_capacity(alloc, keys.len(), 0)?;
+        for index in 0..keys.len() {
+            let row = self.row(buffer, tenant, keys.get(index))?;
+            push_value(&mut items, row)?;
         }
-        Ok(Reply::Array(Items::from_vec(items)))
+        Ok(Reply::Array(items))
     }
 
     /// How many of the keys have a row, each as often as it is named.
     pub(crate) fn count_rows(
         &self,
-        alloc: A,
+        buffer: &mut Vec<u8, A>,
         tenant: u32,
-        keys: &[ByteString<A>],
+        keys: LentWords<'_>,
     ) -> Result<Reply<A>, AllocError>
         requires { IsTenant self.now.entries tenant }
-        ensures { IfOk result (λ r. reply_of r ≡ read_reply self.now tenant (Exists keys.now)) }
+        ensures { IfOk result
+            (λ r. reply_of r ≡ read_reply self.now tenant (Exists (words_in keys.entry))) }
     {
-        let mut buffer = Vec::new(alloc);
         let mut count: usize = 0;
-        for key in keys {
-            if self.row(&mut buffer, tenant, key.as_slice())?.is_some() {
+        for index in 0..keys.len() {
+            if self.row(buffer, tenant, keys.get(index))?.is_some() {
                 count += 1;
             }
         }
@@ -93,15 +99,14 @@ impl<A: Allocator + Copy> Core<A> {
     /// The length of a key's value, 0 where there is none.
     pub(crate) fn value_length(
         &self,
-        alloc: A,
+        buffer: &mut Vec<u8, A>,
         tenant: u32,
         key: &[u8],
     ) -> Result<Reply<A>, AllocError>
         requires { IsTenant self.now.entries tenant }
         ensures { IfOk result (λ r. reply_of r ≡ read_reply self.now tenant (Length key.now)) }
     {
-        let mut buffer = Vec::new(alloc);
-        match self.row(&mut buffer, tenant, key)? {
+        match self.row(buffer, tenant, key)? {
             Some(version) => Ok(Reply::Integer(version.value.as_slice().len() as i64)),
             None => Ok(Reply::Integer(0)),
         }
@@ -110,6 +115,7 @@ impl<A: Allocator + Copy> Core<A> {
     /// The first rows of an interval, `count` at most: key, value, key, value.
     pub(crate) fn rows_within(
         &self,
+        buffer: &mut Vec<u8, A>,
         alloc: A,
         interval: Interval<'_>,
         count: u32,
@@ -117,23 +123,20 @@ impl<A: Allocator + Copy> Core<A> {
         requires { IsTenant self.now.entries interval.tenant }
         ensures { IfOk result (λ r. reply_of r ≡ range_reply self.now interval.entry count) }
     {
-        let items = self.places.first_rows(alloc, interval, count)?;
-        Ok(Reply::Array(Items::from_vec(items)))
+        let items = self.places.first_rows(buffer, alloc, interval, count)?;
+        Ok(Reply::Array(items))
     }
 }
 
-/// The row's value, or null.
-fn item_of_row<A: Allocator + Copy>(
-    alloc: A,
+/// Adds the row's value, or null.
+fn push_value<A: Allocator>(
+    items: &mut Items<A>,
     row: Option<&Version<A>>,
-) -> Result<Item<A>, AllocError>
-    ensures { IfOk result (λ item. item_of item ≡ item_or_null (row_of row.entry)) }
+) -> Result<(), AllocError>
+    ensures { OnOk result (items.new ≡ items.old ++ item_or_null (row_of row.entry) ∷ []) }
 {
     match row {
-        Some(version) => {
-            let value = ByteString::from_slice(alloc, version.value.as_slice())?;
-            Ok(Item::Bulk(value))
-        }
-        None => Ok(Item::Null),
+        Some(version) => items.push_bulk(version.value.as_slice()),
+        None => items.push_null(),
     }
 }

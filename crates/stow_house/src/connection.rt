@@ -4,6 +4,7 @@ ghost use Rattle.stow_model.specs.Event as event;
 ghost use Rattle.stow_house.specs.StepResult.{step_result_of, CanAnswerOn};
 ghost use Rattle.stow_house.specs.Connections.{meaning, Happened, HappenedAlone, IsServedHere};
 
+use crate::answer::Answer;
 use crate::connection_event::ConnectionEvent;
 use crate::session::Session;
 use crate::step_result::StepResult;
@@ -80,16 +81,19 @@ impl<A: Allocator + Copy> Connection<A> {
         }
     }
 
-    /// Answers what came on the open connection.
+    /// Answers what came on the open connection. Used words serve the next message.
     fn answer(&mut self, alloc: A, core: &mut Core<A>, next: Next<A>) -> StepResult<A>
         requires { self.old.is_open ≡ true }
         ensures possible { CanAnswerOn event.Serve (step_result_of result) }
         ensures served { IsServedHere next result self.old self.new core.old core.new }
     {
         let taken = self.session.take(core.tenants(), next);
-        let answer = taken.finish(alloc, core);
-        self.is_open = !answer.ends;
-        match answer.reply {
+        let Answer { reply, ends, used } = taken.finish(alloc, core);
+        self.is_open = !ends;
+        if let Some(words) = used {
+            self.input.reuse(words);
+        }
+        match reply {
             Some(reply) => StepResult::Answered(reply),
             None => StepResult::Blank,
         }

@@ -76,9 +76,7 @@ impl<A: Allocator + Copy> House<A> {
     {
         match event {
             Event::Open(c) => self.open(alloc, *c),
-            Event::Piece(c, bytes) => {
-                self.on(alloc, *c, ConnectionEvent::Piece(bytes.as_slice()))
-            }
+            Event::Piece(c, bytes) => self.feed(alloc, *c, bytes.as_slice()),
             Event::Serve(c) => self.on(alloc, *c, ConnectionEvent::Serve),
             Event::Close(c) => self.on(alloc, *c, ConnectionEvent::Close),
             Event::Plan(_) => StepResult::NoJob,
@@ -86,6 +84,14 @@ impl<A: Allocator + Copy> House<A> {
             Event::Install(_) => StepResult::Refused,
             Event::Resize(leaves) => resized(*leaves),
         }
+    }
+
+    /// The event of a piece of a connection's stream, whose bytes are lent.
+    pub fn feed(&mut self, alloc: A, c: u32, bytes: &[u8]) -> StepResult<A>
+        ensures possible { CanAnswerOn (meant.Piece bytes.now) (step_result_of result) }
+        ensures steps { Steps self.old (meant.On c (meant.Piece bytes.now)) result self.new }
+    {
+        self.on(alloc, c, ConnectionEvent::Piece(bytes))
     }
 
     fn open(&mut self, alloc: A, c: u32) -> StepResult<A>

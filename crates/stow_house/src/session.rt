@@ -85,7 +85,7 @@ impl Session {
         ensures taken { taken_of result ≡ taking_words tenants.now (kind_of words) words self.old }
         ensures tenant { IsServed tenants.now self.old → IsServed tenants.now self.new }
     {
-        match kind_of(words.as_slice()) {
+        match kind_of(words.lent()) {
             Kind::Login(name, password) => match tenants.check(name, password) {
                 Some(tenant) => {
                     self.tenant = Some(tenant);
@@ -120,6 +120,7 @@ fn told<A: Allocator>(reply: Reply<A>) -> Taken<A>
     Taken::Told(Answer {
         reply: Some(reply),
         ends: false,
+        used: None,
     })
 }
 
@@ -130,6 +131,7 @@ fn last_told<A: Allocator>(reply: Reply<A>) -> Taken<A>
     Taken::Told(Answer {
         reply: Some(reply),
         ends: true,
+        used: None,
     })
 }
 
@@ -140,5 +142,6 @@ fn nothing_told<A: Allocator>() -> Taken<A>
     Taken::Told(Answer {
         reply: None,
         ends: false,
+        used: None,
     })
 }

@@ -25,6 +25,7 @@ impl<A: Allocator> Taken<A> {
             Taken::ForStoreOf(tenant, words) => Answer {
                 reply: Some(door.call(alloc, tenant, &words)),
                 ends: false,
+                used: Some(words),
             },
         }
     }

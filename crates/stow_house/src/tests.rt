@@ -148,12 +148,12 @@ impl<A: Allocator + Copy> Client<A> {
             self.is_logged_in = true;
             self.expected.push(Expected::LoggedIn)?;
         } else if self.is_logged_in {
-            let mut words = Vec::new(alloc);
+            let mut words = Words::new(alloc);
             for word in request {
-                words.push(ByteString::from_slice(alloc, word)?)?;
+                words.push(word)?;
             }
             self.line.push(PlainRequest {
-                words: Words::from_vec(words),
+                words,
                 is_refused: mark == Mark::Refused,
             })?;
             self.expected.push(Expected::Own)?;

@@ -15,12 +15,12 @@ use Rattle.stow_tree_model.specs.Order.{place_cmp, VersionsRise}
 use Rattle.stow_tree_model.specs.Version.{Version}
 use Rattle.stow_tree_model.proofs.Histories.{falls_number}
 use Rattle.stow_tree_model.proofs.Latest.{contains_cases}
-use Rattle.stow_tree_model.proofs.Pruning.{pruning, none_in_nothing}
-use Rattle.stow_merge.specs.Pages.{HaveShortValues}
+use Rattle.stow_tree_model.proofs.Pruning.{pruning, contains_here, none_in_nothing}
+use Rattle.stow_merge.specs.Pages.{HaveOneKey, HaveShortValues}
 use Rattle.stow_merge.specs.PinLists.{pin_limit}
 use Rattle.stow_merge.specs.Writing.{CanMerge}
 use Rattle.stow_merge.proofs.KeyLemmas.{rises_after, rises_front}
-use Rattle.stow_merge.proofs.Lists.{all_from_members, all_member}
+use Rattle.stow_merge.proofs.Lists.{all_from_members}
 
 -- ---- pins from a number on
 
@@ -99,6 +99,16 @@ few_in pins messages key (v ∷ later) few all rise =
     let limit = few (tenant_of key) in
     omega arith
 
+-- versions of one key, which a merge keeps
+few_of : (pins : TenantPins) (messages : Messages) (versions : List Version) → ((t : ℕ) → length (pins t) ≤ pin_limit) → HaveOneKey versions → ((w : Version) → Contains versions w → IsKept pins messages w.key w.number) → VersionsRise versions → length versions ≤ 65
+few_of pins messages [] few one kept rise = omega arith
+few_of pins messages (v ∷ later) few one kept rise =
+    few_in pins messages v.key (v ∷ later) few
+    (all_from_members (λ (w : Version). (w.key ≡ v.key) × IsKept pins messages v.key w.number) (v ∷ later) (λ w c.
+    let own : w.key ≡ v.key = one.are_of_key w v c (contains_here v later) in
+    (own, subst (λ k. IsKept pins messages k w.number) own (kept w c))))
+    rise
+
 -- what a merge leaves can be written
 pub can_merge : (pins : TenantPins) (messages : Messages) → ((t : ℕ) → length (pins t) ≤ pin_limit) → HaveShortValues (pruned pins messages) → CanMerge (pruned pins messages)
 can_merge pins messages few short =
@@ -107,12 +117,7 @@ can_merge pins messages few short =
       rise = law.rises;
       are_short = short;
       are_few = λ before part after e one.
-          few_in pins messages one.key part few
-          (all_from_members (λ (w : Version). (w.key ≡ one.key) × IsKept pins messages one.key w.number) part (λ w c.
-          let own = all_member (λ (v : Version). v.key ≡ one.key) part w one.are_of_key c in (
-            own,
-            subst (λ k. IsKept pins messages k w.number) own
-                (law.only_these w (subst (λ vs. Contains vs w) (sym e) (Contains-append_right before (part ++ after) w (Contains-append_left part after w c)))).is_kept,
-          )))
+          few_of pins messages part few one
+          (λ w c. (law.only_these w (subst (λ vs. Contains vs w) (sym e) (Contains-append_right before (part ++ after) w (Contains-append_left part after w c)))).is_kept)
           (rises_front part after (rises_after before (part ++ after) (subst VersionsRise e law.rises)));
     }

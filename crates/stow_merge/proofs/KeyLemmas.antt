@@ -70,6 +70,12 @@ of_key : {A : Type 0} (survey : Survey A) (run : List coded.Kept) (key : List �
 of_key survey [] key h = tt
 of_key survey (k ∷ run) key h = (h.0, of_key survey run key h.1)
 
+one_key : (versions : List Version) (key : List ℕ) → AllByRecursion (λ (v : Version). v.key ≡ key) versions → HaveOneKey versions
+one_key versions key all = record { are_of_key = λ v w c d. own v c ∙ sym (own w d) }
+  where
+    own : (u : Version) → Contains versions u → u.key ≡ key
+    own u c = all_member (λ (v : Version). v.key ≡ key) versions u all c
+
 pub runs_read : {A : Type 0} (survey : Survey A) (kept : List coded.Kept) (runs : List (List coded.Kept)) → AreRuns kept runs → read_in_order (map (versions_in survey) runs) ≡ versions_in survey kept
 runs_read survey kept [] h = ap (versions_in survey) (sym h)
 runs_read survey kept (run ∷ runs) h =
@@ -86,7 +92,7 @@ runs_rise survey kept [] h rise = tt
 runs_rise survey kept (run ∷ runs) h rise =
     let whole : VersionsRise (versions_in survey run ++ versions_in survey h.0) = subst VersionsRise (ap (versions_in survey) h.3 ∙ map-append (version_in survey) run h.0) rise in (
       map_filled (version_in survey) run h.2,
-      record { key = h.1; are_of_key = of_key survey run h.1 h.4.are_of_key },
+      one_key (versions_in survey run) h.1 (of_key survey run h.1 h.4.are_of_key),
       subst (KeysBelow (versions_in survey run)) (sym (runs_read survey h.0 runs h.5)) (run_below survey run h.0 h.1 h.4 whole),
       runs_rise survey h.0 runs h.5 (rises_after (versions_in survey run) (versions_in survey h.0) whole),
     )

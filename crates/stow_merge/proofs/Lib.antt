@@ -7,3 +7,4 @@ pub mod PageLemmas
 pub mod WritingLemmas
 pub mod PagedLemmas
 pub mod FewLemmas
+pub mod Places

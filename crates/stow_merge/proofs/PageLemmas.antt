@@ -1,14 +1,14 @@
 -- The pages of keys.
 use Rattle.std.proofs.Common.{◌≡◌, ◌≢◌, ◌⊎◌, ℕ, ◌+◌, ◌-◌, ◌<◌, ◌≤◌, ◌^◌, List, [], ◌∷◌, ◌++◌, length, take, drop, map, refl, ap, ◌∙◌, sym, subst, arith, ⊎_elim, inl, inr, length-append, length-drop, append_assoc}
 use Rattle.std.specs.Prelude.{Contains, sum}
-use Rattle.std.specs.Int.{to_be_bytes, w16, w64}
 use Rattle.std.specs.List.{AllByRecursion, sum_by}
 use Rattle.std.proofs.lemmas.Grind.{flat_map-append}
 use Rattle.std.proofs.lemmas.List.{append-nil, take-map, drop-map, length-take-le}
 use Rattle.std.proofs.lemmas.List.Elements.{Contains-append_right, Contains-append_cases}
 use Rattle.std.proofs.lemmas.List.Sums.{sum-map, sum_by-cons}
 use Rattle.std.proofs.Math.Seq.{drop-length}
-use Rattle.stow_page.specs.Format.{entry, entries, header, packed_page, place_bytes, tail}
+use Rattle.stow_page.proofs.Pushed.{length-entry}
+use Rattle.stow_page.specs.Format.{entry, entries, header, packed_page}
 use Rattle.stow_tree_model.specs.Order.{VersionsRise}
 use Rattle.stow_tree_model.specs.Version.{Version}
 use Rattle.stow_tree_model.proofs.Pruning.{none_in_nothing}
@@ -23,14 +23,6 @@ use Rattle.stow_merge.proofs.Lists.{all_split, front_filled, split_at}
 pub length-page : (versions : List Version) → length (packed_page versions) ≡ 5 + length (entries versions)
 unfolding packed_page
 length-page versions = length-append (header (length versions)) (entries versions)
-
-pub length-entry : (v : Version) → length (entry v) ≡ 10 + length v.key + length (tail v.value)
-unfolding entry
-length-entry v =
-    let whole = length-append (place_bytes v.key v.number) (tail v.value) in
-    let place = length-append (to_be_bytes w16 (length v.key)) (v.key ++ to_be_bytes w64 v.number) in
-    let key = length-append v.key (to_be_bytes w64 v.number) in
-    omega arith
 
 has_bytes : (v : Version) → 1 ≤ length (entry v)
 has_bytes v = let l = length-entry v in omega arith
@@ -94,8 +86,8 @@ one_page target (key ∷ keys) later low h small some fit =
       record {
         is_filled = filled;
         fits = ⊎_elim
-            (λ (s : sum_by (λ k. length (entries k)) (key ∷ keys) ≤ target - 5). inl (omega arith))
-            (λ (s : length (key ∷ keys) ≡ 1). inr (subst (λ ks. HaveOneKey (key ++ read_in_order ks)) (sym (one s)) (subst HaveOneKey (sym (append-nil key)) h.1)))
+            (λ (s : sum_by (λ k. length (entries k)) (key ∷ keys) ≤ target - 5). λ (above : target < length (packed_page (key ++ read_in_order keys))). absurd (omega arith))
+            (λ (s : length (key ∷ keys) ≡ 1). λ above. subst (λ ks. HaveOneKey (key ++ read_in_order ks)) (sym (one s)) (subst HaveOneKey (sym (append-nil key)) h.1))
             fit;
         is_below = keys_below (key ∷ keys) later h;
       },

@@ -1,5 +1,5 @@
 -- From kept versions to their pages.
-use Rattle.std.proofs.Common.{◌≡◌, ℕ, ◌-◌, ◌<◌, ◌≤◌, ◌^◌, List, [], ◌∷◌, length, map, refl, ap, ◌∙◌, sym, subst, inl, inr}
+use Rattle.std.proofs.Common.{◌≡◌, ℕ, ◌-◌, ◌<◌, ◌≤◌, ◌^◌, List, [], ◌∷◌, length, map, refl, ap, ◌∙◌, sym, subst}
 use Rattle.std.specs.Prelude.{Result, Ok, Err, IfOk}
 use Rattle.std.specs.Borrow.{Bor}
 use Rattle.std.specs.List.{AllByRecursion}
@@ -54,8 +54,8 @@ can_write target versions keys pages can h w =
     can_pack pages w.have_room (subst VersionsRise (sym (w.are ∙ h.are)) can.rise) (subst HaveShortValues (sym (w.are ∙ h.are)) can.are_short)
 
 filled : (target : ℕ) (versions : List Version) (pages : List (List Version)) → AreLeafPages target pages → read_in_order pages ≡ versions → ArePagesOf versions target (at_least_one_page pages)
-filled target versions [] all e = record { are = e; are_cut = inl refl }
-filled target versions (page ∷ pages) all e = record { are = e; are_cut = inr ((λ z. cc), all) }
+filled target versions [] all e = record { are = e; is_one_there = λ z. cc; are_cut = λ other. absurd (other refl) }
+filled target versions (page ∷ pages) all e = record { are = e; is_one_there = λ z. cc; are_cut = λ _. all }
 
 pub pages_of : (target : ℕ) (versions : List Version) (keys pages : List (List Version)) → AreKeys versions keys → AreWritten target keys 0 pages → ArePagesOf versions target (at_least_one_page pages)
 pages_of target versions keys pages h w = filled target versions pages w.are_leaf_pages (w.are ∙ h.are)

@@ -1,18 +1,21 @@
 -- Versions, keys and pages written one at a time.
-use Rattle.std.proofs.Common.{◌≡◌, ◌≢◌, ℕ, suc, ◌+◌, ◌<◌, ◌≤◌, List, [], ◌∷◌, ◌++◌, length, take, drop, get_or, map, ap, ◌∙◌, sym, subst, arith, ⊎_elim, length-append, append_assoc, drop-cons}
+use Rattle.std.proofs.Common.{◌≡◌, ◌≢◌, ℕ, suc, ◌+◌, ◌<◌, ◌≤◌, List, [], ◌∷◌, ◌++◌, Option, Some, length, take, drop, get_or, map, ap, ◌∙◌, sym, subst, arith, ⊎_elim, length-append, append_assoc, drop-cons}
 use Rattle.std.specs.Prelude.{true, false}
+use Rattle.std.specs.Int.{to_be_bytes, w16}
 use Rattle.std.specs.List.{flat_map}
 use Rattle.std.proofs.lemmas.Grind.{flat_map-append}
 use Rattle.std.proofs.lemmas.List.{append-nil, map-append, take_more, take-append-drop, take-map, drop-map}
-use Rattle.stow_page.specs.Format.{entry, entries}
+use Rattle.stow_bytes.specs.Limits.{value_limit}
+use Rattle.stow_page.specs.Format.{entry, entries, tail}
 use Rattle.stow_tree_model.specs.Merged.{same_key}
 use Rattle.stow_tree_model.specs.Op.{op_of, bytes_in}
 use Rattle.stow_tree_model.specs.TreeMessage.{TreeMessage, message_of}
+use Rattle.stow_tree_model.specs.Value.{IsValue}
 use Rattle.stow_tree_model.specs.Version.{Version}
 use Rattle.stow_tree_model.specs.declared.message.Message as messages
 use Rattle.stow_tree_model.proofs.Orders.{key_cases}
 use Rattle.stow_tree_model.proofs.Readings.{drop_one_less}
-use Rattle.stow_merge.specs.Kept.{bytes_between}
+use Rattle.stow_merge.specs.Kept.{bytes_between, value_between}
 use Rattle.stow_merge.specs.Pages.{read_in_order}
 use Rattle.stow_merge.specs.Writing.{CanPack}
 use Rattle.stow_merge.proofs.PageLemmas.{can_front}
@@ -67,6 +70,22 @@ pub between_bytes : (items part : List messages.Message) (from to : ℕ) → par
 between_bytes items part from to e =
     ap (λ (xs : List messages.Message). carried (map message_of xs)) e
     ∙ ap carried (sym (ap (drop from) (take-map message_of to items) ∙ drop-map message_of from (take to items)))
+
+-- a value within the limit, of which this is what the messages carry
+pub record IsCarried (value : Option (List ℕ)) (bytes : List ℕ) : Type 0 where
+  pub is_short : length bytes ≤ value_limit
+  pub size : length (tail value) ≡ 3 + length bytes
+
+pub carried_value : (items part : List messages.Message) (from to : ℕ) (start : Option ℕ) → start ≡ Some from → part ≡ drop from (take to items) → IsValue (value_between (map message_of items) start to)
+    → IsCarried (value_between (map message_of items) start to) (carried (map message_of part))
+carried_value items part from to start s e short =
+    let bytes : List ℕ = carried (map message_of part) in
+    let value : value_between (map message_of items) start to ≡ Some bytes =
+    ap (λ f. value_between (map message_of items) f to) s ∙ ap Some (sym (between_bytes items part from to e)) in
+    record {
+      is_short = short.is_short bytes value;
+      size = ap (λ v. length (tail v)) value ∙ (let l = length-append (to_be_bytes w16 (length bytes)) bytes in omega arith);
+    }
 
 -- ---- versions
 

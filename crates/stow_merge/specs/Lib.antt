@@ -4,3 +4,5 @@ pub mod Kept
 pub mod Cuts
 pub mod Pages
 pub mod Writing
+pub mod Mergeable
+pub mod FlushJobs

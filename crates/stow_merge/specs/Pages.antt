@@ -1,7 +1,9 @@
 -- A merged leaf's versions in pages.
-use Rattle.std.specs.Prelude.{◌≡◌, ◌≢◌, ◌⊎◌, ℕ, ◌≤◌, List, [], ◌∷◌, length, Contains}
+use Rattle.std.specs.Prelude.{◌≡◌, ◌≢◌, ℕ, ◌<◌, List, [], ◌∷◌, length, Contains}
 use Rattle.std.specs.declared.cmp.Ordering.TheVariants.{Less}
+use Rattle.std.specs.Coded.{×_prop, Unit-prop}
 use Rattle.std.specs.List.{flat_map, AllByRecursion}
+use Rattle.std.proofs.Props.{props}
 use Rattle.stow_bytes.specs.Bytes.{bytes_cmp}
 use Rattle.stow_page.specs.Format.{packed_page}
 use Rattle.stow_tree_model.specs.Value.{IsValue}
@@ -15,18 +17,17 @@ abbrev pub HaveShortValues : List Version → Type 0
 HaveShortValues = AllByRecursion (λ v. IsValue v.value)
 
 pub record HaveOneKey (versions : List Version) : Type 0 where
-  pub key : List ℕ
-  pub are_of_key : AllByRecursion (λ v. v.key ≡ key) versions
+  pub are_of_key : (v w : Version) → Contains versions v → Contains versions w → v.key ≡ w.key
 
 -- each key of some versions is below each key of others
 pub record KeysBelow (versions others : List Version) : Type 0 where
   pub are_below : (v w : Version) → Contains versions v → Contains others w
       → bytes_cmp v.key w.key ≡ Less
 
--- a page has a version at least, and those of one key alone where it is above the target; its keys are below those of later pages
+-- a page isn't empty, and above the target it has one key; its keys are below later pages' keys
 pub record IsLeafPage (target : ℕ) (page later : List Version) : Type 0 where
   pub is_filled : page ≢ []
-  pub fits : (length (packed_page page) ≤ target) ⊎ HaveOneKey page
+  pub fits : target < length (packed_page page) → HaveOneKey page
   pub is_below : KeysBelow page later
 
 abbrev pub AreLeafPages : ℕ → List (List Version) → Type 0
@@ -34,8 +35,19 @@ AreLeafPages target [] = Unit {0}
 AreLeafPages target (page ∷ pages) = IsLeafPage target page (read_in_order pages)
     × AreLeafPages target pages
 
--- the pages hold exactly the versions, in order; there is an empty one only where there are no versions
+AreLeafPages-prop : (target : ℕ) (pages : List (List Version))
+    → IsProp (AreLeafPages target pages)
+AreLeafPages-prop target [] = Unit-prop
+AreLeafPages-prop target (page ∷ pages) = ×_prop (hlevel props) (AreLeafPages-prop target pages)
+
+-- the pages hold just the versions, in order; there is one at least, and an empty one stands alone
 pub record ArePagesOf (versions : List Version) (target : ℕ)
     (pages : List (List Version)) : Type 0 where
   pub are : read_in_order pages ≡ versions
-  pub are_cut : (pages ≡ [] ∷ []) ⊎ ((pages ≢ []) × AreLeafPages target pages)
+  pub is_one_there : pages ≢ []
+  pub are_cut : pages ≢ [] ∷ [] → AreLeafPages target pages
+
+-- so a type may keep it
+pub ArePagesOf-prop : (versions : List Version) (target : ℕ) (pages : List (List Version))
+    → IsProp (ArePagesOf versions target pages)
+ArePagesOf-prop versions target pages = hlevel (AreLeafPages-prop, props)

@@ -1,22 +1,26 @@
-//! Whether merged values are within the limit of values.
+//! Whether a leaf's rows and a batch can be merged.
 ghost use Rattle.std.specs.Prelude.{◌≡◌, ◌+◌, ◌≤◌, ◌↔◌, length, map, IfOk, IsTrue};
 ghost use Rattle.std.specs.List.{flat_map};
 ghost use Rattle.stow_bytes.specs.Limits.{value_limit};
+ghost use Rattle.stow_merge.specs.Mergeable.{IsMergeable};
 ghost use Rattle.stow_merge.specs.Pages.{HaveShortValues};
 ghost use Rattle.stow_merge.specs.Pins.{pins_in};
 ghost use Rattle.stow_merge.specs.Writing.{version_in, versions_in};
-ghost use Rattle.stow_tree_model.specs.Merged.{merged};
+ghost use Rattle.stow_message.specs.Rising.{AreNew, IsNew};
+ghost use Rattle.stow_tree_model.specs.Merged.{merged, row_message};
 ghost use Rattle.stow_tree_model.specs.Op.{bytes_in};
 ghost use Rattle.stow_tree_model.specs.Order.{MessagesRise};
 ghost use Rattle.stow_tree_model.specs.TreeMessage.{message_of};
 ghost use Rattle.stow_tree_model.specs.Value.{IsValue};
 
+use crate::joining::compare;
 use crate::kept::Kept;
-use crate::merging::lent_rows;
+use crate::lending::{lent_messages, lent_rows};
 use crate::pins::Pins;
-use crate::survey::{Survey, between, carried, survey_of};
+use crate::survey::{Survey, between, survey_of};
 use std::alloc::{AllocError, Allocator};
 use stow_bytes::limits::VALUE_LIMIT;
+use stow_message::message_buf::MessageBuf;
 use stow_page::rows::Rows;
 use stow_tree_model::message::Message;
 
@@ -35,6 +39,46 @@ pub fn has_short_values<A: Allocator + Copy, B: Allocator + Copy, C: Allocator>(
     let lent = lent_rows(alloc, rows)?;
     let survey = survey_of(alloc, lent.as_slice(), batch, pins)?;
     Ok(are_short(&survey))
+}
+
+/// Whether a leaf's rows and a batch can be merged under pins, as a flush job requires. `Err` where memory was refused.
+pub fn is_mergeable<A: Allocator + Copy, B: Allocator + Copy, C: Allocator, D: Allocator>(
+    alloc: A,
+    rows: &Rows<C>,
+    batch: &MessageBuf<D>,
+    pins: &Pins<B>,
+) -> Result<bool, AllocError>
+    ensures { IfOk result (λ can. IsTrue can
+        ↔ IsMergeable rows.now batch.now.messages (pins_in pins.now)) }
+{
+    if !are_new(rows, batch) {
+        return Ok(false);
+    }
+    let lent = lent_messages(alloc, batch)?;
+    has_short_values(alloc, rows, lent.as_slice(), pins)
+}
+
+/// Whether no message of the batch has the key and number of a version.
+fn are_new<C: Allocator, D: Allocator>(rows: &Rows<C>, batch: &MessageBuf<D>) -> bool
+    ensures { IsTrue result ↔ AreNew batch.now.messages (map row_message rows.now) }
+{
+    for i in 0..batch.len() {
+        if !is_new(rows, batch.message(i)) {
+            return false;
+        }
+    }
+    true
+}
+
+/// Whether no version has the message's key and number.
+fn is_new<C: Allocator>(rows: &Rows<C>, message: Message<'_>) -> bool
+    ensures { IsTrue result ↔ IsNew (message_of message.entry) (map row_message rows.now) }
+{
+    let count = rows.count_up_to(message.key, message.number);
+    if count == 0 {
+        return true;
+    }
+    !compare(&rows.get(count - 1), &message).is_eq()
 }
 
 fn are_short<B: Allocator + Copy>(survey: &Survey<'_, B>) -> bool
@@ -65,7 +109,7 @@ fn carry_a_value(messages: &[Message<'_>]) -> bool
 {
     let mut left = VALUE_LIMIT;
     for i in 0..messages.len() {
-        let size = carried(messages[i].op).len();
+        let size = messages[i].op.carried().len();
         if size > left {
             return false;
         }

@@ -55,7 +55,8 @@ pub fn join<'a, A: Allocator + Copy>(
     Ok(joined)
 }
 
-fn compare(row: &Version<'_>, message: &Message<'_>) -> Ordering
+/// How a version's key and number stand to a message's.
+pub(crate) fn compare(row: &Version<'_>, message: &Message<'_>) -> Ordering
     ensures { result
         ≡ place_cmp (version_place (version_of row.now)) (place_of (message_of message.now)) }
 {

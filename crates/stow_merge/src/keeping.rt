@@ -4,7 +4,7 @@ ghost use Rattle.std.specs.List.{list_any};
 ghost use Rattle.std.specs.Option.{option_map};
 ghost use Rattle.stow_merge.specs.Kept.{kept_version, start_after};
 ghost use Rattle.stow_merge.specs.Pins.{pins_in};
-ghost use Rattle.stow_tree_model.specs.Merged.{same_key, begins_with, is_pin_within, is_kept, merged_history};
+ghost use Rattle.stow_tree_model.specs.Merged.{begins_with, is_pin_within, is_kept, merged_history};
 ghost use Rattle.stow_tree_model.specs.Op.{op_of};
 ghost use Rattle.stow_tree_model.specs.Order.{MessagesRise};
 ghost use Rattle.stow_tree_model.specs.TreeMessage.{message_of};
@@ -12,6 +12,7 @@ ghost use Rattle.stow_tree_model.specs.TreeMessage.{message_of};
 use crate::kept::Kept;
 use crate::pins::Pins;
 use std::alloc::{AllocError, Allocator};
+use stow_tree_model::in_order::{ends_in, nth};
 use stow_tree_model::message::Message;
 use stow_tree_model::op::Op;
 use stow_tree_model::tenant_key::TenantKey;
@@ -31,7 +32,7 @@ pub fn keep<'a, A: Allocator + Copy, B: Allocator + Copy>(
     let mut has_older = false;
     for i in 0..joined.len() {
         let message = joined[i];
-        let follows = begins(&joined[..i], message.key);
+        let follows = ends_in(&joined[..i], message.key);
         let before = if follows { start } else { None };
         start = after(i, message.op, before);
         let has = follows && has_older;
@@ -75,32 +76,6 @@ fn after(at: usize, op: Op<'_>, before: Option<usize>) -> Option<usize>
     }
 }
 
-fn nth<'a>(messages: &[Message<'a>], i: usize) -> Option<Message<'a>>
-    ensures { option_map message_of result ≡ slice_get (map message_of messages.now) i }
-{
-    if i < messages.len() {
-        Some(messages[i])
-    } else {
-        None
-    }
-}
-
-pub(crate) fn is_same(a: TenantKey<'_>, b: TenantKey<'_>) -> bool
-    ensures { result ≡ same_key a.entry.bytes.now b.entry.bytes.now }
-{
-    a.bytes.cmp(b.bytes).is_eq()
-}
-
-/// Whether the last message is of the key.
-fn begins(done: &[Message<'_>], key: TenantKey<'_>) -> bool
-    ensures { result ≡ begins_with key.entry.bytes.now (reverse (map message_of done.now)) }
-{
-    match done.last() {
-        None => false,
-        Some(last) => is_same(key, last.key),
-    }
-}
-
 /// Whether a message is the newest of its key, or a pin shows it.
 fn keeps<B: Allocator + Copy>(
     pins: &Pins<B>,
@@ -114,7 +89,7 @@ fn keeps<B: Allocator + Copy>(
     match newer {
         None => true,
         Some(newer) => {
-            !is_same(newer.key, message.key)
+            !newer.key.is_same(message.key)
                 || pin_within(pins.of(message.key.tenant()), message.number, newer.number)
         }
     }

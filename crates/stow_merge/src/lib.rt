@@ -7,15 +7,24 @@
 //! that one message carries goes from there into the page, and only appends are folded before. A caller knows that the
 //! merged values are within the limit, or asks `has_short_values`.
 //!
+//! `FlushJob` is such a leaf and batch, with the pins and the target of a plan, to be merged apart from the tree: with no
+//! lock, and with nobody waiting. Its type keeps what a merge asks (`specs/Mergeable.antt`, for which `is_mergeable` is
+//! the test), so `FlushJob::merge` asks nothing. A `FlushResult` holds its job, and its type keeps that its pages are that
+//! job's merge, so what installs them needs nobody's word for it. Where memory is refused the job comes back whole.
+//!
 //! A call that asks for memory may be refused it at any time, so a body that always answers `AllocError` meets
 //! its contract: tests call each with ample memory. That pages are about even stands in no contract.
 #![tactic(auto)]
 
 pub mod cutting;
 pub mod fitting;
+pub mod flush_job;
+pub mod flush_result;
+pub mod flush_target;
 pub mod joining;
 pub mod keeping;
 pub mod kept;
+mod lending;
 pub mod merging;
 pub mod pins;
 pub mod survey;

@@ -1,14 +1,14 @@
 //! The merge of a leaf with a batch.
-ghost use Rattle.std.specs.Prelude.{◌≡◌, ◌+◌, ◌<◌, ◌≤◌, length, map, IfOk};
+ghost use Rattle.std.specs.Prelude.{◌≡◌, map, IfOk};
 ghost use Rattle.stow_merge.specs.Pages.{HaveShortValues, ArePagesOf};
 ghost use Rattle.stow_merge.specs.Pins.{pins_in};
 ghost use Rattle.stow_merge.specs.Writing.{versions_in, CanMerge, at_least_one_page};
 ghost use Rattle.stow_tree_model.specs.Merged.{merged};
-ghost use Rattle.stow_tree_model.specs.Order.{MessagesRise, VersionsRise};
+ghost use Rattle.stow_tree_model.specs.Order.{MessagesRise};
 ghost use Rattle.stow_tree_model.specs.TreeMessage.{message_of};
-ghost use Rattle.stow_tree_model.specs.Version.{version_of};
 
 use crate::cutting::cut;
+use crate::lending::lent_rows;
 use crate::pins::Pins;
 use crate::survey::{Survey, survey_of};
 use crate::writing::{by_key, sizes_of, write_pages};
@@ -16,7 +16,6 @@ use std::alloc::{AllocError, Allocator};
 use stow_page::packed_rows::PackedRows;
 use stow_page::rows::Rows;
 use stow_tree_model::message::Message;
-use stow_tree_model::version::Version;
 
 /// The bytes of a page before its first entry.
 const HEADER_SIZE: u32 = 5;
@@ -39,23 +38,6 @@ pub fn merge_into_pages<A: Allocator + Copy, B: Allocator + Copy, C: Allocator>(
     let lent = lent_rows(alloc, rows)?;
     let survey = survey_of(alloc, lent.as_slice(), batch, pins)?;
     paged(alloc, &survey, target)
-}
-
-/// The versions of rows, lent.
-pub(crate) fn lent_rows<'r, A: Allocator + Copy, C: Allocator>(
-    alloc: A,
-    rows: &'r Rows<C>,
-) -> Result<Vec<Version<'r>, A>, AllocError>
-    ensures all { IfOk result (λ lent. map version_of lent.items ≡ rows.now) }
-    ensures rise { VersionsRise rows.now }
-{
-    let len = rows.len();
-    let mut lent = Vec::new(alloc);
-    lent.reserve(len)?;
-    for i in 0..len {
-        lent.push(rows.get(i))?;
-    }
-    Ok(lent)
 }
 
 /// The kept versions in pages.

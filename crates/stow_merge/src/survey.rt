@@ -4,7 +4,7 @@ ghost use Rattle.std.specs.List.{flat_map};
 ghost use Rattle.stow_merge.specs.Kept.{value_between, bytes_between, kept_version};
 ghost use Rattle.stow_merge.specs.Pins.{pins_in};
 ghost use Rattle.stow_tree_model.specs.Merged.{merged};
-ghost use Rattle.stow_tree_model.specs.Op.{op_of, bytes_in};
+ghost use Rattle.stow_tree_model.specs.Op.{bytes_in};
 ghost use Rattle.stow_tree_model.specs.Operations.{bytes_or_none};
 ghost use Rattle.stow_tree_model.specs.Order.{MessagesRise, VersionsRise};
 ghost use Rattle.stow_tree_model.specs.TreeMessage.{message_of};
@@ -16,7 +16,6 @@ use crate::kept::Kept;
 use crate::pins::Pins;
 use std::alloc::{AllocError, Allocator, Global};
 use stow_tree_model::message::Message;
-use stow_tree_model::op::Op;
 use stow_tree_model::version::Version;
 
 /// The messages of a leaf's rows and a batch in order, lent, and the versions that stay of them.
@@ -87,18 +86,7 @@ fn append_all<B: Allocator + Copy>(
         ++ flat_map (λ m. bytes_in m.op) (map message_of messages.now)) }
 {
     for message in messages {
-        bytes.extend_from_slice(carried(message.op))?;
+        bytes.extend_from_slice(message.op.carried())?;
     }
     Ok(())
-}
-
-/// The bytes that an operation carries.
-pub(crate) fn carried<'a>(op: Op<'a>) -> &'a [u8]
-    ensures { result.now ≡ bytes_in (op_of op.entry) }
-{
-    match op {
-        Op::Put(value) => value,
-        Op::Gone => &[],
-        Op::Append(suffix) => suffix,
-    }
 }

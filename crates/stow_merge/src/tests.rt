@@ -2,6 +2,8 @@
 //! that random merges are those of the plain program.
 ghost use Rattle.std.specs.Prelude.{◌<◌};
 
+mod jobs;
+
 use crate::cutting::cut;
 use crate::fitting::has_short_values;
 use crate::merging::merge_into_pages;
@@ -112,17 +114,19 @@ fn below(state: &mut u64, bound: u64) -> u64
     (*state >> 33) % bound
 }
 
-fn some_bytes(state: &mut u64) -> &'static [u8] {
+/// Nothing, a byte, or the long value.
+fn some_bytes<'v>(state: &mut u64, long: &'v [u8]) -> &'v [u8] {
     match below(state, 3) {
         0 => b"",
         1 => b"x",
-        _ => b"yz",
+        _ => long,
     }
 }
 
 fn random_rows<'a>(
     alloc: Global,
     keys: &'a [TenantKeyBuf],
+    long: &'a [u8],
     state: &mut u64,
 ) -> Result<Vec<Version<'a>>, AllocError> {
     let mut rows = Vec::new(alloc);
@@ -132,7 +136,7 @@ fn random_rows<'a>(
                 let value = if below(state, 3) == 0 {
                     None
                 } else {
-                    Some(some_bytes(state))
+                    Some(some_bytes(state, long))
                 };
                 if let Some(row) = version(key.as_key(), number, value) {
                     rows.push(row)?;
@@ -146,6 +150,7 @@ fn random_rows<'a>(
 fn random_batch<'a>(
     alloc: Global,
     keys: &'a [TenantKeyBuf],
+    long: &'a [u8],
     state: &mut u64,
 ) -> Result<Vec<Message<'a>>, AllocError> {
     let mut batch = Vec::new(alloc);
@@ -153,9 +158,9 @@ fn random_batch<'a>(
         for number in 3..12u64 {
             if below(state, 3) == 0 {
                 let op = match below(state, 4) {
-                    0 => Op::Put(some_bytes(state)),
+                    0 => Op::Put(some_bytes(state, long)),
                     1 => Op::Gone,
-                    _ => Op::Append(some_bytes(state)),
+                    _ => Op::Append(some_bytes(state, long)),
                 };
                 if let Some(added) = message(key.as_key(), number, op) {
                     batch.push(added)?;
@@ -166,8 +171,29 @@ fn random_batch<'a>(
     Ok(batch)
 }
 
+fn random_pins(alloc: Global, state: &mut u64) -> Result<Vec<Pin>, AllocError> {
+    let mut pins = Vec::new(alloc);
+    for tenant in 1..3u32 {
+        for number in 1..13u64 {
+            if below(state, 4) == 0 {
+                pins.push(Pin { tenant, number })?;
+            }
+        }
+    }
+    Ok(pins)
+}
+
+/// The pins of a list, as far as they may be added.
+fn pins_of<A: Allocator + Copy>(alloc: A, listed: &[Pin]) -> Result<Pins<A>, AllocError> {
+    let mut pins = Pins::new(alloc);
+    for pin in listed {
+        pinned(&mut pins, pin.tenant, pin.number)?;
+    }
+    Ok(pins)
+}
+
 /// The rows in one block.
-fn packed(alloc: Global, rows: &[Version<'_>]) -> Result<Rows, AllocError> {
+fn packed<A: Allocator + Copy>(alloc: A, rows: &[Version<'_>]) -> Result<Rows<A>, AllocError> {
     let mut packed = PackedRows::new(alloc)?;
     for row in rows {
         if packed.is_below(*row) && packed.has_room_for(*row) {
@@ -214,17 +240,10 @@ fn pages_as_plain(
     keys: &[TenantKeyBuf],
     state: &mut u64,
 ) -> Result<usize, AllocError> {
-    let rows = random_rows(alloc, keys, state)?;
-    let batch = random_batch(alloc, keys, state)?;
-    let mut pins = Pins::new(alloc);
-    let mut listed = Vec::new(alloc);
-    for tenant in 1..3u32 {
-        for number in 1..13u64 {
-            if below(state, 4) == 0 && pinned(&mut pins, tenant, number)? {
-                listed.push(Pin { tenant, number })?;
-            }
-        }
-    }
+    let rows = random_rows(alloc, keys, b"yz", state)?;
+    let batch = random_batch(alloc, keys, b"yz", state)?;
+    let listed = random_pins(alloc, state)?;
+    let pins = pins_of(alloc, listed.as_slice())?;
     let plain = merge(alloc, rows.as_slice(), batch.as_slice(), listed.as_slice())?;
     let leaf = packed(alloc, rows.as_slice())?;
     assert!(rt; messages_rise(batch.as_slice()));
@@ -267,8 +286,8 @@ fn merge_withstands_each_refusal(rt: HostRuntime) -> Result<(), Fail> {
         TenantKeyBuf::new(alloc, 1, b"b")?,
     ];
     let mut state = 5;
-    let rows = random_rows(alloc, keys.as_slice(), &mut state)?;
-    let batch = random_batch(alloc, keys.as_slice(), &mut state)?;
+    let rows = random_rows(alloc, keys.as_slice(), b"yz", &mut state)?;
+    let batch = random_batch(alloc, keys.as_slice(), b"yz", &mut state)?;
     let pins = Pins::new(alloc);
     let plain = merge(alloc, rows.as_slice(), batch.as_slice(), &[])?;
     let leaf = packed(alloc, rows.as_slice())?;

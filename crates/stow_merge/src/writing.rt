@@ -11,9 +11,8 @@ ghost use Rattle.stow_tree_model.specs.TreeMessage.{message_of};
 ghost use Rattle.stow_tree_model.specs.Value.{bytes_at, IsValue};
 ghost use Rattle.stow_tree_model.specs.Version.{version_of};
 
-use crate::keeping::is_same;
 use crate::kept::Kept;
-use crate::survey::{Survey, between, carried};
+use crate::survey::{Survey, between};
 use std::alloc::{AllocError, Allocator};
 use stow_page::packed_rows::PackedRows;
 use stow_page::rows::Rows;
@@ -45,7 +44,7 @@ fn run_length(key: TenantKey<'_>, kept: &[Kept<'_>]) -> usize
     ensures within { result ≤ length kept.now }
 {
     for i in 0..kept.len() {
-        if !is_same(key, kept[i].key) {
+        if !key.is_same(kept[i].key) {
             return i;
         }
     }
@@ -105,11 +104,12 @@ fn tail_size<B: Allocator + Copy>(survey: &Survey<'_, B>, version: Kept<'_>) -> 
 /// How many bytes messages carry, which are together within the limit of values.
 fn carried_size(messages: &[Message<'_>]) -> usize
     requires { length (flat_map (λ m. bytes_in m.op) (map message_of messages.now)) ≤ value_limit }
-    ensures { result ≡ length (flat_map (λ m. bytes_in m.op) (map message_of messages.now)) }
+    ensures size { result ≡ length (flat_map (λ m. bytes_in m.op) (map message_of messages.now)) }
+    ensures small { result ≤ value_limit }
 {
     let mut size = 0;
     for i in 0..messages.len() {
-        size += carried(messages[i].op).len();
+        size += messages[i].op.carried().len();
     }
     size
 }
@@ -173,7 +173,7 @@ fn carried_or<'s>(messages: &'s [Message<'s>], folded: &'s [u8]) -> &'s [u8]
     ensures { result.now ≡ flat_map (λ m. bytes_in m.op) (map message_of messages.now) }
 {
     if messages.len() == 1 {
-        carried(messages[0].op)
+        messages[0].op.carried()
     } else {
         folded
     }

@@ -25,7 +25,7 @@ other_placed m n (x ∷ xs) o h = step (is_below (place_of n) x) (other_placed m
 abbrev pub AllOther : List TreeMessage → List TreeMessage → Type 0
 AllOther ms ns = AllByRecursion (λ m. AllByRecursion (Other m) ns) ms
 
-all_other_placed : (n : TreeMessage) (ms ns : List TreeMessage) → AllAbove (place_of n) ms → AllOther ms ns → AllOther ms (placed n ns)
+pub all_other_placed : (n : TreeMessage) (ms ns : List TreeMessage) → AllAbove (place_of n) ms → AllOther ms ns → AllOther ms (placed n ns)
 all_other_placed n [] ns above h = tt
 all_other_placed n (m ∷ ms) ns above h = (other_placed m n ns (ap is_eq above.0) h.0, all_other_placed n ms ns above.1 h.1)
 

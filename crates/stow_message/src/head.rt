@@ -26,17 +26,6 @@ pub(crate) struct Head {
     pub(crate) value_len: usize,
 }
 
-/// The bytes that an operation carries.
-pub(crate) fn carried(op: Op<'_>) -> &[u8]
-    ensures { result.now ≡ bytes_in (op_of op.entry) }
-{
-    match op {
-        Op::Put(value) => value,
-        Op::Gone => &[],
-        Op::Append(suffix) => suffix,
-    }
-}
-
 /// The number that stands for the operation.
 pub(crate) fn kind(op: Op<'_>) -> u8
     ensures { result ≡ kind_of (op_of op.entry) }
@@ -63,7 +52,7 @@ pub(crate) fn op_with(kind: u8, bytes: &[u8]) -> Op<'_>
 pub fn size(message: Message<'_>) -> usize
     ensures { result ≡ message_size (message_of message.entry) }
 {
-    OVERHEAD + message.key.bytes.len() + carried(message.op).len()
+    OVERHEAD + message.key.bytes.len() + message.op.carried().len()
 }
 
 pub(crate) fn write_head(message: Message<'_>) -> [u8; HEAD]
@@ -71,7 +60,7 @@ pub(crate) fn write_head(message: Message<'_>) -> [u8; HEAD]
 {
     let key_len = (message.key.bytes.len() as u16).to_be_bytes();
     let number = message.number.to_be_bytes();
-    let value_len = (carried(message.op).len() as u16).to_be_bytes();
+    let value_len = (message.op.carried().len() as u16).to_be_bytes();
     [
         key_len[0],
         key_len[1],

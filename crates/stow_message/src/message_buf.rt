@@ -9,7 +9,7 @@ ghost use Rattle.stow_message.specs.Packed.{message_bytes, message_size, message
 ghost use Rattle.stow_message.specs.Rising.{is_below, below, placed, IsNew, of_key, in_range, out_of_range, all_placed, AreNew, is_same, is_first, is_first_below, AreHeld, without};
 ghost use Rattle.std.specs.List.{All, AllByRecursion, sum_by, remove_range};
 
-use crate::head::{HEAD, SLOT, carried, kind, op_with, read_head, size, write_head};
+use crate::head::{HEAD, SLOT, kind, op_with, read_head, size, write_head};
 use crate::newest::Newest;
 use crate::run::Run;
 use std::alloc::{AllocError, Allocator, Global};
@@ -66,7 +66,7 @@ fn is_same(a: Message<'_>, b: Message<'_>) -> bool
     a.number == b.number
         && kind(a.op) == kind(b.op)
         && a.key.bytes == b.key.bytes
-        && carried(a.op) == carried(b.op)
+        && a.op.carried() == b.op.carried()
 }
 
 /// The message that begins `at` bytes into the front.
@@ -94,7 +94,7 @@ fn append<A: Allocator>(raw: &mut RawBuf<A>, message: Message<'_>)
 {
     raw.push_front(&write_head(message));
     raw.push_front(message.key.bytes);
-    raw.push_front(carried(message.op));
+    raw.push_front(message.op.carried());
 }
 
 /// Packs the messages of a run after the bytes at the front.

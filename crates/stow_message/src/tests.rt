@@ -1,7 +1,7 @@
 //! Worked rows, random calls beside a sorted vector, and the calls that take no memory with all of it refused.
 ghost use Rattle.std.specs.Prelude.{◌≡◌, ◌<◌};
 
-use crate::head::{carried, kind, size};
+use crate::head::{kind, size};
 use crate::message_buf::MessageBuf;
 use crate::newest::Newest;
 use crate::run::Run;
@@ -107,7 +107,7 @@ fn is_of(message: Message<'_>, (rank, number): (u8, u64)) -> bool {
     message.key.bytes == [0, 0, 0, rank / 4 + 1, rank % 4].as_slice()
         && message.number == number
         && kind(message.op) == 0
-        && carried(message.op) == [rank].as_slice()
+        && message.op.carried() == [rank].as_slice()
 }
 
 /// Whether these are the messages of the run.

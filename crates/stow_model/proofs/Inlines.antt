@@ -327,18 +327,6 @@ no_words : (words : List (List ℕ)) → length words ≡ 0 → message_of_words
 no_words [] none = refl
 no_words (word ∷ words) none = absurd (omega arith)
 
-pub is_none : (b : Bool) (slice words : List (List ℕ)) → b ≡ (length slice == 0) → slice ≡ words → b ≡ true → length words ≡ 0
-is_none b slice words is same e = ap length (sym same) ∙ zero_test (length slice) (sym is ∙ e)
-  where
-    zero_test : (n : ℕ) → (n == 0) ≡ true → n ≡ 0
-    zero_test n t = grind (arith, nat_tests)
-
-pub is_some : (b : Bool) (slice words : List (List ℕ)) → b ≡ (length slice == 0) → slice ≡ words → b ≡ false → 0 < length words
-is_some b slice words is same e = subst (λ t. 0 < length t) same (some_test (length slice) (sym is ∙ e))
-  where
-    some_test : (n : ℕ) → (n == 0) ≡ false → 0 < n
-    some_test n t = grind (arith, nat_tests)
-
 pub asks_for_words : (line text : List ℕ) → text ≡ text_of_line line → list_any is_quote text ≡ false → 0 < length (words_of_text text) → AsksForWords line
 asks_for_words line text at none some = (words_of_text text, unquoted line text at none ∙ some_words (words_of_text text) some)
 

@@ -1,3 +1,5 @@
+pub mod Spans
+pub mod ItemSpans
 pub mod Spelling
 pub mod Numbers
 pub mod Bulks

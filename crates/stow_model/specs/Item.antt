@@ -28,8 +28,8 @@ item_encoding (Integer n) = integer_encoding n
 item_encoding (Bulk bytes) = bulk_encoding bytes
 item_encoding Null = null_encoding
 
--- what the code's type stands for, whatever allocator it has its memory from
-abbrev pub item_of : {A : Type 0} → coded.Item A → Item
+-- what the code's type stands for, where it is lent
+abbrev pub item_of : coded.Item → Item
 item_of (in_item.Integer n) = Integer n
-item_of (in_item.Bulk bytes) = Bulk bytes
+item_of (in_item.Bulk bytes) = Bulk bytes.now
 item_of in_item.Null = Null

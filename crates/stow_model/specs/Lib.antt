@@ -1,7 +1,10 @@
 pub mod Limits
+pub mod Spans
+pub mod LentWords
 pub mod Texts
 pub mod Message
 pub mod Item
+pub mod Items
 pub mod Reply
 pub mod Event
 pub mod Wire

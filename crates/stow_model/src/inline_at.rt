@@ -1,5 +1,5 @@
 //! A request in inline form: a line, and the words that stand in it.
-ghost use Rattle.std.specs.Prelude.{◌≡◌, ◌<◌, length, map, IfOk, OnErr};
+ghost use Rattle.std.specs.Prelude.{◌≡◌, ◌++◌, length, IfOk, OnOk, OnErr};
 ghost use Rattle.stow_model.specs.Message.{message_of};
 ghost use Rattle.stow_model.specs.Wire.{is_space, is_quote, words_of_text, text_of_line, message_of_text};
 ghost use Rattle.stow_model.specs.Parts.{IsInlineAt, IsLooked, AsksForWords, IsNextWord};
@@ -7,7 +7,6 @@ ghost use Rattle.stow_model.specs.Parts.{IsInlineAt, IsLooked, AsksForWords, IsN
 use crate::message::Message;
 use crate::words::Words;
 use std::alloc::{AllocError, Allocator};
-use stow_bytes::byte_string::ByteString;
 
 /// What is found where an inline request's line is to stand.
 pub enum InlineAt<'a> {
@@ -44,10 +43,12 @@ pub fn inline_message<A: Allocator + Copy>(alloc: A, line: &[u8]) -> Result<Mess
     if text.iter().any(|b| is_quote(*b)) {
         return Ok(Message::Quoted);
     }
-    let words = words_of_text(alloc, text)?;
-    if words.as_slice().is_empty() {
+    let count = word_count(text);
+    if count == 0 {
         return Ok(Message::Blank);
     }
+    let mut words = Words::with_capacity(alloc, count, text.len())?;
+    copy_words(text, &mut words)?;
     Ok(Message::Words(words))
 }
 
@@ -61,18 +62,29 @@ fn text_of_line(line: &[u8]) -> &[u8]
     if *last == b'\r' { front } else { line }
 }
 
-/// Copies of the words of a text.
-fn words_of_text<A: Allocator + Copy>(alloc: A, text: &[u8]) -> Result<Words<A>, AllocError>
-    ensures ok { IfOk result (λ words. words ≡ words_of_text text.now) }
-    ensures err { OnErr result (0 < length (words_of_text text.now)) }
+/// How many words a text has.
+fn word_count(text: &[u8]) -> usize
+    ensures { result ≡ length (words_of_text text.now) }
 {
-    let mut words = Vec::new(alloc);
+    let mut count = 0;
     let mut left = text;
-    while let Some((word, rest)) = next_word(left) {
-        words.push(ByteString::from_slice(alloc, word)?)?;
+    while let Some((_, rest)) = next_word(left) {
+        count += 1;
         left = rest;
     }
-    Ok(Words::from_vec(words))
+    count
+}
+
+/// Adds copies of the words of a text.
+fn copy_words<A: Allocator>(text: &[u8], words: &mut Words<A>) -> Result<(), AllocError>
+    ensures { OnOk result (words.new ≡ words.old ++ words_of_text text.now) }
+{
+    let mut left = text;
+    while let Some((word, rest)) = next_word(left) {
+        words.push(word)?;
+        left = rest;
+    }
+    Ok(())
 }
 
 /// The first word of a text, if it has one, and what comes after that word.

@@ -1,11 +1,9 @@
 //! Replies inside an array.
-use std::alloc::{Allocator, Global};
-use stow_bytes::byte_string::ByteString;
 
-/// A reply inside an array. No command answers an array inside an array.
-#[derive(Drop)]
-pub enum Item<A: Allocator = Global> {
+/// A reply inside an array, lent. No command answers an array inside an array.
+#[derive(Clone, Copy)]
+pub enum Item<'a> {
     Integer(i64),
-    Bulk(ByteString<A>),
+    Bulk(&'a [u8]),
     Null,
 }

@@ -6,6 +6,9 @@
 //! what one tenant has and what a request means to it (`Store`), and what a list of events means to
 //! each connection and each tenant (`History`). `docs/DEFINITIONS.md` tells them in plain words.
 //!
+//! `words` and `items` hold the words of a request and the replies of an array, each in one block of bytes with
+//! the span of each, and seen as lists; `lent_words` lends words out of such a block.
+//!
 //! Beside them stand laws over the definitions (`laws`), and a reader of streams (`reader`) that is slow and
 //! plain, and whose contract is the definition; `stow_plain` has one tenant's own run. Tests compare with them;
 //! the service does not run them.
@@ -20,8 +23,10 @@ pub mod bulk_at;
 pub mod event;
 pub mod inline_at;
 pub mod item;
+pub mod item_span;
 pub mod items;
 pub mod laws;
+pub mod lent_words;
 pub mod message;
 pub mod message_at;
 pub mod number_at;
@@ -29,6 +34,7 @@ pub mod reader;
 pub mod refusal;
 pub mod reply;
 pub mod simple_string;
+pub mod span;
 pub mod stream_fault;
 pub mod stream_read;
 pub mod stream_rest;

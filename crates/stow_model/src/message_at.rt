@@ -10,7 +10,6 @@ use crate::number_at::{NumberAt, number};
 use crate::stream_fault::StreamFault;
 use crate::words::Words;
 use std::alloc::{AllocError, Allocator, Global};
-use stow_bytes::byte_string::ByteString;
 
 /// What is found at the front of a stream's bytes.
 #[derive(Drop)]
@@ -111,17 +110,17 @@ fn elements<A: Allocator + Copy>(
     requires few { count ≤ 1024 }
     ensures { IfOk result (λ found. IsMessageAt (array_line count ++ rest.now) found) }
 {
-    let mut words = Vec::new(alloc);
+    let mut words = Words::new(alloc);
     let mut left = rest;
     for index in 0..count {
         match bulk(left) {
             BulkAt::Bulk(word, after) => {
-                words.push(ByteString::from_slice(alloc, word)?)?;
+                words.push(word)?;
                 left = after;
             }
             BulkAt::More => return Ok(MessageAt::More),
             BulkAt::Stuck(fault) => return Ok(MessageAt::Faulty(fault)),
         }
     }
-    Ok(MessageAt::Message(Message::Words(Words::from_vec(words)), left))
+    Ok(MessageAt::Message(Message::Words(words), left))
 }

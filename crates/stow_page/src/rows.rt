@@ -14,7 +14,7 @@ use std::sync::Arc;
 use stow_tree_model::tenant_key::TenantKey;
 use stow_tree_model::version::Version;
 
-/// Versions that rise by key, then number. A copy shares the block.
+/// Versions that rise by key, then number, in a block that a copy shares.
 #[derive(Drop)]
 pub struct Rows<A: Allocator = Global> {
     packed: Arc<PackedRows<A>, A>,
@@ -45,6 +45,15 @@ impl<A: Allocator> Rows<A> {
         ensures { result ≡ arc_value packed }
     {
         Rows { packed }
+    }
+
+    /// The same rows, sharing their block.
+    pub fn share(&self) -> Result<Rows<A>, AllocError>
+        ensures { IfOk result (λ r. r ≡ self.now) }
+    {
+        Ok(Rows {
+            packed: Arc::try_clone(&self.packed)?,
+        })
     }
 
     /// The block that they stand in, shared.

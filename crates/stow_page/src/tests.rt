@@ -58,7 +58,7 @@ fn worked_page(rt: HostRuntime) -> Result<(), Fail> {
     let version = rows.get(0);
     assert!(rt; version.key.bytes == b"\x00\x00\x00\x01a".as_slice() && version.number == 1);
     assert!(rt; version.value == Some(b"x".as_slice()));
-    let page = pack(&rows)?;
+    let page = pack(&rows.share()?)?;
     assert!(rt; page.as_bytes() == WORKED);
     let again = unpack(alloc, &page.share()?)?;
     assert!(rt; !again.is_empty() && again.get(0).value == Some(b"x".as_slice()));

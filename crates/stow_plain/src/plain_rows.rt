@@ -1,9 +1,10 @@
 //! The rows of one tenant, as a sorted map.
-ghost use Rattle.std.specs.Prelude.{◌≡◌, ◌<◌, ◌^◌, map as list_map, sum_by, IfOk, OnOk, OnErr};
+ghost use Rattle.std.specs.Prelude.{◌≡◌, ◌<◌, ◌^◌, ◌++◌, ◌∷◌, [], map as list_map, sum_by};
+ghost use Rattle.std.specs.Prelude.{IfOk, OnOk, OnErr};
 ghost use Rattle.std.specs.Option.{option_copied, SomeIff};
 ghost use Rattle.std.specs.List.{flat_map};
 ghost use Rattle.std.specs.FinMap as map;
-ghost use Rattle.stow_model.specs.Item.{item_of};
+ghost use Rattle.stow_model.specs.LentWords.{words_in};
 ghost use Rattle.stow_model.specs.Store.{cost, count_rows, item_or_null, length_or_zero, row_items, rows_within, rows_without, value_in};
 ghost use Rattle.stow_model.specs.Store as meant;
 
@@ -12,7 +13,8 @@ use std::alloc::{AllocError, Allocator, Global};
 use std::collections::BTreeMap;
 use std::marker::Model;
 use stow_bytes::byte_string::ByteString;
-use stow_model::item::Item;
+use stow_model::items::Items;
+use stow_model::lent_words::LentWords;
 
 /// Keys in byte order, each with its version.
 #[derive(Drop)]
@@ -71,36 +73,39 @@ impl<A: Allocator + Copy> PlainRows<A> {
         }
     }
 
-    /// The value of a key, or `Null`.
-    pub fn item(&self, alloc: A, key: &[u8]) -> Result<Item<A>, AllocError>
-        ensures { IfOk result (λ i. item_of i ≡ item_or_null (map.get self.now key.now)) }
+    /// Adds the value of a key, or `Null`.
+    pub fn push_item(&self, key: &[u8], items: &mut Items<A>) -> Result<(), AllocError>
+        ensures { OnOk result
+            (items.new ≡ items.old ++ item_or_null (map.get self.now key.now) ∷ []) }
     {
         match self.value(key) {
-            None => Ok(Item::Null),
-            Some(value) => Ok(Item::Bulk(ByteString::from_slice(alloc, value)?)),
+            None => items.push_null(),
+            Some(value) => items.push_bulk(value),
         }
     }
 
     /// The value of each key, or `Null`.
-    pub fn items(&self, alloc: A, keys: &[ByteString<A>]) -> Result<Vec<Item<A>, A>, AllocError>
-        ensures { IfOk result (λ items. list_map item_of items.items
-            ≡ list_map (λ key. item_or_null (map.get self.now key)) keys.now) }
+    pub fn items(&self, alloc: A, keys: LentWords<'_>) -> Result<Items<A>, AllocError>
+        ensures { IfOk result (λ items. items
+            ≡ list_map (λ key. item_or_null (map.get self.now key)) (words_in keys.entry)) }
     {
-        let mut items = Vec::new(alloc);
-        for key in keys {
-            items.push(self.item(alloc, key.as_slice())?)?;
+        let mut items = Items::new(alloc);
+        let mut left = keys;
+        while let Some((key, later)) = left.split_first() {
+            self.push_item(key, &mut items)?;
+            left = later;
         }
         Ok(items)
     }
 
     /// How many of the keys have a row, each as often as it is named.
-    pub fn count(&self, keys: &[ByteString<A>]) -> usize
-        ensures count { result ≡ count_rows self.now keys.now }
+    pub fn count(&self, keys: LentWords<'_>) -> usize
+        ensures count { result ≡ count_rows self.now (words_in keys.entry) }
         ensures small { result < 2 ^ 63 }
     {
         let mut count = 0;
-        for key in keys {
-            if self.value(key.as_slice()).is_some() {
+        for index in 0..keys.len() {
+            if self.value(keys.get(index)).is_some() {
                 count += 1;
             }
         }
@@ -114,19 +119,19 @@ impl<A: Allocator + Copy> PlainRows<A> {
         from: &[u8],
         to: &[u8],
         count: u32,
-    ) -> Result<Vec<Item<A>, A>, AllocError>
-        ensures { IfOk result (λ items. list_map item_of items.items
+    ) -> Result<Items<A>, AllocError>
+        ensures { IfOk result (λ items. items
             ≡ flat_map row_items (rows_within from.now to.now count self.now)) }
     {
-        let mut items = Vec::new(alloc);
+        let mut items = Items::new(alloc);
         let mut left = count;
         for (key, version) in self.rows.iter() {
             if left == 0 {
                 return Ok(items);
             }
             if is_within(from, to, key.as_slice()) {
-                items.push(Item::Bulk(ByteString::from_slice(alloc, key.as_slice())?))?;
-                items.push(Item::Bulk(version.value.clone()?))?;
+                items.push_bulk(key.as_slice())?;
+                items.push_bulk(version.value.as_slice())?;
                 left -= 1;
             }
         }
@@ -177,12 +182,14 @@ impl<A: Allocator + Copy> PlainRows<A> {
     }
 
     /// A copy of the rows without these keys.
-    pub fn without(&self, keys: &[ByteString<A>]) -> Result<PlainRows<A>, AllocError>
-        ensures { IfOk result (λ rows. rows ≡ rows_without keys.now self.now) }
+    pub fn without(&self, keys: LentWords<'_>) -> Result<PlainRows<A>, AllocError>
+        ensures { IfOk result (λ rows. rows ≡ rows_without (words_in keys.entry) self.now) }
     {
         let mut rows = self.clone()?;
-        for key in keys {
-            rows.remove(key.as_slice());
+        let mut left = keys;
+        while let Some((key, later)) = left.split_first() {
+            rows.remove(key);
+            left = later;
         }
         Ok(rows)
     }

@@ -4,6 +4,7 @@ ghost use Rattle.std.specs.Option.{SomeIff};
 ghost use Rattle.stow_commands.specs.Commands.{command_of, reading_of, update_of};
 ghost use Rattle.stow_commands.specs.Outcomes.{IsOutcome};
 ghost use Rattle.stow_model.specs.Command as command;
+ghost use Rattle.stow_model.specs.LentWords.{words_in};
 ghost use Rattle.stow_model.specs.Store as store;
 ghost use Rattle.stow_model.specs.Reply.{reply_of};
 ghost use Rattle.stow_plain.specs.OwnRun.{request_of, store_of, Tells};
@@ -16,7 +17,7 @@ use stow_commands::command::Command;
 use stow_commands::outcome::Outcome;
 use stow_commands::outcome_fault::OutcomeFault;
 use stow_commands::update::Update;
-use stow_model::items::Items;
+use stow_model::lent_words::LentWords;
 use stow_model::refusal::Refusal;
 use stow_model::reply::Reply;
 use stow_model::simple_string::SimpleString;
@@ -100,7 +101,7 @@ impl<A: Allocator + Copy> PlainStore<A> {
     fn answer(
         &mut self,
         alloc: A,
-        reading: Result<Command<'_, A>, Refusal>,
+        reading: Result<Command<'_>, Refusal>,
     ) -> Result<Reply<A>, AllocError>
         ensures ok { IfOk result
             (λ r. Tells self.new r
@@ -113,7 +114,7 @@ impl<A: Allocator + Copy> PlainStore<A> {
         }
     }
 
-    fn serve(&mut self, alloc: A, command: Command<'_, A>) -> Result<Reply<A>, AllocError>
+    fn serve(&mut self, alloc: A, command: Command<'_>) -> Result<Reply<A>, AllocError>
         ensures ok { IfOk result
             (λ r. Tells self.new r (store.served (store_of self.old) (command_of command.entry))) }
         ensures err { OnErr result (self.new ≡ self.old) }
@@ -122,15 +123,12 @@ impl<A: Allocator + Copy> PlainStore<A> {
             Command::Ping => Ok(Reply::Simple(SimpleString::Pong)),
             Command::Echo(text) => Ok(Reply::Bulk(ByteString::from_slice(alloc, text)?)),
             Command::Get(key) => self.get(alloc, key),
-            Command::GetMany(keys) => {
-                let items = self.rows.items(alloc, keys)?;
-                Ok(Reply::Array(Items::from_vec(items)))
-            }
+            Command::GetMany(keys) => Ok(Reply::Array(self.rows.items(alloc, keys)?)),
             Command::Exists(keys) => Ok(Reply::Integer(self.rows.count(keys) as i64)),
             Command::Length(key) => Ok(Reply::Integer(self.rows.value_len(key) as i64)),
             Command::Range(from, to, count) => {
                 let items = self.rows.items_within(alloc, from, to, count)?;
-                Ok(Reply::Array(Items::from_vec(items)))
+                Ok(Reply::Array(items))
             }
             Command::Del(keys) => self.del(keys),
             Command::Change(key, update) => self.change(alloc, key, update),
@@ -199,9 +197,9 @@ impl<A: Allocator + Copy> PlainStore<A> {
         Ok(reply)
     }
 
-    fn del(&mut self, keys: &[ByteString<A>]) -> Result<Reply<A>, AllocError>
+    fn del(&mut self, keys: LentWords<'_>) -> Result<Reply<A>, AllocError>
         ensures ok { IfOk result
-            (λ r. Tells self.new r (store.del_answer (store_of self.old) keys.now)) }
+            (λ r. Tells self.new r (store.del_answer (store_of self.old) (words_in keys.entry))) }
         ensures err { OnErr result (self.new ≡ self.old) }
     {
         let rows = self.rows.without(keys)?;

@@ -5,7 +5,6 @@ use crate::plain_request::PlainRequest;
 use crate::plain_store::PlainStore;
 use std::alloc::{AllocError, Allocator, Global};
 use std::test::Fail;
-use stow_bytes::byte_string::ByteString;
 use stow_model::item::Item;
 use stow_model::refusal::{Refusal, refusal_text};
 use stow_model::reply::Reply;
@@ -20,26 +19,22 @@ fn request_of<A: Allocator + Copy>(alloc: A, line: &str) -> Result<PlainRequest<
         Some(rest) => (rest, true),
         None => (line, false),
     };
-    let mut words = Vec::new(alloc);
+    let mut words = Words::new(alloc);
     for word in line.split_whitespace() {
-        let bytes = if word == "''" { b"" } else { word.as_bytes() };
-        words.push(ByteString::from_slice(alloc, bytes)?)?;
+        words.push(if word == "''" { b"" } else { word.as_bytes() })?;
     }
-    Ok(PlainRequest {
-        words: Words::from_vec(words),
-        is_refused,
-    })
+    Ok(PlainRequest { words, is_refused })
 }
 
 /// A request of a name, and of words of one byte repeated.
 fn long_request(alloc: Global, name: &[u8], lengths: &[usize]) -> Result<PlainRequest, AllocError> {
-    let mut words = Vec::new(alloc);
-    words.push(ByteString::from_slice(alloc, name)?)?;
+    let mut words = Words::new(alloc);
+    words.push(name)?;
     for length in lengths {
-        words.push(ByteString::from_vec(repeated(alloc, b"x", *length)?))?;
+        words.push(repeated(alloc, b"x", *length)?.as_slice())?;
     }
     Ok(PlainRequest {
-        words: Words::from_vec(words),
+        words,
         is_refused: false,
     })
 }
@@ -68,8 +63,8 @@ fn reply_text<A: Allocator + Copy>(alloc: A, reply: &Reply<A>) -> Result<Vec<u8,
         Reply::Null => text.extend_from_slice(b"nil")?,
         Reply::Array(items) => {
             text.push(b'[')?;
-            for item in items.as_slice() {
-                text.extend_from_slice(item_text(alloc, item)?.as_slice())?;
+            for index in 0..items.len() {
+                push_item(&mut text, alloc, items.get(index))?;
             }
             text.push(b']')?;
         }
@@ -77,18 +72,21 @@ fn reply_text<A: Allocator + Copy>(alloc: A, reply: &Reply<A>) -> Result<Vec<u8,
     Ok(text)
 }
 
-fn item_text<A: Allocator + Copy>(alloc: A, item: &Item<A>) -> Result<Vec<u8, A>, AllocError> {
-    let mut text = Vec::new(alloc);
+fn push_item<A: Allocator + Copy>(
+    text: &mut Vec<u8, A>,
+    alloc: A,
+    item: Item<'_>,
+) -> Result<(), AllocError> {
     match item {
         Item::Integer(n) => text.extend_from_slice(format!(in alloc; ":{n}")?.as_bytes())?,
         Item::Bulk(bytes) => {
             text.push(b'$')?;
-            text.extend_from_slice(bytes.as_slice())?;
+            text.extend_from_slice(bytes)?;
         }
         Item::Null => text.extend_from_slice(b"nil")?,
     }
     text.push(b' ')?;
-    Ok(text)
+    Ok(())
 }
 
 /// The replies of a tenant's own run, each after a `;`, and then its usage report.

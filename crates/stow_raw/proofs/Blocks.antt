@@ -1,56 +1,61 @@
 -- The lists of a block after a step on its bytes.
-use Rattle.std.proofs.Common.{◌≡◌, ℕ, zero, suc, ◌+◌, ◌-◌, ◌*◌, ◌^◌, ◌<◌, ◌≤◌, List, [], ◌∷◌, ◌++◌, length, take, drop, set, refl, sym, ap, ◌∙◌, arith, length-take, length-drop, length-append, append_assoc, take-take, drop-drop}
-use Rattle.std.proofs.Math.Seq.{take-append_seam, drop-append_seam}
-use Rattle.std.proofs.lemmas.List.{take-append-le, drop-append-le, length-take-le, set_split}
+use Rattle.std.proofs.Common.{◌≡◌, ℕ, suc, ◌+◌, ◌-◌, ◌*◌, ◌^◌, ◌<◌, ◌≤◌, List, [], ◌∷◌, ◌++◌, length, take, drop, set, map, Option, Some, None, MatchOption, replicate, refl, sym, subst, ap, ◌∙◌, arith, length-take, length-drop, length-append, append_assoc, take-take, drop-drop}
+use Rattle.std.proofs.Math.Seq.{take-append_seam, drop-append_seam, drop-length}
+use Rattle.std.proofs.lemmas.List.{drop-take, take_all, take-append-le, length-take-le, length-map, length-replicate, map-append, set_split}
 use Rattle.std.specs.Int.{w32, to_be_bytes}
-use Rattle.stow_raw.specs.Laid.{slots_start, front_of, row_of, slots_of, IsLaid, Becomes}
+use Rattle.stow_raw.specs.Cells.{run, written, IsWritten}
+use Rattle.stow_raw.specs.Frees.{Frees}
+use Rattle.stow_raw.specs.Laid.{slots_start, front_cells, slot_cells, front_of, slots_of, IsLaid, Becomes}
+use Rattle.stow_raw.proofs.Written.{written_as, length-written, written_take, written_drop}
 use Rattle.stow_raw.specs.Words.{words}
 use Rattle.stow_raw.specs.RawBuf.{RawLists, raw_lists}
 use Rattle.stow_raw.specs.declared.block.Block.{Block}
+use Rattle.stow_raw.specs.declared.lease.Lease.{Lease}
+use denote.RawPtr.{Ptr}
 use Rattle.stow_raw.proofs.WordLists.{length-words, words-append, words-spelled, take-words, drop-words}
 
--- ---- bytes written over others
+-- ---- a list written over another
 
-module _ (bytes src : List ℕ) (at : ℕ) (within : at + length src ≤ length bytes) where
-  abbrev pub written : List ℕ
-  written = take at bytes ++ (src ++ drop (at + length src) bytes)
+module _ {X : Type 0} (bytes src : List X) (at : ℕ) (within : at + length src ≤ length bytes) where
+  abbrev pub pasted : List X
+  pasted = take at bytes ++ (src ++ drop (at + length src) bytes)
 
   front_is : length (take at bytes) ≡ at
   front_is = length-take-le at bytes (omega arith)
 
-  pub length-written : length written ≡ length bytes
-  length-written =
+  pub length-pasted : length pasted ≡ length bytes
+  length-pasted =
       let front = front_is in
       let both = length-append (take at bytes) (src ++ drop (at + length src) bytes) in
       let later = length-append src (drop (at + length src) bytes) in
       let rest = length-drop (at + length src) bytes in
       omega arith
 
-  pub drop-written : drop at written ≡ src ++ drop (at + length src) bytes
-  drop-written = ap (λ n. drop n written) (sym front_is) ∙ drop-append_seam (take at bytes) (src ++ drop (at + length src) bytes)
+  pub drop-pasted : drop at pasted ≡ src ++ drop (at + length src) bytes
+  drop-pasted = ap (λ n. drop n pasted) (sym front_is) ∙ drop-append_seam (take at bytes) (src ++ drop (at + length src) bytes)
 
-  pub take-written : take (at + length src) written ≡ take at bytes ++ src
-  take-written =
+  pub take-pasted : take (at + length src) pasted ≡ take at bytes ++ src
+  take-pasted =
       let seam : length (take at bytes ++ src) ≡ at + length src = length-append (take at bytes) src ∙ ap (λ n. n + length src) front_is in
-      let rest : List ℕ = drop (at + length src) bytes in
+      let rest : List X = drop (at + length src) bytes in
       (λ i. take (sym seam i) (sym (append_assoc (take at bytes) src rest) i)) ∙ take-append_seam (take at bytes ++ src) rest
 
-  pub drop-past-written : (m : ℕ) → at + length src ≤ m → drop m written ≡ drop m bytes
-  drop-past-written m le =
-      let rest : List ℕ = drop (at + length src) bytes in
+  pub drop-past-pasted : (m : ℕ) → at + length src ≤ m → drop m pasted ≡ drop m bytes
+  drop-past-pasted m le =
+      let rest : List X = drop (at + length src) bytes in
       let k = m - (at + length src) in
       let here : at + length src + k ≡ m = omega arith in
       let seam : length (take at bytes ++ src) ≡ at + length src = length-append (take at bytes) src ∙ ap (λ n. n + length src) front_is in
-      let past : drop (at + length src) written ≡ rest = (λ i. drop (sym seam i) (sym (append_assoc (take at bytes) src rest) i)) ∙ drop-append_seam (take at bytes ++ src) rest in
-      ap (λ j. drop j written) (sym here) ∙ sym (drop-drop k (at + length src) written) ∙ ap (drop k) past ∙ drop-drop k (at + length src) bytes ∙ ap (λ j. drop j bytes) here
+      let past : drop (at + length src) pasted ≡ rest = (λ i. drop (sym seam i) (sym (append_assoc (take at bytes) src rest) i)) ∙ drop-append_seam (take at bytes ++ src) rest in
+      ap (λ j. drop j pasted) (sym here) ∙ sym (drop-drop k (at + length src) pasted) ∙ ap (drop k) past ∙ drop-drop k (at + length src) bytes ∙ ap (λ j. drop j bytes) here
 
-  pub take-before-written : (m : ℕ) → m ≤ at → take m written ≡ take m bytes
-  take-before-written m le =
+  pub take-before-pasted : (m : ℕ) → m ≤ at → take m pasted ≡ take m bytes
+  take-before-pasted m le =
       let front = front_is in
       take-append-le m (take at bytes) (src ++ drop (at + length src) bytes) (omega arith) ∙ take-take m at bytes le
 
 module _ (n : ℕ) (bs : List ℕ) (long : length bs ≡ 4 * n) where
-  -- a number is written over, after the numbers before it were moved down
+  -- a number is pasted over, after the numbers before it were moved down
   pub word_shifted : (i x : ℕ) → i < n → x < 2 ^ 32 → words n (take (4 * i) (drop 4 bs) ++ (to_be_bytes w32 x ++ drop (4 * i + 4) bs)) ≡ take i (drop 1 (words n bs)) ++ x ∷ drop (i + 1) (words n bs)
   word_shifted i x lt fits = let tail = drop (4 * i + 4) bs in let front = take (4 * i) (drop 4 bs) in let m = n - i - 1 in
       let here : length front ≡ 4 * i = omega (arith, length-take (4 * i) (drop 4 bs), length-drop 4 bs) in let on : 4 * (i + 1) ≡ 4 * i + 4 = omega arith in let less : n - (i + 1) ≡ m = omega arith in
@@ -111,13 +116,32 @@ module _ (n : ℕ) (bs : List ℕ) (long : length bs ≡ 4 * n) where
 
 module _ {A : Type 0} where
   pub length-front_of : (b : Block A) → IsLaid b → length (front_of b) ≡ b.front
-  length-front_of b h = let places = h.places in let within = h.within in length-take-le b.front b.bytes.items (omega arith)
+  length-front_of b h = let places = h.places in let within = h.within in
+      length-written (front_cells b) h.front ∙ length-take-le b.front b.cells.bytes (omega arith)
 
   pub length-slots_of : (b : Block A) → length (slots_of b) ≡ b.slots
-  length-slots_of b = length-words b.slots (row_of b)
+  length-slots_of b = length-words b.slots (written (slot_cells b))
 
-  pub row_length : (b : Block A) → IsLaid b → length (row_of b) ≡ 4 * b.slots
-  row_length b h = let places = h.places in let within = h.within in let left = length-drop (slots_start b) b.bytes.items in omega arith
+  pub length-slot_cells : (b : Block A) → IsLaid b → length (slot_cells b) ≡ 4 * b.slots
+  length-slot_cells b h = let places = h.places in let within = h.within in let left = length-drop (slots_start b) b.cells.bytes in omega arith
+
+  -- the slots' bytes
+  pub row_length : (b : Block A) → IsLaid b → length (written (slot_cells b)) ≡ 4 * b.slots
+  row_length b h = length-written (slot_cells b) h.slots ∙ length-slot_cells b h
+
+  -- a run of the front is written
+  pub front_run : (b : Block A) → IsLaid b → (at len : ℕ) → at + len ≤ b.front → IsWritten (run b.cells.bytes at len) × (written (run b.cells.bytes at len) ≡ take len (drop at (front_of b)))
+  front_run b h at len le =
+      let bytes = b.cells.bytes in let left = b.front - at in let whole : at + left ≡ b.front = omega arith in
+      let same : run bytes at len ≡ take len (drop at (front_cells b)) =
+      sym (take-take len left (drop at bytes) (omega arith)) ∙ ap (take len) (sym (drop-take at left bytes) ∙ ap (λ n. drop at (take n bytes)) whole) in
+      let tail = written_drop at (front_cells b) h.front in
+      let part = written_take len (drop at (front_cells b)) tail.0 in
+      (subst IsWritten (sym same) part.0, ap written same ∙ part.1 ∙ ap (take len) tail.1)
+
+  -- the slots' bytes are a run to the end
+  pub row_run : (b : Block A) → IsLaid b → (start : ℕ) → start ≡ slots_start b → run b.cells.bytes start (b.capacity - start) ≡ slot_cells b
+  row_run b h start here = ap (λ n. run b.cells.bytes n (b.capacity - n)) here ∙ take_all (b.capacity - slots_start b) (slot_cells b) (let places = h.places in omega (arith, length-drop (slots_start b) b.cells.bytes))
 
   -- the sizes of what a contract sees
   module _ (b : Block A) (v : RawLists) (h : IsLaid b) (e : raw_lists (front_of b) (slots_of b) b.capacity ≡ v) where
@@ -130,68 +154,105 @@ module _ {A : Type 0} where
     pub capacity_is : b.capacity ≡ v.capacity
     capacity_is = ap (λ (w : RawLists). w.capacity) e
 
-  -- the slots' bytes are written over
-  pub row_becomes : (b c : Block A) (row : List ℕ) → IsLaid b → c.capacity ≡ b.capacity → c.front ≡ b.front → c.slots ≡ b.slots → length row ≡ 4 * b.slots
-      → c.bytes.items ≡ take (slots_start b) b.bytes.items ++ row → Becomes b c (front_of b) (words b.slots row)
-  row_becomes b c row h capacity front slots long e =
-      let places = h.places in
-      let within = h.within in
-      let start : length (take (slots_start b) b.bytes.items) ≡ slots_start b = length-take-le (slots_start b) b.bytes.items (omega arith) in
-      let all : length c.bytes.items ≡ c.capacity = ap length e ∙ length-append (take (slots_start b) b.bytes.items) row ∙ omega arith in
-      let same_start : slots_start c ≡ slots_start b = (λ i. capacity i - 4 * slots i) in (
-        record { places = all; within = omega arith },
-        capacity,
-        (λ i. take (front i) (e i)) ∙ take-append-le b.front (take (slots_start b) b.bytes.items) row (omega arith) ∙ take-take b.front (slots_start b) b.bytes.items (omega arith),
-        (λ i. words (slots i) (drop ((same_start ∙ sym start) i) (e i))) ∙ ap (words b.slots) (drop-append_seam (take (slots_start b) b.bytes.items) row),
-      )
+  -- c has b's block, its allocator and its lease
+  pub record IsSameBlock (b c : Block A) : Type 0 where
+    pub capacity : c.capacity ≡ b.capacity
+    pub lease : c.lease ≡ b.lease
+    pub alloc : c.alloc ≡ b.alloc
+    pub place : c.cells.ptr ≡ b.cells.ptr
 
-  pub front_pushed : (b c : Block A) (src : List ℕ) → IsLaid b → b.front + 4 * b.slots + length src ≤ b.capacity → c.capacity ≡ b.capacity → c.front ≡ b.front + length src → c.slots ≡ b.slots
-      → c.bytes.items ≡ take b.front b.bytes.items ++ (src ++ drop (b.front + length src) b.bytes.items) → Becomes b c (front_of b ++ src) (slots_of b)
-  front_pushed b c src h room capacity front slots e =
-      let places = h.places in
-      let within : b.front + length src ≤ length b.bytes.items = omega arith in
-      let same_start : slots_start c ≡ slots_start b = (λ i. capacity i - 4 * slots i) in
-      let all : length c.bytes.items ≡ c.capacity = ap length e ∙ length-written b.bytes.items src b.front within ∙ places ∙ sym capacity in (
-        record { places = all; within = omega arith },
-        capacity,
-        (λ i. take (front i) (e i)) ∙ take-written b.bytes.items src b.front within,
-        (λ i. words (slots i) (drop (same_start i) (e i))) ∙ ap (words b.slots) (drop-past-written b.bytes.items src b.front within (slots_start b) (omega arith)),
-      )
+  -- a step on b whose bytes, and the numbers beside them, are those of c
+  module _ (b c : Block A) (h : IsLaid b) (s : IsSameBlock b c) where
+    leased : MatchOption c.lease (c.capacity ≡ 0) (λ l. Frees l c.cells.ptr c.capacity c.alloc)
+    leased = subst (λ (t : Option (Lease A) × (ℕ × (Ptr × A))). MatchOption t.0 (t.1.0 ≡ 0) (λ l. Frees l t.1.1.0 t.1.0 t.1.1.1))
+        (λ i. (sym s.lease i, (sym s.capacity i, (sym s.place i, sym s.alloc i)))) h.lease
 
-  pub slot_added : (b c : Block A) (start : ℕ) → IsLaid b → b.front + 4 * b.slots + 4 ≤ b.capacity → start ≡ b.capacity - 4 * (b.slots + 1) → c.capacity ≡ b.capacity → c.front ≡ b.front → c.slots ≡ b.slots + 1
-      → c.bytes.items ≡ take start b.bytes.items ++ (0 ∷ 0 ∷ 0 ∷ 0 ∷ drop (start + 4) b.bytes.items) → Becomes b c (front_of b) (0 ∷ slots_of b)
+    becomes : (front row slots : List ℕ) → length c.cells.bytes ≡ c.capacity → c.front + 4 * c.slots ≤ c.capacity → front_cells c ≡ map Some front → slot_cells c ≡ map Some row → words c.slots row ≡ slots
+        → Becomes b c front slots
+    becomes front row slots places within front_is row_is slots_are =
+        let f = written_as (front_cells c) front front_is in let r = written_as (slot_cells c) row row_is in (
+          record { places = places; within = within; front = f.0; slots = r.0; lease = leased },
+          s.capacity,
+          f.1,
+          ap (words c.slots) r.1 ∙ slots_are,
+        )
+
+    same_start : c.slots ≡ b.slots → slots_start c ≡ slots_start b
+    same_start slots = let capacity = s.capacity in omega arith
+
+    pub front_pushed : (src : List ℕ) → b.front + 4 * b.slots + length src ≤ b.capacity → c.front ≡ b.front + length src → c.slots ≡ b.slots
+        → c.cells.bytes ≡ take b.front b.cells.bytes ++ (map Some src ++ drop (b.front + length src) b.cells.bytes) → Becomes b c (front_of b ++ src) (slots_of b)
+    front_pushed src room front slots e =
+        let bytes = b.cells.bytes in let more = map Some src in let places = h.places in let capacity = s.capacity in
+        let same : length more ≡ length src = length-map src Some in
+        let within : b.front + length more ≤ length bytes = omega arith in
+        let all : c.cells.bytes ≡ pasted bytes more b.front within = e ∙ ap (λ n. take b.front bytes ++ (more ++ drop (b.front + n) bytes)) (sym same) in
+        let end : c.front ≡ b.front + length more = omega arith in
+        becomes (front_of b ++ src) (written (slot_cells b)) (slots_of b)
+        (ap length all ∙ length-pasted bytes more b.front within ∙ places ∙ sym capacity) (omega arith)
+        ((λ i. take (end i) (all i)) ∙ take-pasted bytes more b.front within ∙ ap (λ l. l ++ more) h.front ∙ sym (map-append Some (front_of b) src))
+        ((λ i. drop (same_start slots i) (all i)) ∙ drop-past-pasted bytes more b.front within (slots_start b) (omega arith) ∙ h.slots)
+        (ap (λ n. words n (written (slot_cells b))) slots)
+
+    pub slot_added : (start : ℕ) → b.front + 4 * b.slots + 4 ≤ b.capacity → start ≡ b.capacity - 4 * (b.slots + 1) → c.front ≡ b.front → c.slots ≡ b.slots + 1
+        → c.cells.bytes ≡ take start b.cells.bytes ++ (Some 0 ∷ Some 0 ∷ Some 0 ∷ Some 0 ∷ drop (start + 4) b.cells.bytes) → Becomes b c (front_of b) (0 ∷ slots_of b)
+    unfolding words
+    slot_added start room here front slots e =
+        let bytes = b.cells.bytes in let places = h.places in let capacity = s.capacity in
+        let zeros : List (Option ℕ) = Some 0 ∷ Some 0 ∷ Some 0 ∷ Some 0 ∷ [] in
+        let within : start + length zeros ≤ length bytes = omega arith in
+        let begins : slots_start c ≡ start = omega arith in
+        let next : start + 4 ≡ slots_start b = omega arith in
+        let one : c.slots ≡ suc b.slots = omega arith in
+        becomes (front_of b) (0 ∷ 0 ∷ 0 ∷ 0 ∷ written (slot_cells b)) (0 ∷ slots_of b)
+        (ap length e ∙ length-pasted bytes zeros start within ∙ places ∙ sym capacity) (omega arith)
+        ((λ i. take (front i) (e i)) ∙ take-before-pasted bytes zeros start within b.front (omega arith) ∙ h.front)
+        ((λ i. drop (begins i) (e i)) ∙ drop-pasted bytes zeros start within ∙ ap (λ n. zeros ++ drop n bytes) next ∙ ap (λ l. zeros ++ l) h.slots)
+        (ap (λ n. words n (0 ∷ 0 ∷ 0 ∷ 0 ∷ written (slot_cells b))) one)
+
+    pub slots_dropped : (count : ℕ) → count ≤ b.slots → c.front ≡ b.front → c.slots ≡ b.slots - count → c.cells.bytes ≡ b.cells.bytes → Becomes b c (front_of b) (drop count (slots_of b))
+    slots_dropped count few front slots e =
+        let within = h.within in let capacity = s.capacity in let row = written (slot_cells b) in
+        let begins : slots_start c ≡ slots_start b + 4 * count = omega arith in
+        let left = written_drop (4 * count) (slot_cells b) h.slots in
+        becomes (front_of b) (drop (4 * count) row) (drop count (slots_of b))
+        (ap length e ∙ h.places ∙ sym capacity) (omega arith)
+        ((λ i. take (front i) (e i)) ∙ h.front)
+        ((λ i. drop (begins i) (e i)) ∙ sym (drop-drop (4 * count) (slots_start b) b.cells.bytes) ∙ left.0 ∙ ap (map Some) left.1)
+        (ap (λ n. words n (drop (4 * count) row)) slots ∙ sym (drop-words b.slots count row few (row_length b h)))
+
+    pub front_cleared : c.front ≡ 0 → c.slots ≡ b.slots → c.cells.bytes ≡ b.cells.bytes → Becomes b c [] (slots_of b)
+    front_cleared front slots e =
+        let within = h.within in let capacity = s.capacity in
+        becomes [] (written (slot_cells b)) (slots_of b) (ap length e ∙ h.places ∙ sym capacity) (omega arith)
+        (ap (λ n. take n c.cells.bytes) front) ((λ i. drop (same_start slots i) (e i)) ∙ h.slots) (ap (λ n. words n (written (slot_cells b))) slots)
+
+    pub emptied : c.front ≡ 0 → c.slots ≡ 0 → c.cells.bytes ≡ b.cells.bytes → Becomes b c [] []
+    unfolding words
+    emptied front slots e =
+        let capacity = s.capacity in
+        let all : length c.cells.bytes ≡ c.capacity = ap length e ∙ h.places ∙ sym capacity in
+        let begins : slots_start c ≡ length c.cells.bytes = omega arith in
+        becomes [] [] [] all (omega arith) (ap (λ n. take n c.cells.bytes) front) (ap (λ n. drop n c.cells.bytes) begins ∙ drop-length c.cells.bytes) (ap (λ n. words n []) slots)
+
+    -- the slots' bytes are written over
+    pub row_becomes : (start : ℕ) (row : List ℕ) → start ≡ slots_start b → c.front ≡ b.front → c.slots ≡ b.slots → length row ≡ 4 * b.slots
+        → c.cells.bytes ≡ take start b.cells.bytes ++ map Some row → Becomes b c (front_of b) (words b.slots row)
+    row_becomes start row here front slots long e =
+        let bytes = b.cells.bytes in let places = h.places in let within = h.within in let capacity = s.capacity in
+        let before : length (take start bytes) ≡ start = length-take-le start bytes (omega arith) in
+        let begins : slots_start c ≡ length (take start bytes) = omega (arith, before, here, capacity, slots) in
+        becomes (front_of b) row (words b.slots row)
+        (ap length e ∙ length-append (take start bytes) (map Some row) ∙ omega (arith, before, long, length-map row Some)) (omega arith)
+        ((λ i. take (front i) (e i)) ∙ take-append-le b.front (take start bytes) (map Some row) (omega arith) ∙ take-take b.front start bytes (omega arith) ∙ h.front)
+        ((λ i. drop (begins i) (e i)) ∙ drop-append_seam (take start bytes) (map Some row))
+        (ap (λ n. words n row) slots)
+
+  pub made_empty : (b : Block A) → b.cells.bytes ≡ replicate b.capacity None → b.front ≡ 0 → b.slots ≡ 0 → MatchOption b.lease (b.capacity ≡ 0) (λ l. Frees l b.cells.ptr b.capacity b.alloc) → IsLaid b × (front_of b ≡ []) × (slots_of b ≡ [])
   unfolding words
-  slot_added b c start h room here capacity front slots e =
-      let places = h.places in
-      let zeros : List ℕ = 0 ∷ 0 ∷ 0 ∷ 0 ∷ [] in
-      let within : start + length zeros ≤ length b.bytes.items = omega arith in
-      let next : start + 4 ≡ slots_start b = omega arith in
-      let begins : slots_start c ≡ start = omega arith in
-      let one : c.slots ≡ suc b.slots = omega arith in
-      let all : length c.bytes.items ≡ c.capacity = ap length e ∙ length-written b.bytes.items zeros start within ∙ places ∙ sym capacity in (
-        record { places = all; within = omega arith },
-        capacity,
-        (λ i. take (front i) (e i)) ∙ take-before-written b.bytes.items zeros start within b.front (omega arith),
-        (λ i. words (one i) (drop (begins i) (e i))) ∙ ap (words (suc b.slots)) (drop-written b.bytes.items zeros start within) ∙ ap (λ n. 0 ∷ words b.slots (drop n b.bytes.items)) next,
-      )
-
-  pub slots_dropped : (b c : Block A) (count : ℕ) → IsLaid b → count ≤ b.slots → c.capacity ≡ b.capacity → c.front ≡ b.front → c.slots ≡ b.slots - count → c.bytes.items ≡ b.bytes.items → Becomes b c (front_of b) (drop count (slots_of b))
-  slots_dropped b c count h few capacity front slots e =
-      let places = h.places in
-      let within = h.within in
-      let begins : slots_start c ≡ slots_start b + 4 * count = omega arith in (
-        record { places = ap length e ∙ places ∙ sym capacity; within = omega arith },
-        capacity,
-        (λ i. take (front i) (e i)),
-        (λ i. words (slots i) (drop (begins i) (e i))) ∙ ap (words (b.slots - count)) (sym (drop-drop (4 * count) (slots_start b) b.bytes.items)) ∙ sym (drop-words b.slots count (row_of b) few (row_length b h)),
-      )
-
-  pub emptied_lists : (b c : Block A) → IsLaid b → c.capacity ≡ b.capacity → c.front ≡ 0 → c.slots ≡ 0 → c.bytes.items ≡ b.bytes.items → Becomes b c [] []
-  unfolding words
-  emptied_lists b c h capacity front slots e =
-      (record { places = ap length e ∙ h.places ∙ sym capacity; within = omega arith }, capacity, (λ i. take (front i) (e i)), (λ i. words (slots i) (row_of c)))
-
-  pub made_empty : (b : Block A) (capacity : ℕ) → b.capacity ≡ capacity → length b.bytes.items ≡ capacity → b.front ≡ 0 → b.slots ≡ 0 → IsLaid b × (b.capacity ≡ capacity) × (front_of b ≡ []) × (slots_of b ≡ [])
-  unfolding words
-  made_empty b capacity e long front slots =
-      (record { places = long ∙ sym e; within = omega arith }, e, ap (λ n. take n b.bytes.items) front, ap (λ n. words n (row_of b)) slots)
+  made_empty b bytes front slots lease =
+      let all : length b.cells.bytes ≡ b.capacity = ap length bytes ∙ length-replicate b.capacity None in
+      let begins : slots_start b ≡ length b.cells.bytes = omega arith in
+      let f = written_as (front_cells b) [] (ap (λ n. take n b.cells.bytes) front) in
+      let r = written_as (slot_cells b) [] (ap (λ n. drop n b.cells.bytes) begins ∙ drop-length b.cells.bytes) in
+      (record { places = all; within = omega arith; front = f.0; slots = r.0; lease = lease }, f.1, ap (λ n. words n (written (slot_cells b))) slots)

@@ -1,2 +1,5 @@
 pub mod Blocks
+pub mod Rows
+pub mod Steps
 pub mod WordLists
+pub mod Written

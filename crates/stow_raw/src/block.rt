@@ -1,16 +1,27 @@
 //! How the two lists of a `RawBuf` stand in one block.
-ghost use Rattle.std.specs.Prelude.{◌≡◌, ◌+◌, ◌-◌, ◌*◌, ◌<◌, ◌≤◌, [], ◌∷◌, ◌++◌, length, take, drop, slice_set, IfOk};
+ghost use Rattle.std.specs.Prelude.{◌≡◌, ◌+◌, ◌-◌, ◌*◌, ◌^◌, ◌<◌, ◌≤◌, [], ◌∷◌, ◌++◌, map, length, take, drop, replicate, slice_set, None, Some, IfOk, MatchOption};
 ghost use Rattle.std.specs.Int.{w32, to_be_bytes};
+ghost use Rattle.stow_raw.specs.Cells.{written, IsWritten};
+ghost use Rattle.stow_raw.specs.CellsLends.{with_bytes, with_tail};
+ghost use Rattle.stow_raw.specs.Frees.{Frees};
 ghost use Rattle.stow_raw.specs.Laid.{front_of, slots_of, IsLaid, Becomes};
 ghost use Rattle.stow_raw.specs.Words.{words};
 
+use crate::cells::Cells;
+use crate::lease::Lease;
 use crate::words::{WORD, close_words, insert_word, set_word};
 use std::alloc::{AllocError, Allocator};
+use std::mem;
+
+/// The most bytes that a block can have.
+const MOST: usize = 0x7fff_ffff_ffff_ffff;
 
 /// The first `front` of the `capacity` bytes are the front's, the last 4 * `slots` the slots', the first slot first.
-#[derive(Drop)]
+/// There is a lease where there is a byte.
 pub struct Block<A: Allocator> {
-    bytes: Vec<u8, A>,
+    cells: Cells,
+    lease: Option<Lease<A>>,
+    alloc: A,
     pub(crate) capacity: usize,
     pub(crate) front: usize,
     pub(crate) slots: usize,
@@ -21,14 +32,32 @@ impl<A: Allocator> Block<A> {
         ensures { IfOk result (λ b. IsLaid b × (b.capacity ≡ capacity) × (front_of b ≡ [])
             × (slots_of b ≡ [])) }
     {
-        let mut bytes = Vec::new(alloc);
-        bytes.resize(capacity, 0)?;
+        let (cells, lease) = allocated(&alloc, capacity)?;
         Ok(Block {
-            bytes,
+            cells,
+            lease,
+            alloc,
             capacity,
             front: 0,
             slots: 0,
         })
+    }
+
+    /// Gives the memory back.
+    pub(crate) fn free(self)
+        requires { IsLaid self }
+    {
+        let Block {
+            cells,
+            lease,
+            alloc,
+            capacity,
+            front: _,
+            slots: _,
+        } = self;
+        if let Some(lease) = lease {
+            lease.give_back(cells, capacity, &alloc);
+        }
     }
 
     /// How many bytes are not in use.
@@ -60,7 +89,7 @@ impl<A: Allocator> Block<A> {
         ensures { Becomes self.old self.new (front_of self.old ++ bytes.now) (slots_of self.old) }
     {
         let start = self.front;
-        write(&mut self.bytes, start, bytes);
+        write_all(&mut self.cells, start, bytes);
         self.front += bytes.len();
     }
 
@@ -68,9 +97,7 @@ impl<A: Allocator> Block<A> {
         requires { IsLaid self.now × (at + len ≤ self.now.front) }
         ensures { result.now ≡ take len (drop at (front_of self.now)) }
     {
-        let (front, _) = self.bytes.as_slice().split_at(self.front);
-        let (_, rest) = front.split_at(at);
-        rest.split_at(len).0
+        self.cells.slice(at, len)
     }
 
     /// The slots' bytes.
@@ -79,10 +106,8 @@ impl<A: Allocator> Block<A> {
         ensures { (length result.now ≡ 4 * self.now.slots)
             × (words self.now.slots result.now ≡ slots_of self.now) }
     {
-        self.bytes
-            .as_slice()
-            .split_at(self.capacity - WORD * self.slots)
-            .1
+        let start = self.capacity - WORD * self.slots;
+        self.cells.slice(start, self.capacity - start)
     }
 
     /// Puts the slot 0 before the others.
@@ -92,7 +117,7 @@ impl<A: Allocator> Block<A> {
     {
         self.slots += 1;
         let start = self.capacity - WORD * self.slots;
-        write(&mut self.bytes, start, &[0; WORD]);
+        write_all(&mut self.cells, start, &[0; WORD]);
     }
 
     /// Lets the first `count` slots go.
@@ -109,7 +134,8 @@ impl<A: Allocator> Block<A> {
             (slice_set (slots_of self.old) index slot) }
     {
         let start = self.capacity - WORD * self.slots;
-        set_from(&mut self.bytes, start, index, slot);
+        let len = self.capacity - start;
+        set_in(&mut self.cells, start, len, index, slot);
     }
 
     /// Moves the slots at 1 to `index` one place down, over the first, and puts `slot` at `index`.
@@ -120,7 +146,8 @@ impl<A: Allocator> Block<A> {
             ++ slot ∷ drop (index + 1) (slots_of self.old)) }
     {
         let start = self.capacity - WORD * self.slots;
-        insert_from(&mut self.bytes, start, index, slot);
+        let len = self.capacity - start;
+        insert_in(&mut self.cells, start, len, index, slot);
     }
 
     /// Moves the slots below `from` up by `count` places, over the `count` slots from `from` on.
@@ -130,49 +157,83 @@ impl<A: Allocator> Block<A> {
             ++ (take from (slots_of self.old) ++ drop (from + count) (slots_of self.old))) }
     {
         let start = self.capacity - WORD * self.slots;
-        close_from(&mut self.bytes, start, from, count);
+        let len = self.capacity - start;
+        close_in(&mut self.cells, start, len, from, count);
+    }
+}
+
+/// The bytes of a new block. Where there are to be none, no memory is asked for.
+fn allocated<A: Allocator>(
+    alloc: &A,
+    capacity: usize,
+) -> Result<(Cells, Option<Lease<A>>), AllocError>
+    ensures { IfOk result (λ r. (r.0.bytes ≡ replicate capacity None)
+        × MatchOption r.1 (capacity ≡ 0) (λ l. Frees l r.0.ptr capacity alloc.now)) }
+{
+    if capacity == 0 {
+        return Ok((Cells::none(), None));
+    }
+    if capacity > MOST {
+        return Err(AllocError);
+    }
+    match Lease::take(alloc, capacity) {
+        Some((cells, lease)) => Ok((cells, Some(lease))),
+        None => Err(AllocError),
     }
 }
 
 /// Writes `src` over the bytes from `at` on.
-fn write<A: Allocator>(bytes: &mut Vec<u8, A>, at: usize, src: &[u8])
-    requires { at + length src.now ≤ length bytes.old.items }
-    ensures { bytes.new.items
-        ≡ take at bytes.old.items ++ (src.now ++ drop (at + length src.now) bytes.old.items) }
+fn write_all(cells: &mut Cells, at: usize, src: &[u8])
+    requires { (at + length src.now ≤ length cells.old.bytes) × (length cells.old.bytes < 2 ^ 64) }
+    ensures { cells.new ≡ with_bytes cells.old (take at cells.old.bytes
+        ++ (map Some src.now ++ drop (at + length src.now) cells.old.bytes)) }
 {
-    bytes[at..at + src.len()].copy_from_slice(src);
+    let taken = mem::replace(cells, Cells::none());
+    *cells = written_over(taken, at, src);
 }
 
-/// Writes `word` over the number at `index` of those that stand from `start` on.
-fn set_from<A: Allocator>(bytes: &mut Vec<u8, A>, start: usize, index: usize, word: u32)
-    requires { start + (4 * index + 4) ≤ length bytes.old.items }
-    ensures { bytes.new.items
-        ≡ take start bytes.old.items
-        ++ (take (4 * index) (drop start bytes.old.items)
-        ++ (to_be_bytes w32 word ++ drop (4 * index + 4) (drop start bytes.old.items))) }
+/// The same, on cells that are held by value, so that their pointer stays in a register while bytes are written.
+fn written_over(mut cells: Cells, at: usize, src: &[u8]) -> Cells
+    requires { (at + length src.now ≤ length cells.bytes) × (length cells.bytes < 2 ^ 64) }
+    ensures { result ≡ with_bytes cells (take at cells.bytes
+        ++ (map Some src.now ++ drop (at + length src.now) cells.bytes)) }
 {
-    set_word(&mut bytes[start..], index, word);
+    for i in 0..src.len() {
+        cells.write(at + i, src[i]);
+    }
+    cells
 }
 
-/// Moves the numbers at 1 to `index` of those from `start` on one place down, and writes `word` at `index`.
-fn insert_from<A: Allocator>(bytes: &mut Vec<u8, A>, start: usize, index: usize, word: u32)
-    requires { start + (4 * index + 4) ≤ length bytes.old.items }
-    ensures { bytes.new.items
-        ≡ take start bytes.old.items
-        ++ (take (4 * index) (drop 4 (drop start bytes.old.items))
-        ++ (to_be_bytes w32 word ++ drop (4 * index + 4) (drop start bytes.old.items))) }
+/// Writes `word` over the number at `index` of those in the last `len` bytes, from `start` on.
+fn set_in(cells: &mut Cells, start: usize, len: usize, index: usize, word: u32)
+    requires { (start + len ≡ length cells.old.bytes) × IsWritten (drop start cells.old.bytes)
+        × (4 * index + 4 ≤ len) }
+    ensures { cells.new ≡ with_tail cells.old start
+        (take (4 * index) (written (drop start cells.old.bytes))
+        ++ (to_be_bytes w32 word ++ drop (4 * index + 4) (written (drop start cells.old.bytes)))) }
 {
-    insert_word(&mut bytes[start..], index, word);
+    set_word(cells.slice_mut(start, len), index, word);
 }
 
-/// Moves the numbers below `from`, of those from `start` on, up by `count` places.
-fn close_from<A: Allocator>(bytes: &mut Vec<u8, A>, start: usize, from: usize, count: usize)
-    requires { start + 4 * (from + count) ≤ length bytes.old.items }
-    ensures { bytes.new.items
-        ≡ take start bytes.old.items
-        ++ (take (4 * count) (drop start bytes.old.items)
-        ++ (take (4 * from) (drop start bytes.old.items)
-        ++ drop (4 * (from + count)) (drop start bytes.old.items))) }
+/// Moves the numbers at 1 to `index` of those in the last `len` bytes one place down, and writes `word` at `index`.
+fn insert_in(cells: &mut Cells, start: usize, len: usize, index: usize, word: u32)
+    requires { (start + len ≡ length cells.old.bytes) × IsWritten (drop start cells.old.bytes)
+        × (4 * index + 4 ≤ len) }
+    ensures { cells.new ≡ with_tail cells.old start
+        (take (4 * index) (drop 4 (written (drop start cells.old.bytes)))
+        ++ (to_be_bytes w32 word ++ drop (4 * index + 4) (written (drop start cells.old.bytes)))) }
 {
-    close_words(&mut bytes[start..], from, count);
+    insert_word(cells.slice_mut(start, len), index, word);
+}
+
+/// Moves the numbers below `from`, of those in the last `len` bytes, up by `count` places.
+fn close_in(cells: &mut Cells, start: usize, len: usize, from: usize, count: usize)
+    requires { (start + len ≡ length cells.old.bytes) × IsWritten (drop start cells.old.bytes)
+        × (4 * (from + count) ≤ len) }
+    ensures { cells.new ≡ with_tail cells.old start
+        (take (4 * count) (written (drop start cells.old.bytes))
+        ++ (take (4 * from) (written (drop start cells.old.bytes))
+        ++ drop (4 * (from + count)) (written (drop start cells.old.bytes)))) }
+{
+    close_words(cells.slice_mut(start, len), from, count);
 }

@@ -9,7 +9,6 @@ use std::alloc::{AllocError, Allocator, Global};
 use std::marker::Model;
 
 /// Bytes from the front and slots, numbers of 32 bits, from the back, in a block of fixed capacity.
-#[derive(Drop)]
 pub struct RawBuf<A: Allocator = Global> {
     block: Block<A>,
 }
@@ -26,6 +25,13 @@ impl<A: Allocator> Model for RawBuf<A> {
     ghost view = { λ b. raw_lists (front_of b.block) (slots_of b.block) b.block.capacity };
 
     ghost invariant = { λ b. IsLaid b.block };
+}
+
+impl<A: Allocator> Drop for RawBuf<A> {
+    fn drop(self) {
+        let RawBuf { block } = self;
+        block.free();
+    }
 }
 
 impl<A: Allocator> RawBuf<A> {

@@ -44,6 +44,7 @@ fn only_making_asks_for_memory(rt: HostRuntime) -> Result<(), Fail> {
     assert!(rt; heap.asked() == 1);
     heap.set(Plan::RefuseAll);
     assert!(rt; RawBuf::with_capacity(&heap, 64).is_err() && heap.asked() == 1);
+    assert!(rt; RawBuf::with_capacity(&heap, usize::MAX).is_err() && heap.asked() == 1);
     let empty = RawBuf::with_capacity(&heap, 0)?;
     assert!(rt; empty.room() == 0 && empty.bytes(0, 0) == b"".as_slice());
     buf.push_front(b"some bytes");

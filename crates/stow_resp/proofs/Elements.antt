@@ -1,37 +1,123 @@
 -- Whole elements, one after another.
-use Rattle.std.proofs.Common.{◌≡◌, ℕ, ◌+◌, ◌-◌, ◌<◌, ◌≤◌, List, [], ◌∷◌, ◌++◌, length, take, drop, refl, ap, ◌∙◌, sym, subst, arith, append_assoc, append-nil, length-append}
+use Rattle.std.proofs.Common.{◌≡◌, ℕ, ◌+◌, ◌-◌, ◌<◌, ◌≤◌, List, [], ◌∷◌, ◌++◌, length, take, drop, refl, ap, ◌∙◌, sym, subst, arith, append_assoc, append-nil, length-append, inl, inr}
+use Rattle.std.proofs.lemmas.List.{take_at, drop_at, take_all, take-append-le, length_push, map-append}
 use Rattle.std.specs.List.{AllByRecursion}
+use Rattle.std.specs.declared.vec.Vec.{Vec}
 use Rattle.stow_model.specs.Message as message
+use Rattle.stow_model.specs.Spans.{word_at, words_at, IsInside, AreInside}
+use Rattle.stow_model.specs.declared.span.Span.{Span}
 use Rattle.stow_model.specs.declared.stream_fault.StreamFault.{StreamFault}
-use Rattle.stow_model.specs.Wire.{array_line, bulk, bulks, FitsBulk, Spells, IsBegun, IsFaulty}
+use Rattle.stow_model.specs.Wire.{array_line, bulk_line, bulk, bulks, FitsBulk, Spells, IsBegun, IsFaulty}
 use Rattle.stow_model.specs.Parts.{IsBegunBulk, IsStuckBulk}
-use Rattle.stow_model.proofs.Spelling.{bulk_once, bulks_once}
+use Rattle.stow_model.proofs.Spans.{spans_stay, words_stay, spans_more}
+use Rattle.stow_model.proofs.Spelling.{bulk_once}
 use Rattle.stow_model.proofs.Messages.{array_begun, array_faulty, array_whole, one_more_word, one_more_fits}
 use Rattle.stow_resp.specs.declared.progress.Progress.{Progress}
-use Rattle.stow_resp.specs.Scans.{IsProgress}
+use Rattle.stow_resp.specs.Scans.{IsProgress, IsStart, HasAllSpans, IsFilled}
+use Rattle.stow_resp.specs.Spans.{IsKept}
 use Rattle.stow_resp.specs.Next.{IsTaken, HasWords}
 use Rattle.stow_resp.proofs.Lists.{drop_front, slice_from, length_front}
 
 -- ---- what is known of an array
 
 -- the bytes, cut after what was scanned
-cut : (p : Progress) (bytes : List ℕ) (h : IsProgress p bytes) → bytes ≡ (array_line p.count ++ bulks h.words) ++ h.rest
+cut : {A : Type 0} (p : Progress A) (bytes : List ℕ) (h : IsProgress p bytes) → bytes ≡ (array_line p.count ++ bulks h.words) ++ h.rest
 cut p bytes h = h.at ∙ sym (append_assoc (array_line p.count) (bulks h.words) h.rest)
 
-pub unscanned : (p : Progress) (bytes : List ℕ) (h : IsProgress p bytes) → take (length bytes - p.scanned) (drop p.scanned bytes) ≡ h.rest
+pub unscanned : {A : Type 0} (p : Progress A) (bytes : List ℕ) (h : IsProgress p bytes) → take (length bytes - p.scanned) (drop p.scanned bytes) ≡ h.rest
 unscanned p bytes h = slice_from bytes p.scanned ∙ drop_front (array_line p.count ++ bulks h.words) h.rest bytes p.scanned (cut p bytes h) h.scanned_len
 
-pub scan_more : (p : Progress) (bytes part : List ℕ) (h : IsProgress p bytes) → part ≡ h.rest → p.found < p.count → IsBegunBulk part → IsBegun bytes
+pub scan_more : {A : Type 0} (p : Progress A) (bytes part : List ℕ) (h : IsProgress p bytes) → part ≡ h.rest → p.found < p.count → IsBegunBulk part → IsBegun bytes
 scan_more p bytes part h is fewer begun = subst IsBegun (sym h.at) (array_begun p.count h.words h.rest h.few (let n = h.number in omega arith) h.fits (subst IsBegunBulk is begun))
 
-pub scan_stuck : (p : Progress) (bytes part : List ℕ) (fault : StreamFault) (h : IsProgress p bytes) → part ≡ h.rest → p.found < p.count → IsStuckBulk part fault → IsFaulty bytes fault
+pub scan_stuck : {A : Type 0} (p : Progress A) (bytes part : List ℕ) (fault : StreamFault) (h : IsProgress p bytes) → part ≡ h.rest → p.found < p.count → IsStuckBulk part fault → IsFaulty bytes fault
 scan_stuck p bytes part fault h is fewer stuck = subst (λ t. IsFaulty t fault) (sym h.at) (array_faulty p.count h.words h.rest fault h.few (let n = h.number in omega arith) h.fits (subst (λ t. IsStuckBulk t fault) is stuck))
 
--- one element more
-pub scan_word : (p : Progress) (bytes word after : List ℕ) (h : IsProgress p bytes) → h.rest ≡ bulk word ++ after → p.found < p.count → FitsBulk word → IsProgress (record { count = p.count; line = p.line; found = p.found + 1; scanned = length bytes - length after }) bytes
-scan_word p bytes word after h is fewer fit =
+-- ---- one element more
+
+-- the bytes of the line and the elements so far, which the spans are in
+abbrev front : {A : Type 0} (p : Progress A) → List (List ℕ) → List ℕ
+front p words = array_line p.count ++ bulks words
+
+-- where the bytes of an element's word stand behind a front
+pub record IsBehind (before word : List ℕ) (span : Span) : Type 0 where
+  pub start : span.start ≡ length before + length (bulk_line (length word))
+  pub end : span.start + length word ≡ span.end
+
+behind_inside : (before word : List ℕ) (span : Span) → IsBehind before word span → IsInside (before ++ bulk word) span
+behind_inside before word span h =
+    let whole = length-append before (bulk word) in
+    let element = length-append (bulk_line (length word)) (word ++ 13 ∷ 10 ∷ []) in
+    let ended = length-append word (13 ∷ 10 ∷ []) in
+    (let s = h.end in omega arith, let s = h.start in let e = h.end in omega (arith, whole, element, ended))
+
+behind_at : (before word : List ℕ) (span : Span) → IsBehind before word span → word_at (before ++ bulk word) span ≡ word
+behind_at before word span h =
+    let line = bulk_line (length word) in
+    let long : length (before ++ line) ≡ span.start = length-append before line ∙ sym h.start in
+    let few : span.end - span.start ≡ length word = let e = h.end in omega arith in
+    (λ i. take (few i) (drop span.start (sym (append_assoc before line (word ++ 13 ∷ 10 ∷ [])) i)))
+    ∙ ap (take (length word)) (drop_at (before ++ line) (word ++ 13 ∷ 10 ∷ []) span.start long)
+    ∙ take_at word (13 ∷ 10 ∷ []) (length word) refl
+
+-- the words that were kept are the first, and one more is kept behind all of them or not
+kept_words : (before word : List ℕ) (words : List (List ℕ)) (found : ℕ) (span : Span) (old new : List Span) → IsBehind before word span → length words ≡ found → length old ≤ found → AreInside before old → words_at before old ≡ take (length old) words → IsKept old found span new → (length new ≤ found + 1) × AreInside (before ++ bulk word) new × (words_at (before ++ bulk word) new ≡ take (length new) (words ++ word ∷ []))
+kept_words before word words found span old new h n few inside at (inl same) =
+    let long : length old ≤ length words = omega arith in (
+      subst (λ s. length s ≤ found + 1) (sym same) (omega arith),
+      subst (AreInside (before ++ bulk word)) (sym same) (spans_stay before (bulk word) old inside),
+      subst (λ s. words_at (before ++ bulk word) s ≡ take (length s) (words ++ word ∷ [])) (sym same)
+          (words_stay before (bulk word) old inside ∙ at ∙ sym (take-append-le (length old) words (word ∷ []) long)),
+    )
+kept_words before word words found span old new h n few inside at (inr (all, more)) =
+    let pushed : length (old ++ span ∷ []) ≡ length old + 1 = length_push old span in
+    let both : length (words ++ word ∷ []) ≡ length words + 1 = length_push words word in (
+      subst (λ s. length s ≤ found + 1) (sym more) (omega arith),
+      subst (AreInside (before ++ bulk word)) (sym more) (spans_more (before ++ bulk word) old span (spans_stay before (bulk word) old inside) (behind_inside before word span h)),
+      subst (λ s. words_at (before ++ bulk word) s ≡ take (length s) (words ++ word ∷ [])) (sym more)
+          (map-append (word_at (before ++ bulk word)) old (span ∷ [])
+          ∙ (λ i. words_stay before (bulk word) old inside i ++ behind_at before word span h i ∷ [])
+          ∙ ap (λ t. t ++ word ∷ []) (at ∙ take_all (length old) words (omega arith))
+          ∙ sym (take_all (length (old ++ span ∷ [])) (words ++ word ∷ []) (omega arith))),
+    )
+
+one_more_front : (line : List ℕ) (words : List (List ℕ)) (word : List ℕ) → line ++ bulks (words ++ word ∷ []) ≡ (line ++ bulks words) ++ bulk word
+one_more_front line words word = ap (λ t. line ++ t) (bulks_more words word) ∙ sym (append_assoc line (bulks words) (bulk word))
+  where
+    bulks_more : (words : List (List ℕ)) (word : List ℕ) → bulks (words ++ word ∷ []) ≡ bulks words ++ bulk word
+    bulks_more [] word = append-nil (bulk word)
+    bulks_more (w ∷ words) word = ap (λ t. bulk w ++ t) (bulks_more words word) ∙ sym (append_assoc (bulk w) (bulks words) (bulk word))
+
+started_behind : (before word after bytes : List ℕ) (start end : ℕ) → bytes ≡ before ++ (bulk word ++ after) → end + 2 + length after ≡ length bytes → start + length word ≡ end → start ≡ length before + length (bulk_line (length word))
+started_behind before word after bytes start end at ends starts =
+    let whole = ap length at in
+    let a = length-append before (bulk word ++ after) in
+    let b = length-append (bulk word) after in
+    let c = length-append (bulk_line (length word)) (word ++ 13 ∷ 10 ∷ []) in
+    let d = length-append word (13 ∷ 10 ∷ []) in
+    omega arith
+
+scanned_front : (before after bytes : List ℕ) (end : ℕ) → bytes ≡ before ++ after → end + 2 + length after ≡ length bytes → end + 2 ≡ length before
+scanned_front before after bytes end at ends = let whole = ap length at in let a = length-append before after in omega arith
+
+pub fits_before : {A : Type 0} (p : Progress A) (bytes word after : List ℕ) (h : IsProgress p bytes) → h.rest ≡ bulk word ++ after → length word + 2 + length after ≤ length bytes
+fits_before p bytes word after h is =
+    let whole = ap length h.at in
+    let a = length-append (array_line p.count) (bulks h.words ++ h.rest) in
+    let b = length-append (bulks h.words) h.rest in
+    let c = ap length is in
+    let d = length-append (bulk word) after in
+    let e = length-append (bulk_line (length word)) (word ++ 13 ∷ 10 ∷ []) in
+    let f = length-append word (13 ∷ 10 ∷ []) in
+    omega arith
+
+pub scan_word : {A : Type 0} (p : Progress A) (bytes word after : List ℕ) (span : Span) (spans : Vec Span A) (h : IsProgress p bytes) → h.rest ≡ bulk word ++ after → p.found < p.count → FitsBulk word → span.end + 2 + length after ≡ length bytes → span.start + length word ≡ span.end → IsKept p.spans.items p.found span spans.items → IsProgress (record { count = p.count; line = p.line; found = p.found + 1; scanned = span.end + 2; spans = spans }) bytes
+scan_word p bytes word after span spans h is fewer fit ends starts kept =
     let words : List (List ℕ) = h.words ++ word ∷ [] in
     let at : bytes ≡ array_line p.count ++ (bulks words ++ after) = h.at ∙ ap (λ t. array_line p.count ++ t) (one_more_word h.words word (bulks h.words ++ h.rest) h.rest after refl is) in
+    let more : front p words ≡ front p h.words ++ bulk word = one_more_front (array_line p.count) h.words word in
+    let behind : IsBehind (front p h.words) word span = record { start = started_behind (front p h.words) word after bytes span.start span.end (cut p bytes h ∙ ap (λ t. front p h.words ++ t) is) ends starts; end = starts } in
+    let k = kept_words (front p h.words) word h.words p.found span p.spans.items spans.items behind h.number h.kept h.inside h.spanned kept in
     record {
       words = words;
       rest = after;
@@ -42,24 +128,69 @@ scan_word p bytes word after h is fewer fit =
       fits = one_more_fits h.words word h.fits fit;
       at = at;
       line_len = h.line_len;
-      scanned_len = length_front (array_line p.count ++ bulks words) after bytes (at ∙ sym (append_assoc (array_line p.count) (bulks words) after));
+      scanned_len = scanned_front (front p words) after bytes span.end (at ∙ sym (append_assoc (array_line p.count) (bulks words) after)) ends;
+      kept = k.0;
+      inside = subst (λ t. AreInside t spans.items) (sym more) k.1;
+      spanned = ap (λ t. words_at t spans.items) more ∙ k.2;
     }
 
 -- an array of which its line is known
-pub started : (bytes rest : List ℕ) (count line : ℕ) → 0 < count → count ≤ 1024 → line ≡ length bytes - length rest → bytes ≡ array_line count ++ rest → IsProgress (record { count = count; line = line; found = 0; scanned = line }) bytes
-started bytes rest count line some few long at =
-    let len : line ≡ length (array_line count) = long ∙ length_front (array_line count) rest bytes at in
+pub started : {A : Type 0} (p : Progress A) (bytes rest : List ℕ) (count line : ℕ) → IsStart count line p → 0 < count → count ≤ 1024 → line ≡ length bytes - length rest → bytes ≡ array_line count ++ rest → IsProgress p bytes
+started p bytes rest count line s some few long at =
+    let same : array_line p.count ≡ array_line count = ap array_line s.same_count in
+    let len : p.line ≡ length (array_line p.count) = s.same_line ∙ long ∙ length_front (array_line count) rest bytes at ∙ sym (ap length same) in
     record {
       words = [];
       rest = rest;
-      some = some;
-      few = few;
+      some = let e = s.same_count in omega arith;
+      few = let e = s.same_count in omega arith;
+      among = let e = s.none_found in omega arith;
+      number = sym s.none_found;
+      fits = tt;
+      at = at ∙ ap (λ t. t ++ rest) (sym same);
+      line_len = len;
+      scanned_len = s.only_line ∙ sym s.same_line ∙ len ∙ ap length (sym (append-nil (array_line p.count)));
+      kept = subst (λ t. length t ≤ p.found) (sym s.none_kept) (omega arith);
+      inside = subst (AreInside (array_line p.count ++ [])) (sym s.none_kept) tt;
+      spanned = subst (λ t. words_at (array_line p.count ++ []) t ≡ take (length t) []) (sym s.none_kept) refl;
+    }
+
+-- the same array, of which no element was looked for
+pub restarted : {A : Type 0} (p : Progress A) (spans : Vec Span A) (bytes : List ℕ) → IsProgress p bytes → spans.items ≡ [] → IsProgress (record { count = p.count; line = p.line; found = 0; scanned = p.line; spans = spans }) bytes
+restarted p spans bytes h none =
+    record {
+      words = [];
+      rest = bulks h.words ++ h.rest;
+      some = h.some;
+      few = h.few;
       among = omega arith;
       number = refl;
       fits = tt;
-      at = at;
-      line_len = len;
-      scanned_len = len ∙ ap length (sym (append-nil (array_line count)));
+      at = h.at;
+      line_len = h.line_len;
+      scanned_len = h.line_len ∙ ap length (sym (append-nil (array_line p.count)));
+      kept = subst (λ t. length t ≤ 0) (sym none) (omega arith);
+      inside = subst (AreInside (array_line p.count ++ [])) (sym none) tt;
+      spanned = subst (λ t. words_at (array_line p.count ++ []) t ≡ take (length t) []) (sym none) refl;
+    }
+
+-- the same progress, with no spans kept
+pub forgotten : {A : Type 0} (p : Progress A) (spans : Vec Span A) (bytes : List ℕ) → IsProgress p bytes → spans.items ≡ [] → IsProgress (record { count = p.count; line = p.line; found = p.found; scanned = p.scanned; spans = spans }) bytes
+forgotten p spans bytes h none =
+    record {
+      words = h.words;
+      rest = h.rest;
+      some = h.some;
+      few = h.few;
+      among = h.among;
+      number = h.number;
+      fits = h.fits;
+      at = h.at;
+      line_len = h.line_len;
+      scanned_len = h.scanned_len;
+      kept = subst (λ t. length t ≤ p.found) (sym none) (omega arith);
+      inside = subst (AreInside (front p h.words)) (sym none) tt;
+      spanned = subst (λ t. words_at (front p h.words) t ≡ take (length t) h.words) (sym none) refl;
     }
 
 -- ---- the words of a whole array
@@ -79,18 +210,15 @@ next_word (v ∷ words) (w ∷ ws) x y fits fits' fewer e =
     next_word words ws x y fits.1 fits'.1 (omega arith) first.1
 
 -- the bytes after the line
-pub elements : (p : Progress) (bytes : List ℕ) (spelled : List (List ℕ)) (rest : List ℕ) → p.line ≡ length (array_line p.count) → bytes ≡ array_line p.count ++ (bulks spelled ++ rest) → drop p.line bytes ≡ bulks spelled ++ rest
+pub elements : {A : Type 0} (p : Progress A) (bytes : List ℕ) (spelled : List (List ℕ)) (rest : List ℕ) → p.line ≡ length (array_line p.count) → bytes ≡ array_line p.count ++ (bulks spelled ++ rest) → drop p.line bytes ≡ bulks spelled ++ rest
 elements p bytes spelled rest line at = drop_front (array_line p.count) (bulks spelled ++ rest) bytes p.line at line
 
-pub element : (p : Progress) (bytes : List ℕ) (words : List (List ℕ)) (left : List ℕ) (h : IsProgress p bytes) → p.found ≡ p.count → length words < p.count → AllByRecursion FitsBulk words → drop p.line bytes ≡ bulks words ++ left → IsElement left
-element p bytes words left h whole fewer fits at =
-    next_word words h.words left h.rest fits h.fits (let n = h.number in omega arith) (sym at ∙ elements p bytes h.words h.rest h.line_len h.at)
-
--- one word more was copied
-pub copied : (words pushed : List (List ℕ)) (word copy left after bytes : List ℕ) → copy ≡ word → pushed ≡ words ++ copy ∷ [] → left ≡ bulk word ++ after → FitsBulk word → AllByRecursion FitsBulk words → bytes ≡ bulks words ++ left → AllByRecursion FitsBulk pushed × (bytes ≡ bulks pushed ++ after)
-copied words pushed word copy left after bytes same push at fit fits is =
-    let items : words ++ word ∷ [] ≡ pushed = ap (λ w. words ++ w ∷ []) (sym same) ∙ sym push in
-    (subst (AllByRecursion FitsBulk) items (one_more_fits words word fits fit), subst (λ ws. bytes ≡ bulks ws ++ after) items (one_more_word words word bytes left after is at))
+-- a whole array has a word after fewer words
+pub element : {A : Type 0} (p q : Progress A) (bytes part : List ℕ) (h : IsProgress p bytes) (k : IsProgress q bytes) → p.found ≡ p.count → q.count ≡ p.count → q.found < q.count → part ≡ k.rest → IsElement part
+element p q bytes part h k whole same fewer is =
+    let line : q.line ≡ p.line = k.line_len ∙ ap (λ n. length (array_line n)) same ∙ sym h.line_len in
+    let both : bulks k.words ++ k.rest ≡ bulks h.words ++ h.rest = sym (elements q bytes k.words k.rest k.line_len k.at) ∙ ap (λ n. drop n bytes) line ∙ elements p bytes h.words h.rest h.line_len h.at in
+    subst IsElement (sym is) (next_word k.words h.words k.rest h.rest k.fits h.fits (let n = h.number in let m = k.number in omega arith) both)
 
 pub not_begun : (left : List ℕ) → IsElement left → IsBegunBulk left → ⊥
 not_begun left h (word, next, more, fits, e) =
@@ -101,12 +229,8 @@ not_begun left h (word, next, more, fits, e) =
 pub not_stuck : (left : List ℕ) (fault : StreamFault) → IsElement left → IsStuckBulk left fault → ⊥
 not_stuck left fault h s = s.stuck h.word s.more h.later h.fits (append_assoc s.front (s.byte ∷ []) s.more ∙ sym s.at ∙ h.at)
 
-pub all_words : (p : Progress) (bytes : List ℕ) (words spelled : List (List ℕ)) (left rest : List ℕ) → p.line ≡ length (array_line p.count) → length words ≡ p.count → length spelled ≡ p.count → AllByRecursion FitsBulk words → AllByRecursion FitsBulk spelled → drop p.line bytes ≡ bulks words ++ left → bytes ≡ array_line p.count ++ (bulks spelled ++ rest) → words ≡ spelled
-all_words p bytes words spelled left rest line n m fits fits' at is =
-    (bulks_once words spelled left rest (n ∙ sym m) fits fits' (sym at ∙ elements p bytes spelled rest line is)).0
-
 -- the message that a whole array is
-pub taken : (p : Progress) (bytes : List ℕ) (words : List (List ℕ)) (h : IsProgress p bytes) → p.found ≡ p.count → words ≡ h.words → IsTaken (message.Words words) bytes (drop p.scanned bytes)
+pub taken : {A : Type 0} (p : Progress A) (bytes : List ℕ) (words : List (List ℕ)) (h : IsProgress p bytes) → p.found ≡ p.count → words ≡ h.words → IsTaken (message.Words words) bytes (drop p.scanned bytes)
 taken p bytes words h whole is =
     let spelling : List ℕ = array_line p.count ++ bulks h.words in (
       spelling,
@@ -114,5 +238,15 @@ taken p bytes words h whole is =
       cut p bytes h ∙ ap (λ t. spelling ++ t) (sym (drop_front spelling h.rest bytes p.scanned (cut p bytes h) h.scanned_len)),
     )
 
-pub has_words : (p : Progress) (bytes : List ℕ) → IsProgress p bytes → p.found ≡ p.count → HasWords bytes
+pub has_words : {A : Type 0} (p : Progress A) (bytes : List ℕ) → IsProgress p bytes → p.found ≡ p.count → HasWords bytes
 has_words p bytes h whole = (h.words, drop p.scanned bytes, taken p bytes h.words h whole refl)
+
+-- a block that has the bytes of all elements has the words at the spans
+pub filled : {A : Type 0} (p : Progress A) (bytes block : List ℕ) → IsProgress p bytes → HasAllSpans p → block ≡ take p.scanned bytes → IsFilled p bytes block
+filled p bytes block h all is =
+    let same : block ≡ front p h.words = is ∙ ap (take p.scanned) (cut p bytes h) ∙ take_at (front p h.words) h.rest p.scanned (sym h.scanned_len) in
+    let words : words_at block p.spans.items ≡ h.words = ap (λ t. words_at t p.spans.items) same ∙ h.spanned ∙ take_all (length p.spans.items) h.words (let n = h.number in let a = all.0 in let b = all.1 in omega arith) in
+    (subst (λ t. AreInside t p.spans.items) (sym same) h.inside, taken p bytes (words_at block p.spans.items) h all.0 words)
+
+pub scanned_within : {A : Type 0} (p : Progress A) (bytes : List ℕ) → IsProgress p bytes → p.scanned ≤ length bytes
+scanned_within p bytes h = let whole = ap length (cut p bytes h) in let a = length-append (front p h.words) h.rest in let s = h.scanned_len in omega arith

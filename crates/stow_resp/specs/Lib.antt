@@ -1,4 +1,5 @@
 pub mod Keeps
-pub mod Scans
+pub mod Spans
 pub mod Next
+pub mod Scans
 pub mod Actions

@@ -1,5 +1,5 @@
 //! The bytes of replies.
-ghost use Rattle.std.specs.Prelude.{◌≡◌, ◌++◌, List, ℕ, map, codes, OnOk, OnErr};
+ghost use Rattle.std.specs.Prelude.{◌≡◌, ◌++◌, List, ℕ, codes, OnOk, OnErr};
 ghost use Rattle.stow_model.specs.Item.{item_of, item_encoding, integer_encoding, bulk_encoding, line};
 ghost use Rattle.stow_model.specs.Reply.{reply_of, encoding, Array};
 ghost use Rattle.stow_model.specs.Texts.{fault_text};
@@ -45,14 +45,14 @@ fn write_reply<A: Allocator, B: Allocator>(
     ensures keeps { Keeps out.old.items out.new.items }
 {
     match reply {
-        Reply::Simple(SimpleString::Ok) => write_line(b'+', b"OK", out),
-        Reply::Simple(SimpleString::Pong) => write_line(b'+', b"PONG", out),
+        Reply::Simple(SimpleString::Ok) => out.extend_from_slice(b"+OK\r\n"),
+        Reply::Simple(SimpleString::Pong) => out.extend_from_slice(b"+PONG\r\n"),
         Reply::Error(refusal) => write_line(b'-', refusal_text(*refusal), out),
         Reply::ProtocolError(fault) => write_protocol_error(*fault, out),
         Reply::Integer(number) => write_integer(*number, out),
         Reply::Bulk(bytes) => write_bulk(bytes.as_slice(), out),
         Reply::Null => out.extend_from_slice(b"$-1\r\n"),
-        Reply::Array(items) => write_array(items.as_slice(), out),
+        Reply::Array(items) => write_array(items, out),
     }
 }
 
@@ -71,30 +71,27 @@ fn write_protocol_error<B: Allocator>(
 }
 
 fn write_array<A: Allocator, B: Allocator>(
-    items: &[Item<A>],
+    items: &Items<A>,
     out: &mut Vec<u8, B>,
 ) -> Result<(), AllocError>
-    ensures ok { OnOk result (out.new.items
-        ≡ out.old.items ++ encoding (Array (map item_of items.now))) }
+    ensures ok { OnOk result (out.new.items ≡ out.old.items ++ encoding (Array items.now)) }
     ensures keeps { Keeps out.old.items out.new.items }
 {
     write_line(b'*', Buffer::new().format(items.len()).as_bytes(), out)?;
-    for item in items {
-        write_item(item, out)?;
+    for index in 0..items.len() {
+        write_item(items.get(index), out)?;
     }
     Ok(())
 }
 
-fn write_item<A: Allocator, B: Allocator>(
-    item: &Item<A>,
-    out: &mut Vec<u8, B>,
-) -> Result<(), AllocError>
-    ensures ok { OnOk result (out.new.items ≡ out.old.items ++ item_encoding (item_of item.now)) }
+fn write_item<B: Allocator>(item: Item<'_>, out: &mut Vec<u8, B>) -> Result<(), AllocError>
+    ensures ok { OnOk result (out.new.items
+        ≡ out.old.items ++ item_encoding (item_of item.entry)) }
     ensures keeps { Keeps out.old.items out.new.items }
 {
     match item {
-        Item::Integer(number) => write_integer(*number, out),
-        Item::Bulk(bytes) => write_bulk(bytes.as_slice(), out),
+        Item::Integer(number) => write_integer(number, out),
+        Item::Bulk(bytes) => write_bulk(bytes, out),
         Item::Null => out.extend_from_slice(b"$-1\r\n"),
     }
 }

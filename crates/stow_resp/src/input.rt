@@ -10,8 +10,11 @@ use crate::progress::{Progress, Scan};
 use bytes::BytesMut;
 use std::alloc::{AllocError, Allocator, Global};
 use std::marker::Model;
+use std::mem;
 use stow_model::inline_at::{InlineAt, inline, inline_message};
+use stow_model::span::Span;
 use stow_model::stream_fault::StreamFault;
+use stow_model::words::Words;
 
 /// The bytes of a stream that no message was made of yet. Of an unfinished array it keeps how much of it was
 /// found whole, and of an unfinished inline line how much has no LF, so that a message in many pieces is looked
@@ -19,8 +22,16 @@ use stow_model::stream_fault::StreamFault;
 #[derive(Drop)]
 pub struct Input<A: Allocator = Global> {
     unread: BytesMut<A>,
-    known: Known,
+    known: Known<A>,
+    /// Memory for the block of the next words, and for their spans.
+    block: Vec<u8, A>,
+    spans: Vec<Span, A>,
 }
+
+/// The most bytes of a block, and the most spans, that are kept for the next message.
+const KEPT_BYTES: usize = 4096;
+
+const KEPT_SPANS: usize = 64;
 
 impl<A: Allocator> Model for Input<A> {
     ghost use Rattle.std.specs.Prelude.{List, ℕ};
@@ -41,6 +52,8 @@ impl<A: Allocator + Copy> Input<A> {
         Input {
             unread: BytesMut::new(alloc),
             known: Known::Nothing,
+            block: Vec::new(alloc),
+            spans: Vec::new(alloc),
         }
     }
 
@@ -52,11 +65,22 @@ impl<A: Allocator + Copy> Input<A> {
         self.unread.extend_from_slice(piece)
     }
 
+    /// Takes used words back: the next message's words use their memory, unless it is much.
+    pub fn reuse(&mut self, words: Words<A>)
+        ensures { self.new ≡ self.old }
+    {
+        let (block, spans) = words.into_parts();
+        if block.capacity() <= KEPT_BYTES && spans.capacity() <= KEPT_SPANS {
+            self.block = block;
+            self.spans = spans;
+        }
+    }
+
     /// Takes the next message off, if it is whole.
     pub fn next(&mut self, alloc: A) -> Next<A>
         ensures { IsNext result self.old self.new }
     {
-        match self.known {
+        match mem::replace(&mut self.known, Known::Nothing) {
             Known::Nothing => self.start(alloc),
             Known::Array(progress) => self.go_on(alloc, progress),
             Known::Line(looked) => self.go_on_line(alloc, looked),
@@ -70,7 +94,9 @@ impl<A: Allocator + Copy> Input<A> {
         match line(self.unread.as_slice()) {
             LineAt::Array(count, rest) => {
                 let line = self.unread.len() - rest.len();
-                self.go_on(alloc, Progress::new(count, line))
+                let spans = mem::replace(&mut self.spans, Vec::new(alloc));
+                let progress = Progress::new(count, line, spans);
+                self.go_on(alloc, progress)
             }
             LineAt::Blank(rest) => {
                 let line = self.unread.len() - rest.len();
@@ -85,31 +111,34 @@ impl<A: Allocator + Copy> Input<A> {
     }
 
     /// Looks for the elements that were not found yet.
-    fn go_on(&mut self, alloc: A, mut progress: Progress) -> Next<A>
+    fn go_on(&mut self, alloc: A, mut progress: Progress<A>) -> Next<A>
         requires { IsProgress progress self.old }
         ensures { IsNext result self.old self.new }
     {
-        let scan = progress.scan(self.unread.as_slice());
-        self.known = Known::Array(progress);
-        match scan {
-            Scan::Whole => self.take(alloc, progress),
+        let next = match progress.scan(self.unread.as_slice()) {
+            Scan::Whole => return self.take(alloc, progress),
             Scan::More => Next::More,
             Scan::Stuck(fault) => Next::Fault(fault),
-        }
+        };
+        self.known = Known::Array(progress);
+        next
     }
 
     /// Takes a whole array off.
-    fn take(&mut self, alloc: A, progress: Progress) -> Next<A>
+    fn take(&mut self, alloc: A, mut progress: Progress<A>) -> Next<A>
         requires progress { IsProgress progress self.old }
         requires whole { progress.found ≡ progress.count }
         ensures { IsNext result self.old self.new }
     {
-        let Ok(words) = progress.words(alloc, self.unread.as_slice()) else {
+        let mut block = mem::replace(&mut self.block, Vec::new(alloc));
+        if progress.fill(&mut block, self.unread.as_slice()).is_err() {
+            self.block = block;
+            self.known = Known::Array(progress);
             return Next::NoMemory;
-        };
+        }
         self.known = Known::Nothing;
         self.unread.advance(progress.scanned);
-        Next::Message(words)
+        Next::Message(Words::from_parts(block, progress.spans))
     }
 
     /// Looks for the end of an inline line, of which so many bytes were looked at, and takes the line off.

@@ -10,9 +10,11 @@
 //!   the same bytes unread (`laws`, whose body is empty, so no wrong body can be tried on it).
 //! - A refused request for memory leaves the unread bytes and the written bytes as they were.
 //!
-//! Not proved: how much work it is. An element's body is looked at when it is whole and copied when its message
-//! is whole; until then each piece costs a look at the line of the one unfinished element. The bytes of an inline
-//! line are looked at once for its LF, and its words are copied when it has ended.
+//! Not proved: how much work it is. An element's body is looked at when it is whole, and the whole message is
+//! copied at once; until then each piece costs a look at the line of the one unfinished element. Where room for the
+//! spans of words stands, they are kept while elements are looked for, and else the elements are gone over once more.
+//! The bytes of an inline line are looked at once for its LF, and its words are copied when it has ended. A body of
+//! `reuse` that keeps nothing of the words is right too.
 #![tactic(auto)]
 
 pub mod encode;

@@ -1,18 +1,15 @@
 //! How much of an array is there.
-ghost use Rattle.std.specs.Prelude.{◌≡◌, ◌∷◌, ◌++◌, ◌≤◌, ◌<◌, List, ℕ, [], length, IfOk};
-ghost use Rattle.std.specs.List.{AllByRecursion};
-ghost use Rattle.stow_model.specs.Wire.{array_line, bulks, FitsBulk};
-ghost use Rattle.stow_resp.specs.Scans.{IsProgress, IsScanned};
+ghost use Rattle.std.specs.Prelude.{◌≡◌, ◌+◌, ◌≤◌, length, OnOk};
+ghost use Rattle.stow_resp.specs.Spans.{IsKept};
 
-use std::alloc::{AllocError, Allocator};
-use stow_bytes::byte_string::ByteString;
+use std::alloc::{AllocError, Allocator, Global};
 use stow_model::bulk_at::{BulkAt, bulk};
+use stow_model::span::Span;
 use stow_model::stream_fault::StreamFault;
-use stow_model::words::Words;
 
 /// What is known of an array at the front of some bytes.
-#[derive(Clone, Copy)]
-pub struct Progress {
+#[derive(Drop)]
+pub struct Progress<A: Allocator = Global> {
     /// How many words its line says.
     pub count: u32,
     /// How many bytes the line takes.
@@ -21,6 +18,8 @@ pub struct Progress {
     pub found: u32,
     /// How many bytes the line and these elements take.
     pub scanned: usize,
+    /// Where the first words that were found stand, as many as there was room for.
+    pub spans: Vec<Span, A>,
 }
 
 /// How a scan ended.
@@ -33,20 +32,25 @@ pub enum Scan {
     Stuck(StreamFault),
 }
 
-impl Progress {
-    /// An array whose line, of this many bytes, says this count.
-    pub fn new(count: u32, line: usize) -> Progress
-        ensures { result ≡ record { count = count; line = line; found = 0; scanned = line } }
+impl<A: Allocator> Progress<A> {
+    ghost use Rattle.stow_resp.specs.Scans.{IsStart, IsProgress, IsScanned, HasAllSpans, IsFilled};
+
+    /// An array whose line, of this many bytes, says this count. Spans are kept in the vector's memory.
+    pub fn new(count: u32, line: usize, spans: Vec<Span, A>) -> Progress<A>
+        ensures { IsStart count line result }
     {
+        let mut spans = spans;
+        spans.clear();
         Progress {
             count,
             line,
             found: 0,
             scanned: line,
+            spans,
         }
     }
 
-    /// Goes on over the elements that are whole by now.
+    /// Goes on over the elements that are whole by now. It takes no memory.
     pub fn scan(&mut self, bytes: &[u8]) -> Scan
         requires { IsProgress self.old bytes.now }
         ensures progress { IsProgress self.new bytes.now }
@@ -54,9 +58,11 @@ impl Progress {
     {
         while self.found < self.count {
             match bulk(&bytes[self.scanned..]) {
-                BulkAt::Bulk(_, after) => {
+                BulkAt::Bulk(word, after) => {
+                    let span = span_before(bytes, word, after);
+                    keep(&mut self.spans, self.found, span);
                     self.found += 1;
-                    self.scanned = bytes.len() - after.len();
+                    self.scanned = span.end + 2;
                 }
                 BulkAt::More => return Scan::More,
                 BulkAt::Stuck(fault) => return Scan::Stuck(fault),
@@ -65,26 +71,66 @@ impl Progress {
         Scan::Whole
     }
 
-    /// Copies of the words of a whole array.
-    pub fn words<A: Allocator + Copy>(&self, alloc: A, bytes: &[u8]) -> Result<Words<A>, AllocError>
-        requires progress { IsProgress self.now bytes.now }
-        requires whole { self.now.found ≡ self.now.count }
-        ensures { (spelled : List (List ℕ)) (rest : List ℕ) → length spelled ≡ self.now.count
-            → AllByRecursion FitsBulk spelled
-            → bytes.now ≡ array_line self.now.count ++ (bulks spelled ++ rest)
-            → IfOk result (λ words. words ≡ spelled) }
+    /// Copies a whole array into a block, in which its words then stand at the spans.
+    pub fn fill(&mut self, block: &mut Vec<u8, A>, bytes: &[u8]) -> Result<(), AllocError>
+        requires progress { IsProgress self.old bytes.now }
+        requires whole { self.old.found ≡ self.old.count }
+        ensures progress { IsProgress self.new bytes.now }
+        ensures filled { OnOk result (IsFilled self.new bytes.now block.new.items) }
     {
-        let mut words = Vec::with_capacity(alloc, self.count as usize)?;
-        let mut left = &bytes[self.line..];
-        for index in 0..self.count {
-            match bulk(left) {
+        self.find_spans(bytes)?;
+        block.clear();
+        block.extend_from_slice(&bytes[..self.scanned])?;
+        Ok(())
+    }
+
+    /// Finds the spans of all words of a whole array, where they aren't kept yet.
+    fn find_spans(&mut self, bytes: &[u8]) -> Result<(), AllocError>
+        requires progress { IsProgress self.old bytes.now }
+        requires whole { self.old.found ≡ self.old.count }
+        ensures progress { IsProgress self.new bytes.now }
+        ensures all { OnOk result (HasAllSpans self.new) }
+    {
+        if self.spans.len() == self.count as usize {
+            return Ok(());
+        }
+        self.spans.clear();
+        self.spans.reserve(self.count as usize)?;
+        self.found = 0;
+        self.scanned = self.line;
+        while self.found < self.count {
+            match bulk(&bytes[self.scanned..]) {
                 BulkAt::Bulk(word, after) => {
-                    words.push(ByteString::from_slice(alloc, word)?)?;
-                    left = after;
+                    let span = span_before(bytes, word, after);
+                    self.spans.push(span)?;
+                    self.found += 1;
+                    self.scanned = span.end + 2;
                 }
                 BulkAt::More | BulkAt::Stuck(_) => unreachable!(),
             }
         }
-        Ok(Words::from_vec(words))
+        Ok(())
+    }
+}
+
+/// Where a word stands that CR, LF and then these bytes come after.
+fn span_before(bytes: &[u8], word: &[u8], after: &[u8]) -> Span
+    requires { length word.now + 2 + length after.now ≤ length bytes.now }
+    ensures end { result.end + 2 + length after.now ≡ length bytes.now }
+    ensures start { result.start + length word.now ≡ result.end }
+{
+    let end = bytes.len() - after.len() - 2;
+    Span {
+        start: end - word.len(),
+        end,
+    }
+}
+
+/// Keeps the span of the word after so many, where the spans of these are kept and there is room for it.
+fn keep<A: Allocator>(spans: &mut Vec<Span, A>, found: u32, span: Span)
+    ensures { IsKept spans.old.items found span spans.new.items }
+{
+    if spans.len() == found as usize && spans.len() < spans.capacity() {
+        let _kept = spans.push(span);
     }
 }

@@ -4,6 +4,7 @@
 //! request makes are told apart from nobody's copy.
 #![tactic(auto)]
 
+pub mod in_order;
 pub mod laws;
 pub mod message;
 pub mod numbered_value;

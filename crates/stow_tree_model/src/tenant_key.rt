@@ -11,6 +11,8 @@ pub struct TenantKey<'a> {
 }
 
 impl<'a> TenantKey<'a> {
+    ghost use Rattle.stow_tree_model.specs.Merged.{same_key};
+
     /// The key that these bytes are.
     pub fn from_packed(bytes: &'a [u8]) -> TenantKey<'a>
         requires { IsTenantKey bytes.now }
@@ -24,5 +26,12 @@ impl<'a> TenantKey<'a> {
         ensures { result ≡ tenant_of self.entry.bytes.now }
     {
         u32::from_be_bytes([self.bytes[0], self.bytes[1], self.bytes[2], self.bytes[3]])
+    }
+
+    /// Whether the two keys are one.
+    pub fn is_same(self, other: TenantKey<'_>) -> bool
+        ensures { result ≡ same_key self.entry.bytes.now other.entry.bytes.now }
+    {
+        self.bytes.cmp(other.bytes).is_eq()
     }
 }

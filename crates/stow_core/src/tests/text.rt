@@ -1,7 +1,6 @@
 //! Replies as texts, and requests of lines.
 use crate::Core;
 use std::alloc::{AllocError, Allocator};
-use stow_bytes::byte_string::ByteString;
 use stow_model::item::Item;
 use stow_model::refusal::refusal_text;
 use stow_model::reply::Reply;
@@ -24,18 +23,14 @@ pub fn repeated<A: Allocator>(alloc: A, byte: u8, count: usize) -> Result<Vec<u8
 
 /// The words of a line, of which `''` is the empty one, and `LAST` the last key that there can be.
 pub fn words_of<A: Allocator + Copy>(alloc: A, line: &str) -> Result<Words<A>, AllocError> {
-    let mut words = Vec::new(alloc);
+    let mut words = Words::new(alloc);
     for word in line.split_whitespace() {
-        words.push(word_of(alloc, word)?)?;
+        match word {
+            "LAST" => words.push(repeated(alloc, 0xff, KEY_LIMIT)?.as_slice())?,
+            _ => words.push(spelling::word_of(word).as_bytes())?,
+        }
     }
-    Ok(Words::from_vec(words))
-}
-
-fn word_of<A: Allocator + Copy>(alloc: A, word: &str) -> Result<ByteString<A>, AllocError> {
-    match word {
-        "LAST" => Ok(ByteString::from_vec(repeated(alloc, 0xff, KEY_LIMIT)?)),
-        _ => ByteString::from_slice(alloc, spelling::word_of(word).as_bytes()),
-    }
+    Ok(words)
 }
 
 /// Adds a bulk string, by its name where it is the last key that there can be.
@@ -65,8 +60,8 @@ pub fn reply_text<A: Allocator + Copy>(
         Reply::Null => text.extend_from_slice(b"nil")?,
         Reply::Array(items) => {
             text.push(b'[')?;
-            for item in items.as_slice() {
-                text.extend_from_slice(item_text(alloc, item)?.as_slice())?;
+            for index in 0..items.len() {
+                push_item(&mut text, alloc, items.get(index))?;
             }
             text.push(b']')?;
         }
@@ -74,15 +69,18 @@ pub fn reply_text<A: Allocator + Copy>(
     Ok(text)
 }
 
-fn item_text<A: Allocator + Copy>(alloc: A, item: &Item<A>) -> Result<Vec<u8, A>, AllocError> {
-    let mut text = Vec::new(alloc);
+fn push_item<A: Allocator + Copy>(
+    text: &mut Vec<u8, A>,
+    alloc: A,
+    item: Item<'_>,
+) -> Result<(), AllocError> {
     match item {
         Item::Integer(n) => text.extend_from_slice(format!(in alloc; ":{n}")?.as_bytes())?,
-        Item::Bulk(bytes) => push_bulk(&mut text, bytes.as_slice())?,
+        Item::Bulk(bytes) => push_bulk(text, bytes)?,
         Item::Null => text.extend_from_slice(b"nil")?,
     }
     text.push(b' ')?;
-    Ok(text)
+    Ok(())
 }
 
 /// Whether a reply has this text.

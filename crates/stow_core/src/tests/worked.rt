@@ -1,20 +1,16 @@
 //! The longest value, and the last key beside other tenants' first.
 use crate::tests::new_core;
-use crate::tests::text::{is_text, is_told, repeated};
+use crate::tests::text::{is_text, is_told, repeated, words_of};
 use std::test::Fail;
-use stow_bytes::byte_string::ByteString;
-use stow_model::words::Words;
 
 // A value at its limit, and one byte more.
 #[test]
 fn values_have_a_limit(rt: HostRuntime) -> Result<(), Fail> {
     let alloc = rt.alloc();
     let mut core = new_core(alloc, alloc)?;
-    let mut words = Vec::new(alloc);
-    words.push(ByteString::from_slice(alloc, b"SET")?)?;
-    words.push(ByteString::from_slice(alloc, b"v")?)?;
-    words.push(ByteString::from_vec(repeated(alloc, b'x', 65_535)?))?;
-    let reply = core.call(alloc, 1, &Words::from_vec(words));
+    let mut words = words_of(alloc, "SET v")?;
+    words.push(repeated(alloc, b'x', 65_535)?.as_slice())?;
+    let reply = core.call(alloc, 1, &words);
     assert!(rt; is_text(alloc, &reply, "OK")?);
     assert!(rt; is_told(&mut core, alloc, 1, "APPEND v x", "ERR value is too long")?);
     assert!(rt; is_told(&mut core, alloc, 1, "STRLEN v", ":65535")?);

@@ -35,12 +35,12 @@ fn requests_of<A: Allocator + Copy>(
 ) -> Result<Vec<PlainRequest<A>, A>, AllocError> {
     let mut requests = Vec::new(alloc);
     for (line, _) in row {
-        let mut words = Vec::new(alloc);
+        let mut words = Words::new(alloc);
         for word in line.split_whitespace() {
-            words.push(ByteString::from_slice(alloc, word_of(word).as_bytes())?)?;
+            words.push(word_of(word).as_bytes())?;
         }
         requests.push(PlainRequest {
-            words: Words::from_vec(words),
+            words,
             is_refused: false,
         })?;
     }

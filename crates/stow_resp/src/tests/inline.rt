@@ -40,9 +40,9 @@ fn told_plainly(alloc: Global, bytes: &[u8]) -> Result<Vec<u8>, AllocError> {
         match message {
             Message::Words(words) => {
                 log.push(b'M')?;
-                for word in words.as_slice() {
+                for index in 0..words.len() {
                     log.push(b'[')?;
-                    log.extend_from_slice(word.as_slice())?;
+                    log.extend_from_slice(words.lent().get(index))?;
                     log.push(b']')?;
                 }
             }
@@ -190,8 +190,8 @@ fn long_line(rt: &impl Abort, alloc: Global, len: usize, size: usize) -> Result<
     let Next::Message(words) = input.next(alloc) else {
         return Err(Fail::from("no message"));
     };
-    assert_eq!(rt; words.as_slice().len(), 1);
-    assert_eq!(rt; words.as_slice()[0].as_slice(), bytes.as_slice());
+    let word = words.lent().only();
+    assert!(rt; matches!(word, Some(found) if found == bytes.as_slice()));
     let mut log = Vec::new(alloc);
     tell(&mut input, alloc, &mut log)?;
     assert_eq!(rt; log.as_slice(), b"M[PING].".as_slice());
@@ -267,7 +267,7 @@ fn next_withstands_each_refusal(rt: HostRuntime) -> Result<(), Fail> {
         tell(&mut input, &heap, &mut log)?;
         assert_eq!(rt; log.as_slice(), b"M[SET][k][v]BQ.".as_slice());
     }
-    assert!(rt; refusals >= 4, "{refusals} refusals");
+    assert!(rt; refusals >= 2, "{refusals} refusals");
     Ok(())
 }
 

@@ -1,20 +1,11 @@
 //! What an operation makes of a value.
 ghost use Rattle.std.specs.Prelude.{◌≡◌, ◌++◌, IfOk};
-ghost use Rattle.stow_tree_model.specs.Merged.{same_key};
 ghost use Rattle.stow_tree_model.specs.Op.{op_of};
 ghost use Rattle.stow_tree_model.specs.Operations.{outcome};
 
 use crate::op::Op;
-use crate::tenant_key::TenantKey;
 use std::alloc::{AllocError, Allocator};
 use stow_bytes::byte_string::ByteString;
-
-/// Whether two keys are one.
-pub fn is_same(a: TenantKey<'_>, b: TenantKey<'_>) -> bool
-    ensures { result ≡ same_key a.entry.bytes.now b.entry.bytes.now }
-{
-    a.bytes.cmp(b.bytes).is_eq()
-}
 
 /// What an operation makes of a value.
 pub fn outcome_of<A: Allocator + Copy>(

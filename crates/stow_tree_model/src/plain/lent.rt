@@ -21,7 +21,7 @@ pub fn message<'a>(key: TenantKey<'a>, number: u64, op: Op<'a>) -> Option<Messag
         → number ≤ number_limit
         → length (bytes_in (op_of op.entry)) ≤ value_limit → ⊥) }
 {
-    if is_in_range(key, number) && carried(op) <= VALUE_LIMIT {
+    if is_in_range(key, number) && op.carried().len() <= VALUE_LIMIT {
         Some(Message { key, number, op })
     } else {
         None
@@ -53,15 +53,4 @@ fn is_in_range(key: TenantKey<'_>, number: u64) -> bool
 {
     let tenant = key.tenant();
     1 <= tenant && tenant <= TENANT_LIMIT && 1 <= number && number <= NUMBER_LIMIT
-}
-
-/// How many bytes an operation carries.
-fn carried(op: Op<'_>) -> usize
-    ensures { result ≡ length (bytes_in (op_of op.entry)) }
-{
-    match op {
-        Op::Put(value) => value.len(),
-        Op::Gone => 0,
-        Op::Append(suffix) => suffix.len(),
-    }
 }

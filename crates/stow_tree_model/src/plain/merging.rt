@@ -10,8 +10,9 @@ ghost use Rattle.stow_tree_model.specs.TreeMessage.{message_of};
 ghost use Rattle.stow_tree_model.specs.Version.{version_of};
 ghost use Rattle.stow_tree_model.specs.VersionBuf.{version_of_buf};
 
-use super::fold::{is_same, outcome_of};
+use super::fold::outcome_of;
 use super::sorting::{row_messages, with_messages};
+use crate::in_order::{ends_in, nth};
 use crate::message::Message;
 use crate::pin::Pin;
 use crate::tenant_key::TenantKey;
@@ -52,7 +53,7 @@ fn prune<A: Allocator + Copy>(
     let mut has_older = false;
     for i in 0..joined.len() {
         let message = joined[i];
-        let follows = begins(&joined[..i], message.key);
+        let follows = ends_in(&joined[..i], message.key);
         let before = if follows { value } else { None };
         value = outcome_of(alloc, message.op, before)?;
         let has = follows && has_older;
@@ -98,26 +99,6 @@ fn copy<A: Allocator + Copy>(
     }
 }
 
-fn nth<'a>(messages: &[Message<'a>], i: usize) -> Option<Message<'a>>
-    ensures { option_map message_of result ≡ slice_get (map message_of messages.now) i }
-{
-    if i < messages.len() {
-        Some(messages[i])
-    } else {
-        None
-    }
-}
-
-/// Whether the last message is of the key.
-fn begins(done: &[Message<'_>], key: TenantKey<'_>) -> bool
-    ensures { result ≡ begins_with key.entry.bytes.now (reverse (map message_of done.now)) }
-{
-    match done.last() {
-        None => false,
-        Some(last) => is_same(key, last.key),
-    }
-}
-
 /// Whether a message is the newest of its key, or a pin shows it.
 fn keeps(pins: &[Pin], newer: Option<Message<'_>>, message: Message<'_>) -> bool
     ensures { result
@@ -126,7 +107,7 @@ fn keeps(pins: &[Pin], newer: Option<Message<'_>>, message: Message<'_>) -> bool
     match newer {
         None => true,
         Some(newer) => {
-            !is_same(newer.key, message.key)
+            !newer.key.is_same(message.key)
                 || pin_within(pins, message.key.tenant(), message.number, newer.number)
         }
     }

@@ -6,7 +6,7 @@ ghost use Rattle.stow_tree_model.specs.NumberedValue.{numbered_of};
 ghost use Rattle.stow_tree_model.specs.Operations.{numbered};
 ghost use Rattle.stow_tree_model.specs.TreeMessage.{message_of};
 
-use super::fold::{is_same, outcome_of};
+use super::fold::outcome_of;
 use super::sorting::with_messages;
 use crate::message::Message;
 use crate::numbered_value::NumberedValue;
@@ -29,7 +29,7 @@ pub fn value_of_key<A: Allocator + Copy>(
     let mut at = 0;
     let ordered = sorted.as_slice();
     for message in ordered {
-        if is_same(key, message.key) && message.number <= number {
+        if key.is_same(message.key) && message.number <= number {
             found = outcome_of(alloc, message.op, found)?;
             at = message.number;
         }

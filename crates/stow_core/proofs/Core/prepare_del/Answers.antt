@@ -1,4 +1,5 @@
-use Rattle.std.proofs.Common.{rules, ◌≡◌, ◌<◌, ◌^◌, true, false, ap, ◌∙◌, refl, sym, subst, arith}
+use Rattle.std.proofs.Common.{rules, ◌≡◌, true, false, ap, ◌∙◌, refl, sym, subst}
+use Rattle.stow_model.specs.LentWords.{words_in}
 use Rattle.stow_core.specs.Keys.{AreKeysOf}
 use Rattle.stow_core.specs.Prepared.{prepared_answer, fewer}
 use Rattle.stow_core.specs.State.{store_of}
@@ -9,37 +10,36 @@ use Rattle.stow_core.proofs.Core.prepare_del.Goals as goal
 
 pub count_removed-removed-requires-clause-own_keys : goal.count_removed-removed-requires-clause-own_keys
 count_removed-removed-requires-clause-own_keys g c =
-    subst (AreKeysOf c.args.tenant) (sym (c.as_slice.ensures.value ∙ c.in_ok-keys.ensures)) (packed_AreKeysOf c.args.tenant c.args.keys.now)
+    subst (AreKeysOf c.args.tenant) (sym (c.lent.ensures ∙ c.in_ok-keys.ensures)) (packed_AreKeysOf c.args.tenant (words_in c.args.keys))
 
 pub returns-then-removed-eq0-clause-answer : goal.returns-then-removed-eq0-clause-answer
 returns-then-removed-eq0-clause-answer g c =
     let store = store_of c.args.self.now c.args.tenant in
-    let own = own_back c.args.tenant c.as_slice.result.now c.args.keys.now (c.as_slice.ensures.value ∙ c.in_ok-keys.ensures) in
+    let own = own_back c.args.tenant (words_in c.lent.result) (words_in c.args.keys) (c.lent.ensures ∙ c.in_ok-keys.ensures) in
     ap (λ p. prepared_answer p store) c.only_counted.ensures
-    ∙ del_none store c.args.keys.now c.count_removed-removed.result (c.count_removed-removed.ensures.removed ∙ ap (fewer store) own) c.if-removed-eq0.true
+    ∙ del_none store (words_in c.args.keys) c.count_removed-removed.result (c.count_removed-removed.ensures.removed ∙ ap (fewer store) own) c.if-removed-eq0.true
 
 pub returns-then-not-can_write-clause-answer : goal.returns-then-not-can_write-clause-answer
 returns-then-not-can_write-clause-answer g c =
     let store = store_of c.args.self.now c.args.tenant in
-    let own = own_back c.args.tenant c.as_slice.result.now c.args.keys.now (c.as_slice.ensures.value ∙ c.in_ok-keys.ensures) in
+    let own = own_back c.args.tenant (words_in c.lent.result) (words_in c.args.keys) (c.lent.ensures ∙ c.in_ok-keys.ensures) in
     let full : c.can_write.result ≡ false = search rules in
     ap (λ p. prepared_answer p store) c.only_counted-then-not-can_write.ensures
-    ∙ del_full store c.args.keys.now c.count_removed-removed.result (c.count_removed-removed.ensures.removed ∙ ap (fewer store) own) c.if-removed-eq0.false (sym c.can_write.ensures ∙ full)
+    ∙ del_full store (words_in c.args.keys) c.count_removed-removed.result (c.count_removed-removed.ensures.removed ∙ ap (fewer store) own) c.if-removed-eq0.false (sym c.can_write.ensures ∙ full)
 
 pub returns-clause-room : goal.returns-clause-room
 returns-clause-room g c =
     let can : c.can_write.result ≡ true = search rules in (
       c.requires,
       can_still_write c.args.self.now c.args.self.now c.args.tenant c.can_write.result refl c.can_write.ensures can,
-      subst (AreKeysOf c.args.tenant) (sym (c.from_vec.ensures ∙ c.in_ok-keys.ensures)) (packed_AreKeysOf c.args.tenant c.args.keys.now),
+      subst (AreKeysOf c.args.tenant) (sym c.in_ok-keys.ensures) (packed_AreKeysOf c.args.tenant (words_in c.args.keys)),
     )
 
 pub returns-clause-answer : goal.returns-clause-answer
 returns-clause-answer g c =
     let store = store_of c.args.self.now c.args.tenant in
-    let own = own_back c.args.tenant c.as_slice.result.now c.args.keys.now (c.as_slice.ensures.value ∙ c.in_ok-keys.ensures) in
+    let own = own_back c.args.tenant (words_in c.lent.result) (words_in c.args.keys) (c.lent.ensures ∙ c.in_ok-keys.ensures) in
     let can : c.can_write.result ≡ true = search rules in
-    let fits : c.count_removed-removed.result < 2 ^ 63 = omega (arith, c.count_removed-removed.ensures.few, c.as_slice.ensures.len, c.in_ok-keys.keys.ok, c.in_ok-keys.keys.small) in
-    del_done store c.from_vec.result c.args.keys.now c.count_removed-removed.result
-    (own_back c.args.tenant c.from_vec.result c.args.keys.now (c.from_vec.ensures ∙ c.in_ok-keys.ensures))
-    (c.count_removed-removed.ensures.removed ∙ ap (fewer store) own) c.if-removed-eq0.false fits (sym c.can_write.ensures ∙ can)
+    del_done store c.in_ok-keys.keys (words_in c.args.keys) c.count_removed-removed.result
+    (own_back c.args.tenant c.in_ok-keys.keys (words_in c.args.keys) c.in_ok-keys.ensures)
+    (c.count_removed-removed.ensures.removed ∙ ap (fewer store) own) c.if-removed-eq0.false c.count_removed-removed.ensures.small (sym c.can_write.ensures ∙ can)

@@ -18,7 +18,7 @@ returns-clause-own g c =
     let keys = c.args.keys in
     let high : t ≤ length c.self.inside.accounts.items = search rules in
     let out : (q : List ℕ) → look_up c.remove_all.new.self q ≡ cond (list_any (bytes_eq q) keys) None (look_up c.self.inside.places q) =
-    λ q. c.remove_all.ensures q ∙ ap (λ ks. cond (list_any (bytes_eq q) ks) None (look_up c.self.inside.places q)) c.as_slice.ensures in
+    λ q. c.remove_all.ensures q ∙ ap (λ ks. cond (list_any (bytes_eq q) ks) None (look_up c.self.inside.places q)) c.lent.ensures in
     removed_own c.self.inside.tenants.value c.self.inside.accounts.items c.self.inside.places c.remove_all.new.self t c.index.result.now c.written-account.result keys c.requires.0.0 high c.index.ensures c.written-account.ensures c.requires.2 out
     ∙ ap (λ s. after_remove keys (store_of s t)) c.self.view_is
 
@@ -28,6 +28,6 @@ returns-clause-others g c = λ other differ.
     let keys = c.args.keys in
     let high : t ≤ length c.self.inside.accounts.items = search rules in
     let out : (q : List ℕ) → look_up c.remove_all.new.self q ≡ cond (list_any (bytes_eq q) keys) None (look_up c.self.inside.places q) =
-    λ q. c.remove_all.ensures q ∙ ap (λ ks. cond (list_any (bytes_eq q) ks) None (look_up c.self.inside.places q)) c.as_slice.ensures in
+    λ q. c.remove_all.ensures q ∙ ap (λ ks. cond (list_any (bytes_eq q) ks) None (look_up c.self.inside.places q)) c.lent.ensures in
     removed_others c.self.inside.tenants.value c.self.inside.accounts.items c.self.inside.places c.remove_all.new.self t other c.written-account.result keys c.requires.0.0 high c.self.invariant.few c.requires.2 out differ
     ∙ ap (λ s. store_of s other) c.self.view_is

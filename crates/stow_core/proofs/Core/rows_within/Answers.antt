@@ -10,5 +10,5 @@ pub returns : goal.returns
 returns g c =
     let i = c.args.interval in
     let high : i.tenant ≤ length c.self.inside.accounts.items = search rules in
-    ap told.Array (c.from_vec.ensures ∙ c.in_ok-items.ensures
+    ap told.Array (c.in_ok-items.ensures
     ∙ ap (λ rows. flat_map row_items (rows_within i.from.now i.to.now c.args.count rows)) (sym (rows-store_of _ i.tenant c.requires.0 high) ∙ ap (λ s. (store_of s i.tenant).rows) c.self.view_is))

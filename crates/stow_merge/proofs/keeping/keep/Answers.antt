@@ -24,19 +24,19 @@ loop-i-preserved g c =
     let pins = pins_in c.args.pins.now in
     let done : List TreeMessage = reverse (take i joined) in
     let start = c.loop-i.start in
-    let begun : c.begins-follows.result ≡ begins_with m.key done = c.begins-follows.ensures ∙ ap (λ (ms : List TreeMessage). begins_with m.key (reverse ms)) (sym (take-map message_of i c.args.joined.now)) in
-    let before : c.if-follows.before ≡ (if c.begins-follows.result then start else None) = elim c.if-follows.branch [ then-follows w ↦ grind (arith, common_steps) | else-follows w ↦ grind (arith, common_steps) ] in
-    let has : c.if-follows-2.has ≡ (c.begins-follows.result && c.loop-i.has_older) = elim c.if-follows-2.branch [ then-follows-2 w ↦ grind (arith, common_steps) | else-follows-2 w ↦ grind (arith, common_steps) ] in
+    let begun : c.ends_in-follows.result ≡ begins_with m.key done = c.ends_in-follows.ensures ∙ ap (λ (ms : List TreeMessage). begins_with m.key (reverse ms)) (sym (take-map message_of i c.args.joined.now)) in
+    let before : c.if-follows.before ≡ (if c.ends_in-follows.result then start else None) = elim c.if-follows.branch [ then-follows w ↦ grind (arith, common_steps) | else-follows w ↦ grind (arith, common_steps) ] in
+    let has : c.if-follows-2.has ≡ (c.ends_in-follows.result && c.loop-i.has_older) = elim c.if-follows-2.branch [ then-follows-2 w ↦ grind (arith, common_steps) | else-follows-2 w ↦ grind (arith, common_steps) ] in
     let added : c.if-is_kept.is_added ≡ (c.keeps-is_kept.result && (c.if-follows-2.has || is_some c.after-start.result)) = elim c.if-is_kept.branch [ then-is_kept+then-has w ↦ grind (arith, common_steps) | then-is_kept+else-has w ↦ grind (arith, common_steps) | else-is_kept w ↦ grind (arith, common_steps) ] in
     let more : c.if-is_kept-2.has_older ≡ (c.keeps-is_kept.result || c.if-follows-2.has) = elim c.if-is_kept-2.branch [ then-is_kept-2 w ↦ grind (arith, common_steps) | else-is_kept-2 w ↦ grind (arith, common_steps) ] in
     let in_range : i < length joined = subst (λ n. i < n) (sym (length-map c.args.joined.now message_of)) c.loop-i-test.true in
     let here : m ≡ get_or joined i m = ap message_of c.index-joined-i.is ∙ sym (get_or-map message_of c.args.joined.now i c.index-joined-i.result) in
-    let behind : IsBehind c.if-follows.before i = subst (λ b. IsBehind b i) (sym before) (behind_if c.begins-follows.result start i c.loop-i.invariant.1) in
+    let behind : IsBehind c.if-follows.before i = subst (λ b. IsBehind b i) (sym before) (behind_if c.ends_in-follows.result start i c.loop-i.invariant.1) in
     let value : value_between joined c.after-start.result (i + 1) ≡ outcome m.op (if begins_with m.key done then value_between joined start i else None) =
     ap (λ s. value_between joined s (i + 1)) c.after-start.ensures
     ∙ value_more joined i m c.if-follows.before behind in_range here m.op refl
     ∙ ap (λ b. outcome m.op (value_between joined b i)) before
-    ∙ ap (outcome m.op) (value_if joined c.begins-follows.result start i)
+    ∙ ap (outcome m.op) (value_if joined c.ends_in-follows.result start i)
     ∙ ap (λ b. outcome m.op (if b then value_between joined start i else None)) begun in
     let step = loop_step joined i pins m (value_between joined start i) (value_between joined c.after-start.result (i + 1)) c.loop-i.has_older c.if-follows-2.has c.keeps-is_kept.result (map (kept_version joined) c.loop-i.kept.items) (map (kept_version joined) c.add.new.kept.items)
     c.requires in_range here c.loop-i.invariant.0

@@ -1,6 +1,6 @@
 use Rattle.std.proofs.Common.{arith}
 use Rattle.stow_merge.specs.Writing.{version_in}
-use Rattle.stow_merge.proofs.PageLemmas.{length-entry}
+use Rattle.stow_page.proofs.Pushed.{length-entry}
 use Rattle.stow_merge.proofs.writing.size_of.Goals as goal
 
 pub returns-clause-size : goal.returns-clause-size

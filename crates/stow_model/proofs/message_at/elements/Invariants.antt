@@ -5,7 +5,7 @@ use Rattle.stow_model.proofs.message_at.elements.Given as goal
 
 abbrev pub invariant-loop-index : goal.invariant-loop-index
 invariant-loop-index g l = record {
-  count : length l.words.items ≡ l.index;
-  fits : AllByRecursion FitsBulk l.words.items;
-  at : l.rest ≡ bulks l.words.items ++ l.left;
+  count : length l.words ≡ l.index;
+  fits : AllByRecursion FitsBulk l.words;
+  at : l.rest ≡ bulks l.words ++ l.left;
 }

@@ -1,6 +1,5 @@
-use Rattle.std.proofs.Common.{map}
+use Rattle.std.proofs.Common.{◌≡◌}
 use Rattle.std.specs.List.{flat_map}
-use Rattle.stow_model.specs.Item.{item_of}
 use Rattle.stow_model.specs.Store.{row_items, rows_within}
 use Rattle.stow_core.specs.Places.{places_of}
 use Rattle.stow_core.specs.State.{rows_of}
@@ -11,4 +10,4 @@ abbrev pub invariant-loop-key : goal.invariant-loop-key
 invariant-loop-key g l =
     IsLeft l.interval.tenant l.interval.from.now l.interval.to.now l.left
     (flat_map row_items (rows_within l.interval.from.now l.interval.to.now l.count (rows_of l.interval.tenant l.self)))
-    (map item_of l.items.items) (places_of l.key-iterator)
+    l.items (places_of l.key-iterator)

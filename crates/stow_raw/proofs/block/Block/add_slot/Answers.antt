@@ -1,7 +1,9 @@
-use Rattle.std.proofs.Common.{◌≡◌, ◌+◌, ◌-◌, ◌*◌, ◌≤◌, length, refl, sym, ◌∙◌, ap, arith, length-append, length-take, length-drop}
-use Rattle.stow_raw.specs.Laid.{slots_start, row_of, slots_of}
-use Rattle.stow_raw.proofs.Blocks.{slot_added}
+use Rattle.std.proofs.Common.{refl, ap}
+use Rattle.stow_raw.specs.declared.cells.Cells.{Cells}
+use Rattle.stow_raw.proofs.Blocks.{IsSameBlock, slot_added}
 use Rattle.stow_raw.proofs.block.Block.add_slot.Goals as goal
 
 pub returns : goal.returns
-returns g c = slot_added c.args.self.now _ _ c.requires.0 c.requires.1 refl refl refl refl c.write.ensures
+returns g c =
+    let same : IsSameBlock c.args.self.now _ = record { capacity = refl; lease = refl; alloc = refl; place = ap (λ (w : Cells). w.ptr) c.write_all.ensures } in
+    slot_added c.args.self.now _ c.requires.0 same _ c.requires.1 refl refl refl (ap (λ (w : Cells). w.bytes) c.write_all.ensures)

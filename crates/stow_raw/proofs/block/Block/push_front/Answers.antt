@@ -1,7 +1,9 @@
-use Rattle.std.proofs.Common.{◌≡◌, ◌+◌, ◌-◌, ◌*◌, ◌≤◌, length, refl, sym, ◌∙◌, ap, arith, length-append, length-take, length-drop}
-use Rattle.stow_raw.specs.Laid.{slots_start, row_of, slots_of}
-use Rattle.stow_raw.proofs.Blocks.{front_pushed}
+use Rattle.std.proofs.Common.{refl, ap}
+use Rattle.stow_raw.specs.declared.cells.Cells.{Cells}
+use Rattle.stow_raw.proofs.Blocks.{IsSameBlock, front_pushed}
 use Rattle.stow_raw.proofs.block.Block.push_front.Goals as goal
 
 pub returns : goal.returns
-returns g c = front_pushed c.args.self.now _ c.args.bytes.now c.requires.0 c.requires.1 refl refl refl c.write.ensures
+returns g c =
+    let same : IsSameBlock c.args.self.now _ = record { capacity = refl; lease = refl; alloc = refl; place = ap (λ (w : Cells). w.ptr) c.write_all.ensures } in
+    front_pushed c.args.self.now _ c.requires.0 same c.args.bytes.now c.requires.1 refl refl (ap (λ (w : Cells). w.bytes) c.write_all.ensures)

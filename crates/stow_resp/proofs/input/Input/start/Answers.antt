@@ -9,4 +9,5 @@ go_on-requires g c =
     let rest = c.in-Array.rest.now in
     let at = sym (c.as_slice.ensures ∙ c.self.view_is) ∙ c.in-Array.ensures.2 in
     let line = ap (λ n. n - length rest) (c.len.ensures.value ∙ ap length c.self.view_is) in
-    subst (λ p. IsProgress p old) (sym c.new.ensures) (started old rest c.in-Array.count (c.len.result - length rest) c.in-Array.ensures.0 c.in-Array.ensures.1 line at)
+    subst (IsProgress c.new-progress.result) (sym c.self.view_is)
+    (started c.new-progress.result old rest c.in-Array.count (c.len.result - length rest) c.new-progress.ensures c.in-Array.ensures.0 c.in-Array.ensures.1 line at)

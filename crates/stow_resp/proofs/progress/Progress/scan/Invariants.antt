@@ -3,7 +3,7 @@ use Rattle.stow_resp.specs.Scans.{IsProgress}
 use Rattle.stow_resp.proofs.progress.Progress.scan.Given as goal
 
 abbrev pub invariant-loop-self : goal.invariant-loop-self
-invariant-loop-self l = IsProgress l.self l.bytes
+invariant-loop-self g l = IsProgress l.self l.bytes
 
 abbrev pub decreases-loop-self : goal.decreases-loop-self
-decreases-loop-self l = l.self.count - l.self.found
+decreases-loop-self g l = l.self.count - l.self.found

@@ -1,0 +1,6 @@
+use Rattle.std.proofs.Common.{◌≡◌, map, take}
+use Rattle.stow_tree_model.specs.Version.{version_of}
+use Rattle.stow_merge.proofs.lending.lent_rows.Given as goal
+
+abbrev pub invariant-loop-i : goal.invariant-loop-i
+invariant-loop-i g l = map version_of l.lent.items ≡ take l.i l.rows

@@ -1,6 +1,0 @@
-use Rattle.std.proofs.Common.{◌≡◌, map, take}
-use Rattle.stow_tree_model.specs.Version.{version_of}
-use Rattle.stow_merge.proofs.merging.lent_rows.Given as goal
-
-abbrev pub invariant-loop-i : goal.invariant-loop-i
-invariant-loop-i g l = map version_of l.lent.items ≡ take l.i l.rows

@@ -1,0 +1,18 @@
+use Rattle.std.proofs.Common.{◌≡◌, ◌++◌, ◌∷◌, [], List, length, ap, ◌∙◌, rules}
+use Rattle.stow_model.specs.Spans.{words_at}
+use Rattle.stow_model.specs.declared.span.Span.{Span}
+use Rattle.stow_model.proofs.Spans.{one_more}
+use Rattle.stow_model.proofs.words.Words.push.Goals as goal
+
+pub returns-clause-ok : goal.returns-clause-ok
+returns-clause-ok g c =
+    let block = c.self.inside.block.items in
+    let word = c.args.word.now in
+    let span : Span = record { start = c.len-start.result; end = c.len-end.result } in
+    let grown : c.extend_from_slice.new.self.items ≡ block ++ word = c.in_ok-extend_from_slice.ensures.items in
+    let spans : c.push.new.self.items ≡ c.self.inside.spans.items ++ span ∷ [] = c.in_ok-push.ensures.items ∙ ap (λ s. s ++ span ∷ []) c.reserve.ensures.items in
+    let from : c.len-start.result ≡ length block = search rules in
+    let to : c.len-end.result ≡ length c.extend_from_slice.new.self.items = search rules in
+    (λ i. words_at (grown i) (spans i))
+    ∙ one_more block word c.self.inside.spans.items span c.self.invariant from (to ∙ ap length grown)
+    ∙ ap (λ ws. ws ++ word ∷ []) c.self.view_is

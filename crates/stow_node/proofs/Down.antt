@@ -1,0 +1,199 @@
+-- One step of messages down: what a node is after each of its ends.
+use Rattle.std.proofs.Common.{zero, suc, ◌≡◌, ℕ, ◌+◌, ◌*◌, ◌<◌, ◌≤◌, List, [], ◌∷◌, ◌++◌, length, map, get_or, set, Option, Some, None, refl, sym, ap, ◌∙◌, subst, arith}
+use Rattle.std.specs.Prelude.{slice_get}
+use Rattle.std.specs.List.{sum_by, AllByRecursion}
+use Rattle.std.specs.Vec.{with_item, with_items}
+use Rattle.std.specs.declared.vec.Vec.{Vec}
+use Rattle.std.proofs.lemmas.List.{length-map, length-set, map-set, set-get_or, with_items_is}
+use Rattle.std.proofs.lemmas.Option.{slice_get-get_or}
+use Rattle.stow_tree_model.specs.Order.{MessagesRise}
+use Rattle.stow_tree_model.specs.TreeMessage.{TreeMessage}
+use Rattle.stow_message.specs.MessageBuf.{MessageList, message_list, without_range}
+use Rattle.stow_message.specs.Packed.{message_size}
+use Rattle.stow_message.specs.Rising.{is_between, in_range}
+use Rattle.stow_node.specs.declared.child.Child.{Child}
+use Rattle.stow_node.specs.declared.child.Child.TheVariants as in_child
+use Rattle.stow_node.specs.declared.node.Node.TheInside.{Inside}
+use Rattle.stow_node.specs.Subtree.{Subtree, row_messages}
+use Rattle.stow_node.specs.Parts.{Part, top_key, AreWithin, low_or, high_of, TiledTo, messages_in, leaves_in, weight_in}
+use Rattle.stow_node.specs.Nodes.{part_of, node_part, parts_of, AreNewer, IsBelow, subtree_of, IsNode}
+use Rattle.stow_node.specs.Moves.{accepted, CanAccept, IsSqueezed, Stays, bytes_for, messages_for, IsHeaviest, CanHandDown, HandsDown}
+use Rattle.stow_node.proofs.Filled.{some_bytes, heaviest_has_bytes}
+use Rattle.stow_node.proofs.HandedDown.{same_node}
+use Rattle.stow_node.proofs.Lowered.{for_child, can_hand, Lowered, lowered, end_of-set}
+use Rattle.stow_node.proofs.Stayed.{inside_of, part_at, level_at, ChildStays, child_stays}
+
+pub stays_then : {x y z : Subtree} → Stays x y → Stays y z → Stays x z
+stays_then s t = record {
+  low = t.low ∙ s.low;
+  height = t.height ∙ s.height;
+  width = t.width ∙ s.width;
+  shape = t.shape ∙ s.shape;
+  capacity = t.capacity ∙ s.capacity;
+  leaves = t.leaves ∙ s.leaves;
+  messages = λ key n. t.messages key n ∙ s.messages key n;
+  count = t.count ∙ s.count;
+}
+
+stays_itself : (x : Subtree) → Stays x x
+stays_itself x = record { low = refl; height = refl; width = refl; shape = refl; capacity = refl; leaves = refl; messages = λ key n. refl; count = refl }
+
+squeezed_stays : (x : Subtree) (used : ℕ) → Stays x (record x { buffer = message_list x.buffer.messages used x.buffer.capacity })
+squeezed_stays x used = record { low = refl; height = refl; width = refl; shape = refl; capacity = refl; leaves = refl; messages = λ key n. refl; count = refl }
+
+-- dropping dead bytes leaves what a node means
+pub squeezed_same : (x y : Subtree) → IsSqueezed x y → Stays x y × (y.weight ≡ x.weight) × (y.buffer.messages ≡ x.buffer.messages)
+squeezed_same x y s = rw s.is (squeezed_stays x s.used, refl, refl)
+
+-- the child at the place is this node
+pub node_at : {A : Type 0} (cs : List (Child A)) (i : ℕ) (c : Child A) (x : Subtree) → i < length cs → c ≡ get_or cs i c → c ≡ in_child.Node x → slice_get cs i ≡ Some (in_child.Node x)
+node_at cs i c x h e is = slice_get-get_or cs i c h ∙ ap (λ d. Some d) (sym e ∙ is)
+
+get-set : {X : Type 0} (xs : List X) (i : ℕ) (x : X) → i < length xs → slice_get (set xs i x) i ≡ Some x
+get-set [] i x h = absurd (omega arith)
+get-set (y ∷ ys) zero x h = refl
+get-set (y ∷ ys) (suc i) x h = get-set ys i x (omega arith)
+
+-- ---- nothing moved, since the child is a leaf
+
+pub record SameChildren {A : Type 0} (a : Inside A) (v : Vec (Child A) A) : Type 0 where
+  pub is_node : IsNode (record a { children = v })
+  pub is : subtree_of (record a { children = v }) ≡ subtree_of a
+
+pub same_children : {A : Type 0} (a : Inside A) (v : Vec (Child A) A) → IsNode a → v.items ≡ a.children.items → SameChildren a v
+same_children {A} a v node e = record {
+  is_node = record {
+    tiled = subst (λ (l : List (Child A)). TiledTo top_key (parts_of l)) (sym e) node.tiled;
+    first = subst (λ (l : List (Child A)). low_or top_key (parts_of l) ≡ a.low) (sym e) node.first;
+    level = subst (λ (l : List (Child A)). AllByRecursion (IsBelow a.height a.shape) l) (sym e) node.level;
+    wide = subst (λ (l : List (Child A)). (1 ≤ length l) × (length l ≤ a.shape.fan_out)) (sym e) node.wide;
+    fits = node.fits;
+    from = node.from;
+    newer = subst (λ (l : List (Child A)). AreNewer a.buffer.messages (messages_in (parts_of l) ++ row_messages (leaves_in (parts_of l)))) (sym e) node.newer;
+  };
+  is = ap (λ (l : List (Child A)). record {
+    low = a.low;
+    height = a.height;
+    width = length l;
+    shape = a.shape;
+    buffer = a.buffer;
+    deeper = messages_in (parts_of l);
+    leaves = leaves_in (parts_of l);
+    weight = a.height * length a.buffer.messages + weight_in (parts_of l);
+  }) e;
+}
+
+pub put_back : {A : Type 0} (a : Inside A) (i : ℕ) (c : Child A) → IsNode a → c ≡ get_or a.children.items i c → SameChildren a (with_item a.children i c)
+put_back a i c node e = same_children a (with_item a.children i c) node (ap (set a.children.items i) e ∙ set-get_or a.children.items i c)
+
+pub same_stays : (x y : Subtree) → y ≡ x → Stays x y
+same_stays x y e = rw e (stays_itself x)
+
+-- ---- messages moved further down
+
+pub went_down : {A : Type 0} (a : Inside A) (i : ℕ) (x y z : Subtree) → IsNode a → slice_get a.children.items i ≡ Some (in_child.Node x) → IsSqueezed x y → Stays y z → ChildStays a x z (with_item a.children i (in_child.Node z))
+went_down a i x y z node at s t = child_stays a (with_item a.children i (in_child.Node z)) i x z node at refl (stays_then (squeezed_same x y s).0 t)
+
+-- ---- messages moved into the child
+
+pub record MadeRoom {A : Type 0} (a : Inside A) (i : ℕ) (x y : Subtree) : Type 0 where
+  pub made : ChildStays a x y (with_item a.children i (in_child.Node y))
+  pub at : slice_get (set a.children.items i (in_child.Node y)) i ≡ Some (in_child.Node y)
+  pub can : CanAccept (for_child (record a { children = with_item a.children i (in_child.Node y) }) i y) y
+  pub bytes : sum_by message_size (for_child (record a { children = with_item a.children i (in_child.Node y) }) i y) ≡ bytes_for (parts_of a.children.items) a.buffer i (node_part x)
+  pub weight : y.weight ≡ x.weight
+
+pub made_room : {A : Type 0} (a : Inside A) (i : ℕ) (x y : Subtree) → IsNode a → slice_get a.children.items i ≡ Some (in_child.Node x) → IsSqueezed x y → y.buffer.used + bytes_for (parts_of a.children.items) a.buffer i (node_part x) ≤ y.buffer.capacity → MadeRoom a i x y
+made_room {A} a i x y node at s room = record {
+  made = made;
+  at = here;
+  can = can_hand (record a { children = with_item a.children i (in_child.Node y) }) i y made.is_node here (let b = bytes in omega arith);
+  bytes = bytes;
+  weight = (squeezed_same x y s).1;
+}
+  where
+    made : ChildStays a x y (with_item a.children i (in_child.Node y))
+    made = child_stays a (with_item a.children i (in_child.Node y)) i x y node at refl (squeezed_same x y s).0
+
+    here : slice_get (set a.children.items i (in_child.Node y)) i ≡ Some (in_child.Node y)
+    here = get-set a.children.items i (in_child.Node y) (inside_of a.children.items i (in_child.Node x) at)
+
+    low : y.low ≡ (get_or (parts_of a.children.items) i (node_part x)).low
+    low = let same = (squeezed_same x y s).0 in same.low ∙ ap (λ (p : Part). p.low) (sym (part_at a.children.items i (in_child.Node x) (node_part x) at))
+
+    high : high_of (parts_of (set a.children.items i (in_child.Node y))) i ≡ high_of (parts_of a.children.items) i
+    high = ap (λ ps. high_of ps i) (map-set part_of a.children.items i (in_child.Node y)) ∙ end_of-set top_key (parts_of a.children.items) i (node_part y)
+
+    bytes : sum_by message_size (in_range y.low (high_of (parts_of (set a.children.items i (in_child.Node y))) i) a.buffer.messages) ≡ bytes_for (parts_of a.children.items) a.buffer i (node_part x)
+    bytes = rw (high, low) refl
+
+some_there : (ms : List TreeMessage) → 0 < sum_by message_size ms → 0 < length ms
+some_there [] h = absurd (omega (arith, h))
+some_there (m ∷ ms) h = omega arith
+
+-- the node in the end
+pub record WentInto {A : Type 0} (a : Inside A) (v : Vec (Child A) A) (b : MessageList) : Type 0 where
+  pub is_node : IsNode (record a { children = v; buffer = b })
+  pub stays : Stays (subtree_of a) (subtree_of (record a { children = v; buffer = b }))
+  pub weight : (subtree_of (record a { children = v; buffer = b })).weight < (subtree_of a).weight
+
+pub went_into : {A : Type 0} (a : Inside A) (i : ℕ) (x y : Subtree) (v : Vec (Child A) A) (b : MessageList) → IsNode a → MessagesRise a.buffer.messages → MadeRoom a i x y → 0 < bytes_for (parts_of a.children.items) a.buffer i (node_part x) → HandsDown (set a.children.items i (in_child.Node y)) i a.buffer v.items b → WentInto a v b
+went_into {A} a i x y v b node rise m some h =
+    let same : h.node ≡ y = same_node h.node y (sym h.at ∙ m.at) in
+    let low : Lowered (record a { children = with_item a.children i (in_child.Node y) }) (for_child (record a { children = with_item a.children i (in_child.Node y) }) i y) v b =
+    lowered (record a { children = with_item a.children i (in_child.Node y) }) v b i y m.made.is_node m.at rise m.can
+    (h.into ∙ ap (λ n. set (set a.children.items i (in_child.Node y)) i (in_child.Node (accepted (for_child (record a { children = with_item a.children i (in_child.Node y) }) i n) n))) same)
+    (h.from ∙ ap (λ (n : Subtree). without_range n.low (high_of (parts_of (set a.children.items i (in_child.Node y))) i) a.buffer) same) in
+    let filled : 0 < length (for_child (record a { children = with_item a.children i (in_child.Node y) }) i y) = some_there (for_child (record a { children = with_item a.children i (in_child.Node y) }) i y) (let e = m.bytes in omega arith) in
+    let one = m.made.weight in
+    let two = low.weight in
+    let three = m.weight in
+    record {
+      is_node = low.is_node;
+      stays = stays_then m.made.stays low.stays;
+      weight = omega arith;
+    }
+
+-- a child that lacks room has messages
+pub full_has_messages : (y : Subtree) (bytes : ℕ) → y.buffer.capacity < sum_by message_size y.buffer.messages + bytes → bytes ≤ y.buffer.capacity → 0 < length y.buffer.messages
+full_has_messages y bytes full h = some_there y.buffer.messages (omega arith)
+
+pub inside_row : {A : Type 0} (cs lent : List (Child A)) (i : ℕ) → lent ≡ cs → i < length (parts_of lent) → i < length cs
+inside_row cs lent i e h = let l = length-map lent part_of in let same = ap length e in omega arith
+
+-- what is known of the child that most bytes are buffered for
+pub record IsNext {A : Type 0} (a : Inside A) (i bytes : ℕ) (x : Subtree) : Type 0 where
+  pub at : slice_get a.children.items i ≡ Some (in_child.Node x)
+  pub bytes_are : bytes ≡ bytes_for (parts_of a.children.items) a.buffer i (node_part x)
+  pub some : 0 < bytes
+  pub few : bytes ≤ a.buffer.capacity
+  pub capacity : x.buffer.capacity ≡ a.buffer.capacity
+  pub lower : x.height < a.height
+
+pub is_next : {A : Type 0} (a : Inside A) (i bytes : ℕ) (x : Subtree) (c : Child A) (lent lent' : List (Child A)) → IsNode a → lent ≡ a.children.items → lent' ≡ a.children.items → IsHeaviest (parts_of lent) a.buffer i → ((d : Part) → bytes ≡ bytes_for (parts_of lent') a.buffer i d)
+    → c ≡ get_or a.children.items i c → c ≡ in_child.Node x → 0 < length a.buffer.messages → sum_by message_size a.buffer.messages ≤ a.buffer.capacity → IsNext a i bytes x
+is_next {A} a i bytes x c lent lent' node e e' heavy is here same some live = record {
+  at = at;
+  bytes_are = are;
+  some = let filled = heaviest_has_bytes (parts_of a.children.items) a.buffer i (node_part x) heaviest (subst (λ low. AreWithin low top_key a.buffer.messages) (sym node.first) node.from) some in omega (arith, are, filled);
+  few = let less = some_bytes (is_between (get_or (parts_of a.children.items) i (node_part x)).low (high_of (parts_of a.children.items) i)) a.buffer.messages in omega (arith, are, less, live);
+  capacity = level.same.1 ∙ sym node.fits;
+  lower = let up : x.height + 1 ≡ a.height = level.level in omega arith;
+}
+  where
+    heaviest : IsHeaviest (parts_of a.children.items) a.buffer i
+    heaviest = subst (λ (l : List (Child A)). IsHeaviest (parts_of l) a.buffer i) e heavy
+
+    at : slice_get a.children.items i ≡ Some (in_child.Node x)
+    at = node_at a.children.items i c x (inside_row a.children.items lent i e heavy.inside) here same
+
+    are : bytes ≡ bytes_for (parts_of a.children.items) a.buffer i (node_part x)
+    are = subst (λ (l : List (Child A)). bytes ≡ bytes_for (parts_of l) a.buffer i (node_part x)) e' (is (node_part x))
+
+    level : IsBelow {A = A} a.height a.shape (in_child.Node x)
+    level = level_at a.height a.shape a.children.items i (in_child.Node x) node.level at
+
+-- the children are those that the slice had in the end
+pub new_items : {A : Type 0} (v : Vec (Child A) A) (i : ℕ) (y : Child A) (l : List (Child A)) (b b' : MessageList) → HandsDown (set v.items i y) i b l b' → (with_items (with_item v i y) l).items ≡ l
+new_items v i y l b b' h =
+    with_items_is (with_item v i y) l (ap length h.into ∙ length-set (set v.items i y) i (in_child.Node (accepted (messages_for (parts_of (set v.items i y)) b i h.node) h.node)) ∙ length-set v.items i y ∙ sym v.ok.0)

@@ -1,0 +1,15 @@
+pub mod Spans
+pub mod Ops
+pub mod Row
+pub mod Places
+pub mod Newer
+pub mod Accepted
+pub mod First
+pub mod Heaviest
+pub mod HandedDown
+pub mod Stayed
+pub mod Lowered
+pub mod Filled
+pub mod Down
+pub mod Raised
+pub mod Lone

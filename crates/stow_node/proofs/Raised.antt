@@ -1,0 +1,119 @@
+-- A node above another.
+use Rattle.std.proofs.Common.{◌≡◌, ℕ, ◌+◌, ◌*◌, ◌≤◌, Bool, true, false, List, [], ◌∷◌, ◌++◌, length, Option, Some, None, refl, sym, ap, ◌∙◌, subst, arith, append-nil}
+use Rattle.std.specs.List.{AllByRecursion, flat_map}
+use Rattle.std.proofs.lemmas.List.Sums.{sum_by-cons}
+use Rattle.std.specs.Ordering.{is_lt}
+use Rattle.std.specs.declared.vec.Vec.{Vec}
+use Rattle.std.specs.declared.cmp.Ordering.TheVariants.{Less}
+use Rattle.stow_bytes.specs.Bytes.{bytes_cmp}
+use Rattle.stow_message.proofs.RisingLists.{lt_is}
+use Rattle.stow_message.specs.MessageBuf.{MessageList, message_list}
+use Rattle.stow_tree_model.specs.Op.{Op}
+use Rattle.stow_tree_model.specs.Operations.{or_else}
+use Rattle.stow_tree_model.specs.Messages.{ops_in}
+use Rattle.stow_node.specs.declared.child.Child.{Child}
+use Rattle.stow_node.specs.declared.child.Child.TheVariants as in_child
+use Rattle.stow_node.specs.declared.node.Node.TheInside.{Inside}
+use Rattle.stow_node.specs.declared.shape.Shape.{Shape}
+use Rattle.stow_node.specs.Subtree.{LeafRows, Subtree, buffered, row_messages}
+use Rattle.stow_node.specs.Parts.{Part, top_key, spans, AreWithin, low_or, first_fence, IsTile, TiledTo, messages_in, leaves_in, weight_in}
+use Rattle.stow_node.specs.Nodes.{part_of, node_part, parts_of, IsBelow, subtree_of, IsNode}
+use Rattle.std.proofs.lemmas.List.{length-map}
+use Rattle.stow_node.specs.Moves.{raised}
+use Rattle.stow_node.proofs.Lowered.{rows_by_part}
+use Rattle.stow_node.proofs.Ops.{ops-append}
+use Rattle.stow_node.proofs.Row.{both_none, Taken, Apart, message_taken, row_taken, messages_apart, rows_apart, none_before, none_from, low_at_most}
+use Rattle.stow_node.proofs.Spans.{lt, lt_trans, lt_le, le_le, lt_not, lt_self, not_spanned, span_low, span_high, spanned}
+
+less_than_itself : (a b : List ℕ) → lt a b ≡ true → b ≡ a → ⊥
+less_than_itself a b l e = cc (lt_self a)
+
+-- fences of a wider interval
+wider : (low high low' high' : List ℕ) (leaves : List LeafRows) → lt low low' ≡ false → lt high' high ≡ false → AllByRecursion (λ leaf. spans low high leaf.0 ≡ true) leaves → AllByRecursion (λ leaf. spans low' high' leaf.0 ≡ true) leaves
+wider low high low' high' [] l h all = tt
+wider low high low' high' (leaf ∷ leaves) l h all =
+    (spanned low' high' leaf.0 (le_le low' low leaf.0 l (span_low low high leaf.0 all.0)) (lt_le leaf.0 high high' (span_high low high leaf.0 all.0) h), wider low high low' high' leaves l h all.1)
+
+both : (low high : List ℕ) (xs ys : List LeafRows) → AllByRecursion (λ leaf. spans low high leaf.0 ≡ true) xs → AllByRecursion (λ leaf. spans low high leaf.0 ≡ true) ys → AllByRecursion (λ leaf. spans low high leaf.0 ≡ true) (xs ++ ys)
+both low high [] ys a b = b
+both low high (x ∷ xs) ys a b = (a.0, both low high xs ys a.1 b)
+
+-- the fences of a row are from its first part's low on
+row_fences : (high : List ℕ) (ps : List Part) → TiledTo high ps → AllByRecursion (λ leaf. spans (low_or high ps) high leaf.0 ≡ true) (leaves_in ps)
+row_fences high [] t = tt
+row_fences high (p ∷ ps) t =
+    let apart = messages_apart high (p ∷ ps) t in
+    let low = low_at_most message_taken high ps apart.1 in
+    both p.low high p.leaves (leaves_in ps)
+    (wider p.low (low_or high ps) p.low high p.leaves (not_self p.low) low t.0.fences)
+    (wider (low_or high ps) high p.low high (leaves_in ps) (lt_not p.low (low_or high ps) apart.0.0) (not_self high) (row_fences high ps t.1))
+  where
+    not_self : (a : List ℕ) → lt a a ≡ false
+    not_self a = lt_self a
+
+first_of_row : (high : List ℕ) (ps : List Part) → TiledTo high ps → first_fence high (leaves_in ps) ≡ low_or high ps
+first_of_row high [] t = refl
+first_of_row high (p ∷ ps) t = by_leaves p.leaves refl (first_of_row high ps t.1) where
+  by_leaves : (l : List LeafRows) → l ≡ p.leaves → first_fence high (leaves_in ps) ≡ low_or high ps → first_fence high (l ++ leaves_in ps) ≡ p.low
+  by_leaves [] is on = absurd (less_than_itself p.low (low_or high ps) (ap is_lt t.0.ordered) (ap (first_fence (low_or high ps)) is ∙ t.0.first))
+  by_leaves (leaf ∷ leaves) is on = ap (first_fence (low_or high ps)) is ∙ t.0.first
+
+-- a whole row has nothing outside its interval
+row_within : (f : Taken) (ps : List Part) (key : List ℕ) (n : ℕ) → Apart f top_key ps → spans (low_or top_key ps) top_key key ≡ false → ops_in (flat_map f ps) key n ≡ None
+row_within f ps key n a o = not_spanned (low_or top_key ps) top_key key o
+    (λ l. none_before f top_key ps key n a l)
+    (λ _ h. none_from f top_key ps key n a h)
+
+-- a node is a tile of all keys from its low on
+pub whole_tile : {A : Type 0} (a : Inside A) → IsNode a → IsTile (node_part (subtree_of a)) top_key
+whole_tile a node = record {
+  fences = subst (λ low. AllByRecursion (λ leaf. spans low top_key leaf.0 ≡ true) (leaves_in (parts_of a.children.items))) node.first (row_fences top_key (parts_of a.children.items) node.tiled);
+  first = first_of_row top_key (parts_of a.children.items) node.tiled ∙ node.first;
+  ordered = lt_is (bytes_cmp a.low top_key) (subst (λ low. lt low top_key ≡ true) node.first (below_top (parts_of a.children.items) node.tiled (let w = node.wide in omega (arith, length-map a.children.items part_of))));
+  messages = record {
+    outside = λ key n o. ops-append a.buffer.messages (messages_in (parts_of a.children.items)) key n
+        ∙ both_none (ops_in a.buffer.messages key n) (ops_in (messages_in (parts_of a.children.items)) key n) (node.from.outside key n o)
+        (row_within message_taken (parts_of a.children.items) key n (messages_apart top_key (parts_of a.children.items) node.tiled) (subst (λ low. spans low top_key key ≡ false) (sym node.first) o));
+  };
+  rows = record {
+    outside = λ key n o. ap (λ l. ops_in l key n) (rows_by_part (parts_of a.children.items))
+        ∙ row_within row_taken (parts_of a.children.items) key n (rows_apart top_key (parts_of a.children.items) node.tiled) (subst (λ low. spans low top_key key ≡ false) (sym node.first) o);
+  };
+}
+  where
+    below_top : (ps : List Part) → TiledTo top_key ps → 1 ≤ length ps → lt (low_or top_key ps) top_key ≡ true
+    below_top [] t h = absurd (omega arith)
+    below_top (p ∷ ps) t h = let apart = messages_apart top_key (p ∷ ps) t in lt_le p.low (low_or top_key ps) top_key apart.0.0 (low_at_most message_taken top_key ps apart.1)
+
+pub record IsRaised {A : Type 0} (a : Inside A) (v : Vec (Child A) A) : Type 0 where
+  pub is_node : IsNode (record { low = a.low; height = a.height + 1; shape = a.shape; buffer = message_list [] 0 a.shape.buffer; children = v })
+  pub is : subtree_of (record { low = a.low; height = a.height + 1; shape = a.shape; buffer = message_list [] 0 a.shape.buffer; children = v }) ≡ raised (subtree_of a)
+
+pub is_raised : {A : Type 0} (a : Inside A) (v : Vec (Child A) A) → IsNode a → v.items ≡ in_child.Node (subtree_of a) ∷ [] → IsRaised a v
+is_raised {A} a v node e = record {
+  is_node = record {
+    tiled = subst (λ (l : List (Child A)). TiledTo top_key (parts_of l)) (sym e) (whole_tile a node, tt);
+    first = subst (λ (l : List (Child A)). low_or top_key (parts_of l) ≡ a.low) (sym e) refl;
+    level = subst (AllByRecursion (IsBelow {A = A} (a.height + 1) a.shape)) (sym e) (record { level = refl; same = (refl, node.fits) }, tt);
+    wide = subst (λ (l : List (Child A)). (1 ≤ length l) × (length l ≤ a.shape.fan_out)) (sym e) (let w = node.wide in (omega arith, omega arith));
+    fits = refl;
+    from = record { outside = λ key n o. refl };
+    newer = record { above = λ key n k u l. absurd cc };
+  };
+  is = ap (λ (l : List (Child A)). record {
+    low = a.low;
+    height = a.height + 1;
+    width = length l;
+    shape = a.shape;
+    buffer = message_list [] 0 a.shape.buffer;
+    deeper = messages_in (parts_of l);
+    leaves = leaves_in (parts_of l);
+    weight = (a.height + 1) * 0 + weight_in (parts_of l);
+  }) e
+      ∙ ap (λ ms. record (raised (subtree_of a)) { deeper = ms; leaves = leaves_in (parts_of a.children.items) ++ []; weight = (a.height + 1) * 0 + weight_in (node_part (subtree_of a) ∷ []) }) (append-nil (buffered (subtree_of a)))
+      ∙ ap (λ ls. record (raised (subtree_of a)) { leaves = ls; weight = (a.height + 1) * 0 + weight_in (node_part (subtree_of a) ∷ []) }) (append-nil (leaves_in (parts_of a.children.items)))
+      ∙ ap (λ w. record (raised (subtree_of a)) { weight = w }) weighed;
+}
+  where
+    weighed : (a.height + 1) * 0 + weight_in (node_part (subtree_of a) ∷ []) ≡ (subtree_of a).weight
+    weighed = omega (arith, sum_by-cons (λ (p : Part). p.weight) (node_part (subtree_of a)) [])

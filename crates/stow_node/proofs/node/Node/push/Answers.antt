@@ -1,0 +1,31 @@
+use Rattle.std.proofs.Common.{[], ◌∷◌, sym, subst, arith}
+use Rattle.std.proofs.lemmas.List.Sums.{sum_by-cons}
+use Rattle.std.specs.List.Sorted.{IsStrictlySortedBy}
+use Rattle.stow_message.specs.MessageBuf.{with_messages}
+use Rattle.stow_message.specs.Packed.{message_size}
+use Rattle.stow_tree_model.specs.Order.{MessagesRise}
+use Rattle.stow_tree_model.specs.TreeMessage.{TreeMessage, message_of}
+use Rattle.stow_node.specs.Nodes.{subtree_of}
+use Rattle.stow_node.specs.Moves.{CanAccept}
+use Rattle.stow_node.proofs.Accepted.{Took, took, others, took_one}
+use Rattle.stow_node.proofs.Newer.{are_new}
+use Rattle.stow_node.proofs.node.Node.push.Goals as goal
+use Rattle.stow_node.proofs.node.Node.push.Given as given
+
+pub push-requires : goal.push-requires
+push-requires g c =
+    let m = message_of c.args.message in
+    let can = subst (CanAccept (m ∷ [])) (sym c.self.view_is) c.requires in
+    let room = can.room in
+    (omega (arith, sum_by-cons message_size m []), are_new (m ∷ []) c.self.inside.buffer.messages (others c.self.inside (m ∷ []) can) 0 m (omega arith))
+
+done : (g : given.Over) (c : goal.After-push g) → Took c.self.inside (message_of c.args.message ∷ []) c.push.new.self
+done g c =
+    let m = message_of c.args.message in
+    rw c.push.ensures (took_one c.self.inside m c.self.invariant (subst (CanAccept (m ∷ [])) (sym c.self.view_is) c.requires))
+
+pub invariant_of-self : goal.invariant_of-self
+invariant_of-self g c = (done g c).is_node
+
+pub returns : goal.returns
+returns g c = rw (← c.self.view_is) (done g c).is

@@ -1,0 +1,5 @@
+pub mod Subtree
+pub mod Parts
+pub mod Nodes
+pub mod Heights
+pub mod Moves

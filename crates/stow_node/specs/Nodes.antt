@@ -1,0 +1,79 @@
+-- What a node keeps.
+use Rattle.std.specs.Prelude.{◌≡◌, ℕ, ◌+◌, ◌*◌, ◌<◌, ◌≤◌, List, [], ◌∷◌, ◌++◌, map, length, IsSome}
+use Rattle.std.specs.List.{AllByRecursion}
+use Rattle.stow_message.specs.MessageBuf.{MessageList}
+use Rattle.stow_tree_model.specs.Messages.{ops_in}
+use Rattle.stow_tree_model.specs.TreeMessage.{TreeMessage}
+use Rattle.stow_node.specs.declared.child.Child.{Child}
+use Rattle.stow_node.specs.declared.child.Child.TheVariants as in_child
+use Rattle.stow_node.specs.declared.leaf.Leaf.{Leaf}
+use Rattle.stow_node.specs.declared.node.Node.TheInside.{Inside}
+use Rattle.stow_node.specs.declared.shape.Shape.{Shape}
+use Rattle.stow_node.specs.Subtree.{Subtree, buffered, row_messages}
+use Rattle.stow_node.specs.Parts.{Part, top_key, AreWithin, first_fence, TiledTo, low_or, messages_in, leaves_in, weight_in}
+
+abbrev pub leaf_part : {A : Type 0} → Leaf A → Part
+leaf_part leaf =
+    record {
+      low = leaf.low;
+      height = 0;
+      messages = [];
+      leaves = (leaf.low, leaf.rows) ∷ [];
+      weight = 0;
+    }
+
+abbrev pub node_part : Subtree → Part
+node_part t =
+    record {
+      low = t.low;
+      height = t.height;
+      messages = buffered t;
+      leaves = t.leaves;
+      weight = t.weight;
+    }
+
+abbrev pub part_of : {A : Type 0} → Child A → Part
+part_of (in_child.Leaf leaf) = leaf_part leaf
+part_of (in_child.Node node) = node_part node
+
+abbrev pub parts_of : {A : Type 0} → List (Child A) → List Part
+parts_of children = map part_of children
+
+-- each message of a key is newer than those of the key below
+pub record AreNewer (upper lower : List TreeMessage) : Type 0 where
+  pub above : (key : List ℕ) (n k : ℕ) → IsSome (ops_in upper key n) → IsSome (ops_in lower key k)
+      → k < n
+
+-- a node grows as its parent does
+abbrev pub HasShape : {A : Type 0} → Shape → Child A → Type 0
+HasShape shape (in_child.Leaf leaf) = Unit {0}
+HasShape shape (in_child.Node node) = (node.shape ≡ shape) × (node.buffer.capacity ≡ shape.buffer)
+
+-- a child stands one level lower, and grows as its parent does
+pub record IsBelow {A : Type 0} (height : ℕ) (shape : Shape) (child : Child A) : Type 0 where
+  pub level : (part_of child).height + 1 ≡ height
+  pub same : HasShape shape child
+
+abbrev pub subtree_of : {A : Type 0} → Inside A → Subtree
+subtree_of a =
+    record {
+      low = a.low;
+      height = a.height;
+      width = length a.children.items;
+      shape = a.shape;
+      buffer = a.buffer;
+      deeper = messages_in (parts_of a.children.items);
+      leaves = leaves_in (parts_of a.children.items);
+      weight = a.height * length a.buffer.messages + weight_in (parts_of a.children.items);
+    }
+
+pub record IsNode {A : Type 0} (a : Inside A) : Type 0 where
+  pub tiled : TiledTo top_key (parts_of a.children.items)
+  pub first : low_or top_key (parts_of a.children.items) ≡ a.low
+  pub level : AllByRecursion (IsBelow a.height a.shape) a.children.items
+  pub wide : (1 ≤ length a.children.items) × (length a.children.items ≤ a.shape.fan_out)
+  pub fits : a.buffer.capacity ≡ a.shape.buffer
+  pub from : AreWithin a.low top_key a.buffer.messages
+  pub newer : AreNewer a.buffer.messages
+      (messages_in (parts_of a.children.items)
+      ++ row_messages (leaves_in (parts_of a.children.items)))

@@ -1,0 +1,56 @@
+-- What a contract sees of a node: all that stands in it and below it.
+use Rattle.std.specs.Prelude.{ℕ, List, [], ◌∷◌, ◌++◌, map}
+use Rattle.std.specs.List.{flat_map}
+use Rattle.stow_message.specs.MessageBuf.{MessageList, message_list}
+use Rattle.stow_tree_model.specs.Keys.{packed}
+use Rattle.stow_tree_model.specs.Merged.{row_message}
+use Rattle.stow_tree_model.specs.TreeMessage.{TreeMessage}
+use Rattle.stow_tree_model.specs.Version.{Version}
+use Rattle.stow_node.specs.declared.shape.Shape.{Shape}
+
+-- a leaf's low fence, with its rows
+abbrev pub LeafRows : Type 0
+LeafRows = List ℕ × List Version
+
+pub record Subtree : Type 0 where
+  -- the lowest key that it may hold
+  pub low : List ℕ
+  -- how many levels of nodes it has
+  pub height : ℕ
+  -- how many children it has
+  pub width : ℕ
+  pub shape : Shape
+  -- its own messages
+  pub buffer : MessageList
+  -- the messages in the buffers below it
+  pub deeper : List TreeMessage
+  -- the leaves, from the lowest
+  pub leaves : List LeafRows
+  -- over all its messages, how many levels above the leaves each stands, added up
+  pub weight : ℕ
+
+-- the messages in its buffers
+abbrev pub buffered : Subtree → List TreeMessage
+buffered t = t.buffer.messages ++ t.deeper
+
+-- the messages that the rows of leaves stand for
+abbrev pub row_messages : List LeafRows → List TreeMessage
+row_messages leaves = flat_map (λ leaf. map row_message leaf.1) leaves
+
+-- all messages of a node, those in buffers before those that rows stand for
+abbrev pub messages_of : Subtree → List TreeMessage
+messages_of t = buffered t ++ row_messages t.leaves
+
+-- a node above one empty leaf, for all keys
+abbrev pub first_subtree : Shape → Subtree
+first_subtree shape =
+    record {
+      low = packed 0 [];
+      height = 1;
+      width = 1;
+      shape = shape;
+      buffer = message_list [] 0 shape.buffer;
+      deeper = [];
+      leaves = (packed 0 [], []) ∷ [];
+      weight = 0;
+    }

@@ -1,0 +1,88 @@
+//! What stands below a node.
+ghost use Rattle.std.specs.Prelude.{◌≡◌, ◌<◌, length, true};
+ghost use Rattle.std.specs.Ordering.{is_lt};
+ghost use Rattle.stow_bytes.specs.Bytes.{bytes_cmp};
+ghost use Rattle.stow_node.specs.Nodes.{part_of, parts_of};
+ghost use Rattle.stow_node.specs.Parts.{top_key, spans, low_or, high_of, IsFor};
+
+use crate::leaf::Leaf;
+use crate::node::Node;
+use std::alloc::Allocator;
+use std::cmp::Ordering;
+use stow_tree_model::tenant_key::TenantKey;
+
+/// What stands below a node: a leaf, or a node one level lower.
+#[cycle(node)]
+#[derive(Drop)]
+pub enum Child<A: Allocator> {
+    Leaf(Leaf<A>),
+    Node(Node<A>),
+}
+
+impl<A: Allocator> Child<A> {
+    /// The lowest key that it may hold.
+    pub(crate) fn low(&self) -> TenantKey<'_>
+        ensures { result.bytes.now ≡ (part_of self.now).low }
+    {
+        match self {
+            Child::Leaf(leaf) => leaf.low.as_key(),
+            Child::Node(node) => node.low(),
+        }
+    }
+}
+
+/// The upper end of all tenants' keys.
+pub(crate) fn top_key() -> TenantKey<'static>
+    ensures { result.bytes.now ≡ top_key }
+{
+    TenantKey::from_packed(&[0, 1, 0, 0])
+}
+
+/// Whether the key stands below a fence.
+fn is_below(key: TenantKey<'_>, fence: TenantKey<'_>) -> bool
+    ensures { result ≡ is_lt (bytes_cmp key.entry.bytes.now fence.entry.bytes.now) }
+{
+    match key.bytes.cmp(fence.bytes) {
+        Ordering::Less => true,
+        Ordering::Equal | Ordering::Greater => false,
+    }
+}
+
+/// The place of the child for a key: the last one whose fence is at most the key.
+pub(crate) fn child_for<A: Allocator>(children: &[Child<A>], key: TenantKey<'_>) -> usize
+    requires some { 0 < length children.now }
+    requires within { spans (low_or top_key (parts_of children.now)) top_key key.bytes.now ≡ true }
+    ensures { IsFor (parts_of children.now) key.entry.bytes.now result }
+{
+    let (mut at, mut end) = (0, children.len());
+    while end - at > 1 {
+        let middle = at + (end - at) / 2;
+        if is_below(key, children[middle].low()) {
+            end = middle;
+        } else {
+            at = middle;
+        }
+    }
+    at
+}
+
+/// Where the keys of the child at `index` end.
+pub(crate) fn high_after<A: Allocator>(children: &[Child<A>], index: usize) -> TenantKey<'_>
+    requires { index < length children.now }
+    ensures { result.bytes.now ≡ high_of (parts_of children.now) index }
+{
+    match children.get(index + 1) {
+        Some(child) => child.low(),
+        None => top_key(),
+    }
+}
+
+/// Where the keys of these children begin, or the upper end of all where there are none.
+pub(crate) fn first_low<A: Allocator>(children: &[Child<A>]) -> TenantKey<'_>
+    ensures { result.bytes.now ≡ low_or top_key (parts_of children.now) }
+{
+    match children.first() {
+        Some(child) => child.low(),
+        None => top_key(),
+    }
+}

@@ -1,0 +1,23 @@
+//! Inner nodes of the buffered tree (Brodal and Fagerberg 2003; Bender and others 2015), and the way of messages down it.
+//!
+//! A `Node` is seen as a `Subtree`: its own buffer, the messages in the buffers below it, the leaves from the lowest, and
+//! its shape. Its type keeps that all leaves stand at one depth, that it has one to fan-out children, that the children
+//! share out the keys by their fences, that each buffer is within the node size, and that each message of a key is newer
+//! than those below it. `move_down` moves what is buffered for one child into that child, further down where there is no
+//! room; what the node means at each key and number stays, and its messages come nearer to the leaves.
+//!
+//! This crate is begun, and nothing stands on it yet: messages are not merged into leaves, no child is split, and nothing
+//! is read. So a node has one child today, and what `move_down` does among several children is proved and run by no test.
+//! A body of `first` or `raise` that always answers `AllocError` meets its contract: tests call each with ample memory and
+//! with each request refused. So does a body of `move_down` that always answers that nothing moved: a test refuses it. How
+//! much work a call does stands in no contract. The search for a key's child (`child_for`) waits for the reads. `raise` asks
+//! for fewer levels than 2^32 - 1, which no tree in memory has.
+#![tactic(auto)]
+
+pub mod child;
+pub mod leaf;
+mod moving;
+pub mod node;
+pub mod shape;
+#[cfg(test)]
+mod tests;

@@ -1,0 +1,54 @@
+//! Which child most bytes are buffered for, and the way of its messages.
+ghost use Rattle.std.specs.Prelude.{◌≡◌, ◌<◌, length};
+ghost use Rattle.stow_node.specs.Moves.{bytes_for, IsHeaviest, CanHandDown, HandsDown};
+ghost use Rattle.stow_node.specs.Nodes.{parts_of};
+ghost use Rattle.stow_node.specs.Parts.{Part};
+
+use crate::child::{Child, first_low, high_after};
+use std::alloc::Allocator;
+use stow_message::message_buf::MessageBuf;
+
+/// The bytes that the messages for a child take in the buffer above it, their slots among them.
+pub(crate) fn bytes_for<A: Allocator>(
+    children: &[Child<A>],
+    index: usize,
+    buffer: &MessageBuf<A>,
+) -> usize
+    requires { index < length children.now }
+    ensures { (d : Part) → result ≡ bytes_for (parts_of children.now) buffer.now index d }
+{
+    buffer.range_bytes(children[index].low(), high_after(children, index))
+}
+
+/// The child for which most bytes are buffered, the leftmost of equals.
+pub(crate) fn heaviest<A: Allocator>(children: &[Child<A>], buffer: &MessageBuf<A>) -> usize
+    requires { 0 < length children.now }
+    ensures { IsHeaviest (parts_of children.now) buffer.now result }
+{
+    let (mut best, mut most) = (0, bytes_for(children, 0, buffer));
+    for index in 1..children.len() {
+        let bytes = bytes_for(children, index, buffer);
+        if bytes > most {
+            best = index;
+            most = bytes;
+        }
+    }
+    best
+}
+
+/// Moves the messages for a child, a node, into its buffer.
+pub(crate) fn hand_down<A: Allocator>(
+    children: &mut [Child<A>],
+    index: usize,
+    buffer: &mut MessageBuf<A>,
+)
+    requires { CanHandDown children.old index buffer.old }
+    ensures { HandsDown children.old index buffer.old children.new buffer.new }
+{
+    let (front, after) = children.split_at_mut(index + 1);
+    let to = first_low(after);
+    let (_, child) = front.split_at_mut(index);
+    if let Child::Node(node) = &mut child[0] {
+        node.accept(buffer, to);
+    }
+}

@@ -1,0 +1,193 @@
+//! Inner nodes.
+ghost use Rattle.std.specs.Prelude.{◌≡◌, ◌↔◌, ◌+◌, ◌<◌, ◌≤◌, IsTrue, [], ◌∷◌, length, true, false, IfOk, OnOk, OnErr};
+ghost use Rattle.std.specs.List.{sum_by};
+ghost use Rattle.stow_message.specs.MessageBuf.{Fits, without_range};
+ghost use Rattle.stow_message.specs.Packed.{message_size};
+ghost use Rattle.stow_message.specs.Rising.{in_range};
+ghost use Rattle.stow_tree_model.specs.TreeMessage.{message_of};
+ghost use Rattle.stow_node.specs.Moves.{accepted, CanAccept, IsSqueezed, Stays, raised};
+ghost use Rattle.stow_node.specs.Subtree.{first_subtree};
+
+use crate::child::Child;
+use crate::leaf::Leaf;
+use crate::moving::{bytes_for, hand_down, heaviest};
+use crate::shape::Shape;
+use std::alloc::{AllocError, Allocator, Global};
+use std::marker::Model;
+use std::mem;
+use stow_message::message_buf::MessageBuf;
+use stow_page::packed_rows::PackedRows;
+use stow_page::rows::Rows;
+use stow_raw::raw_buf::RawBuf;
+use stow_tree_model::message::Message;
+use stow_tree_model::tenant_key::TenantKey;
+use stow_tree_model::tenant_key_buf::TenantKeyBuf;
+
+/// A node with a buffer of messages, and all that stands below it.
+#[cycle(node)]
+#[derive(Drop)]
+pub struct Node<A: Allocator = Global> {
+    low: TenantKeyBuf<A>,
+    height: u32,
+    shape: Shape,
+    buffer: MessageBuf<A>,
+    children: Vec<Child<A>, A>,
+}
+
+impl<A: Allocator> Model for Node<A> {
+    ghost use Rattle.stow_node.specs.Subtree.{Subtree};
+
+    ghost Value = { Subtree };
+
+    ghost use Rattle.stow_node.specs.Nodes.{subtree_of, IsNode};
+
+    ghost view = { subtree_of };
+
+    ghost invariant = { IsNode };
+
+    ghost size = { λ s. s.height };
+
+    ghost use Rattle.std.proofs.Common.{arith};
+    ghost use Rattle.stow_node.specs.Heights.{deepest_child};
+
+    ghost size_decreases = { λ a h. omega (arith, deepest_child A A.Allocator a.height a.shape a.children.items h.level) };
+}
+
+impl<A: Allocator + Copy> Node<A> {
+    /// A node above one empty leaf, for all keys.
+    pub fn first(alloc: A, shape: Shape) -> Result<Node<A>, AllocError>
+        requires { 1 ≤ shape.fan_out }
+        ensures { IfOk result (λ n. n ≡ first_subtree shape) }
+    {
+        let leaf = Leaf {
+            low: TenantKeyBuf::new(alloc, 0, &[])?,
+            rows: Rows::new(alloc, PackedRows::new(alloc)?)?,
+        };
+        let mut children = Vec::new(alloc);
+        children.push(Child::Leaf(leaf))?;
+        Ok(Node {
+            low: TenantKeyBuf::new(alloc, 0, &[])?,
+            height: 1,
+            shape,
+            buffer: MessageBuf::with_capacity(alloc, shape.buffer as usize)?,
+            children,
+        })
+    }
+}
+
+impl<A: Allocator + Copy> Node<A> {
+    /// Puts a node above this one, which becomes its only child. Where memory is refused nothing has changed.
+    pub fn raise(&mut self, alloc: A) -> Result<(), AllocError>
+        requires { self.old.height < 4294967295 }
+        ensures raised { OnOk result (self.new ≡ raised self.old) }
+        ensures same { OnErr result (self.new ≡ self.old) }
+    {
+        let low = TenantKeyBuf::from_key(alloc, self.low.as_key())?;
+        let buffer = MessageBuf::with_capacity(alloc, self.shape.buffer as usize)?;
+        let mut children = Vec::with_capacity(alloc, 1)?;
+        let lower = Node {
+            low: mem::replace(&mut self.low, low),
+            height: self.height,
+            shape: self.shape,
+            buffer: mem::replace(&mut self.buffer, buffer),
+            children: mem::replace(&mut self.children, Vec::new(alloc)),
+        };
+        children.push(Child::Node(lower)).unwrap();
+        self.children = children;
+        self.height += 1;
+        Ok(())
+    }
+}
+
+impl<A: Allocator> Node<A> {
+    /// The lowest key that it may hold.
+    pub fn low(&self) -> TenantKey<'_>
+        ensures { result.bytes.now ≡ self.now.low }
+    {
+        self.low.as_key()
+    }
+
+    /// How many levels of nodes there are from here down.
+    pub fn height(&self) -> u32
+        ensures { result ≡ self.now.height }
+    {
+        self.height
+    }
+
+    /// How many children it has.
+    pub fn width(&self) -> usize
+        ensures { result ≡ self.now.width }
+    {
+        self.children.len()
+    }
+
+    /// Whether there is room for the message in its own buffer.
+    pub fn fits(&self, message: Message<'_>) -> bool
+        ensures { IsTrue result ↔ Fits self.now.buffer (message_of message.entry) }
+    {
+        self.buffer.fits(message)
+    }
+
+    /// Puts a message into its own buffer.
+    pub fn push(&mut self, message: Message<'_>)
+        requires { CanAccept (message_of message ∷ []) self.old }
+        ensures { self.new ≡ accepted (message_of message.entry ∷ []) self.old }
+    {
+        self.buffer.push(message);
+    }
+
+    /// Takes the messages from its own low on and below `to` out of the buffer above it.
+    pub(crate) fn accept(&mut self, from: &mut MessageBuf<A>, to: TenantKey<'_>)
+        requires { CanAccept (in_range self.old.low to.bytes.now from.old.messages) self.old }
+        ensures accepted { self.new
+            ≡ accepted (in_range self.old.low to.entry.bytes.now from.old.messages) self.old }
+        ensures left { from.new ≡ without_range self.old.low to.entry.bytes.now from.old }
+    {
+        let _count = from.len();
+        from.move_range(self.low.as_key(), to, &mut self.buffer);
+    }
+
+    /// Whether so many bytes fit into its own buffer; where they don't at first, dead bytes are dropped.
+    fn makes_room(&mut self, bytes: usize, spare: &mut RawBuf<A>) -> bool
+        requires { self.old.buffer.capacity ≤ spare.old.capacity }
+        ensures same { IsSqueezed self.old self.new }
+        ensures room { IsTrue result → self.new.buffer.used + bytes ≤ self.new.buffer.capacity }
+        ensures full { result ≡ false → self.new.buffer.capacity
+            < sum_by message_size self.new.buffer.messages + bytes }
+        ensures spare { spare.new.capacity ≡ spare.old.capacity }
+    {
+        let capacity = self.buffer.capacity();
+        if bytes <= capacity - self.buffer.used() {
+            return true;
+        }
+        self.buffer.squeeze(spare);
+        bytes <= capacity - self.buffer.used()
+    }
+
+    /// Moves the messages for the child for which most bytes are buffered into that child's buffer. Where they don't fit
+    /// there, dead bytes dropped, the same is done in that child. Answers whether messages moved: where the way ends
+    /// above a leaf, none did.
+    pub fn move_down(&mut self, spare: &mut RawBuf<A>) -> bool
+        requires some { 0 < length self.old.buffer.messages }
+        requires spare { self.old.buffer.capacity ≤ spare.old.capacity }
+        ensures stays { Stays self.old self.new }
+        ensures moved { IsTrue result → self.new.weight < self.old.weight }
+        ensures unmoved { result ≡ false → self.new.weight ≡ self.old.weight }
+        ensures spare { spare.new.capacity ≡ spare.old.capacity }
+    {
+        let _used = self.buffer.used();
+        let _len = self.buffer.len();
+        let index = heaviest(self.children.as_slice(), &self.buffer);
+        let bytes = bytes_for(self.children.as_slice(), index, &self.buffer);
+        match &mut self.children[index] {
+            Child::Leaf(_) => return false,
+            Child::Node(node) => {
+                if !node.makes_room(bytes, spare) {
+                    return node.move_down(spare);
+                }
+            }
+        }
+        hand_down(&mut self.children, index, &mut self.buffer);
+        true
+    }
+}

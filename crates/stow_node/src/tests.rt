@@ -1,0 +1,119 @@
+//! What no clause says: that the calls succeed where there is memory, and which of them ask for none.
+ghost use Rattle.std.specs.Prelude.{◌≡◌, ◌+◌, ◌<◌, ◌≤◌, [], length, IfOk};
+ghost use Rattle.stow_tree_model.specs.Keys.{packed};
+ghost use Rattle.stow_node.specs.Subtree.{messages_of};
+
+use crate::node::Node;
+use crate::shape::Shape;
+use std::alloc::{AllocError, Allocator};
+use std::test::Fail;
+use stow_raw::raw_buf::RawBuf;
+use stow_refusing::{Plan, Refusing};
+use stow_tree_model::message::Message;
+use stow_tree_model::op::Op;
+use stow_tree_model::tenant_key::TenantKey;
+
+/// The smallest tree.
+fn smallest() -> Shape
+    ensures { (1 ≤ result.fan_out) × (result.buffer ≡ 131072) }
+{
+    Shape {
+        buffer: 131_072,
+        leaf: 4096,
+        fan_out: 4,
+    }
+}
+
+/// Puts tenant 1's `a` into a node without messages.
+fn put_a<A: Allocator>(node: &mut Node<A>)
+    requires none { messages_of node.old ≡ [] }
+    requires low { node.old.low ≡ packed 0 [] }
+    requires room { node.old.buffer.used + 23 ≤ node.old.buffer.capacity }
+    ensures some { 0 < length node.new.buffer.messages }
+    ensures capacity { node.new.buffer.capacity ≡ node.old.buffer.capacity }
+{
+    node.push(Message {
+        key: TenantKey::from_packed(&[0, 0, 0, 1, b'a']),
+        number: 1,
+        op: Op::Put(b"x"),
+    });
+}
+
+#[test]
+fn above_a_leaf_nothing_moves(rt: HostRuntime) -> Result<(), Fail> {
+    let alloc = rt.alloc();
+    let mut spare = RawBuf::with_capacity(alloc, 131_072)?;
+    let mut node = Node::first(alloc, smallest())?;
+    assert!(rt; node.height() == 1 && node.width() == 1 && node.low().bytes == [0; 4].as_slice());
+    assert!(rt; !put_and_move(&mut node, &mut spare));
+    Ok(())
+}
+
+/// A node above another.
+fn two_levels<A: Allocator + Copy>(alloc: A) -> Result<Node<A>, AllocError>
+    ensures none { IfOk result (λ n. messages_of n ≡ []) }
+    ensures low { IfOk result (λ n. n.low ≡ packed 0 []) }
+    ensures room { IfOk result (λ n. (n.buffer.used ≡ 0) × (n.buffer.capacity ≡ 131072)) }
+{
+    let mut node = Node::first(alloc, smallest())?;
+    node.raise(alloc)?;
+    Ok(node)
+}
+
+/// Puts a message into a node without any, and moves it down.
+fn put_and_move<A: Allocator>(node: &mut Node<A>, spare: &mut RawBuf<A>) -> bool
+    requires none { messages_of node.old ≡ [] }
+    requires low { node.old.low ≡ packed 0 [] }
+    requires room { node.old.buffer.used + 23 ≤ node.old.buffer.capacity }
+    requires spare { node.old.buffer.capacity ≤ spare.old.capacity }
+{
+    put_a(node);
+    node.move_down(spare)
+}
+
+#[test]
+fn messages_move_one_level(rt: HostRuntime) -> Result<(), Fail> {
+    let alloc = rt.alloc();
+    let mut spare = RawBuf::with_capacity(alloc, 131_072)?;
+    let mut node = two_levels(alloc)?;
+    assert!(rt; node.height() == 2 && node.width() == 1);
+    assert!(rt; put_and_move(&mut node, &mut spare));
+    Ok(())
+}
+
+/// How many requests for memory a put and its way down make, if the nodes can be had.
+fn asked_below<B: Allocator>(heap: &Refusing<B>) -> Result<u64, AllocError> {
+    let mut spare = RawBuf::with_capacity(heap, 131_072)?;
+    let mut node = two_levels(heap)?;
+    heap.set(Plan::RefuseAll);
+    let moved = put_and_move(&mut node, &mut spare);
+    if moved {
+        Ok(heap.asked())
+    } else {
+        Err(AllocError)
+    }
+}
+
+#[test]
+fn moving_asks_for_no_memory(rt: HostRuntime) -> Result<(), Fail> {
+    let heap = Refusing::new(rt.alloc());
+    assert_eq!(rt; asked_below(&heap)?, 0);
+    Ok(())
+}
+
+/// Whether two levels can be had.
+fn is_made<A: Allocator + Copy>(alloc: A) -> bool {
+    two_levels(alloc).is_ok()
+}
+
+#[test]
+fn making_withstands_each_refusal(rt: HostRuntime) -> Result<(), Fail> {
+    let heap = Refusing::new(rt.alloc());
+    for n in 0..9 {
+        heap.set(Plan::RefuseAt(n));
+        assert!(rt; !is_made(&heap));
+    }
+    heap.set(Plan::RefuseAt(9));
+    assert!(rt; is_made(&heap));
+    Ok(())
+}

@@ -1,0 +1,8 @@
+use Rattle.std.proofs.Common.{refl}
+use Rattle.stow_raw.proofs.Blocks.{IsSameBlock, front_cleared}
+use Rattle.stow_raw.proofs.block.Block.clear_front.Goals as goal
+
+pub returns : goal.returns
+returns g c =
+    let same : IsSameBlock c.args.self.now _ = record { capacity = refl; lease = refl; alloc = refl; place = refl } in
+    front_cleared c.args.self.now _ c.requires same refl refl refl

@@ -1,0 +1,7 @@
+-- Spans that are kept of the first words of an array.
+use Rattle.std.specs.Prelude.{◌≡◌, ℕ, List, [], ◌∷◌, ◌++◌, length, ◌⊎◌}
+use Rattle.stow_model.specs.declared.span.Span.{Span}
+
+-- the span of the word after so many is kept behind the spans of all these, or none is
+abbrev pub IsKept : List Span → ℕ → Span → List Span → Type 0
+IsKept old found span new = (new ≡ old) ⊎ ((length old ≡ found) × (new ≡ old ++ span ∷ []))
