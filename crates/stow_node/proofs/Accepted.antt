@@ -13,11 +13,13 @@ use Rattle.std.specs.List.Sorted.{IsStrictlySortedBy}
 use Rattle.stow_message.specs.Rising.{is_below, placed, all_placed}
 use Rattle.stow_message.proofs.Placed.{AllOther}
 use Rattle.stow_node.specs.declared.node.Node.TheInside.{Inside}
-use Rattle.stow_node.specs.Subtree.{Subtree, buffered, row_messages, messages_of}
-use Rattle.stow_node.specs.Parts.{top_key, spans, AreWithin, messages_in, leaves_in, weight_in}
+use Rattle.stow_node.specs.Subtree.{Subtree, buffered, messages_of}
+use Rattle.stow_leaf.specs.LeafRows.{row_messages}
+use Rattle.stow_node.specs.Parts.{messages_in, leaves_in, weight_in}
+use Rattle.stow_leaf.specs.Intervals.{top_key, spans, AreWithin}
 use Rattle.stow_node.specs.Nodes.{parts_of, AreNewer, subtree_of, IsNode}
 use Rattle.stow_node.specs.Moves.{accepted, CanAccept}
-use Rattle.stow_node.proofs.Ops.{ops-append, ops-all_placed}
+use Rattle.stow_leaf.proofs.Ops.{ops-append, ops-all_placed}
 use Rattle.stow_node.proofs.Row.{both_none}
 use Rattle.stow_node.proofs.Newer.{some_or, some_left, some_right, all_new_to, newer_than_part}
 

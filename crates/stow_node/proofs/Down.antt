@@ -14,8 +14,10 @@ use Rattle.stow_message.specs.Rising.{is_between, in_range}
 use Rattle.stow_node.specs.declared.child.Child.{Child}
 use Rattle.stow_node.specs.declared.child.Child.TheVariants as in_child
 use Rattle.stow_node.specs.declared.node.Node.TheInside.{Inside}
-use Rattle.stow_node.specs.Subtree.{Subtree, row_messages}
-use Rattle.stow_node.specs.Parts.{Part, top_key, AreWithin, low_or, high_of, TiledTo, messages_in, leaves_in, weight_in}
+use Rattle.stow_node.specs.Subtree.{Subtree}
+use Rattle.stow_leaf.specs.LeafRows.{row_messages}
+use Rattle.stow_node.specs.Parts.{Part, low_or, high_of, TiledTo, messages_in, leaves_in, weight_in}
+use Rattle.stow_leaf.specs.Intervals.{top_key, AreWithin}
 use Rattle.stow_node.specs.Nodes.{part_of, node_part, parts_of, AreNewer, IsBelow, subtree_of, IsNode}
 use Rattle.stow_node.specs.Moves.{accepted, CanAccept, IsSqueezed, Stays, bytes_for, messages_for, IsHeaviest, CanHandDown, HandsDown}
 use Rattle.stow_node.proofs.Filled.{some_bytes, heaviest_has_bytes}

@@ -10,9 +10,10 @@ use Rattle.stow_tree_model.proofs.Histories.{ops_in-at}
 use Rattle.stow_message.specs.MessageBuf.{MessageList}
 use Rattle.stow_message.specs.Packed.{message_size}
 use Rattle.stow_message.specs.Rising.{is_between, in_range}
-use Rattle.stow_node.specs.Parts.{Part, top_key, spans, AreWithin, low_or, end_of, high_of}
+use Rattle.stow_node.specs.Parts.{Part, low_or, end_of, high_of}
+use Rattle.stow_leaf.specs.Intervals.{top_key, spans, AreWithin}
 use Rattle.stow_node.specs.Moves.{bytes_for, IsHeaviest}
-use Rattle.stow_node.proofs.Spans.{lt, by_test, span_low, span_high, spanned, lt_self}
+use Rattle.stow_leaf.proofs.Intervals.{lt, by_test, span_low, span_high, spanned, lt_self}
 
 -- the bytes of some of the messages are no more than those of all
 pub some_bytes : (f : TreeMessage → Bool) (ms : List TreeMessage) → sum_by message_size (filter f ms) ≤ sum_by message_size ms

@@ -5,12 +5,13 @@ use Rattle.stow_tree_model.specs.Keys.{packed}
 use Rattle.std.specs.declared.vec.Vec.{Vec}
 use Rattle.stow_node.specs.declared.child.Child.{Child}
 use Rattle.stow_node.specs.declared.child.Child.TheVariants as in_child
-use Rattle.stow_node.specs.declared.leaf.Leaf.{Leaf}
+use Rattle.stow_leaf.specs.declared.leaf.Leaf.{Leaf}
 use Rattle.stow_node.specs.declared.node.Node.TheInside.{Inside}
 use Rattle.stow_node.specs.declared.shape.Shape.{Shape}
 use Rattle.stow_node.specs.Subtree.{first_subtree}
 use Rattle.std.specs.List.{AllByRecursion}
-use Rattle.stow_node.specs.Parts.{top_key, TiledTo, low_or, messages_in, leaves_in, weight_in}
+use Rattle.stow_node.specs.Parts.{TiledTo, low_or, messages_in, leaves_in, weight_in}
+use Rattle.stow_leaf.specs.Intervals.{top_key}
 use Rattle.stow_node.specs.Nodes.{parts_of, IsBelow, subtree_of, IsNode}
 
 pub record IsFirst {A : Type 0} (shape : Shape) (a : Inside A) : Type 0 where

@@ -5,9 +5,10 @@ use Rattle.stow_message.specs.MessageBuf.{MessageList, without_range}
 use Rattle.stow_message.specs.Rising.{in_range}
 use Rattle.stow_node.specs.declared.child.Child.{Child}
 use Rattle.stow_node.specs.declared.child.Child.TheVariants as in_child
-use Rattle.stow_node.specs.declared.leaf.Leaf.{Leaf}
+use Rattle.stow_leaf.specs.declared.leaf.Leaf.{Leaf}
 use Rattle.stow_node.specs.Subtree.{Subtree}
-use Rattle.stow_node.specs.Parts.{Part, top_key, low_or, end_of, high_of}
+use Rattle.stow_node.specs.Parts.{Part, low_or, end_of, high_of}
+use Rattle.stow_leaf.specs.Intervals.{top_key}
 use Rattle.stow_node.specs.Nodes.{part_of, parts_of}
 use Rattle.stow_node.specs.Moves.{accepted, CanAccept, messages_for, CanHandDown, HandsDown}
 

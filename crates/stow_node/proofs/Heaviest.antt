@@ -2,7 +2,7 @@
 use Rattle.std.proofs.Common.{◌≡◌, ◌+◌, ◌<◌, ◌≤◌, ℕ, length, List, sym, subst, arith}
 use Rattle.std.specs.Prelude.{nat_lt}
 use Rattle.std.proofs.lemmas.Bool.Decides.{nat_tests}
-use Rattle.stow_node.proofs.Spans.{by_test}
+use Rattle.stow_leaf.proofs.Intervals.{by_test}
 use Rattle.stow_message.specs.MessageBuf.{MessageList}
 use Rattle.stow_node.specs.Parts.{Part}
 use Rattle.stow_node.specs.Moves.{bytes_for, IsHeaviest}

@@ -1,5 +1,3 @@
-pub mod Spans
-pub mod Ops
 pub mod Row
 pub mod Places
 pub mod Newer

@@ -11,7 +11,7 @@ use Rattle.stow_tree_model.specs.Order.{Place, place_cmp, place_of}
 use Rattle.stow_tree_model.specs.TreeMessage.{TreeMessage}
 use Rattle.stow_tree_model.proofs.Orders.{place_cases}
 use Rattle.stow_node.specs.Subtree.{Subtree, messages_of}
-use Rattle.stow_node.specs.Parts.{top_key, spans}
+use Rattle.stow_leaf.specs.Intervals.{top_key, spans}
 use Rattle.stow_node.specs.Moves.{CanAccept}
 use Rattle.stow_node.proofs.Newer.{none_some}
 

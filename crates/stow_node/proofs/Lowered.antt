@@ -21,15 +21,17 @@ use Rattle.stow_message.proofs.Placed.{AllOther}
 use Rattle.stow_node.specs.declared.child.Child.{Child}
 use Rattle.stow_node.specs.declared.child.Child.TheVariants as in_child
 use Rattle.stow_node.specs.declared.node.Node.TheInside.{Inside}
-use Rattle.stow_node.specs.Subtree.{LeafRows, Subtree, buffered, row_messages, messages_of}
-use Rattle.stow_node.specs.Parts.{Part, top_key, spans, AreWithin, low_or, end_of, high_of, IsTile, TiledTo, messages_in, leaves_in, weight_in}
+use Rattle.stow_node.specs.Subtree.{Subtree, buffered, messages_of}
+use Rattle.stow_leaf.specs.LeafRows.{LeafRows, row_messages}
+use Rattle.stow_node.specs.Parts.{Part, low_or, end_of, high_of, IsTile, TiledTo, messages_in, leaves_in, weight_in}
+use Rattle.stow_leaf.specs.Intervals.{top_key, spans, AreWithin}
 use Rattle.stow_node.specs.Nodes.{part_of, node_part, parts_of, AreNewer, IsBelow, subtree_of, IsNode}
 use Rattle.stow_node.specs.Moves.{accepted, CanAccept, Stays}
 use Rattle.stow_node.proofs.Accepted.{length-all_placed, below_of}
 use Rattle.stow_node.proofs.Newer.{none_some, some_or, some_left, some_right, all_new_to, newer_than_part}
-use Rattle.stow_node.proofs.Ops.{ops-append, ops-in_range, ops-out_of_range, ops-all_placed}
+use Rattle.stow_leaf.proofs.Ops.{ops-append, ops-in_range, ops-out_of_range, ops-all_placed}
 use Rattle.stow_node.proofs.Row.{Taken, Apart, message_taken, row_taken, messages_apart, rows_apart, at_part, same_at, low_or-set, tiled-set, tile_at, low_at_most}
-use Rattle.stow_node.proofs.Spans.{lt, by_test, lt_le, span_low, span_high, spanned}
+use Rattle.stow_leaf.proofs.Intervals.{lt, by_test, lt_le, span_low, span_high, spanned}
 use Rattle.stow_node.proofs.Stayed.{inside_of, part_at, level-set, level_at, leaves-set, count-set}
 
 row_messages-append : (xs ys : List LeafRows) → row_messages (xs ++ ys) ≡ row_messages xs ++ row_messages ys

@@ -14,8 +14,8 @@ use Rattle.std.proofs.lemmas.List.Elements.{All-from_recursion}
 use Rattle.stow_message.specs.Rising.{IsNew, AreNew}
 use Rattle.stow_message.proofs.Placed.{AllOther}
 use Rattle.stow_node.specs.Nodes.{AreNewer}
-use Rattle.stow_node.proofs.Ops.{Other, ops-append}
-use Rattle.stow_node.proofs.Spans.{by_test}
+use Rattle.stow_leaf.proofs.Ops.{Other, ops-append}
+use Rattle.stow_leaf.proofs.Intervals.{by_test}
 
 pub some_or : {X : Type 0} (a b : Option Op) → (IsSome a → X) → (IsSome b → X) → IsSome (or_else a b) → X
 some_or None b f g h = g h

@@ -15,15 +15,17 @@ use Rattle.stow_node.specs.declared.child.Child.{Child}
 use Rattle.stow_node.specs.declared.child.Child.TheVariants as in_child
 use Rattle.stow_node.specs.declared.node.Node.TheInside.{Inside}
 use Rattle.stow_node.specs.declared.shape.Shape.{Shape}
-use Rattle.stow_node.specs.Subtree.{LeafRows, Subtree, buffered, row_messages}
-use Rattle.stow_node.specs.Parts.{Part, top_key, spans, AreWithin, low_or, first_fence, IsTile, TiledTo, messages_in, leaves_in, weight_in}
+use Rattle.stow_node.specs.Subtree.{Subtree, buffered}
+use Rattle.stow_leaf.specs.LeafRows.{LeafRows, row_messages, first_fence}
+use Rattle.stow_node.specs.Parts.{Part, low_or, IsTile, TiledTo, messages_in, leaves_in, weight_in}
+use Rattle.stow_leaf.specs.Intervals.{top_key, spans, AreWithin}
 use Rattle.stow_node.specs.Nodes.{part_of, node_part, parts_of, IsBelow, subtree_of, IsNode}
 use Rattle.std.proofs.lemmas.List.{length-map}
 use Rattle.stow_node.specs.Moves.{raised}
 use Rattle.stow_node.proofs.Lowered.{rows_by_part}
-use Rattle.stow_node.proofs.Ops.{ops-append}
+use Rattle.stow_leaf.proofs.Ops.{ops-append}
 use Rattle.stow_node.proofs.Row.{both_none, Taken, Apart, message_taken, row_taken, messages_apart, rows_apart, none_before, none_from, low_at_most}
-use Rattle.stow_node.proofs.Spans.{lt, lt_trans, lt_le, le_le, lt_not, lt_self, not_spanned, span_low, span_high, spanned}
+use Rattle.stow_leaf.proofs.Intervals.{lt, lt_trans, lt_le, le_le, lt_not, lt_self, not_spanned, span_low, span_high, spanned}
 
 less_than_itself : (a b : List ℕ) → lt a b ≡ true → b ≡ a → ⊥
 less_than_itself a b l e = cc (lt_self a)

@@ -7,10 +7,11 @@ use Rattle.stow_tree_model.specs.Op.{Op}
 use Rattle.stow_tree_model.specs.Operations.{or_else}
 use Rattle.stow_tree_model.specs.Messages.{ops_in}
 use Rattle.stow_tree_model.specs.TreeMessage.{TreeMessage}
-use Rattle.stow_node.specs.Subtree.{LeafRows, row_messages}
-use Rattle.stow_node.specs.Parts.{Part, spans, AreWithin, IsTile, TiledTo, low_or, end_of, messages_in, leaves_in}
-use Rattle.stow_node.proofs.Spans.{lt, lt_trans, lt_le, le_lt, le_le, lt_not, lt_self, under, beyond, span_low, span_high, spanned}
-use Rattle.stow_node.proofs.Ops.{ops-append}
+use Rattle.stow_leaf.specs.LeafRows.{LeafRows, row_messages}
+use Rattle.stow_node.specs.Parts.{Part, IsTile, TiledTo, low_or, end_of, messages_in, leaves_in}
+use Rattle.stow_leaf.specs.Intervals.{spans, AreWithin}
+use Rattle.stow_leaf.proofs.Intervals.{lt, lt_trans, lt_le, le_lt, le_le, lt_not, lt_self, under, beyond, span_low, span_high, spanned}
+use Rattle.stow_leaf.proofs.Ops.{ops-append}
 
 -- what is taken of each part
 abbrev pub Taken : Type 0

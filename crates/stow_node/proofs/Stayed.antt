@@ -14,11 +14,13 @@ use Rattle.stow_node.specs.declared.child.Child.{Child}
 use Rattle.stow_node.specs.declared.child.Child.TheVariants as in_child
 use Rattle.stow_node.specs.declared.node.Node.TheInside.{Inside}
 use Rattle.stow_node.specs.declared.shape.Shape.{Shape}
-use Rattle.stow_node.specs.Subtree.{LeafRows, Subtree, buffered, row_messages}
-use Rattle.stow_node.specs.Parts.{Part, top_key, AreWithin, low_or, end_of, high_of, IsTile, TiledTo, messages_in, leaves_in, weight_in}
+use Rattle.stow_node.specs.Subtree.{Subtree, buffered}
+use Rattle.stow_leaf.specs.LeafRows.{LeafRows, row_messages}
+use Rattle.stow_node.specs.Parts.{Part, low_or, end_of, high_of, IsTile, TiledTo, messages_in, leaves_in, weight_in}
+use Rattle.stow_leaf.specs.Intervals.{top_key, AreWithin}
 use Rattle.stow_node.specs.Nodes.{part_of, node_part, parts_of, AreNewer, IsBelow, subtree_of, IsNode}
 use Rattle.stow_node.specs.Moves.{Stays}
-use Rattle.stow_node.proofs.Ops.{ops-append}
+use Rattle.stow_leaf.proofs.Ops.{ops-append}
 use Rattle.stow_node.proofs.Row.{message_taken, row_taken, same_at, low_or-set, tiled-set, tile_at}
 
 pub inside_of : {X : Type 0} (xs : List X) (i : ℕ) (x : X) → slice_get xs i ≡ Some x → i < length xs

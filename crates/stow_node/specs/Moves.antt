@@ -9,7 +9,8 @@ use Rattle.stow_tree_model.specs.TreeMessage.{TreeMessage}
 use Rattle.stow_node.specs.declared.child.Child.{Child}
 use Rattle.stow_node.specs.declared.child.Child.TheVariants as in_child
 use Rattle.stow_node.specs.Subtree.{Subtree, buffered, messages_of}
-use Rattle.stow_node.specs.Parts.{Part, top_key, AreWithin, high_of}
+use Rattle.stow_node.specs.Parts.{Part, high_of}
+use Rattle.stow_leaf.specs.Intervals.{top_key, AreWithin}
 use Rattle.stow_node.specs.Nodes.{AreNewer, parts_of}
 
 -- the node with these messages more in its own buffer

@@ -6,11 +6,13 @@ use Rattle.stow_tree_model.specs.Messages.{ops_in}
 use Rattle.stow_tree_model.specs.TreeMessage.{TreeMessage}
 use Rattle.stow_node.specs.declared.child.Child.{Child}
 use Rattle.stow_node.specs.declared.child.Child.TheVariants as in_child
-use Rattle.stow_node.specs.declared.leaf.Leaf.{Leaf}
+use Rattle.stow_leaf.specs.declared.leaf.Leaf.{Leaf}
 use Rattle.stow_node.specs.declared.node.Node.TheInside.{Inside}
 use Rattle.stow_node.specs.declared.shape.Shape.{Shape}
-use Rattle.stow_node.specs.Subtree.{Subtree, buffered, row_messages}
-use Rattle.stow_node.specs.Parts.{Part, top_key, AreWithin, first_fence, TiledTo, low_or, messages_in, leaves_in, weight_in}
+use Rattle.stow_node.specs.Subtree.{Subtree, buffered}
+use Rattle.stow_leaf.specs.LeafRows.{row_messages, first_fence}
+use Rattle.stow_node.specs.Parts.{Part, TiledTo, low_or, messages_in, leaves_in, weight_in}
+use Rattle.stow_leaf.specs.Intervals.{top_key, AreWithin}
 
 abbrev pub leaf_part : {A : Type 0} → Leaf A → Part
 leaf_part leaf =

@@ -7,7 +7,8 @@ use Rattle.stow_bytes.specs.Bytes.{bytes_cmp}
 use Rattle.stow_tree_model.specs.Keys.{packed}
 use Rattle.stow_tree_model.specs.Messages.{ops_in}
 use Rattle.stow_tree_model.specs.TreeMessage.{TreeMessage}
-use Rattle.stow_node.specs.Subtree.{LeafRows, row_messages}
+use Rattle.stow_leaf.specs.Intervals.{top_key, spans, AreWithin}
+use Rattle.stow_leaf.specs.LeafRows.{LeafRows, row_messages, first_fence}
 
 -- what a parent knows of a child
 pub record Part : Type 0 where
@@ -18,27 +19,10 @@ pub record Part : Type 0 where
   pub leaves : List LeafRows
   pub weight : ℕ
 
--- the upper end of all tenants' keys
-abbrev pub top_key : List ℕ
-top_key = 0 ∷ 1 ∷ 0 ∷ 0 ∷ []
-
--- the key is from the lower end on and below the upper end
-abbrev pub spans : List ℕ → List ℕ → List ℕ → Bool
-spans low high key = not (is_lt (bytes_cmp key low)) && is_lt (bytes_cmp key high)
-
--- no message is of a key outside
-pub record AreWithin (low high : List ℕ) (ms : List TreeMessage) : Type 0 where
-  pub outside : (key : List ℕ) (n : ℕ) → spans low high key ≡ false → ops_in ms key n ≡ None
-
 -- the low of the first part, or else the upper end
 abbrev pub low_or : List ℕ → List Part → List ℕ
 low_or high [] = high
 low_or high (p ∷ ps) = p.low
-
--- the fence of the first leaf, or else the upper end
-abbrev pub first_fence : List ℕ → List LeafRows → List ℕ
-first_fence high [] = high
-first_fence high (leaf ∷ leaves) = leaf.0
 
 -- a part's fences and messages are from its low on, and below the upper end
 pub record IsTile (p : Part) (high : List ℕ) : Type 0 where

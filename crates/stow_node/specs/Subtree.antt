@@ -6,11 +6,8 @@ use Rattle.stow_tree_model.specs.Keys.{packed}
 use Rattle.stow_tree_model.specs.Merged.{row_message}
 use Rattle.stow_tree_model.specs.TreeMessage.{TreeMessage}
 use Rattle.stow_tree_model.specs.Version.{Version}
+use Rattle.stow_leaf.specs.LeafRows.{LeafRows, row_messages}
 use Rattle.stow_node.specs.declared.shape.Shape.{Shape}
-
--- a leaf's low fence, with its rows
-abbrev pub LeafRows : Type 0
-LeafRows = List ℕ × List Version
 
 pub record Subtree : Type 0 where
   -- the lowest key that it may hold
@@ -32,10 +29,6 @@ pub record Subtree : Type 0 where
 -- the messages in its buffers
 abbrev pub buffered : Subtree → List TreeMessage
 buffered t = t.buffer.messages ++ t.deeper
-
--- the messages that the rows of leaves stand for
-abbrev pub row_messages : List LeafRows → List TreeMessage
-row_messages leaves = flat_map (λ leaf. map row_message leaf.1) leaves
 
 -- all messages of a node, those in buffers before those that rows stand for
 abbrev pub messages_of : Subtree → List TreeMessage

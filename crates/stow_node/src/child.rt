@@ -3,9 +3,10 @@ ghost use Rattle.std.specs.Prelude.{◌≡◌, ◌<◌, length, true};
 ghost use Rattle.std.specs.Ordering.{is_lt};
 ghost use Rattle.stow_bytes.specs.Bytes.{bytes_cmp};
 ghost use Rattle.stow_node.specs.Nodes.{part_of, parts_of};
-ghost use Rattle.stow_node.specs.Parts.{top_key, spans, low_or, high_of, IsFor};
+ghost use Rattle.stow_node.specs.Parts.{low_or, high_of, IsFor};
+ghost use Rattle.stow_leaf.specs.Intervals.{top_key, spans};
 
-use crate::leaf::Leaf;
+use stow_leaf::leaf::Leaf;
 use crate::node::Node;
 use std::alloc::Allocator;
 use std::cmp::Ordering;

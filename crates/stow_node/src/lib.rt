@@ -15,7 +15,6 @@
 #![tactic(auto)]
 
 pub mod child;
-pub mod leaf;
 mod moving;
 pub mod node;
 pub mod shape;

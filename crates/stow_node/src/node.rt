@@ -9,7 +9,7 @@ ghost use Rattle.stow_node.specs.Moves.{accepted, CanAccept, IsSqueezed, Stays, 
 ghost use Rattle.stow_node.specs.Subtree.{first_subtree};
 
 use crate::child::Child;
-use crate::leaf::Leaf;
+use stow_leaf::leaf::Leaf;
 use crate::moving::{bytes_for, hand_down, heaviest};
 use crate::shape::Shape;
 use std::alloc::{AllocError, Allocator, Global};

@@ -80,6 +80,14 @@ impl<A: Allocator> Rows<A> {
         self.packed.is_empty()
     }
 
+    /// How many bytes their page has.
+    pub fn page_len(&self) -> usize
+        ensures len { result ≡ length (packed_page self.now) }
+        ensures short { result < 2 ^ 32 }
+    {
+        self.packed.as_bytes().len()
+    }
+
     /// The version at this place in the order, lent.
     pub fn get(&self, index: usize) -> Version<'_>
         requires { index < length self.now }

@@ -1,7 +1,7 @@
 use Rattle.std.proofs.Common.{◌≡◌, ◌+◌, ◌-◌, ◌/◌, ◌<◌, length, map, arith, ap, ◌∙◌, sym}
 use Rattle.std.proofs.lemmas.List.{length-map}
 use Rattle.stow_node.specs.Nodes.{part_of, parts_of}
-use Rattle.stow_node.proofs.Spans.{lt}
+use Rattle.stow_leaf.proofs.Intervals.{lt}
 use Rattle.stow_node.proofs.Places.{at_first, low_spans, is_for, upper_half, lower_half}
 use Rattle.stow_node.proofs.child.child_for.Goals as goal
 

@@ -2,7 +2,7 @@ use Rattle.std.proofs.Common.{◌≡◌, ◌+◌, ◌≤◌, ◌∷◌, [], true
 use Rattle.stow_tree_model.specs.Keys.{tenant_of, IsOfTenant}
 use Rattle.stow_tree_model.specs.TreeMessage.{message_of}
 use Rattle.stow_message.specs.Packed.{message_size}
-use Rattle.stow_node.specs.Parts.{top_key, spans}
+use Rattle.stow_leaf.specs.Intervals.{top_key, spans}
 use Rattle.stow_node.proofs.Lone.{lone}
 use Rattle.stow_node.proofs.tests.put_a.Goals as goal
 

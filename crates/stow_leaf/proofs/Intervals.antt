@@ -9,7 +9,7 @@ use Rattle.std.specs.Cmp.Lexicographic.{nat_list_cmp_total}
 use Rattle.std.proofs.lemmas.Map.Lookups.{exact_bytes}
 use Rattle.stow_bytes.specs.Bytes.{bytes_cmp}
 use Rattle.stow_message.proofs.RisingLists.{no_path, lt_is}
-use Rattle.stow_node.specs.Parts.{spans}
+use Rattle.stow_leaf.specs.Intervals.{spans}
 
 -- the first key stands below the second
 abbrev pub lt : List ℕ → List ℕ → Bool

@@ -18,7 +18,7 @@ use Rattle.stow_tree_model.proofs.Histories.{ops_in-at, ops_in-skip}
 use Rattle.stow_message.proofs.RisingLists.{all_by, AllAbove, above_all}
 use Rattle.stow_message.proofs.Placed.{AllOther, all_other, all_other_placed}
 use Rattle.stow_message.specs.Rising.{is_below, placed, all_placed, IsNew, AreNew, in_range, out_of_range}
-use Rattle.stow_node.specs.Parts.{spans}
+use Rattle.stow_leaf.specs.Intervals.{spans}
 
 true_false : true ≡ false → ⊥
 true_false e = subst go e tt where

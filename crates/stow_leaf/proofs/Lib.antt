@@ -1,0 +1,7 @@
+pub mod Intervals
+pub mod Ops
+pub mod Found
+pub mod Tiles
+pub mod Fronts
+pub mod Steps
+pub mod Alone

@@ -1,0 +1,6 @@
+use Rattle.std.proofs.Common.{◌≡◌, map, take}
+use Rattle.stow_tree_model.specs.TreeMessage.{message_of}
+use Rattle.stow_leaf.proofs.making.lent_run.Given as goal
+
+abbrev pub invariant-loop-i : goal.invariant-loop-i
+invariant-loop-i g l = map message_of l.lent.items ≡ take l.i l.run

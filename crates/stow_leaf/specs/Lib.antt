@@ -1,0 +1,4 @@
+pub mod Intervals
+pub mod LeafRows
+pub mod Making
+pub mod Replacements

@@ -1,0 +1,70 @@
+-- What comes in a leaf's place, with messages for it merged.
+use Rattle.std.specs.Prelude.{◌≡◌, ◌≢◌, ℕ, ◌<◌, ◌≤◌, List, [], length, map, true, false, IsSome}
+use Rattle.std.specs.Ordering.{is_lt}
+use Rattle.std.specs.List.{AllByRecursion}
+use Rattle.stow_bytes.specs.Bytes.{bytes_cmp}
+use Rattle.stow_merge.specs.Pages.{HaveOneKey, HaveShortValues}
+use Rattle.stow_message.specs.Rising.{in_range}
+use Rattle.stow_page.specs.Format.{packed_page}
+use Rattle.stow_tree_model.specs.Agreement.{TenantPins, AgreeAt}
+use Rattle.stow_tree_model.specs.Keys.{tenant_of}
+use Rattle.stow_tree_model.specs.Merged.{row_message, merged}
+use Rattle.stow_tree_model.specs.Messages.{ops_in}
+use Rattle.stow_tree_model.specs.Operations.{Operations, over, NoneAbove}
+use Rattle.stow_tree_model.specs.TreeMessage.{TreeMessage}
+use Rattle.stow_tree_model.specs.Version.{Version}
+use Rattle.stow_leaf.specs.Intervals.{spans, AreWithin}
+use Rattle.stow_leaf.specs.LeafRows.{LeafRows, row_messages, first_fence, IsLeafTile, LeavesTo}
+
+-- a page above the target holds one key
+abbrev pub IsLeafSize : ℕ → List Version → Type 0
+IsLeafSize target rows = target < length (packed_page rows) → HaveOneKey rows
+
+-- operations on a key give way to others that mean the same at each pin, and from the newest on
+abbrev pub GiveWay : List ℕ → Operations → Operations → Type 0
+GiveWay pins f g = (bound : ℕ) → NoneAbove bound f → AgreeAt f g pins bound
+
+-- what messages and a leaf's rows below them have of a key
+abbrev pub ops_with : List TreeMessage → List Version → List ℕ → Operations
+ops_with ms rows key = over (ops_in ms key) (ops_in (map row_message rows) key)
+
+-- the messages can be merged into the leaf
+pub record CanTake (leaf : LeafRows) (high : List ℕ) (batch : List TreeMessage)
+    (pins : TenantPins) (target : ℕ) : Type 0 where
+  pub tile : IsLeafTile leaf high
+  pub size : IsLeafSize target leaf.1
+  pub within : AreWithin leaf.0 high batch
+  pub short : HaveShortValues (merged leaf.1 batch pins)
+  pub some : batch ≢ []
+
+-- the messages that are for the leaf can be merged into it
+abbrev pub CanReplace : LeafRows → List ℕ → List TreeMessage → TenantPins → ℕ → Type 0
+CanReplace leaf high ms pins target = CanTake leaf high (in_range leaf.0 high ms) pins target
+
+-- Leaves in the place of one, with the messages of its keys below an end merged: a key below the
+-- end means the same under the pins, and of each other key the rows are as they were.
+pub record Replaces (leaf : LeafRows) (high : List ℕ) (ms : List TreeMessage) (pins : TenantPins)
+    (target most : ℕ) (leaves : List LeafRows) (end : List ℕ) : Type 0 where
+  pub tiled : LeavesTo high leaves
+  pub first : first_fence high leaves ≡ leaf.0
+  pub few : length leaves ≤ most
+  pub sizes : AllByRecursion (λ l. IsLeafSize target l.1) leaves
+  pub begins : is_lt (bytes_cmp leaf.0 end) ≡ true
+  pub ends : is_lt (bytes_cmp high end) ≡ false
+  pub agrees : (key : List ℕ) → spans leaf.0 end key ≡ true
+      → GiveWay (pins (tenant_of key)) (ops_with ms leaf.1 key) (ops_in (row_messages leaves) key)
+  pub rest : (key : List ℕ) → spans leaf.0 end key ≡ false
+      → ops_in (row_messages leaves) key ≡ ops_in (map row_message leaf.1) key
+
+-- a message of a key in the interval is there
+pub record HasMerged (low end : List ℕ) (ms : List TreeMessage) : Type 0 where
+  pub key : List ℕ
+  pub number : ℕ
+  pub within : spans low end key ≡ true
+  pub there : IsSome (ops_in ms key number)
+
+-- leaves in the place of one, with some of its messages merged
+pub record IsReplacement (leaf : LeafRows) (high : List ℕ) (ms : List TreeMessage)
+    (pins : TenantPins) (target most : ℕ) (leaves : List LeafRows) (end : List ℕ) : Type 0 where
+  pub replaces : Replaces leaf high ms pins target most leaves end
+  pub some : HasMerged leaf.0 end ms
