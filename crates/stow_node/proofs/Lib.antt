@@ -11,3 +11,4 @@ pub mod Filled
 pub mod Down
 pub mod Raised
 pub mod Lone
+pub mod Cut

@@ -34,7 +34,7 @@ use Rattle.stow_node.proofs.Row.{Taken, Apart, message_taken, row_taken, message
 use Rattle.stow_leaf.proofs.Intervals.{lt, by_test, lt_le, span_low, span_high, spanned}
 use Rattle.stow_node.proofs.Stayed.{inside_of, part_at, level-set, level_at, leaves-set, count-set}
 
-row_messages-append : (xs ys : List LeafRows) → row_messages (xs ++ ys) ≡ row_messages xs ++ row_messages ys
+pub row_messages-append : (xs ys : List LeafRows) → row_messages (xs ++ ys) ≡ row_messages xs ++ row_messages ys
 row_messages-append xs ys = flat_map-append (λ (leaf : LeafRows). map row_message leaf.1) xs ys
 
 pub rows_by_part : (ps : List Part) → row_messages (leaves_in ps) ≡ flat_map row_taken ps

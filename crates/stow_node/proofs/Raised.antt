@@ -31,7 +31,7 @@ less_than_itself : (a b : List ℕ) → lt a b ≡ true → b ≡ a → ⊥
 less_than_itself a b l e = cc (lt_self a)
 
 -- fences of a wider interval
-wider : (low high low' high' : List ℕ) (leaves : List LeafRows) → lt low low' ≡ false → lt high' high ≡ false → AllByRecursion (λ leaf. spans low high leaf.0 ≡ true) leaves → AllByRecursion (λ leaf. spans low' high' leaf.0 ≡ true) leaves
+pub wider : (low high low' high' : List ℕ) (leaves : List LeafRows) → lt low low' ≡ false → lt high' high ≡ false → AllByRecursion (λ leaf. spans low high leaf.0 ≡ true) leaves → AllByRecursion (λ leaf. spans low' high' leaf.0 ≡ true) leaves
 wider low high low' high' [] l h all = tt
 wider low high low' high' (leaf ∷ leaves) l h all =
     (spanned low' high' leaf.0 (le_le low' low leaf.0 l (span_low low high leaf.0 all.0)) (lt_le leaf.0 high high' (span_high low high leaf.0 all.0) h), wider low high low' high' leaves l h all.1)
@@ -41,7 +41,7 @@ both low high [] ys a b = b
 both low high (x ∷ xs) ys a b = (a.0, both low high xs ys a.1 b)
 
 -- the fences of a row are from its first part's low on
-row_fences : (high : List ℕ) (ps : List Part) → TiledTo high ps → AllByRecursion (λ leaf. spans (low_or high ps) high leaf.0 ≡ true) (leaves_in ps)
+pub row_fences : (high : List ℕ) (ps : List Part) → TiledTo high ps → AllByRecursion (λ leaf. spans (low_or high ps) high leaf.0 ≡ true) (leaves_in ps)
 row_fences high [] t = tt
 row_fences high (p ∷ ps) t =
     let apart = messages_apart high (p ∷ ps) t in
@@ -53,7 +53,7 @@ row_fences high (p ∷ ps) t =
     not_self : (a : List ℕ) → lt a a ≡ false
     not_self a = lt_self a
 
-first_of_row : (high : List ℕ) (ps : List Part) → TiledTo high ps → first_fence high (leaves_in ps) ≡ low_or high ps
+pub first_of_row : (high : List ℕ) (ps : List Part) → TiledTo high ps → first_fence high (leaves_in ps) ≡ low_or high ps
 first_of_row high [] t = refl
 first_of_row high (p ∷ ps) t = by_leaves p.leaves refl (first_of_row high ps t.1) where
   by_leaves : (l : List LeafRows) → l ≡ p.leaves → first_fence high (leaves_in ps) ≡ low_or high ps → first_fence high (l ++ leaves_in ps) ≡ p.low

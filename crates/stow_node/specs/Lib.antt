@@ -3,3 +3,4 @@ pub mod Parts
 pub mod Nodes
 pub mod Heights
 pub mod Moves
+pub mod Halves

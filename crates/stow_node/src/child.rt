@@ -6,10 +6,10 @@ ghost use Rattle.stow_node.specs.Nodes.{part_of, parts_of};
 ghost use Rattle.stow_node.specs.Parts.{low_or, high_of, IsFor};
 ghost use Rattle.stow_leaf.specs.Intervals.{top_key, spans};
 
-use stow_leaf::leaf::Leaf;
 use crate::node::Node;
 use std::alloc::Allocator;
 use std::cmp::Ordering;
+use stow_leaf::leaf::Leaf;
 use stow_tree_model::tenant_key::TenantKey;
 
 /// What stands below a node: a leaf, or a node one level lower.

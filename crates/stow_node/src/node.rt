@@ -5,16 +5,17 @@ ghost use Rattle.stow_message.specs.MessageBuf.{Fits, without_range};
 ghost use Rattle.stow_message.specs.Packed.{message_size};
 ghost use Rattle.stow_message.specs.Rising.{in_range};
 ghost use Rattle.stow_tree_model.specs.TreeMessage.{message_of};
+ghost use Rattle.stow_node.specs.Halves.{AreHalves};
 ghost use Rattle.stow_node.specs.Moves.{accepted, CanAccept, IsSqueezed, Stays, raised};
 ghost use Rattle.stow_node.specs.Subtree.{first_subtree};
 
-use crate::child::Child;
-use stow_leaf::leaf::Leaf;
+use crate::child::{Child, top_key};
 use crate::moving::{bytes_for, hand_down, heaviest};
 use crate::shape::Shape;
 use std::alloc::{AllocError, Allocator, Global};
 use std::marker::Model;
 use std::mem;
+use stow_leaf::leaf::Leaf;
 use stow_message::message_buf::MessageBuf;
 use stow_page::packed_rows::PackedRows;
 use stow_page::rows::Rows;
@@ -96,6 +97,31 @@ impl<A: Allocator + Copy> Node<A> {
         self.children = children;
         self.height += 1;
         Ok(())
+    }
+}
+
+impl<A: Allocator + Copy> Node<A> {
+    /// Cuts it in two: half of the children stay with what is theirs, and the others are in the node that is answered.
+    /// Where memory is refused nothing has changed.
+    pub(crate) fn split(&mut self, alloc: A) -> Result<Node<A>, AllocError>
+        requires { 2 ≤ self.old.width }
+        ensures halves { IfOk result (λ upper. AreHalves self.old self.new upper) }
+        ensures same { OnErr result (self.new ≡ self.old) }
+    {
+        let _len = self.buffer.len();
+        let _used = self.buffer.used();
+        let half = self.width() / 2;
+        let low = TenantKeyBuf::from_key(alloc, self.children[half].low())?;
+        let mut buffer = MessageBuf::with_capacity(alloc, self.shape.buffer as usize)?;
+        let children = self.children.split_off(half)?;
+        self.buffer.move_range(low.as_key(), top_key(), &mut buffer);
+        Ok(Node {
+            low,
+            height: self.height,
+            shape: self.shape,
+            buffer,
+            children,
+        })
     }
 }
 
