@@ -5,6 +5,9 @@
 //! means the same at each pin and from the newest message on (`specs/Replacements.antt`). Merged rows above the leaf
 //! target are cut between keys into leaves of their own. Where these are more than the caller has places for, only the
 //! messages of the first keys are merged, of one key at least, and the other rows stay as they were in a leaf behind.
+//!
+//! A body that always answers `AllocError` meets the contract: a test calls it with ample memory, and with each request
+//! refused. That all messages are merged where their pages are few enough stands in no contract: the same test shows it.
 #![tactic(auto)]
 
 pub mod leaf;
