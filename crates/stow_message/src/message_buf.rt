@@ -359,6 +359,15 @@ impl<A: Allocator> MessageBuf<A> {
         self.remove(low, high - low);
     }
 
+    /// Lets the messages of the keys from `from` on and below `to` go: their bytes are dead.
+    pub fn drop_range(&mut self, from: TenantKey<'_>, to: TenantKey<'_>)
+        ensures { self.new ≡ without_range from.entry.bytes.now to.entry.bytes.now self.old }
+    {
+        let low = self.search(from.bytes, 0);
+        let end = self.search_from(low, to.bytes, 0);
+        self.remove(low, end - low);
+    }
+
     /// Whether the message at `index` is there and is this one.
     fn has_at(&self, index: usize, message: Message<'_>) -> bool
         ensures same { result ≡ is_first (message_of message.entry) (drop index self.now.messages) }

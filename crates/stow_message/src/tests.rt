@@ -356,6 +356,8 @@ fn an_interval_moves_without_memory(rt: HostRuntime) -> Result<(), Fail> {
         buf.move_range(b.as_key(), c.as_key(), &mut other);
     }
     assert!(rt; buf.len() == 2 && buf.used() == 90 && other.len() == 2 && other.used() == 50);
+    other.drop_range(b.as_key(), c.as_key());
+    assert!(rt; other.len() == 0 && other.used() == 42);
     assert!(rt; heap.asked() == 0);
     Ok(())
 }

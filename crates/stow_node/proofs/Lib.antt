@@ -12,3 +12,4 @@ pub mod Down
 pub mod Raised
 pub mod Lone
 pub mod Cut
+pub mod Absorbed

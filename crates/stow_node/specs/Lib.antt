@@ -4,3 +4,4 @@ pub mod Nodes
 pub mod Heights
 pub mod Moves
 pub mod Halves
+pub mod Absorbs

@@ -6,16 +6,17 @@
 //! than those below it. `move_down` moves what is buffered for one child into that child, further down where there is no
 //! room; what the node means at each key and number stays, and its messages come nearer to the leaves.
 //!
-//! This crate is begun, and nothing stands on it yet: messages are not merged into leaves (`stow_leaf` makes what comes in
-//! a leaf's place), and nothing is read. So a node has one child today, and `split`, which cuts a node of two children or
-//! more in two, is proved and run by no test; what
-//! `move_down` does among several children is proved and run by no test.
+//! This crate is begun, and nothing stands on it yet: nothing is read, and no step of a node absorbs or splits. So a node
+//! has one child today, and three things are proved and run by no test: `split`, which cuts a node in two; `absorb`, which
+//! puts what `stow_leaf` makes of a leaf and its messages in the leaf's place; and what `move_down` does among several
+//! children.
 //! A body of `first` or `raise` that always answers `AllocError` meets its contract: tests call each with ample memory and
 //! with each request refused. So does a body of `move_down` that always answers that nothing moved: a test refuses it. How
 //! much work a call does stands in no contract. The search for a key's child (`child_for`) waits for the reads. `raise` asks
 //! for fewer levels than 2^32 - 1, which no tree in memory has.
 #![tactic(auto)]
 
+mod absorbing;
 pub mod child;
 mod moving;
 pub mod node;
