@@ -115,6 +115,7 @@ impl<A: Allocator + Copy> Input<A> {
     }
 
     /// Looks for the elements that were not found yet.
+    #[inline(never)]
     fn go_on(&mut self, alloc: A, mut progress: Progress<A>) -> Next<A>
         requires { IsProgress progress self.old }
         ensures { IsNext result self.old self.new }
