@@ -36,6 +36,7 @@ impl<A: Allocator + Copy> Connection<A> {
     }
 
     /// One event.
+    #[inline(always)]
     pub fn step(
         &mut self,
         alloc: A,
