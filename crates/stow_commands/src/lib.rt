@@ -14,6 +14,4 @@ mod name;
 mod number;
 pub mod outcome;
 pub mod outcome_fault;
-#[cfg(test)]
-mod tests;
 pub mod update;

@@ -34,7 +34,8 @@ impl<A: Allocator + Copy> Core<A> {
         let index = tenant as usize - 1;
         let account = self.accounts[index].written();
         let number = account.last;
-        self.places.fill(key.into_vec(), Version { number, value });
+        self.places.fill(key.as_slice(), Version { number, value });
+        self.buffer = key.into_vec();
         self.accounts[index] = account;
     }
 

@@ -1,9 +1,9 @@
 //! Places that rows stand in.
 ghost use Rattle.std.specs.Prelude.{◌≡◌, ◌++◌, ℕ, List, [], Option, Some, None, IfOk, OnOk, OnErr};
-ghost use Rattle.std.specs.Prelude.{IsOk, is_some, option_map};
+ghost use Rattle.std.specs.Prelude.{is_some, option_map};
 ghost use Rattle.stow_model.specs.LentWords.{words_in};
 ghost use Rattle.stow_model.specs.Store.{row_items};
-ghost use Rattle.stow_core.specs.Places.{place, look_up, HasPlace, version_of, version_at};
+ghost use Rattle.stow_core.specs.Places.{place, look_up, HasPlace, version_of};
 ghost use Rattle.stow_core.specs.Places.{Finds, FindsNone, PutsPlace};
 ghost use Rattle.stow_core.specs.State.{told_rows};
 
@@ -88,15 +88,18 @@ impl<A: Allocator + Copy> Places<A> {
         if self.has(key) {
             return Ok(());
         }
-        self.put(Vec::from_slice(alloc, key)?, None)
+        self.put(Vec::from_slice(alloc, key)?)
     }
 
     /// Fills a place. It takes no memory.
-    pub fn fill(&mut self, key: Vec<u8, A>, version: Version<A>)
-        requires { HasPlace self.old key.items }
-        ensures { Finds self.old self.new key.items (Some (version_of version)) }
+    pub fn fill(&mut self, key: &[u8], version: Version<A>)
+        requires { HasPlace self.old key.now }
+        ensures { Finds self.old self.new key.now (Some (version_of version)) }
     {
-        let _done = self.put(key, Some(version));
+        let Some(place) = self.map.get_mut(key) else {
+            return;
+        };
+        write(place, version);
     }
 
     /// Takes out all of these keys. It takes no memory.
@@ -120,14 +123,21 @@ impl<A: Allocator + Copy> Places<A> {
         self.map.contains_key(key)
     }
 
-    fn put(&mut self, key: Vec<u8, A>, version: Option<Version<A>>) -> Result<(), AllocError>
-        ensures ok { OnOk result (PutsPlace self.old self.new key.items (version_at version)) }
+    /// Puts a place that waits for a value.
+    fn put(&mut self, key: Vec<u8, A>) -> Result<(), AllocError>
+        ensures ok { OnOk result (PutsPlace self.old self.new key.items None) }
         ensures err { OnErr result (self.new ≡ self.old) }
-        ensures succeeds { HasPlace self.old key.items → IsOk result }
     {
-        self.map.insert(key, version)?;
+        self.map.insert(key, None)?;
         Ok(())
     }
+}
+
+/// Writes a place, whatever it had.
+fn write<A: Allocator>(place: &mut Option<Version<A>>, version: Version<A>)
+    ensures { place.new ≡ Some version }
+{
+    *place = Some(version);
 }
 
 /// No rows, with room for the first of so many.

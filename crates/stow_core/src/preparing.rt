@@ -23,7 +23,7 @@ impl<A: Allocator + Copy> Core<A> {
         tenant != 0 && tenant as usize <= self.accounts.len()
     }
 
-    /// Finds what a command says in the tenant's own rows. Its keys are packed in the core's buffer.
+    /// Finds what a command says in the tenant's own rows. Its keys are packed in the core's buffer; a PING has none.
     pub(crate) fn prepare_command(
         &mut self,
         alloc: A,
@@ -37,6 +37,9 @@ impl<A: Allocator + Copy> Core<A> {
         ensures tenant { IfOk result (λ p. p.tenant ≡ tenant) }
         ensures answer { Prepares self.old tenant result (serves (command_of command.entry)) }
     {
+        if let Command::Ping = command {
+            return Ok(only_counted(tenant, Reply::Simple(SimpleString::Pong)));
+        }
         let mut buffer = mem::replace(&mut self.buffer, Vec::new(alloc));
         let prepared = self.prepare_in(&mut buffer, alloc, tenant, command);
         self.buffer = buffer;

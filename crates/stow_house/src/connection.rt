@@ -36,6 +36,7 @@ impl<A: Allocator + Copy> Connection<A> {
     }
 
     /// One event.
+    #[inline(always)]
     pub fn step(
         &mut self,
         alloc: A,
@@ -69,6 +70,7 @@ impl<A: Allocator + Copy> Connection<A> {
         }
     }
 
+    #[inline(always)]
     fn serve(&mut self, alloc: A, core: &mut Core<A>) -> StepResult<A>
         requires { self.old.is_open ≡ true }
         ensures possible { CanAnswerOn event.Serve (step_result_of result) }
@@ -82,6 +84,7 @@ impl<A: Allocator + Copy> Connection<A> {
     }
 
     /// Answers what came on the open connection. Used words serve the next message.
+    #[inline(always)]
     fn answer(&mut self, alloc: A, core: &mut Core<A>, next: Next<A>) -> StepResult<A>
         requires { self.old.is_open ≡ true }
         ensures possible { CanAnswerOn event.Serve (step_result_of result) }

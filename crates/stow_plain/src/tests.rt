@@ -13,6 +13,8 @@ use stow_model::stream_fault::fault_text;
 use stow_model::words::Words;
 use stow_refusing::{Plan, Refusing};
 
+mod commands;
+
 /// The request of a line's words, of which `''` is the empty one. A `!` before them says that memory is refused to it.
 fn request_of<A: Allocator + Copy>(alloc: A, line: &str) -> Result<PlainRequest<A>, AllocError> {
     let (line, is_refused) = match line.strip_prefix("!") {

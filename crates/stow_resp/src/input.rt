@@ -80,6 +80,10 @@ impl<A: Allocator + Copy> Input<A> {
     pub fn next(&mut self, alloc: A) -> Next<A>
         ensures { IsNext result self.old self.new }
     {
+        // Where nothing is known, as mostly, nothing is moved.
+        if let Known::Nothing = &self.known {
+            return self.start(alloc);
+        }
         match mem::replace(&mut self.known, Known::Nothing) {
             Known::Nothing => self.start(alloc),
             Known::Array(progress) => self.go_on(alloc, progress),
@@ -111,17 +115,22 @@ impl<A: Allocator + Copy> Input<A> {
     }
 
     /// Looks for the elements that were not found yet.
+    #[inline(never)]
     fn go_on(&mut self, alloc: A, mut progress: Progress<A>) -> Next<A>
         requires { IsProgress progress self.old }
         ensures { IsNext result self.old self.new }
     {
-        let next = match progress.scan(self.unread.as_slice()) {
-            Scan::Whole => return self.take(alloc, progress),
-            Scan::More => Next::More,
-            Scan::Stuck(fault) => Next::Fault(fault),
-        };
-        self.known = Known::Array(progress);
-        next
+        match progress.scan(self.unread.as_slice()) {
+            Scan::Whole => self.take(alloc, progress),
+            Scan::More => {
+                self.known = Known::Array(progress);
+                Next::More
+            }
+            Scan::Stuck(fault) => {
+                self.known = Known::Array(progress);
+                Next::Fault(fault)
+            }
+        }
     }
 
     /// Takes a whole array off.

@@ -1,5 +1,4 @@
 use Rattle.std.proofs.Common.{sym, ◌∙◌}
-use Rattle.stow_model.specs.LentWords.{words_in}
 use Rattle.stow_commands.proofs.Named.{kind_auth, kind_quit, kind_other}
 use Rattle.stow_commands.proofs.kind.kind_of.Goals as goal
 

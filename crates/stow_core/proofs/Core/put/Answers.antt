@@ -17,7 +17,7 @@ returns-clause-own g c =
     let key = c.args.key in
     let high : t ≤ length c.self.inside.accounts.items = search rules in
     let puts : (q : List ℕ) → look_up c.fill.new.self q ≡ cond (bytes_eq key q) (Some (record { number = c.written-account.result.last; value = c.args.value })) (look_up c.self.inside.places q) =
-    λ q. c.fill.ensures q ∙ ap (λ k. cond (bytes_eq k q) (Some (record { number = c.written-account.result.last; value = c.args.value })) (look_up c.self.inside.places q)) c.into_vec.ensures in
+    λ q. c.fill.ensures q ∙ ap (λ k. cond (bytes_eq k q) (Some (record { number = c.written-account.result.last; value = c.args.value })) (look_up c.self.inside.places q)) c.as_slice.ensures in
     put_own c.self.inside.tenants.value c.self.inside.accounts.items c.self.inside.places c.fill.new.self t c.index.result.now c.written-account.result key c.args.value c.requires.0.0 high c.index.ensures c.written-account.ensures c.requires.2 puts
     ∙ ap (λ s. after_put key c.args.value (store_of s t)) c.self.view_is
 
@@ -27,6 +27,6 @@ returns-clause-others g c = λ other differ.
     let key = c.args.key in
     let high : t ≤ length c.self.inside.accounts.items = search rules in
     let puts : (q : List ℕ) → look_up c.fill.new.self q ≡ cond (bytes_eq key q) (Some (record { number = c.written-account.result.last; value = c.args.value })) (look_up c.self.inside.places q) =
-    λ q. c.fill.ensures q ∙ ap (λ k. cond (bytes_eq k q) (Some (record { number = c.written-account.result.last; value = c.args.value })) (look_up c.self.inside.places q)) c.into_vec.ensures in
+    λ q. c.fill.ensures q ∙ ap (λ k. cond (bytes_eq k q) (Some (record { number = c.written-account.result.last; value = c.args.value })) (look_up c.self.inside.places q)) c.as_slice.ensures in
     put_others c.self.inside.tenants.value c.self.inside.accounts.items c.self.inside.places c.fill.new.self t other c.written-account.result key _ c.requires.0.0 high c.self.invariant.few c.requires.2 puts differ
     ∙ ap (λ s. store_of s other) c.self.view_is

@@ -1,4 +1,3 @@
-use Rattle.std.proofs.Common.{◌≡◌}
 use Rattle.std.specs.List.{flat_map}
 use Rattle.stow_model.specs.Store.{row_items, rows_within}
 use Rattle.stow_core.specs.Places.{places_of}

@@ -1,13 +1,13 @@
-//! What no clause says: that reading asks for no memory, and that an outcome is found where there is memory.
-use crate::command::Command;
-use crate::condition::Condition;
-use crate::kind::{Kind, kind_of};
-use crate::outcome::Outcome;
-use crate::outcome_fault::OutcomeFault;
-use crate::update::Update;
+//! What no clause of `stow_commands` says: that reading asks for no memory, and that an outcome is found where there is memory.
 use std::alloc::{AllocError, Allocator};
 use std::test::Fail;
 use stow_bytes::byte_string::ByteString;
+use stow_commands::command::Command;
+use stow_commands::condition::Condition;
+use stow_commands::kind::{Kind, kind_of};
+use stow_commands::outcome::Outcome;
+use stow_commands::outcome_fault::OutcomeFault;
+use stow_commands::update::Update;
 use stow_model::refusal::Refusal;
 use stow_model::words::Words;
 use stow_refusing::{Plan, Refusing};
