@@ -1,0 +1,48 @@
+-- What becomes of replies on their way to a writer.
+use Rattle.std.proofs.Common.{◌≡◌, ◌<◌, ◌-◌, ℕ, Bool, true, false, not, List, [], ◌∷◌, ◌++◌, Option, length, take, drop, ap, ◌∙◌, sym, append_assoc, append-nil, take-append-drop, arith, inl, inr, ⊎_elim}
+use Rattle.std.proofs.lemmas.List.{take_rest}
+use Rattle.std.specs.Io.KnownBytes.{Appends}
+use Rattle.std.proofs.KnownBytes.{Appends-trans}
+use Rattle.stow_workers.specs.Failures.{HasFailed}
+use Rattle.stow_workers.specs.Sent.{Begins, Written, Sent, HasSent, StaysSent, Sends, WritesPart, WritesAll}
+
+-- the front of what is left was written too
+pub goes_on : (all done rest : List ℕ) (n : ℕ) → all ≡ done ++ rest → all ≡ (done ++ take n rest) ++ take (length rest - n) (drop n rest)
+goes_on all done rest n e =
+    e ∙ ap (λ bytes. done ++ bytes) (sym (take-append-drop n rest)) ∙ sym (append_assoc done (take n rest) (drop n rest)) ∙ ap (λ bytes. (done ++ take n rest) ++ bytes) (sym (take_rest rest n))
+
+-- what waited was written, as far as no write failed
+pub flushed : (start old new : Written) (waiting all : List ℕ) (is_written : Bool) → WritesAll is_written waiting old new → HasSent start (record { writer = old; has_failed = false; waiting = waiting }) all
+    → HasSent start (record { writer = new; has_failed = not is_written; waiting = [] }) all
+flushed start old new waiting all true w s = record {
+  written = s.written ++ waiting;
+  appends = Appends-trans _ _ _ s.written waiting s.appends w.0;
+  left = s.left ∙ sym (append-nil (s.written ++ waiting));
+  failures = w.1 ∙ s.failures;
+}
+flushed start old new waiting all false w s = record {
+  written = s.written ++ w.front;
+  appends = Appends-trans _ _ _ s.written w.front s.appends w.appends;
+  left = (w.begins.0, s.left ∙ ap (λ bytes. s.written ++ bytes) w.begins.1 ∙ sym (append_assoc s.written w.front w.begins.0));
+  failures = ⊎_elim (λ (more : old.failures < new.failures). inl (let same : old.failures ≡ start.failures = s.failures in omega arith)) (λ limit. inr limit) w.failures;
+}
+
+-- a reply was spelled
+pub spelled_more : (start writer : Written) (waiting bytes all : List ℕ) → HasSent start (record { writer = writer; has_failed = false; waiting = waiting }) all
+    → HasSent start (record { writer = writer; has_failed = false; waiting = waiting ++ bytes }) (all ++ bytes)
+spelled_more start writer waiting bytes all s = record {
+  written = s.written;
+  appends = s.appends;
+  left = ap (λ b. b ++ bytes) s.left ∙ append_assoc s.written waiting bytes;
+  failures = s.failures;
+}
+
+-- after a failure a reply is given up
+pub given_up : (start writer : Written) (waiting bytes all : List ℕ) → HasSent start (record { writer = writer; has_failed = true; waiting = waiting }) all
+    → HasSent start (record { writer = writer; has_failed = true; waiting = waiting }) (all ++ bytes)
+given_up start writer waiting bytes all s = record {
+  written = s.written;
+  appends = s.appends;
+  left = (s.left.0 ++ bytes, ap (λ b. b ++ bytes) s.left.1 ∙ append_assoc s.written s.left.0 bytes);
+  failures = s.failures;
+}
