@@ -1,15 +1,21 @@
 -- A piece is read, and its replies are written.
 use Rattle.std.proofs.Common.{◌≡◌, ℕ, Bool, true, false, List, [], ◌∷◌, ◌++◌, Option, Some, None, refl, ap, ◌∙◌, sym, subst, inl, inr, append_assoc, append-nil}
+use Rattle.std.specs.Prelude.{IfSome}
+use Rattle.std.proofs.KnownBytes.{Appends-nil}
 use Rattle.stow_model.specs.Login.{Entry}
+use Rattle.stow_model.specs.Wire.{IsBegun}
+use Rattle.stow_model.proofs.Messages.{none_begun}
 use Rattle.stow_model.specs.Event as event
-use Rattle.stow_model.specs.History.{Plain, Status, IsOpen, stream_of, stream_with}
+use Rattle.stow_model.specs.History.{ConnectionStep, Plain, Status, IsOpen, Follows, status_of, served_as, taken_by, stream_of, stream_with}
 use Rattle.stow_house.specs.Seen.{Seen}
 use Rattle.stow_house.proofs.Stood.{follows, stands_here}
 use Rattle.stow_workers.specs.declared.served.Served.{Served}
 use Rattle.stow_workers.specs.declared.served.Served.TheVariants as served
-use Rattle.stow_workers.specs.Exchanges.{Exchange, Read, steps_of, AllFollow, calls_in, LeadTo, told_in}
-use Rattle.stow_workers.specs.Sent.{Begins, Written, Sent, HasSent, StaysSent, IsWritten}
-use Rattle.stow_workers.specs.Talks.{Answers, Course, State, IsUnderWay, IsWaiting, HasEnded, HasSpelled, HasServedAll, IsTold, IsServed, IsEven, ServesTo, PieceTo, outcome_of, bytes_told}
+use Rattle.stow_workers.specs.declared.stop.Stop.{Stop}
+use Rattle.stow_workers.specs.declared.stop.Stop.TheVariants as stopped
+use Rattle.stow_workers.specs.Exchanges.{Exchange, Read, steps_of, AllFollow, calls_in, LeadTo, told_in, spelled}
+use Rattle.stow_workers.specs.Sent.{Begins, Written, Sent, IsLeft, HasFailedIf, HasSent, StaysSent, IsWritten}
+use Rattle.stow_workers.specs.Talks.{Answers, Course, State, IsUnderWay, IsWaiting, HasServedAll, StopsAt, IsWhole, ReaderFails, WriterFails, MeetsEnd, IsTold, IsServed, IsEven, ServesTo, PieceTo, CanEndPiece, outcome_of, bytes_told}
 
 -- ---- what was read
 
@@ -70,43 +76,103 @@ has_served_all answers entries first start read state w =
     (sym at.status, (at.front, state.unread, at.taken, w.begun, at.stream))
 
 -- what was to be written was written, or a write has failed
-pub piece_written : {D : Type 0} (answers : Answers D) (entries : List Entry) (first : D) (start : Written) (read : List ℕ) (old : State D) (writer : Written) (waiting : List ℕ) (ended : Option Served) (has_failed : Bool)
-    → ServesTo answers entries first start read ended old → StaysSent old.sent (record { writer = writer; has_failed = has_failed; waiting = waiting }) → IsWritten has_failed waiting
-    → PieceTo answers entries first start read (outcome_of ended has_failed) (record { door = old.door; tenant = old.tenant; unread = old.unread; sent = record { writer = writer; has_failed = has_failed; waiting = waiting } })
-piece_written answers entries first start read old writer waiting (Some served.NoMemory) has_failed e stays written =
+pub piece_written : {D : Type 0} (answers : Answers D) (entries : List Entry) (first : D) (start : Written) (read : List ℕ) (old : State D) (writer : Written) (waiting : List ℕ) (stop : Option Stop) (has_failed : Bool)
+    → ServesTo answers entries first start read stop old → StaysSent old.sent (record { writer = writer; has_failed = has_failed; waiting = waiting }) → IsWritten has_failed waiting
+    → PieceTo answers entries first start read (outcome_of stop has_failed) (record { door = old.door; tenant = old.tenant; unread = old.unread; sent = record { writer = writer; has_failed = has_failed; waiting = waiting } })
+piece_written answers entries first start read old writer waiting (Some stopped.NoMemory) has_failed e stays written =
     record { exchanges = e.exchanges; course = e.course; stops = tt; told = told_part start writer has_failed waiting e.sent.0 (bytes_told entries e.exchanges) (stays start e.sent.0 e.sent.2) e.sent.1 }
-piece_written answers entries first start read old writer waiting (Some served.WriteFailed) has_failed e stays written = absurd e.sent
 piece_written answers entries first start read old writer waiting None true w stays written =
     let u = w.under_way in
     record { exchanges = u.exchanges; course = u.course; stops = inl (has_served_all answers entries first start read old w); told = told_at_failure start writer waiting _ (stays start (bytes_told entries u.exchanges) u.sent) }
-piece_written answers entries first start read old writer waiting (Some served.Quit) true e stays written =
+piece_written answers entries first start read old writer waiting (Some stopped.Quit) true e stays written =
     record { exchanges = e.exchanges; course = e.course; stops = inr (inl e.stops); told = told_at_failure start writer waiting _ (stays start (bytes_told entries e.exchanges) e.sent) }
-piece_written answers entries first start read old writer waiting (Some served.Ended) true e stays written =
-    record { exchanges = e.exchanges; course = e.course; stops = inl e.stops; told = told_at_failure start writer waiting _ (stays start (bytes_told entries e.exchanges) e.sent) }
-piece_written answers entries first start read old writer waiting (Some served.ReadFailed) true e stays written =
-    record { exchanges = e.exchanges; course = e.course; stops = inl e.stops; told = told_at_failure start writer waiting _ (stays start (bytes_told entries e.exchanges) e.sent) }
-piece_written answers entries first start read old writer waiting (Some (served.Faulted fault)) true e stays written =
+piece_written answers entries first start read old writer waiting (Some (stopped.Faulted fault)) true e stays written =
     record { exchanges = e.exchanges; course = e.course; stops = inr (inr (fault, e.stops)); told = told_at_failure start writer waiting _ (stays start (bytes_told entries e.exchanges) e.sent) }
 piece_written answers entries first start read old writer waiting None false w stays written =
     let u = w.under_way in
     (record { under_way = record { exchanges = u.exchanges; course = u.course; at = u.at; sent = stays start (bytes_told entries u.exchanges) u.sent }; begun = w.begun }, (refl, written))
-piece_written answers entries first start read old writer waiting (Some served.Quit) false e stays written =
+piece_written answers entries first start read old writer waiting (Some stopped.Quit) false e stays written =
     let s = stays start (bytes_told entries e.exchanges) e.sent in
     record { exchanges = e.exchanges; course = e.course; stops = e.stops; told = record { written = s.written; appends = s.appends; whole = all_written start writer waiting _ s written; failures = s.failures } }
-piece_written answers entries first start read old writer waiting (Some served.Ended) false e stays written =
-    let s = stays start (bytes_told entries e.exchanges) e.sent in
-    record { exchanges = e.exchanges; course = e.course; stops = e.stops; told = record { written = s.written; appends = s.appends; whole = all_written start writer waiting _ s written; failures = s.failures } }
-piece_written answers entries first start read old writer waiting (Some served.ReadFailed) false e stays written =
-    let s = stays start (bytes_told entries e.exchanges) e.sent in
-    record { exchanges = e.exchanges; course = e.course; stops = e.stops; told = record { written = s.written; appends = s.appends; whole = all_written start writer waiting _ s written; failures = s.failures } }
-piece_written answers entries first start read old writer waiting (Some (served.Faulted fault)) false e stays written =
+piece_written answers entries first start read old writer waiting (Some (stopped.Faulted fault)) false e stays written =
     let s = stays start (bytes_told entries e.exchanges) e.sent in
     record { exchanges = e.exchanges; course = e.course; stops = e.stops; told = record { written = s.written; appends = s.appends; whole = all_written start writer waiting _ s written; failures = s.failures } }
 
 -- the same, of what the piece ended with
-pub piece_ended : {D : Type 0} (answers : Answers D) (entries : List Entry) (first : D) (start : Written) (read : List ℕ) (old : State D) (writer : Written) (waiting : List ℕ) (ended result : Option Served) (has_failed was : Bool)
-    → result ≡ outcome_of ended was → was ≡ has_failed → ServesTo answers entries first start read ended old → StaysSent old.sent (record { writer = writer; has_failed = has_failed; waiting = waiting }) → IsWritten has_failed waiting
+pub piece_ended : {D : Type 0} (answers : Answers D) (entries : List Entry) (first : D) (start : Written) (read : List ℕ) (old : State D) (writer : Written) (waiting : List ℕ) (stop : Option Stop) (result : Option Served) (has_failed was : Bool)
+    → result ≡ outcome_of stop was → was ≡ has_failed → ServesTo answers entries first start read stop old → StaysSent old.sent (record { writer = writer; has_failed = has_failed; waiting = waiting }) → IsWritten has_failed waiting
     → PieceTo answers entries first start read result (record { door = old.door; tenant = old.tenant; unread = old.unread; sent = record { writer = writer; has_failed = has_failed; waiting = waiting } })
-piece_ended answers entries first start read old writer waiting ended result has_failed was is same e stays written =
+piece_ended answers entries first start read old writer waiting stop result has_failed was is same e stays written =
     let new : State _ = record { door = old.door; tenant = old.tenant; unread = old.unread; sent = record { writer = writer; has_failed = has_failed; waiting = waiting } } in
-    subst (λ r. PieceTo answers entries first start read r new) (sym (is ∙ ap (outcome_of ended) same)) (piece_written answers entries first start read old writer waiting ended has_failed e stays written)
+    subst (λ r. PieceTo answers entries first start read r new) (sym (is ∙ ap (outcome_of stop) same)) (piece_written answers entries first start read old writer waiting stop has_failed e stays written)
+
+pub outcome_ends : (stop : Option Stop) (has_failed : Bool) → IfSome (outcome_of stop has_failed) CanEndPiece
+outcome_ends None false = tt
+outcome_ends None true = tt
+outcome_ends (Some stopped.NoMemory) has_failed = tt
+outcome_ends (Some stopped.Quit) false = tt
+outcome_ends (Some stopped.Quit) true = tt
+outcome_ends (Some (stopped.Faulted fault)) false = tt
+outcome_ends (Some (stopped.Faulted fault)) true = tt
+
+-- the reader that gave a piece hasn't failed
+pub reader_stays : (result : Served) (old new : ℕ) → CanEndPiece result → new ≡ old → ReaderFails result old new
+reader_stays served.Quit old new can same = same
+reader_stays served.Ended old new can same = absurd can
+reader_stays (served.Faulted fault) old new can same = same
+reader_stays served.ReadFailed old new can same = absurd can
+reader_stays served.WriteFailed old new can same = same
+reader_stays served.NoMemory old new can same = same
+
+-- a piece doesn't end at the end of input
+pub meets_no_end : (result : Served) (left : Option (List ℕ)) (read : List ℕ) → CanEndPiece result → MeetsEnd result left read
+meets_no_end served.Quit left read can = tt
+meets_no_end served.Ended left read can = absurd can
+meets_no_end (served.Faulted fault) left read can = tt
+meets_no_end served.ReadFailed left read can = tt
+meets_no_end served.WriteFailed left read can = tt
+meets_no_end served.NoMemory left read can = tt
+
+-- ---- a whole connection
+
+-- nothing has come yet
+pub begins : {D : Type 0} (answers : Answers D) (entries : List Entry) (door : D) (start : Written) (tenant : Option ℕ) (unread waiting : List ℕ) (has_failed : Bool) → tenant ≡ None → unread ≡ [] → waiting ≡ [] → has_failed ≡ false
+    → IsWaiting answers entries door start [] (record { door = door; tenant = tenant; unread = unread; sent = record { writer = start; has_failed = has_failed; waiting = waiting } })
+unfolding steps_of AllFollow calls_in told_in spelled LeadTo Follows status_of served_as taken_by stream_of
+begins answers entries door start tenant unread waiting has_failed nobody none empty right = record {
+  under_way = record {
+    exchanges = [];
+    course = record { follow = (tt, tt); stream = refl; door = refl };
+    at = record { status = refl; tenant = nobody; front = []; taken = refl; stream = sym none };
+    sent = record {
+      written = [];
+      appends = Appends-nil start.contents;
+      left = subst (λ f. IsLeft f [] waiting []) (sym right) (sym empty);
+      failures = subst (λ f. HasFailedIf f start.failures start.failures) (sym right) refl;
+    };
+  };
+  begun = subst IsBegun (sym none) none_begun;
+}
+
+-- all that was read is served and answered
+told_even : {D : Type 0} (answers : Answers D) (entries : List Entry) (first : D) (start writer : Written) (read : List ℕ) (door : D) (tenant : Option ℕ) (unread waiting : List ℕ) (has_failed : Bool) (result : Served)
+    → ((written all : List ℕ) → written ≡ all → IsWhole result written all) → ((old new : ℕ) → new ≡ old → WriterFails result old new) → ((steps : List ConnectionStep) → HasServedAll steps → StopsAt result steps)
+    → IsWaiting answers entries first start read (record { door = door; tenant = tenant; unread = unread; sent = record { writer = writer; has_failed = has_failed; waiting = waiting } })
+    → has_failed ≡ false → waiting ≡ [] → IsServed answers entries first door read start writer result
+told_even answers entries first start writer read door tenant unread waiting has_failed result whole fails stops w right none =
+    let u = w.under_way in
+    let s : HasSent start (record { writer = writer; has_failed = false; waiting = waiting }) (bytes_told entries u.exchanges) = subst (λ f. HasSent start (record { writer = writer; has_failed = f; waiting = waiting }) (bytes_told entries u.exchanges)) right u.sent in
+    record {
+      exchanges = u.exchanges;
+      course = u.course;
+      stops = stops (steps_of u.exchanges) (has_served_all answers entries first start read _ w);
+      told = record { written = s.written; appends = s.appends; whole = whole s.written _ (all_written start writer waiting _ s none); failures = fails start.failures writer.failures s.failures };
+    }
+
+pub ended : {D : Type 0} (answers : Answers D) (entries : List Entry) (first : D) (start : Written) (read : List ℕ) (state : State D) → IsWaiting answers entries first start read state → IsEven state.sent
+    → IsServed answers entries first state.door read start state.sent.writer served.Ended
+ended answers entries first start read state w even = told_even answers entries first start state.sent.writer read state.door state.tenant state.unread state.sent.waiting state.sent.has_failed served.Ended (λ written all e. e) (λ old new e. e) (λ steps h. h) w even.0 even.1
+
+pub read_failed : {D : Type 0} (answers : Answers D) (entries : List Entry) (first : D) (start : Written) (read : List ℕ) (state : State D) → IsWaiting answers entries first start read state → IsEven state.sent
+    → IsServed answers entries first state.door read start state.sent.writer served.ReadFailed
+read_failed answers entries first start read state w even = told_even answers entries first start state.sent.writer read state.door state.tenant state.unread state.sent.waiting state.sent.has_failed served.ReadFailed (λ written all e. e) (λ old new e. e) (λ steps h. h) w even.0 even.1

@@ -15,8 +15,8 @@ use Rattle.stow_house.specs.Seen.{Seen, status_by}
 use Rattle.stow_house.specs.Sessions.{Arrival, Whole, Faulty, Serves}
 use Rattle.stow_house.specs.Steps.{StandsAt}
 use Rattle.stow_house.proofs.Stood.{follows, stands_here}
-use Rattle.stow_workers.specs.declared.served.Served.{Served}
-use Rattle.stow_workers.specs.declared.served.Served.TheVariants as served
+use Rattle.stow_workers.specs.declared.stop.Stop.{Stop}
+use Rattle.stow_workers.specs.declared.stop.Stop.TheVariants as stopped
 use Rattle.stow_workers.specs.declared.turn.Turn.{Turn}
 use Rattle.stow_workers.specs.declared.turn.Turn.TheVariants.{GoesOn, Waits, Ends}
 use Rattle.stow_workers.specs.Exchanges.{Exchange, Read, Served as Took_and_answered, Faulted, step_of, reply_in, steps_of, AllFollow, with_call, calls_in, LeadTo, told_in, spelled}
@@ -94,7 +94,7 @@ shortened Waits old new shorter = tt
 shortened (Ends end) old new shorter = tt
 
 -- a connection that ends doesn't go on
-pub ended : {Added Refused : Type 0} (end : Served) (turn : Turn) (ends : Bool) (old new : List ℕ) → ends ≡ true → (Added × (turn ≡ turn_after ends end)) ⊎ (Refused × (turn ≡ Ends served.NoMemory)) → Shortens turn old new
+pub ended : {Added Refused : Type 0} (end : Stop) (turn : Turn) (ends : Bool) (old new : List ℕ) → ends ≡ true → (Added × (turn ≡ turn_after ends end)) ⊎ (Refused × (turn ≡ Ends stopped.NoMemory)) → Shortens turn old new
 ended end turn ends old new is added =
     elim added [
       | inl (a, e) ↦ subst (λ t. Shortens t old new) (sym (e ∙ ap (λ b. turn_after b end) is)) tt
@@ -104,7 +104,7 @@ ended end turn ends old new is added =
 went_on : {D : Type 0} (answers : Answers D) (entries : List Entry) (first : D) (start : Written) (read : List ℕ) (m : Message) (old new : State D) (told : Option Reply) (ends : Bool)
     → (u : IsUnderWay answers entries first start read old) → IsTaken m old.unread new.unread → SendsReply told old.sent new.sent → (r : Reply)
     → OneMore answers entries first read u.exchanges (Took_and_answered m r) (status_by (not ends)) new told
-    → TurnsTo answers entries first start read (turn_after ends served.Quit) new
+    → TurnsTo answers entries first start read (turn_after ends stopped.Quit) new
 unfolding steps_of
 went_on answers entries first start read m old new told false u taken sends r more = record {
   exchanges = Took_and_answered m r ∷ u.exchanges;
@@ -121,7 +121,7 @@ went_on answers entries first start read m old new told true u taken sends r mor
 
 pub whole : {D : Type 0} (answers : Answers D) (entries : List Entry) (first : D) (start : Written) (read : List ℕ) (m : Message) (turn : Turn) (old new : State D) (told : Option Reply) (ends : Bool)
     → IsUnderWay answers entries first start read old → IsTaken m old.unread new.unread → Serves answers entries old.tenant new.tenant old.door (Whole m) told ends new.door
-    → IsAdded told ends served.Quit turn old.sent new.sent → TurnsTo answers entries first start read turn new
+    → IsAdded told ends stopped.Quit turn old.sent new.sent → TurnsTo answers entries first start read turn new
 unfolding steps_of
 whole answers entries first start read m turn old new told ends u taken s added =
     let more = one_message answers entries first start read m old new told ends u taken s in
@@ -137,12 +137,12 @@ whole answers entries first start read m turn old new told ends u taken s added 
 
 pub faulty : {D : Type 0} (answers : Answers D) (entries : List Entry) (first : D) (start : Written) (read : List ℕ) (fault : StreamFault) (turn : Turn) (old new : State D) (told : Option Reply) (ends : Bool)
     → IsUnderWay answers entries first start read old → IsFaulty old.unread fault × (new.unread ≡ old.unread) → Serves answers entries old.tenant new.tenant old.door (Faulty fault) told ends new.door
-    → IsAdded told ends (served.Faulted fault) turn old.sent new.sent → TurnsTo answers entries first start read turn new
+    → IsAdded told ends (stopped.Faulted fault) turn old.sent new.sent → TurnsTo answers entries first start read turn new
 unfolding steps_of
 faulty answers entries first start read fault turn old new told ends u is_faulty s added =
     let more = one_fault answers entries first start read fault old new told ends u is_faulty s in
     elim added [
-      | inl (sends, is) ↦ subst (λ t. TurnsTo answers entries first start read t new) (sym (is ∙ ap (λ b. turn_after b (served.Faulted fault)) s.finishes.1)) (record {
+      | inl (sends, is) ↦ subst (λ t. TurnsTo answers entries first start read t new) (sym (is ∙ ap (λ b. turn_after b (stopped.Faulted fault)) s.finishes.1)) (record {
           exchanges = Faulted fault ∷ u.exchanges;
           course = more.course;
           stops = refl;

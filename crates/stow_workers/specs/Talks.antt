@@ -10,6 +10,8 @@ use Rattle.stow_house.specs.Steps.{StandsAt}
 use Rattle.stow_workers.specs.declared.client.Client.{Client}
 use Rattle.stow_workers.specs.declared.served.Served.{Served}
 use Rattle.stow_workers.specs.declared.served.Served.TheVariants as served
+use Rattle.stow_workers.specs.declared.stop.Stop.{Stop}
+use Rattle.stow_workers.specs.declared.stop.Stop.TheVariants as stopped
 use Rattle.stow_workers.specs.declared.turn.Turn.{Turn}
 use Rattle.stow_workers.specs.declared.turn.Turn.TheVariants.{GoesOn, Waits as WaitsForMore, Ends}
 use Rattle.stow_workers.specs.Failures.{HasFailed}
@@ -97,6 +99,16 @@ pub record IsServed {D : Type 0} (answers : Answers D) (entries : List Entry) (o
   pub stops : StopsAt result (steps_of exchanges)
   pub told : IsTold result before after (bytes_told entries exchanges)
 
+-- What was read is the front of what there was to read, and it was served and answered until the connection
+-- ended so; at the end of input nothing is left.
+pub record ServesConnection {D : Type 0} (answers : Answers D) (entries : List Entry)
+    (result : Served) (unread left : Option (List ℕ)) (old new : D)
+    (before after : Written) : Type 0 where
+  pub read : List ℕ
+  pub consumes : Consumes unread left read
+  pub end : MeetsEnd result left read
+  pub served : IsServed answers entries old new read before after result
+
 -- ---- a connection under way
 
 -- the door, whom the connection is served as, its unread bytes, and what was sent
@@ -131,20 +143,24 @@ pub record IsWaiting {D : Type 0} (answers : Answers D) (entries : List Entry) (
   pub under_way : IsUnderWay answers entries first start read state
   pub begun : IsBegun state.unread
 
--- all replies were spelled; where memory was refused a beginning of them was; no failed write ends it yet
-abbrev pub HasSpelled : Served → Written → Sent → List ℕ → Type 0
-HasSpelled served.NoMemory start sent all = (front : List ℕ) × Begins front all
+abbrev pub served_of : Stop → Served
+served_of stopped.Quit = served.Quit
+served_of (stopped.Faulted fault) = served.Faulted fault
+served_of stopped.NoMemory = served.NoMemory
+
+-- all replies were spelled; where memory was refused a beginning of them was
+abbrev pub HasSpelled : Stop → Written → Sent → List ℕ → Type 0
+HasSpelled stopped.NoMemory start sent all = (front : List ℕ) × Begins front all
     × HasSent start sent front
-HasSpelled served.WriteFailed start sent all = ⊥
 HasSpelled _ start sent all = HasSent start sent all
 
--- the connection has ended so, and its last replies may wait
+-- the messages are served no further, and the last replies may wait
 pub record HasEnded {D : Type 0} (answers : Answers D) (entries : List Entry) (first : D)
-    (start : Written) (read : List ℕ) (result : Served) (state : State D) : Type 0 where
+    (start : Written) (read : List ℕ) (stop : Stop) (state : State D) : Type 0 where
   pub exchanges : List Exchange
   pub course : Course answers entries first state.door read exchanges
-  pub stops : StopsAt result (steps_of exchanges)
-  pub sent : HasSpelled result start state.sent (bytes_told entries exchanges)
+  pub stops : StopsAt (served_of stop) (steps_of exchanges)
+  pub sent : HasSpelled stop start state.sent (bytes_told entries exchanges)
 
 -- a turn of a connection under way
 abbrev pub TurnsTo : {D : Type 0} → Answers D → List Entry → D → Written → List ℕ → Turn → State D
@@ -153,8 +169,8 @@ TurnsTo answers entries first start read GoesOn new =
     IsUnderWay answers entries first start read new
 TurnsTo answers entries first start read WaitsForMore new =
     IsWaiting answers entries first start read new
-TurnsTo answers entries first start read (Ends result) new =
-    HasEnded answers entries first start read result new
+TurnsTo answers entries first start read (Ends stop) new =
+    HasEnded answers entries first start read stop new
 
 abbrev pub Turns : {D : Type 0} → Answers D → List Entry → Turn → State D → State D → Type 0
 Turns answers entries turn old new = (first : _) (start : Written) (read : List ℕ)
@@ -165,31 +181,39 @@ Turns answers entries turn old new = (first : _) (start : Written) (read : List 
 abbrev pub Shortens : Turn → List ℕ → List ℕ → Type 0
 Shortens GoesOn old new = length new < length old
 Shortens WaitsForMore old new = Unit {0}
-Shortens (Ends result) old new = Unit {0}
+Shortens (Ends stop) old new = Unit {0}
 
 -- all whole messages were served
-abbrev pub ServesTo : {D : Type 0} → Answers D → List Entry → D → Written → List ℕ → Option Served
+abbrev pub ServesTo : {D : Type 0} → Answers D → List Entry → D → Written → List ℕ → Option Stop
     → State D → Type 0
 ServesTo answers entries first start read None new =
     IsWaiting answers entries first start read new
-ServesTo answers entries first start read (Some result) new =
-    HasEnded answers entries first start read result new
+ServesTo answers entries first start read (Some stop) new =
+    HasEnded answers entries first start read stop new
 
-abbrev pub ServesAll : {D : Type 0} → Answers D → List Entry → Option Served → State D → State D
+abbrev pub ServesAll : {D : Type 0} → Answers D → List Entry → Option Stop → State D → State D
     → Type 0
-ServesAll answers entries result old new = (first : _) (start : Written) (read : List ℕ)
+ServesAll answers entries stop old new = (first : _) (start : Written) (read : List ℕ)
     → IsUnderWay answers entries first start read old
-    → ServesTo answers entries first start read result new
+    → ServesTo answers entries first start read stop new
 
 -- nothing waits for the writer, and it hasn't failed
 abbrev pub IsEven : Sent → Type 0
 IsEven sent = (sent.has_failed ≡ false) × (sent.waiting ≡ [])
 
 -- how a piece ended, after its replies were written or a write has failed
-abbrev pub outcome_of : Option Served → Bool → Option Served
-outcome_of (Some served.NoMemory) has_failed = Some served.NoMemory
-outcome_of ended true = Some served.WriteFailed
-outcome_of ended false = ended
+abbrev pub outcome_of : Option Stop → Bool → Option Served
+outcome_of None false = None
+outcome_of None true = Some served.WriteFailed
+outcome_of (Some stopped.NoMemory) has_failed = Some served.NoMemory
+outcome_of (Some stop) false = Some (served_of stop)
+outcome_of (Some stop) true = Some served.WriteFailed
+
+-- a piece doesn't end with its reader's failure or end
+abbrev pub CanEndPiece : Served → Type 0
+CanEndPiece served.Ended = ⊥
+CanEndPiece served.ReadFailed = ⊥
+CanEndPiece _ = Unit {0}
 
 -- a piece was served and answered
 abbrev pub PieceTo : {D : Type 0} → Answers D → List Entry → D → Written → List ℕ → Option Served

@@ -1,15 +1,16 @@
 //! A connection that is being served.
-ghost use Rattle.std.specs.Prelude.{◌≡◌, [], None, false, option_map};
+ghost use Rattle.std.specs.Prelude.{◌≡◌, [], None, false, option_map, IfSome};
 ghost use Rattle.stow_model.specs.Reply.{reply_of};
 ghost use Rattle.stow_house.specs.Sessions.{Finished, Serves, arrival_of};
 ghost use Rattle.stow_workers.specs.Answered.{IsAnswered};
-ghost use Rattle.stow_workers.specs.Talks.{Turns, Shortens, ServesAll, ServesPiece, outcome_of, state_of};
+ghost use Rattle.stow_workers.specs.Talks.{Turns, Shortens, ServesAll, ServesPiece, CanEndPiece, outcome_of, state_of};
 
 use crate::gate::Gate;
 use crate::place::Place;
 use crate::replies::Replies;
 use crate::served::Served;
 use crate::sink::Sink;
+use crate::stop::Stop;
 use crate::turn::Turn;
 use std::alloc::{Allocator, Global};
 use stow_house::answer::Answer;
@@ -56,16 +57,17 @@ impl<A: Allocator + Copy> Client<A> {
         door: &mut D,
         gate: &G,
     ) -> Option<Served>
-        ensures { ServesPiece D.answers tenants.now piece.now result
+        ensures ends { IfSome result CanEndPiece }
+        ensures serves { ServesPiece D.answers tenants.now piece.now result
             (state_of door.old (W.contents writer.old) (W.failures writer.old) self.old)
             (state_of door.new (W.contents writer.new) (W.failures writer.new) self.new) }
     {
         if self.input.feed(piece).is_err() {
             return Some(Served::NoMemory);
         }
-        let ended = self.serve_all(writer, tenants, door, gate);
+        let stop = self.serve_all(writer, tenants, door, gate);
         self.replies.flush(writer);
-        outcome(ended, self.replies.has_failed())
+        outcome(stop, self.replies.has_failed())
     }
 
     /// Serves all messages that are whole. `None` where the next one isn't whole yet.
@@ -75,7 +77,7 @@ impl<A: Allocator + Copy> Client<A> {
         tenants: &Tenants<A>,
         door: &mut D,
         gate: &G,
-    ) -> Option<Served>
+    ) -> Option<Stop>
         ensures { ServesAll D.answers tenants.now result
             (state_of door.old (W.contents writer.old) (W.failures writer.old) self.old)
             (state_of door.new (W.contents writer.new) (W.failures writer.new) self.new) }
@@ -84,7 +86,7 @@ impl<A: Allocator + Copy> Client<A> {
             match self.serve_next(writer, tenants, door, gate) {
                 Turn::GoesOn => {}
                 Turn::Waits => return None,
-                Turn::Ends(served) => return Some(served),
+                Turn::Ends(stop) => return Some(stop),
             }
         }
     }
@@ -104,12 +106,12 @@ impl<A: Allocator + Copy> Client<A> {
     {
         match self.input.next(self.alloc) {
             Next::More => Turn::Waits,
-            Next::NoMemory => Turn::Ends(Served::NoMemory),
+            Next::NoMemory => Turn::Ends(Stop::NoMemory),
             Next::Fault(fault) => {
-                let end = Served::Faulted(fault);
-                self.answer(writer, tenants, door, gate, Next::Fault(fault), end)
+                let stop = Stop::Faulted(fault);
+                self.answer(writer, tenants, door, gate, Next::Fault(fault), stop)
             }
-            next => self.answer(writer, tenants, door, gate, next, Served::Quit),
+            next => self.answer(writer, tenants, door, gate, next, Stop::Quit),
         }
     }
 
@@ -121,17 +123,17 @@ impl<A: Allocator + Copy> Client<A> {
         door: &mut D,
         gate: &G,
         next: Next<A>,
-        end: Served,
+        stop: Stop,
     ) -> Turn
-        ensures { IsAnswered D.answers tenants.now next end result
+        ensures { IsAnswered D.answers tenants.now next stop result
             (state_of door.old (W.contents writer.old) (W.failures writer.old) self.old)
             (state_of door.new (W.contents writer.new) (W.failures writer.new) self.new) }
     {
         let (reply, ends) = self.hear(tenants, door, gate, next);
         if self.replies.add(writer, &reply).is_err() {
-            return Turn::Ends(Served::NoMemory);
+            return Turn::Ends(Stop::NoMemory);
         }
-        if ends { Turn::Ends(end) } else { Turn::GoesOn }
+        if ends { Turn::Ends(stop) } else { Turn::GoesOn }
     }
 
     /// What is told of what came next, and whether the connection ends with it. Used words serve the next message.
@@ -157,13 +159,15 @@ impl<A: Allocator + Copy> Client<A> {
 }
 
 /// How a piece ended, once its replies were written or a write has failed.
-fn outcome(ended: Option<Served>, has_failed: bool) -> Option<Served>
-    ensures { result ≡ outcome_of ended has_failed }
+fn outcome(stop: Option<Stop>, has_failed: bool) -> Option<Served>
+    ensures { result ≡ outcome_of stop has_failed }
 {
-    match ended {
-        Some(Served::NoMemory) => ended,
+    match stop {
+        Some(Stop::NoMemory) => Some(Served::NoMemory),
         _ if has_failed => Some(Served::WriteFailed),
-        _ => ended,
+        Some(Stop::Quit) => Some(Served::Quit),
+        Some(Stop::Faulted(fault)) => Some(Served::Faulted(fault)),
+        None => None,
     }
 }
 

@@ -1,5 +1,5 @@
 //! What came of the next message.
-use crate::served::Served;
+use crate::stop::Stop;
 
 /// What came of the next message.
 #[derive(Clone, Copy)]
@@ -9,5 +9,5 @@ pub enum Turn {
     /// It isn't whole yet.
     Waits,
     /// The connection ends.
-    Ends(Served),
+    Ends(Stop),
 }

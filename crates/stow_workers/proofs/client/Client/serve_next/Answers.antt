@@ -5,7 +5,7 @@ use Rattle.stow_resp.specs.declared.next.Next.{Next}
 use Rattle.stow_resp.specs.declared.next.Next.TheVariants as next
 use Rattle.stow_resp.specs.Next.{IsNext, IsTaken}
 use Rattle.stow_house.specs.Sessions.{Whole, arrival_of}
-use Rattle.stow_workers.specs.declared.served.Served.TheVariants as served
+use Rattle.stow_workers.specs.declared.stop.Stop.TheVariants as stopped
 use Rattle.stow_workers.proofs.Turning.{whole, faulty, shorter, ended, shortened, serves_as}
 use Rattle.stow_workers.proofs.client.Client.serve_next.Goals as goal
 
@@ -23,7 +23,7 @@ pub returns-in-Fault : goal.returns-in-Fault
 returns-in-Fault g c =
     let e = c.answer.ensures in
     record {
-      shorter = ended (served.Faulted c.in-Fault.fault) c.answer.result e.ends _ _ e.serves.finishes.1 e.added;
+      shorter = ended (stopped.Faulted c.in-Fault.fault) c.answer.result e.ends _ _ e.serves.finishes.1 e.added;
       turns = λ first start read u. faulty _ _ first start read c.in-Fault.fault _ _ _ e.told e.ends u (c.in-Fault.ensures.0, e.unread ∙ c.in-Fault.ensures.1) e.serves e.added;
     }
 
