@@ -95,7 +95,7 @@ stands_here entries own old new part a status tenant reads =
 
 -- ---- a tenant
 
-one_more : (tenant quota : ℕ) (service : Option Service) (line : List OwnEvent) → moved tenant service (store_after quota line) ≡ store_after quota (with_service tenant service line)
+pub one_more : (tenant quota : ℕ) (service : Option Service) (line : List OwnEvent) → moved tenant service (store_after quota line) ≡ store_after quota (with_service tenant service line)
 unfolding store_after
 one_more tenant quota None line = refl
 one_more tenant quota (Some service) line = grind (arith, nat_tests)

@@ -2,3 +2,4 @@ pub mod Sending
 pub mod Passing
 pub mod Turning
 pub mod Pieces
+pub mod OneConnection

@@ -1,5 +1,5 @@
 -- What serving a message through a door leads to.
-use Rattle.std.proofs.Common.{◌≡◌, ℕ, Bool, true, false, not, List, ◌∷◌, Option, Some, None, refl, ap, ◌∙◌, sym, subst}
+use Rattle.std.proofs.Common.{◌≡◌, ℕ, Bool, true, false, not, List, Option, Some, None, refl, ap, ◌∙◌, sym, subst}
 use mathlib.Core.Bool.{false≢true}
 use Rattle.std.specs.Prelude.{IsSome}
 use Rattle.stow_model.specs.Login.{Entry, login}

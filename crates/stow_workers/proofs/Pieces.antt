@@ -6,16 +6,16 @@ use Rattle.stow_model.specs.Login.{Entry}
 use Rattle.stow_model.specs.Wire.{IsBegun}
 use Rattle.stow_model.proofs.Messages.{none_begun}
 use Rattle.stow_model.specs.Event as event
-use Rattle.stow_model.specs.History.{ConnectionStep, Plain, Status, IsOpen, Follows, status_of, served_as, taken_by, stream_of, stream_with}
+use Rattle.stow_model.specs.History.{ConnectionStep, Plain, IsOpen, Follows, status_of, served_as, taken_by, stream_of, stream_with}
 use Rattle.stow_house.specs.Seen.{Seen}
 use Rattle.stow_house.proofs.Stood.{follows, stands_here}
 use Rattle.stow_workers.specs.declared.served.Served.{Served}
 use Rattle.stow_workers.specs.declared.served.Served.TheVariants as served
 use Rattle.stow_workers.specs.declared.stop.Stop.{Stop}
 use Rattle.stow_workers.specs.declared.stop.Stop.TheVariants as stopped
-use Rattle.stow_workers.specs.Exchanges.{Exchange, Read, steps_of, AllFollow, calls_in, LeadTo, told_in, spelled}
+use Rattle.stow_workers.specs.Exchanges.{Read, steps_of, AllFollow, calls_in, LeadTo, told_in, spelled}
 use Rattle.stow_workers.specs.Sent.{Begins, Written, Sent, IsLeft, HasFailedIf, HasSent, StaysSent, IsWritten}
-use Rattle.stow_workers.specs.Talks.{Answers, Course, State, IsUnderWay, IsWaiting, HasServedAll, StopsAt, IsWhole, ReaderFails, WriterFails, MeetsEnd, IsTold, IsServed, IsEven, ServesTo, PieceTo, CanEndPiece, outcome_of, bytes_told}
+use Rattle.stow_workers.specs.Talks.{Answers, State, IsUnderWay, IsWaiting, HasServedAll, StopsAt, IsWhole, ReaderFails, WriterFails, MeetsEnd, IsTold, IsServed, IsEven, ServesTo, PieceTo, CanEndPiece, outcome_of, bytes_told}
 
 -- ---- what was read
 

@@ -1,10 +1,8 @@
 -- What becomes of replies on their way to a writer.
-use Rattle.std.proofs.Common.{◌≡◌, ◌<◌, ◌-◌, ℕ, Bool, true, false, not, List, [], ◌∷◌, ◌++◌, Option, length, take, drop, ap, ◌∙◌, sym, append_assoc, append-nil, take-append-drop, arith, inl, inr, ⊎_elim}
+use Rattle.std.proofs.Common.{◌≡◌, ◌<◌, ◌-◌, ℕ, Bool, true, false, not, List, [], ◌++◌, length, take, drop, ap, ◌∙◌, sym, append_assoc, append-nil, take-append-drop, arith, inl, inr, ⊎_elim}
 use Rattle.std.proofs.lemmas.List.{take_rest}
-use Rattle.std.specs.Io.KnownBytes.{Appends}
 use Rattle.std.proofs.KnownBytes.{Appends-trans}
-use Rattle.stow_workers.specs.Failures.{HasFailed}
-use Rattle.stow_workers.specs.Sent.{Begins, Written, Sent, HasSent, StaysSent, Sends, WritesPart, WritesAll}
+use Rattle.stow_workers.specs.Sent.{Written, HasSent, WritesAll}
 
 -- the front of what is left was written too
 pub goes_on : (all done rest : List ℕ) (n : ℕ) → all ≡ done ++ rest → all ≡ (done ++ take n rest) ++ take (length rest - n) (drop n rest)

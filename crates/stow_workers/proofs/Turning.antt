@@ -3,12 +3,10 @@ use Rattle.std.proofs.Common.{◌≡◌, ◌<◌, ℕ, Bool, true, false, not, L
 use Rattle.stow_model.specs.declared.stream_fault.StreamFault.{StreamFault}
 use Rattle.stow_model.specs.Login.{Entry}
 use Rattle.stow_model.specs.Message.{Message}
-use Rattle.stow_model.specs.Event as event
 use Rattle.stow_model.specs.Reply.{Reply, encoding}
-use Rattle.stow_model.specs.Reply as reply
 use Rattle.stow_model.specs.Store.{is_out_of_memory, with_reply}
 use Rattle.stow_model.specs.Wire.{IsFaulty}
-use Rattle.stow_model.specs.History.{ConnectionStep, Plain, Took, Broke, Status, IsOpen, Closed, status_of, served_as, stream_of, stream_with, taken_by, message_reply, request_of_message, Follows}
+use Rattle.stow_model.specs.History.{Took, Broke, Status, IsOpen, Closed, stream_of, message_reply, request_of_message}
 use Rattle.stow_model.proofs.Fronts.{spelled_some}
 use Rattle.stow_resp.specs.Next.{IsTaken}
 use Rattle.stow_house.specs.Seen.{Seen, status_by}
@@ -19,10 +17,10 @@ use Rattle.stow_workers.specs.declared.stop.Stop.{Stop}
 use Rattle.stow_workers.specs.declared.stop.Stop.TheVariants as stopped
 use Rattle.stow_workers.specs.declared.turn.Turn.{Turn}
 use Rattle.stow_workers.specs.declared.turn.Turn.TheVariants.{GoesOn, Waits, Ends}
-use Rattle.stow_workers.specs.Exchanges.{Exchange, Read, Served as Took_and_answered, Faulted, step_of, reply_in, steps_of, AllFollow, with_call, calls_in, LeadTo, told_in, spelled}
+use Rattle.stow_workers.specs.Exchanges.{Exchange, Served as Took_and_answered, Faulted, step_of, steps_of, AllFollow, with_call, calls_in, LeadTo, told_in, spelled}
 use Rattle.stow_workers.specs.Sent.{Begins, Written, Sent, HasSent, SendsReply}
 use Rattle.stow_workers.specs.Answered.{turn_after, IsAdded}
-use Rattle.stow_workers.specs.Talks.{Answers, Course, State, IsUnderWay, HasEnded, TurnsTo, Shortens, bytes_told}
+use Rattle.stow_workers.specs.Talks.{Answers, Course, State, IsUnderWay, TurnsTo, Shortens, bytes_told}
 use Rattle.stow_workers.proofs.Passing.{of_message}
 
 abbrev seen_with : {D : Type 0} → Status → State D → Seen
@@ -42,16 +40,18 @@ one_message answers entries first start read m old new told ends u taken s =
     let p = of_message answers entries m old.tenant old.door new.door told ends s.finishes in
     let b = is_out_of_memory p.reply in
     let own = Took m b in
-    let part = steps_of u.exchanges in
-    (p.reply, record {
-      course = record {
-        follow = (follows entries own (seen_with IsOpen old) (seen_with (status_by (not ends)) new) part u.at taken (refl, p.may), u.course.follow);
-        stream = u.course.stream;
-        door = subst (λ who. LeadTo answers first (with_call (request_of_message m b who) p.reply (calls_in entries u.exchanges)) new.door) u.at.tenant (p.leads first (calls_in entries u.exchanges) u.course.door);
-      };
-      at = stands_here entries own (seen_with IsOpen old) (seen_with (status_by (not ends)) new) part u.at p.after s.tenant taken;
-      says = ap (λ t. with_reply t (told_in entries u.exchanges)) (sym (p.says ∙ ap (λ who. message_reply entries m who (λ words tenant. p.reply)) u.at.tenant));
-    })
+    let part = steps_of u.exchanges in (
+      p.reply,
+      record {
+        course = record {
+          follow = (follows entries own (seen_with IsOpen old) (seen_with (status_by (not ends)) new) part u.at taken (refl, p.may), u.course.follow);
+          stream = u.course.stream;
+          door = subst (λ who. LeadTo answers first (with_call (request_of_message m b who) p.reply (calls_in entries u.exchanges)) new.door) u.at.tenant (p.leads first (calls_in entries u.exchanges) u.course.door);
+        };
+        at = stands_here entries own (seen_with IsOpen old) (seen_with (status_by (not ends)) new) part u.at p.after s.tenant taken;
+        says = ap (λ t. with_reply t (told_in entries u.exchanges)) (sym (p.says ∙ ap (λ who. message_reply entries m who (λ words tenant. p.reply)) u.at.tenant));
+      },
+    )
 
 one_fault : {D : Type 0} (answers : Answers D) (entries : List Entry) (first : D) (start : Written) (read : List ℕ) (fault : StreamFault) (old new : State D) (told : Option Reply) (ends : Bool)
     → (u : IsUnderWay answers entries first start read old) → IsFaulty old.unread fault × (new.unread ≡ old.unread) → Serves answers entries old.tenant new.tenant old.door (Faulty fault) told ends new.door
@@ -128,11 +128,11 @@ whole answers entries first start read m turn old new told ends u taken s added 
     elim added [
       | inl (sends, is) ↦ subst (λ t. TurnsTo answers entries first start read t new) (sym is) (went_on answers entries first start read m old new told ends u taken sends more.0 more.1)
       | inr (stays, is) ↦ subst (λ t. TurnsTo answers entries first start read t new) (sym is) (record {
-          exchanges = Took_and_answered m more.0 ∷ u.exchanges;
-          course = more.1.course;
-          stops = tt;
-          sent = (bytes_told entries u.exchanges, subst (λ replies. Begins (bytes_told entries u.exchanges) (spelled replies)) (sym more.1.says) (begins_reply told (told_in entries u.exchanges)), stays start (bytes_told entries u.exchanges) u.sent);
-        })
+        exchanges = Took_and_answered m more.0 ∷ u.exchanges;
+        course = more.1.course;
+        stops = tt;
+        sent = (bytes_told entries u.exchanges, subst (λ replies. Begins (bytes_told entries u.exchanges) (spelled replies)) (sym more.1.says) (begins_reply told (told_in entries u.exchanges)), stays start (bytes_told entries u.exchanges) u.sent);
+      })
     ]
 
 pub faulty : {D : Type 0} (answers : Answers D) (entries : List Entry) (first : D) (start : Written) (read : List ℕ) (fault : StreamFault) (turn : Turn) (old new : State D) (told : Option Reply) (ends : Bool)
@@ -143,17 +143,17 @@ faulty answers entries first start read fault turn old new told ends u is_faulty
     let more = one_fault answers entries first start read fault old new told ends u is_faulty s in
     elim added [
       | inl (sends, is) ↦ subst (λ t. TurnsTo answers entries first start read t new) (sym (is ∙ ap (λ b. turn_after b (stopped.Faulted fault)) s.finishes.1)) (record {
-          exchanges = Faulted fault ∷ u.exchanges;
-          course = more.course;
-          stops = refl;
-          sent = subst (λ replies. HasSent start new.sent (spelled replies)) (sym more.says) (sent_reply start old.sent new.sent told (told_in entries u.exchanges) sends u.sent);
-        })
+        exchanges = Faulted fault ∷ u.exchanges;
+        course = more.course;
+        stops = refl;
+        sent = subst (λ replies. HasSent start new.sent (spelled replies)) (sym more.says) (sent_reply start old.sent new.sent told (told_in entries u.exchanges) sends u.sent);
+      })
       | inr (stays, is) ↦ subst (λ t. TurnsTo answers entries first start read t new) (sym is) (record {
-          exchanges = Faulted fault ∷ u.exchanges;
-          course = more.course;
-          stops = tt;
-          sent = (bytes_told entries u.exchanges, subst (λ replies. Begins (bytes_told entries u.exchanges) (spelled replies)) (sym more.says) (begins_reply told (told_in entries u.exchanges)), stays start (bytes_told entries u.exchanges) u.sent);
-        })
+        exchanges = Faulted fault ∷ u.exchanges;
+        course = more.course;
+        stops = tt;
+        sent = (bytes_told entries u.exchanges, subst (λ replies. Begins (bytes_told entries u.exchanges) (spelled replies)) (sym more.says) (begins_reply told (told_in entries u.exchanges)), stays start (bytes_told entries u.exchanges) u.sent);
+      })
     ]
 
 -- the same, of what came

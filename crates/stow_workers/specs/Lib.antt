@@ -4,3 +4,4 @@ pub mod Exchanges
 pub mod Sent
 pub mod Talks
 pub mod Answered
+pub mod Laws

@@ -5,7 +5,7 @@ use Rattle.stow_model.specs.declared.stream_fault.StreamFault.{StreamFault}
 use Rattle.stow_model.specs.Login.{Entry}
 use Rattle.stow_model.specs.Reply.{Reply}
 use Rattle.stow_model.specs.Wire.{IsBegun}
-use Rattle.stow_model.specs.History.{ConnectionStep, Plain, Took, Broke, IsOpen, Closed, status_of, stream_of, taken_by, Waits}
+use Rattle.stow_model.specs.History.{ConnectionStep, Took, Broke, IsOpen, Closed, status_of, stream_of, taken_by, Waits}
 use Rattle.stow_house.specs.Steps.{StandsAt}
 use Rattle.stow_workers.specs.declared.client.Client.{Client}
 use Rattle.stow_workers.specs.declared.served.Served.{Served}

@@ -4,6 +4,7 @@
 mod client;
 pub mod counted;
 pub mod gate;
+pub mod laws;
 pub mod open_gate;
 pub mod place;
 mod replies;
@@ -12,4 +13,6 @@ pub mod serving;
 pub mod sink;
 pub mod source;
 mod stop;
+#[cfg(test)]
+mod tests;
 mod turn;

@@ -68,8 +68,7 @@ impl<A: Allocator + Copy> Replies<A> {
 
     /// Writes what waits.
     pub fn flush<W: Sink>(&mut self, writer: &mut W)
-        ensures sent {
-            StaysSent (sent_of (W.contents writer.old) (W.failures writer.old) self.old)
+        ensures sent { StaysSent (sent_of (W.contents writer.old) (W.failures writer.old) self.old)
             (sent_of (W.contents writer.new) (W.failures writer.new) self.new) }
         ensures written { IsWritten self.new.has_failed self.new.bytes.items }
     {

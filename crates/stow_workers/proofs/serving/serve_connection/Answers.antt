@@ -1,4 +1,4 @@
-use Rattle.std.proofs.Common.{◌≡◌, ◌<◌, ◌≤◌, ℕ, List, [], ◌++◌, ◌∙◌, refl, length, take, arith, length-append}
+use Rattle.std.proofs.Common.{[], ◌++◌, ◌∙◌, refl, take, arith, length-append}
 use Rattle.std.proofs.KnownBytes.{Consumes-nil, Consumes-trans}
 use Rattle.stow_workers.proofs.Pieces.{begins, reader_stays, meets_no_end}
 use Rattle.stow_workers.proofs.serving.serve_connection.Goals as goal

@@ -1,4 +1,3 @@
-use Rattle.stow_workers.specs.declared.turn.Turn.TheVariants.{Waits}
 use Rattle.stow_workers.proofs.client.Client.serve_all.Goals as goal
 
 pub returns-in-Waits : goal.returns-in-Waits

@@ -1,5 +1,5 @@
-use Rattle.std.proofs.Common.{◌≡◌, Bool, true, false, not, List, [], ℕ, subst, sym}
-use Rattle.stow_workers.specs.Sent.{Written, HasSent, sent_of, written_of, StaysSent, WritesAll}
+use Rattle.std.proofs.Common.{◌≡◌, Bool, false, not, List, [], ℕ, subst, sym}
+use Rattle.stow_workers.specs.Sent.{Written, HasSent, StaysSent, WritesAll}
 use Rattle.stow_workers.proofs.Sending.{flushed}
 use Rattle.stow_workers.proofs.replies.Replies.flush.Goals as goal
 
