@@ -6,7 +6,7 @@ use Rattle.stow_model.specs.Login.{Entry}
 use Rattle.stow_model.specs.Wire.{IsBegun}
 use Rattle.stow_model.proofs.Messages.{none_begun}
 use Rattle.stow_model.specs.Event as event
-use Rattle.stow_model.specs.History.{ConnectionStep, Plain, IsOpen, Follows, status_of, served_as, taken_by, stream_of, stream_with}
+use Rattle.stow_model.specs.History.{Plain, IsOpen, Follows, status_of, served_as, taken_by, stream_of, stream_with}
 use Rattle.stow_house.specs.Seen.{Seen}
 use Rattle.stow_house.proofs.Stood.{follows, stands_here}
 use Rattle.stow_workers.specs.declared.served.Served.{Served}
@@ -15,7 +15,7 @@ use Rattle.stow_workers.specs.declared.stop.Stop.{Stop}
 use Rattle.stow_workers.specs.declared.stop.Stop.TheVariants as stopped
 use Rattle.stow_workers.specs.Exchanges.{Read, steps_of, AllFollow, calls_in, LeadTo, told_in, spelled}
 use Rattle.stow_workers.specs.Sent.{Begins, Written, Sent, IsLeft, HasFailedIf, HasSent, StaysSent, IsWritten}
-use Rattle.stow_workers.specs.Talks.{Answers, State, IsUnderWay, IsWaiting, HasServedAll, StopsAt, IsWhole, ReaderFails, WriterFails, MeetsEnd, IsTold, IsServed, IsEven, ServesTo, PieceTo, CanEndPiece, outcome_of, bytes_told}
+use Rattle.stow_workers.specs.Talks.{Answers, State, IsUnderWay, IsWaiting, HasServedAll, ReaderFails, MeetsEnd, IsTold, ServesTo, PieceTo, CanEndPiece, outcome_of, bytes_told}
 
 -- ---- what was read
 
@@ -153,26 +153,3 @@ begins answers entries door start tenant unread waiting has_failed nobody none e
   };
   begun = subst IsBegun (sym none) none_begun;
 }
-
--- all that was read is served and answered
-told_even : {D : Type 0} (answers : Answers D) (entries : List Entry) (first : D) (start writer : Written) (read : List ℕ) (door : D) (tenant : Option ℕ) (unread waiting : List ℕ) (has_failed : Bool) (result : Served)
-    → ((written all : List ℕ) → written ≡ all → IsWhole result written all) → ((old new : ℕ) → new ≡ old → WriterFails result old new) → ((steps : List ConnectionStep) → HasServedAll steps → StopsAt result steps)
-    → IsWaiting answers entries first start read (record { door = door; tenant = tenant; unread = unread; sent = record { writer = writer; has_failed = has_failed; waiting = waiting } })
-    → has_failed ≡ false → waiting ≡ [] → IsServed answers entries first door read start writer result
-told_even answers entries first start writer read door tenant unread waiting has_failed result whole fails stops w right none =
-    let u = w.under_way in
-    let s : HasSent start (record { writer = writer; has_failed = false; waiting = waiting }) (bytes_told entries u.exchanges) = subst (λ f. HasSent start (record { writer = writer; has_failed = f; waiting = waiting }) (bytes_told entries u.exchanges)) right u.sent in
-    record {
-      exchanges = u.exchanges;
-      course = u.course;
-      stops = stops (steps_of u.exchanges) (has_served_all answers entries first start read _ w);
-      told = record { written = s.written; appends = s.appends; whole = whole s.written _ (all_written start writer waiting _ s none); failures = fails start.failures writer.failures s.failures };
-    }
-
-pub ended : {D : Type 0} (answers : Answers D) (entries : List Entry) (first : D) (start : Written) (read : List ℕ) (state : State D) → IsWaiting answers entries first start read state → IsEven state.sent
-    → IsServed answers entries first state.door read start state.sent.writer served.Ended
-ended answers entries first start read state w even = told_even answers entries first start state.sent.writer read state.door state.tenant state.unread state.sent.waiting state.sent.has_failed served.Ended (λ written all e. e) (λ old new e. e) (λ steps h. h) w even.0 even.1
-
-pub read_failed : {D : Type 0} (answers : Answers D) (entries : List Entry) (first : D) (start : Written) (read : List ℕ) (state : State D) → IsWaiting answers entries first start read state → IsEven state.sent
-    → IsServed answers entries first state.door read start state.sent.writer served.ReadFailed
-read_failed answers entries first start read state w even = told_even answers entries first start state.sent.writer read state.door state.tenant state.unread state.sent.waiting state.sent.has_failed served.ReadFailed (λ written all e. e) (λ old new e. e) (λ steps h. h) w even.0 even.1

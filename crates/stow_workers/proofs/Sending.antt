@@ -24,23 +24,3 @@ flushed start old new waiting all false w s = record {
   left = (w.begins.0, s.left ∙ ap (λ bytes. s.written ++ bytes) w.begins.1 ∙ sym (append_assoc s.written w.front w.begins.0));
   failures = ⊎_elim (λ (more : old.failures < new.failures). inl (let same : old.failures ≡ start.failures = s.failures in omega arith)) (λ limit. inr limit) w.failures;
 }
-
--- a reply was spelled
-pub spelled_more : (start writer : Written) (waiting bytes all : List ℕ) → HasSent start (record { writer = writer; has_failed = false; waiting = waiting }) all
-    → HasSent start (record { writer = writer; has_failed = false; waiting = waiting ++ bytes }) (all ++ bytes)
-spelled_more start writer waiting bytes all s = record {
-  written = s.written;
-  appends = s.appends;
-  left = ap (λ b. b ++ bytes) s.left ∙ append_assoc s.written waiting bytes;
-  failures = s.failures;
-}
-
--- after a failure a reply is given up
-pub given_up : (start writer : Written) (waiting bytes all : List ℕ) → HasSent start (record { writer = writer; has_failed = true; waiting = waiting }) all
-    → HasSent start (record { writer = writer; has_failed = true; waiting = waiting }) (all ++ bytes)
-given_up start writer waiting bytes all s = record {
-  written = s.written;
-  appends = s.appends;
-  left = (s.left.0 ++ bytes, ap (λ b. b ++ bytes) s.left.1 ∙ append_assoc s.written s.left.0 bytes);
-  failures = s.failures;
-}
