@@ -80,10 +80,10 @@ pub fn serve<'a, A: Allocator + Copy, R: Read, W: Write>(
     output: &mut W,
 ) -> Result<(), Failure<'a>> {
     let tenants = Arc::new(alloc, tenants).map_err(AllocError::from)?;
-    let mut house = House::new(alloc, Core::new(alloc, tenants)?);
+    let mut core = Core::new(alloc, tenants.clone()?)?;
     match task {
-        Task::Pipe => pipe(alloc, &mut house, input, output),
-        Task::Script => script(alloc, &mut house, input, output),
+        Task::Pipe => pipe(alloc, &tenants, &mut core, input, output),
+        Task::Script => script(alloc, &mut House::new(alloc, core), input, output),
     }
 }
 

@@ -124,14 +124,14 @@ plain_quoted None = refl
 plain_quoted (Some t) = refl
 
 -- where memory was refused is told by the reply
-answered_by : (old new : CoreState) (tenant : ℕ) (words : List (List ℕ)) (r : Reply) (b : Bool) → is_out_of_memory r ≡ b → Answers old new tenant words r
+pub answered_by : (old new : CoreState) (tenant : ℕ) (words : List (List ℕ)) (r : Reply) (b : Bool) → is_out_of_memory r ≡ b → Answers old new tenant words r
     → ◌≡◌ {A = Answer} (store_of new tenant, r) (answer_with (store_of old tenant) (record { words = words; is_refused = b }))
 answered_by old new tenant words r b says (is_refused, is) =
     let told : is_refused ≡ b = sym (want_of_memory_lem (store_of old tenant) (record { words = words; is_refused = is_refused })) ∙ sym (ap (λ (a : Answer). is_out_of_memory a.1) is) ∙ says in
     is ∙ ap (λ x. answer_with (store_of old tenant) (record { words = words; is_refused = x })) told
 
 -- the tenant's store moves, and no other
-moves_own : (old new : CoreState) (tenant : ℕ) (words : List (List ℕ)) (b : Bool) (r : Reply) → ◌≡◌ {A = Answer} (store_of new tenant, r) (answer_with (store_of old tenant) (record { words = words; is_refused = b }))
+pub moves_own : (old new : CoreState) (tenant : ℕ) (words : List (List ℕ)) (b : Bool) (r : Reply) → ◌≡◌ {A = Answer} (store_of new tenant, r) (answer_with (store_of old tenant) (record { words = words; is_refused = b }))
     → ((other : ℕ) → other ≢ tenant → store_of new other ≡ store_of old other) → (t : ℕ) → store_of new t ≡ moved t (request_as ForStore words b (Some tenant)) (store_of old t)
 moves_own old new tenant words b r is others t =
     let request = request_as ForStore words b (Some tenant) in

@@ -65,7 +65,7 @@ reads_on (Plain e) status taken front unread new s r = record { front = front; s
 reads_on (Took m is_refused) status taken front unread new s r = record { front = front ++ r.0; spelled = (front, r.0, s, r.1, refl); whole = ap (λ t. front ++ t) r.2 ∙ sym (append_assoc front r.0 new) }
 reads_on (Broke fault) status taken front unread new s r = record { front = front; spelled = s; whole = ap (λ t. front ++ t) (sym r) }
 
-follows : (entries : List Entry) (own : ConnectionStep) (old new : Seen) (part : List ConnectionStep) → StandsAt entries old part → Reads own old.status old.unread new.unread → Can own old → Follows entries own part
+pub follows : (entries : List Entry) (own : ConnectionStep) (old new : Seen) (part : List ConnectionStep) → StandsAt entries old part → Reads own old.status old.unread new.unread → Can own old → Follows entries own part
 unfolding Follows
 follows entries own old new part a reads can =
     let stream = stream_of part in
@@ -80,7 +80,7 @@ void_follows entries e old part a asks =
     subst (λ status. CanBeVoid e status (stream_of part) (taken_by part)) a.status
     (can_be_void e old.status old.tenant (stream_of part) old.unread (taken_by part) (record { front = a.front; spelled = a.taken; whole = a.stream }) asks)
 
-stands_here : (entries : List Entry) (own : ConnectionStep) (old new : Seen) (part : List ConnectionStep) → StandsAt entries old part
+pub stands_here : (entries : List Entry) (own : ConnectionStep) (old new : Seen) (part : List ConnectionStep) → StandsAt entries old part
     → new.status ≡ status_after own old.status → new.tenant ≡ served_after entries own old.tenant → Reads own old.status old.unread new.unread → StandsAt entries new (own ∷ part)
 unfolding status_of served_as taken_by stream_of
 stands_here entries own old new part a status tenant reads =
@@ -95,7 +95,7 @@ stands_here entries own old new part a status tenant reads =
 
 -- ---- a tenant
 
-one_more : (tenant quota : ℕ) (service : Option Service) (line : List OwnEvent) → moved tenant service (store_after quota line) ≡ store_after quota (with_service tenant service line)
+pub one_more : (tenant quota : ℕ) (service : Option Service) (line : List OwnEvent) → moved tenant service (store_after quota line) ≡ store_after quota (with_service tenant service line)
 unfolding store_after
 one_more tenant quota None line = refl
 one_more tenant quota (Some service) line = grind (arith, nat_tests)

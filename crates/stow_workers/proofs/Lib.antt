@@ -1,0 +1,5 @@
+pub mod Sending
+pub mod Passing
+pub mod Turning
+pub mod Pieces
+pub mod OneConnection

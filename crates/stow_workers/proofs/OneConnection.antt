@@ -1,0 +1,167 @@
+-- A connection that is served through a core has a history.
+use Rattle.std.proofs.Common.{◌≡◌, ℕ, eqb, Bool, true, false, List, [], ◌∷◌, map, filter, Option, Some, None, refl, ap, ◌∙◌, sym, subst}
+use Rattle.std.proofs.lemmas.Bool.{cond-true, eq-eqb}
+use Rattle.std.specs.Prelude.{◌==◌, option_map, if◌then◌else◌}
+use Rattle.stow_model.specs.Login.{Entry, quota_of}
+use Rattle.stow_model.specs.Message.{Message}
+use Rattle.stow_model.specs.Message as message
+use Rattle.stow_model.specs.Command.{Kind, Login, Quit, Malformed, ForStore, kind_of}
+use Rattle.stow_model.specs.Reply.{Reply}
+use Rattle.stow_model.specs.Store.{Asked, store_after, empty_store, answer_with, with_reply, is_out_of_memory}
+use Rattle.stow_model.specs.History.{At, ConnectionStep, Plain, Service, part_of, request_as, request_of, kind_reply, served_as, with_service, service_of, line_of, told_by, told_at, reply_in_line, Telling, telling_of, with_telling, tellings, is_tenant, answers_to, Follows, IsStep, IsHistory}
+use Rattle.stow_core.specs.State.{CoreState, store_of, IsNewCore, Calls}
+use Rattle.stow_house.specs.Seen.{IsServed}
+use Rattle.stow_house.specs.Connections.{moved, reply_in_core}
+use Rattle.stow_house.proofs.Tenants.{served_tenant}
+use Rattle.stow_house.proofs.Here.{answered_by, moves_own}
+use Rattle.stow_house.proofs.Stood.{one_more}
+use Rattle.stow_workers.specs.Exchanges.{Exchange, Read, Served, Faulted, Call, step_of, steps_of, AllFollow, reply_in, words_of, with_call, calls_in, LeadTo, told_in}
+use Rattle.stow_workers.specs.Laws.{history_of, calls_of, asked_by, IsOneHistory, OneConnection}
+
+-- ---- one step
+
+-- a request was answered by the core, or none was made
+abbrev IsCall : Option Service → Reply → CoreState → CoreState → Type 0
+IsCall None r old new = new ≡ old
+IsCall (Some service) r old new = Calls old service.tenant (words_of service.event) r new
+
+-- the core before the newest call
+before : {D : Type 0} (answers : D → ℕ → List (List ℕ) → Reply → D → Type 0) (request : Option Service) (r : Reply) (calls : List Call) (old new : D) → LeadTo answers old (with_call request r calls) new → D
+unfolding LeadTo
+before answers None r calls old new leads = new
+before answers (Some service) r calls old new leads = leads.0
+
+leads_before : (request : Option Service) (r : Reply) (calls : List Call) (old new : CoreState) (leads : LeadTo Calls old (with_call request r calls) new) → LeadTo Calls old calls (before Calls request r calls old new leads)
+unfolding LeadTo before
+leads_before None r calls old new leads = leads
+leads_before (Some service) r calls old new leads = leads.1
+
+is_call : (request : Option Service) (r : Reply) (calls : List Call) (old new : CoreState) (leads : LeadTo Calls old (with_call request r calls) new) → IsCall request r (before Calls request r calls old new leads) new
+unfolding LeadTo before
+is_call None r calls old new leads = refl
+is_call (Some service) r calls old new leads = leads.2
+
+-- what a step does to the core, and what it is told there
+record Done (request : Option Service) (told told_there : Option Reply) (r : Reply) (old new : CoreState) : Type 0 where
+  pub replies : (t c : ℕ) (calls : List Call) (tellings : List Telling) → map (λ call. call.reply) (calls_of t calls) ≡ answers_to t tellings
+      → map (λ call. call.reply) (calls_of t (with_call request r calls)) ≡ answers_to t (with_telling (option_map (λ y. record { connection = c; tenant = option_map (λ s. s.tenant) request; reply = y }) told) tellings)
+  pub entries : new.entries ≡ old.entries
+  pub stores : (t : ℕ) → store_of new t ≡ moved t request (store_of old t)
+  pub says : told ≡ told_there
+  pub asks : (t : ℕ) (calls : List Call) → map asked_by (calls_of t (with_call request r calls)) ≡ with_service t request (map asked_by (calls_of t calls))
+
+-- what is told to nobody's request is in no tenant's replies
+no_one : (o : Option Reply) (t c : ℕ) (told : List Telling) → answers_to t (with_telling (option_map (λ y. record { connection = c; tenant = None; reply = y }) o) told) ≡ answers_to t told
+no_one None t c told = refl
+no_one (Some r) t c told = refl
+
+nothing_done : (told : Option Reply) (r : Reply) (old new : CoreState) → new ≡ old → Done None told told r old new
+nothing_done told r old new same = record {
+  entries = ap (λ c. c.entries) same;
+  stores = λ t. ap (λ c. store_of c t) same;
+  says = refl;
+  asks = λ t calls. refl;
+  replies = λ t c calls tellings same. same ∙ sym (no_one told t c tellings);
+}
+
+one_asked : (t tenant : ℕ) (words : List (List ℕ)) (r : Reply) (calls : List Call)
+    → map asked_by (calls_of t (with_call (request_as ForStore words (is_out_of_memory r) (Some tenant)) r calls)) ≡ with_service t (request_as ForStore words (is_out_of_memory r) (Some tenant)) (map asked_by (calls_of t calls))
+one_asked t tenant words r calls = by_test (tenant == t)
+  where
+    by_test : (b : Bool) → map asked_by (if b then (record { tenant = tenant; words = words; reply = r }) ∷ calls_of t calls else calls_of t calls) ≡ (if b then Asked (record { words = words; is_refused = is_out_of_memory r }) ∷ map asked_by (calls_of t calls) else map asked_by (calls_of t calls))
+    by_test true = refl
+    by_test false = refl
+
+one_replied : (t tenant c : ℕ) (words : List (List ℕ)) (r : Reply) (calls : List Call) (told : List Telling) → map (λ call. call.reply) (calls_of t calls) ≡ answers_to t told
+    → map (λ call. call.reply) (calls_of t ((record { tenant = tenant; words = words; reply = r }) ∷ calls)) ≡ answers_to t ((record { connection = c; tenant = Some tenant; reply = r }) ∷ told)
+one_replied t tenant c words r calls told same = by_test (tenant == t)
+  where
+    by_test : (b : Bool) → map (λ call. call.reply) (if b then (record { tenant = tenant; words = words; reply = r }) ∷ calls_of t calls else calls_of t calls)
+        ≡ map (λ (y : Telling). y.reply) (if b then (record { connection = c; tenant = Some tenant; reply = r }) ∷ filter (λ (y : Telling). is_tenant t y.tenant) told else filter (λ (y : Telling). is_tenant t y.tenant) told)
+    by_test true = ap (λ replies. r ∷ replies) same
+    by_test false = same
+
+kind_done : (entries : List Entry) (kind : Kind) (words : List (List ℕ)) (who : Option ℕ) (r : Reply) (old new : CoreState) → IsServed old.entries who → IsCall (request_as kind words (is_out_of_memory r) who) r old new
+    → Done (request_as kind words (is_out_of_memory r) who) (Some (kind_reply entries kind who (λ tenant. r))) (Some (kind_reply entries kind who (reply_in_core old (is_out_of_memory r) words))) r old new
+kind_done entries (Login name password) words who r old new is called = nothing_done _ r old new called
+kind_done entries Quit words who r old new is called = nothing_done _ r old new called
+kind_done entries Malformed words who r old new is called = nothing_done _ r old new called
+kind_done entries ForStore words None r old new is called = nothing_done _ r old new called
+kind_done entries ForStore words (Some tenant) r old new is called =
+    let b = is_out_of_memory r in
+    let answer = answered_by old new tenant words r b refl (called.own (is tenant refl)) in
+    record {
+      entries = called.entries;
+      stores = moves_own old new tenant words b r answer called.others;
+      says = ap (λ a. Some a.1) answer;
+      asks = λ t calls. one_asked t tenant words r calls;
+      replies = λ t c calls tellings same. one_replied t tenant c words r calls tellings same;
+    }
+
+step_done : (entries : List Entry) (x : Exchange) (who : Option ℕ) (old new : CoreState) → IsServed old.entries who → IsCall (request_of (step_of x) who) (reply_in x) old new
+    → Done (request_of (step_of x) who) (told_by entries (step_of x) who (λ is_refused words tenant. reply_in x)) (told_by entries (step_of x) who (reply_in_core old)) (reply_in x) old new
+step_done entries (Read bytes) who old new is called = nothing_done None _ old new called
+step_done entries (Served (message.Words words) r) who old new is called = kind_done entries (kind_of words) words who r old new is called
+step_done entries (Served message.Quoted r) who old new is called = nothing_done _ r old new called
+step_done entries (Served message.Blank r) who old new is called = nothing_done _ r old new called
+step_done entries (Faulted fault) who old new is called = nothing_done _ _ old new called
+
+-- ---- the history
+
+part : (c : ℕ) (steps : List ConnectionStep) → part_of c (map (At c) steps) ≡ steps
+unfolding part_of
+part c [] = refl
+part c (own ∷ earlier) = cond-true (eqb c c) _ _ (eq-eqb c c refl) ∙ ap (λ p. own ∷ p) (part c earlier)
+
+is_history : (c : ℕ) (entries : List Entry) (steps : List ConnectionStep) → AllFollow entries steps → IsHistory entries (map (At c) steps)
+unfolding AllFollow IsHistory IsStep
+is_history c entries [] follow = tt
+is_history c entries (own ∷ earlier) follow = (subst (Follows entries own) (sym (part c earlier)) follow.0, is_history c entries earlier follow.1)
+
+-- what the connection's newest step is told comes first in its output
+one_told : (c : ℕ) (who : Option ℕ) (o : Option Reply) (told : List Telling)
+    → map (λ t. t.reply) (filter (λ t. t.connection == c) (with_telling (option_map (λ r. record { connection = c; tenant = who; reply = r }) o) told)) ≡ with_reply o (map (λ t. t.reply) (filter (λ t. t.connection == c) told))
+one_told c who None told = refl
+one_told c who (Some r) told = ap (λ (ts : List Telling). map (λ t. t.reply) ts) (cond-true (eqb c c) _ _ (eq-eqb c c refl))
+
+goes : (c : ℕ) (entries : List Entry) (old : CoreState) → IsNewCore old → old.entries ≡ entries → (exchanges : List Exchange) (new : CoreState) → AllFollow entries (steps_of exchanges)
+    → LeadTo Calls old (calls_in entries exchanges) new → IsOneHistory c entries exchanges new × (new.entries ≡ entries)
+unfolding steps_of AllFollow calls_in told_in LeadTo line_of service_of tellings telling_of told_at reply_in_line store_after
+goes c entries old is_new same [] new follow leads = (
+  record {
+    is_history = is_history c entries (Plain _ ∷ []) follow;
+    calls = λ t. refl;
+    replies = λ t. refl;
+    output = refl;
+    stores = λ t. ap (λ core. store_of core t) leads ∙ is_new t ∙ ap (λ es. empty_store (quota_of es t)) same;
+  },
+  ap (λ core. core.entries) leads ∙ same,
+)
+goes c entries old is_new same (x ∷ xs) new follow leads =
+    let h = history_of c xs in
+    let who = served_as entries (steps_of xs) in
+    let request = request_of (step_of x) who in
+    let r = reply_in x in
+    let calls = calls_in entries xs in
+    let mid = before Calls request r calls old new leads in
+    let ih = goes c entries old is_new same xs mid follow.1 (leads_before request r calls old new leads) in
+    let is_part : part_of c h ≡ steps_of xs = part c (steps_of xs) in
+    let served : IsServed mid.entries who = subst (λ es. IsServed es who) (sym ih.1) (served_tenant entries (steps_of xs)) in
+    let d = step_done entries x who mid new served (is_call request r calls old new leads) in
+    let asked : service_of entries (At c (step_of x)) h ≡ request = ap (λ p. request_of (step_of x) (served_as entries p)) is_part in
+    let said : told_by entries (step_of x) who (λ is_refused words tenant. r) ≡ told_at entries c (step_of x) h =
+    d.says ∙ (λ i. told_by entries (step_of x) (served_as entries (sym is_part i)) (λ is_refused words tenant. (answer_with (ih.0.stores tenant i) (record { words = words; is_refused = is_refused })).1)) in (
+      record {
+        is_history = is_history c entries (step_of x ∷ steps_of xs) follow;
+        calls = λ t. d.asks t calls ∙ ap (with_service t request) (ih.0.calls t) ∙ ap (λ s. with_service t s (line_of entries t h)) (sym asked);
+        replies = λ t. d.replies t c calls (tellings entries h) (ih.0.replies t)
+            ∙ (λ i. answers_to t (with_telling (option_map (λ y. record { connection = c; tenant = option_map (λ s. s.tenant) (sym asked i); reply = y }) (said i)) (tellings entries h)));
+        output = ap (λ o. with_reply o (told_in entries xs)) said ∙ ap (with_reply (told_at entries c (step_of x) h)) ih.0.output
+            ∙ sym (one_told c (option_map (λ s. s.tenant) (service_of entries (At c (step_of x)) h)) (told_at entries c (step_of x) h) (tellings entries h));
+        stores = λ t. d.stores t ∙ ap (moved t request) (ih.0.stores t) ∙ one_more t (quota_of entries t) request (line_of entries t h) ∙ ap (λ s. store_after (quota_of entries t) (with_service t s (line_of entries t h))) (sym asked);
+      },
+      d.entries ∙ ih.1,
+    )
+
+pub one_connection_lem : OneConnection
+one_connection_lem c entries old new read exchanges is_new same course = (goes c entries old is_new same exchanges new course.follow course.door).0

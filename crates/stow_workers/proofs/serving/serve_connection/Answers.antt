@@ -1,0 +1,32 @@
+use Rattle.std.proofs.Common.{[], ◌++◌, ◌∙◌, refl, take, arith, length-append}
+use Rattle.std.proofs.KnownBytes.{Consumes-nil, Consumes-trans}
+use Rattle.stow_workers.proofs.Pieces.{begins, reader_stays, meets_no_end}
+use Rattle.stow_workers.proofs.serving.serve_connection.Goals as goal
+
+pub loop-init : goal.loop-init
+loop-init g c =
+    let e = c.new-client.ensures in
+    ([], Consumes-nil _, omega arith, refl, begins _ _ _ _ _ _ _ _ e.session e.input e.waiting e.failed, (e.failed, e.waiting))
+
+pub returns-in-Some-clause-serves : goal.returns-in-Some-clause-serves
+returns-in-Some-clause-serves g c =
+    let (read, consumed, counted, same, waits, even) = c.loop.invariant in
+    let n = c.in-Ok.count in
+    record {
+      read = read ++ take n c.read.new.room;
+      consumes = Consumes-trans _ _ _ _ _ consumed c.in-Ok.ensures.bytes.0;
+      end = meets_no_end c.in-Some.served _ _ c.in-Some.ensures.ends;
+      served = c.in-Some.ensures.serves _ _ read waits.under_way even;
+    }
+
+pub returns-in-Some-clause-reader : goal.returns-in-Some-clause-reader
+returns-in-Some-clause-reader g c =
+    let (read, consumed, counted, same, waits, even) = c.loop.invariant in
+    reader_stays c.in-Some.served _ _ c.in-Some.ensures.ends (c.in-Ok.ensures.failures ∙ same)
+
+pub loop-preserved : goal.loop-preserved
+loop-preserved g c =
+    let (read, consumed, counted, same, waits, even) = c.loop.invariant in
+    let n = c.in-Ok.count in
+    let after = c.in_default-serve_piece.ensures.serves _ _ read waits.under_way even in
+    (read ++ take n c.read.new.room, Consumes-trans _ _ _ _ _ consumed c.in-Ok.ensures.bytes.0, omega (arith, length-append read (take n c.read.new.room), c.in-Ok.ensures.bound.1), c.in-Ok.ensures.failures ∙ same, after.0, after.1)

@@ -1,0 +1,7 @@
+pub mod Failures
+pub mod Counted
+pub mod Exchanges
+pub mod Sent
+pub mod Talks
+pub mod Answered
+pub mod Laws

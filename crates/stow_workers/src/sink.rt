@@ -1,0 +1,22 @@
+//! What bytes are written to.
+ghost use Rattle.std.specs.Prelude.{ℕ, List, Option, None};
+ghost use Rattle.std.specs.Io.{WritesAtMost};
+ghost use Rattle.std.specs.Io.KnownBytes.{WriteAppends};
+ghost use Rattle.stow_workers.specs.Failures.{CountsWrite};
+
+use std::io;
+
+/// What bytes are written to, and how many writes have failed.
+pub trait Sink {
+    // The bytes that it holds, where they are known.
+    ghost contents: { Self → Option (List ℕ) } = { λ _. None };
+
+    // How many writes have failed, up to the limit.
+    ghost failures: { Self → ℕ };
+
+    /// Writes as many of the bytes as it likes. Where it takes none of some, it has failed.
+    fn write(&mut self, bytes: &[u8]) -> io::Result<usize>
+        ensures bound { WritesAtMost result bytes.now }
+        ensures bytes { WriteAppends (contents self.old) (contents self.new) result bytes.now }
+        ensures failures { CountsWrite result bytes.now (failures self.old) (failures self.new) };
+}
