@@ -1,0 +1,5 @@
+pub mod Entries
+pub mod Journals
+pub mod Seats
+pub mod Books
+pub mod Copies

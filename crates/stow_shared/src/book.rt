@@ -1,0 +1,142 @@
+//! What the lock holds.
+ghost use Rattle.std.specs.Prelude.{◌≡◌, ◌≤◌, OnOk, OnErr, [], true};
+ghost use Rattle.stow_core.specs.State.{IsNewCore};
+ghost use Rattle.stow_model.specs.Reply.{reply_of};
+ghost use Rattle.stow_shared.specs.Copies.{AreCopies, AreAlike, copied};
+ghost use Rattle.stow_shared.specs.Entries.{call_entry, entry_of, entries_of};
+ghost use Rattle.stow_shared.specs.Journals.{with_entry, IsLegal};
+ghost use Rattle.stow_shared.specs.Seats.{with_receipt};
+
+use crate::copies::Copies;
+use crate::copying::copied_reply;
+use crate::entry::Entry;
+use crate::journal::Journal;
+use crate::seat::Seat;
+use crate::step::Step;
+use std::alloc::{AllocError, Allocator, Global};
+use std::marker::{Model, PhantomData};
+use stow_core::Core;
+use stow_model::reply::Reply;
+use stow_model::words::Words;
+
+/// The core, and the journal that leads to it.
+#[derive(Drop)]
+pub struct Book<J: Journal, A: Allocator = Global> {
+    core: Core<A>,
+    journal: Vec<Entry<A>, A>,
+    of: PhantomData<J>,
+}
+
+impl<J: Journal, A: Allocator> Model for Book<J, A> {
+    ghost use Rattle.stow_shared.specs.Books.{BookState, IsKept};
+    ghost use Rattle.stow_shared.specs.Entries.{entries_of};
+
+    ghost Value = { BookState };
+
+    ghost view = { λ b. record { core = b.core; entries = entries_of b.journal.items } };
+
+    ghost invariant = { λ b. IsKept J.keeps (entries_of b.journal.items) b.core };
+}
+
+impl<J: Journal, A: Allocator + Copy> Book<J, A> {
+    ghost use Rattle.stow_shared.specs.Books.{CallStep, Resizes, Leaves};
+
+    /// A book of a core in which every store is empty.
+    pub fn new(alloc: A, core: Core<A>) -> Book<J, A>
+        requires { IsNewCore core }
+        ensures core { result.core ≡ core }
+        ensures entries { result.entries ≡ [] }
+    {
+        Book {
+            core,
+            journal: Vec::new(alloc),
+            of: PhantomData,
+        }
+    }
+
+    /// The step of a call. Where memory is refused, no store moves and nothing is added.
+    pub fn call(
+        &mut self,
+        alloc: A,
+        seat: &mut Seat<J, A>,
+        tenant: u32,
+        words: &Words<A>,
+        copies: Option<Copies<A>>,
+    ) -> Reply<A>
+        requires { AreCopies J.keeps words.now copies }
+        ensures { CallStep J.keeps self.old seat.old tenant words.now (reply_of result) self.new
+            seat.new }
+    {
+        let Ok(prepared) = self.core.prepare(alloc, tenant, words) else {
+            return seat.refuse();
+        };
+        let reply = prepared.reply();
+        match keep_call(alloc, &mut self.journal, seat, tenant, copies, reply) {
+            Ok(()) => self.core.commit(prepared),
+            Err(_) => seat.refuse(),
+        }
+    }
+
+    /// The step of a change of the cache's size. There is no cache yet, so the core stays.
+    pub fn resize(&mut self, seat: &mut Seat<J, A>, leaves: usize) -> Result<(), AllocError>
+        requires { leaves ≤ 65536 }
+        ensures ok { OnOk result
+            (Resizes J.keeps self.old seat.old leaves self.new seat.new) }
+        ensures err { OnErr result (Leaves self.old self.new × (seat.new ≡ seat.old)) }
+    {
+        if !J::is_kept() {
+            return Ok(());
+        }
+        let number = seat.number();
+        let entry = Entry { seat: number, step: Step::Resize(leaves) };
+        let receipt = Entry { seat: number, step: Step::Resize(leaves) };
+        keep(&mut self.journal, seat, entry, receipt)
+    }
+}
+
+/// Adds a call's entry to the journal, and the same to the seat's receipts, where they are kept. An `Err` adds
+/// nothing.
+fn keep_call<J: Journal, A: Allocator + Copy>(
+    alloc: A,
+    journal: &mut Vec<Entry<A>, A>,
+    seat: &mut Seat<J, A>,
+    tenant: u32,
+    copies: Option<Copies<A>>,
+    reply: &Reply<A>,
+) -> Result<(), AllocError>
+    requires { AreAlike J.keeps copies }
+    ensures journal { OnOk result
+        (let entry = call_entry seat.old.number tenant (copied copies) (reply_of reply.now)
+        in entries_of journal.new.items ≡ with_entry J.keeps entry (entries_of journal.old.items)) }
+    ensures receipt { OnOk result
+        (let entry = call_entry seat.old.number tenant (copied copies) (reply_of reply.now)
+        in seat.new ≡ with_receipt J.keeps entry seat.old) }
+    ensures err { OnErr result ((journal.new.items ≡ journal.old.items) × (seat.new ≡ seat.old)) }
+{
+    let Some(Copies { entry, receipt }) = copies else {
+        return Ok(());
+    };
+    let number = seat.number();
+    let entry = Step::Call(tenant, entry, copied_reply(alloc, reply)?);
+    let receipt = Step::Call(tenant, receipt, copied_reply(alloc, reply)?);
+    keep(journal, seat, Entry { seat: number, step: entry }, Entry { seat: number, step: receipt })
+}
+
+/// Adds an entry to the journal, and the same to the seat's receipts. An `Err` adds nothing.
+fn keep<J: Journal, A: Allocator + Copy>(
+    journal: &mut Vec<Entry<A>, A>,
+    seat: &mut Seat<J, A>,
+    entry: Entry<A>,
+    receipt: Entry<A>,
+) -> Result<(), AllocError>
+    requires { entry_of receipt ≡ entry_of entry }
+    ensures journal { OnOk result
+        (entries_of journal.new.items ≡ with_entry true (entry_of entry) (entries_of journal.old.items)) }
+    ensures receipt { OnOk result (seat.new ≡ with_receipt true (entry_of entry) seat.old) }
+    ensures err { OnErr result ((journal.new.items ≡ journal.old.items) × (seat.new ≡ seat.old)) }
+{
+    journal.reserve(1)?;
+    seat.add(receipt)?;
+    journal.push_reserved(entry);
+    Ok(())
+}
