@@ -1,5 +1,5 @@
 //! What the lock holds.
-ghost use Rattle.std.specs.Prelude.{◌≡◌, ◌≤◌, OnOk, OnErr, [], true};
+ghost use Rattle.std.specs.Prelude.{◌≡◌, ◌≤◌, IfOk, OnOk, OnErr, [], true};
 ghost use Rattle.stow_core.specs.State.{IsNewCore};
 ghost use Rattle.stow_model.specs.Reply.{reply_of};
 ghost use Rattle.stow_shared.specs.Copies.{AreCopies, AreAlike, copied};
@@ -16,6 +16,7 @@ use crate::step::Step;
 use std::alloc::{AllocError, Allocator, Global};
 use std::marker::{Model, PhantomData};
 use stow_core::Core;
+use stow_core::prepared::Prepared;
 use stow_model::reply::Reply;
 use stow_model::words::Words;
 
@@ -67,12 +68,12 @@ impl<J: Journal, A: Allocator + Copy> Book<J, A> {
         ensures { CallStep J.keeps self.old seat.old tenant words.now (reply_of result) self.new
             seat.new }
     {
-        let Ok(prepared) = self.core.prepare(alloc, tenant, words) else {
-            return seat.refuse();
+        let prepared = match self.core.prepare(alloc, tenant, words) {
+            Ok(prepared) => prepared,
+            Err(_) => return seat.refuse(),
         };
-        let reply = prepared.reply();
-        match keep_call(alloc, &mut self.journal, seat, tenant, copies, reply) {
-            Ok(()) => self.core.commit(prepared),
+        match keep_call(alloc, &mut self.journal, seat, tenant, copies, prepared) {
+            Ok(prepared) => self.core.commit(prepared),
             Err(_) => seat.refuse(),
         }
     }
@@ -94,32 +95,39 @@ impl<J: Journal, A: Allocator + Copy> Book<J, A> {
     }
 }
 
-/// Adds a call's entry to the journal, and the same to the seat's receipts, where they are kept. An `Err` adds
-/// nothing.
+/// Adds a call's entry to the journal, and the same to the seat's receipts, where they are kept, and gives the
+/// prepared answer back. An `Err` adds nothing, and the answer is given up.
 fn keep_call<J: Journal, A: Allocator + Copy>(
     alloc: A,
     journal: &mut Vec<Entry<A>, A>,
     seat: &mut Seat<J, A>,
     tenant: u32,
     copies: Option<Copies<A>>,
-    reply: &Reply<A>,
-) -> Result<(), AllocError>
+    prepared: Prepared<A>,
+) -> Result<Prepared<A>, AllocError>
     requires { AreAlike J.keeps copies }
+    ensures same { IfOk result (λ p. p ≡ prepared) }
     ensures journal { OnOk result
-        (let entry = call_entry seat.old.number tenant (copied copies) (reply_of reply.now)
+        (let entry = call_entry seat.old.number tenant (copied copies) (reply_of prepared.reply)
         in entries_of journal.new.items ≡ with_entry J.keeps entry (entries_of journal.old.items)) }
     ensures receipt { OnOk result
-        (let entry = call_entry seat.old.number tenant (copied copies) (reply_of reply.now)
+        (let entry = call_entry seat.old.number tenant (copied copies) (reply_of prepared.reply)
         in seat.new ≡ with_receipt J.keeps entry seat.old) }
     ensures err { OnErr result ((journal.new.items ≡ journal.old.items) × (seat.new ≡ seat.old)) }
 {
     let Some(Copies { entry, receipt }) = copies else {
-        return Ok(());
+        return Ok(prepared);
     };
     let number = seat.number();
-    let entry = Step::Call(tenant, entry, copied_reply(alloc, reply)?);
-    let receipt = Step::Call(tenant, receipt, copied_reply(alloc, reply)?);
-    keep(journal, seat, Entry { seat: number, step: entry }, Entry { seat: number, step: receipt })
+    let entry = Step::Call(tenant, entry, copied_reply(alloc, prepared.reply())?);
+    let receipt = Step::Call(tenant, receipt, copied_reply(alloc, prepared.reply())?);
+    keep(
+        journal,
+        seat,
+        Entry { seat: number, step: entry },
+        Entry { seat: number, step: receipt },
+    )?;
+    Ok(prepared)
 }
 
 /// Adds an entry to the journal, and the same to the seat's receipts. An `Err` adds nothing.
