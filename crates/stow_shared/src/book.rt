@@ -91,7 +91,8 @@ impl<J: Journal, A: Allocator + Copy> Book<J, A> {
         let number = seat.number();
         let entry = Entry { seat: number, step: Step::Resize(leaves) };
         let receipt = Entry { seat: number, step: Step::Resize(leaves) };
-        keep(&mut self.journal, seat, entry, receipt)
+        keep(&mut self.journal, seat, entry, receipt)?;
+        Ok(())
     }
 }
 
