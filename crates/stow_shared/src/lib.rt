@@ -3,6 +3,7 @@
 
 pub mod book;
 pub mod copies;
+mod comparing;
 mod copying;
 pub mod entry;
 pub mod journal;
