@@ -1,3 +1,4 @@
 pub mod Legal
-pub mod Lists
 pub mod Steps
+pub mod Receipts
+pub mod Sums

@@ -16,7 +16,7 @@ with_entry keeps entry entries = if keeps then entry ∷ entries else entries
 
 -- the entries of this seat
 abbrev pub entries_by : ℕ → List Entry → List Entry
-entries_by seat journal = filter (λ entry. entry.seat == seat) journal
+entries_by seat journal = filter (λ entry. seat == entry.seat) journal
 
 abbrev pub with_request : ℕ → Step → List OwnEvent → List OwnEvent
 with_request tenant (Call index words told) line =

@@ -1,12 +1,14 @@
 //! What the lock holds.
-ghost use Rattle.std.specs.Prelude.{◌≡◌, ◌≤◌, IfOk, OnOk, OnErr, [], true};
+ghost use Rattle.std.specs.Prelude.{◌≡◌, ◌↔◌, ◌≤◌, IsTrue, IfOk, OnOk, OnErr, [], true};
 ghost use Rattle.stow_core.specs.State.{IsNewCore};
 ghost use Rattle.stow_model.specs.Reply.{reply_of};
+ghost use Rattle.stow_shared.specs.Closed.{IsWhole};
 ghost use Rattle.stow_shared.specs.Copies.{AreCopies, AreAlike, copied};
 ghost use Rattle.stow_shared.specs.Entries.{call_entry, entry_of, entries_of};
 ghost use Rattle.stow_shared.specs.Journals.{with_entry, IsLegal};
 ghost use Rattle.stow_shared.specs.Seats.{with_receipt};
 
+use crate::closing::{are_of_seats, are_one_each, have_receipts};
 use crate::copies::Copies;
 use crate::copying::copied_reply;
 use crate::entry::Entry;
@@ -17,6 +19,7 @@ use std::alloc::{AllocError, Allocator, Global};
 use std::marker::{Model, PhantomData};
 use stow_core::Core;
 use stow_core::prepared::Prepared;
+use stow_login::tenants::Tenants;
 use stow_model::reply::Reply;
 use stow_model::words::Words;
 
@@ -40,7 +43,7 @@ impl<J: Journal, A: Allocator> Model for Book<J, A> {
 }
 
 impl<J: Journal, A: Allocator + Copy> Book<J, A> {
-    ghost use Rattle.stow_shared.specs.Books.{CallStep, Resizes, Leaves};
+    ghost use Rattle.stow_shared.specs.Books.{CallStep, Resizes, Leaves, IsKept};
 
     /// A book of a core in which every store is empty.
     pub fn new(alloc: A, core: Core<A>) -> Book<J, A>
@@ -53,6 +56,36 @@ impl<J: Journal, A: Allocator + Copy> Book<J, A> {
             journal: Vec::new(alloc),
             of: PhantomData,
         }
+    }
+
+    /// The core, as the steps so far left it.
+    pub fn core(&self) -> &Core<A>
+        ensures { result.now ≡ self.now.core }
+    {
+        &self.core
+    }
+
+    /// The entries of the steps so far, oldest first.
+    pub fn entries(&self) -> &[Entry<A>]
+        ensures { entries_of result.now ≡ self.now.entries }
+    {
+        self.journal.as_slice()
+    }
+
+    /// Whether what is handed back belongs to the book, of which the type keeps that its journal leads to its core.
+    pub fn is_whole(&self, tenants: &Tenants<A>, count: u32, seats: &[Seat<J, A>]) -> bool
+        ensures whole { IsTrue result
+            ↔ IsWhole J.keeps (record { tenants = tenants.now; seats = count }) seats.now self.now }
+        ensures kept { IsKept J.keeps self.now.entries self.now.core }
+    {
+        if !are_one_each(seats, count) || !self.core.tenants().is_same(tenants) {
+            return false;
+        }
+        if !J::is_kept() {
+            return true;
+        }
+        have_receipts(seats, self.journal.as_slice())
+            && are_of_seats(self.journal.as_slice(), count)
     }
 
     /// The step of a call. Where memory is refused, no store moves and nothing is added.

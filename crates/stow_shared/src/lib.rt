@@ -2,12 +2,17 @@
 #![tactic(auto)]
 
 pub mod book;
-pub mod copies;
+pub mod closed;
+mod closing;
 mod comparing;
+pub mod copies;
 mod copying;
 pub mod entry;
 pub mod journal;
 pub mod kept;
+pub mod laws;
+pub mod open_fault;
 pub mod seat;
+pub mod shared;
 pub mod step;
 pub mod unkept;
