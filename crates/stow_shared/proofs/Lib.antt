@@ -2,3 +2,4 @@ pub mod Legal
 pub mod Steps
 pub mod Receipts
 pub mod Sums
+pub mod Seating

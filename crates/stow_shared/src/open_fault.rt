@@ -1,4 +1,5 @@
 //! Why no lock was opened.
+ghost use Rattle.std.specs.Prelude.{◌≡◌};
 
 /// Why a core was not opened for threads.
 #[derive(Clone, Copy, Debug, PartialEq, Eq)]
