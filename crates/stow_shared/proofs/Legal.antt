@@ -94,7 +94,7 @@ legal_call_old n t words told es old new serves legal tenant is =
     let own = own_answer t words told es old new serves legal tenant is in (
       told_here (t == tenant) (quota_of old.entries tenant) told words (told_in tenant es) (line_in tenant es) (λ here. ap (λ (a : Answer). a.1) (own here)) (legal.told tenant is),
       stored_here (t == tenant) (quota_of old.entries tenant) (store_of new tenant) words (line_in tenant es) (λ here. ap (λ (a : Answer). a.0) (own here))
-      (λ away. serves.others tenant (differs t tenant away) ∙ legal.stores tenant is),
+          (λ away. serves.others tenant (differs t tenant away) ∙ legal.stores tenant is),
     )
 
 legal_call : (n t : ℕ) (words : List (List ℕ)) (told : Reply) (es : List Entry) (old new : CoreState) → Serves old t words told new → IsLegal es old → IsLegal (call_entry n t words told ∷ es) new

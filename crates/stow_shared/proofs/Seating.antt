@@ -14,8 +14,8 @@ one_more_seat n seats new =
     let count : length more ≡ n + 1 = length_push seats next ∙ ap (λ m. m + 1) new.0 in (
       count,
       below_more P n
-      (λ k below.
+          (λ k below.
           slice_get-get_or more k next (omega (arith, below, count)) ∙ ap Some (get_or_append_left seats (next ∷ []) next k (omega (arith, below, new.0)))
           ∙ sym (slice_get-get_or seats k next (omega (arith, below, new.0))) ∙ new.1 k below)
-      (slice_get-get_or more n next (omega (arith, count)) ∙ ap Some (get_or_push seats next next n new.0)),
+          (slice_get-get_or more n next (omega (arith, count)) ∙ ap Some (get_or_push seats next next n new.0)),
     )

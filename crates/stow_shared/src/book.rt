@@ -122,8 +122,14 @@ impl<J: Journal, A: Allocator + Copy> Book<J, A> {
             return Ok(());
         }
         let number = seat.number();
-        let entry = Entry { seat: number, step: Step::Resize(leaves) };
-        let receipt = Entry { seat: number, step: Step::Resize(leaves) };
+        let entry = Entry {
+            seat: number,
+            step: Step::Resize(leaves),
+        };
+        let receipt = Entry {
+            seat: number,
+            step: Step::Resize(leaves),
+        };
         keep(&mut self.journal, seat, entry, receipt)?;
         Ok(())
     }
@@ -158,8 +164,14 @@ fn keep_call<J: Journal, A: Allocator + Copy>(
     keep(
         journal,
         seat,
-        Entry { seat: number, step: entry },
-        Entry { seat: number, step: receipt },
+        Entry {
+            seat: number,
+            step: entry,
+        },
+        Entry {
+            seat: number,
+            step: receipt,
+        },
     )?;
     Ok(prepared)
 }

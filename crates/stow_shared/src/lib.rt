@@ -7,6 +7,7 @@ mod closing;
 mod comparing;
 pub mod copies;
 mod copying;
+pub mod desk;
 pub mod entry;
 pub mod journal;
 pub mod kept;
@@ -15,4 +16,6 @@ pub mod open_fault;
 pub mod seat;
 pub mod shared;
 pub mod step;
+#[cfg(test)]
+mod tests;
 pub mod unkept;

@@ -64,7 +64,14 @@ impl<J: Journal, A: Allocator + Copy> Shared<J, A> {
         match Arc::try_clone(core.tenants()) {
             Ok(tenants) => {
                 let book = Mutex::new(Book::new(alloc, core));
-                Ok((Shared { tenants, seats, book }, handed))
+                Ok((
+                    Shared {
+                        tenants,
+                        seats,
+                        book,
+                    },
+                    handed,
+                ))
             }
             Err(_) => Err((core, OpenFault::OutOfMemory)),
         }

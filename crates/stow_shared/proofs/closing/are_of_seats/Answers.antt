@@ -9,8 +9,8 @@ pub returns-then-entry-eq0 : goal.returns-then-entry-eq0
 returns-then-entry-eq0 g c = (
   λ f. absurd (false≢true f),
   λ all.
-  let is = of_seat c.args.count c.args.journal.now c.loop-entry.entry-index c.entry-item.result c.entry-item.is c.loop-entry-test.true all in
-  absurd (elim c.then-entry-eq0.branch [ then-entry-eq0-via-then-entry-eq0 w ↦ omega (arith, is.0, w.if-entry-eq0.true) | then-entry-eq0-via-else-entry-eq0+then-entry-count w ↦ omega (arith, is.1, w.if-entry-count.true) ]),
+      let is = of_seat c.args.count c.args.journal.now c.loop-entry.entry-index c.entry-item.result c.entry-item.is c.loop-entry-test.true all in
+      absurd (elim c.then-entry-eq0.branch [ then-entry-eq0-via-then-entry-eq0 w ↦ omega (arith, is.0, w.if-entry-eq0.true) | then-entry-eq0-via-else-entry-eq0+then-entry-count w ↦ omega (arith, is.1, w.if-entry-count.true) ]),
 )
 
 pub loop-entry-preserved : goal.loop-entry-preserved

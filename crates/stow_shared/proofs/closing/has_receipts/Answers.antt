@@ -28,10 +28,10 @@ returns-in_default-2 g c =
 pub loop-entry-preserved : goal.loop-entry-preserved
 loop-entry-preserved g c =
     elim c.if-number-entry.branch [
-      then-number-entry+in-Some w ↦ next_taken c.number-number.result c.args.seat.now.receipts c.args.journal.now c.loop-entry.left.now c.if-number-entry.left.now w.in-Some.receipt.now w.in-Some.later.now c.loop-entry.entry-index c.entry-item.result c.entry-item.is c.loop-entry-test.true
-      (eq-eqb c.number-number.result c.entry-item.result.seat w.if-number-entry.true) w.in-Some.ensures.cases.0 (ap (λ b. b.now) w.left-is) (w.same_entry.ensures.0 w.if-same_entry.true) c.loop-entry.invariant
-    | else-number-entry w ↦ next_passed c.number-number.result c.args.seat.now.receipts c.args.journal.now c.loop-entry.left.now c.if-number-entry.left.now c.loop-entry.entry-index c.entry-item.result c.entry-item.is c.loop-entry-test.true
-      (ne_eqb c.number-number.result c.entry-item.result.seat w.if-number-entry.false) (ap (λ b. b.now) w.left-is) c.loop-entry.invariant
+      | then-number-entry+in-Some w ↦ next_taken c.number-number.result c.args.seat.now.receipts c.args.journal.now c.loop-entry.left.now c.if-number-entry.left.now w.in-Some.receipt.now w.in-Some.later.now c.loop-entry.entry-index c.entry-item.result c.entry-item.is c.loop-entry-test.true
+          (eq-eqb c.number-number.result c.entry-item.result.seat w.if-number-entry.true) w.in-Some.ensures.cases.0 (ap (λ b. b.now) w.left-is) (w.same_entry.ensures.0 w.if-same_entry.true) c.loop-entry.invariant
+      | else-number-entry w ↦ next_passed c.number-number.result c.args.seat.now.receipts c.args.journal.now c.loop-entry.left.now c.if-number-entry.left.now c.loop-entry.entry-index c.entry-item.result c.entry-item.is c.loop-entry-test.true
+          (ne_eqb c.number-number.result c.entry-item.result.seat w.if-number-entry.false) (ap (λ b. b.now) w.left-is) c.loop-entry.invariant
     ]
 
 pub returns : goal.returns
