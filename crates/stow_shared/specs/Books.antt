@@ -1,5 +1,5 @@
 -- What stands under the lock, and its steps.
-use Rattle.std.specs.Prelude.{◌≡◌, ℕ, Bool, true, List, [], ◌∷◌, ◌⊎◌}
+use Rattle.std.specs.Prelude.{◌≡◌, ℕ, Bool, true, List, ◌⊎◌}
 use Rattle.stow_model.specs.declared.refusal.Refusal.TheVariants as refusal
 use Rattle.stow_model.specs.Login.{IsTenant}
 use Rattle.stow_model.specs.Reply.{Reply}
@@ -26,8 +26,8 @@ pub record StoresStay (old new : CoreState) : Type 0 where
 
 -- the words were answered in the caller's own store, as its own step says, to which nothing was refused; an
 -- index that is no tenant's was refused; no other store moved
-pub record Serves (old : CoreState) (tenant : ℕ) (words : List (List ℕ)) (told : Reply) (new : CoreState)
-    : Type 0 where
+pub record Serves (old : CoreState) (tenant : ℕ) (words : List (List ℕ)) (told : Reply)
+    (new : CoreState) : Type 0 where
   pub own : IsTenant old.entries tenant
       → ◌≡◌ {A = Answer} (store_of new tenant, told) (answer (store_of old tenant) words)
   pub stranger : ¬ (IsTenant old.entries tenant)
@@ -35,10 +35,10 @@ pub record Serves (old : CoreState) (tenant : ℕ) (words : List (List ℕ)) (to
   pub others : OthersStay old new tenant
   pub tenants : new.entries ≡ old.entries
 
--- an entry was added to the journal, and the same to the seat's receipts, where they are kept
-pub record Adds (keeps : Bool) (entry : Entry) (old : BookState) (seat : SeatState) (new : BookState)
-    (seat' : SeatState) : Type 0 where
-  pub journal : new.entries ≡ with_entry keeps entry old.entries
+-- an entry was added to a journal, and the same to a seat's receipts, where they are kept
+pub record Adds (keeps : Bool) (entry : Entry) (old : List Entry) (seat : SeatState)
+    (new : List Entry) (seat' : SeatState) : Type 0 where
+  pub journal : new ≡ with_entry keeps entry old
   pub receipt : seat' ≡ with_receipt keeps entry seat
 
 -- memory was refused: nothing was added and no store moved
@@ -50,7 +50,8 @@ pub record Leaves (old new : BookState) : Type 0 where
 pub record AnswersCall (keeps : Bool) (old : BookState) (seat : SeatState) (tenant : ℕ)
     (words : List (List ℕ)) (told : Reply) (new : BookState) (seat' : SeatState) : Type 0 where
   pub core : Serves old.core tenant words told new.core
-  pub adds : Adds keeps (call_entry seat.number tenant words told) old seat new seat'
+  pub adds : Adds keeps (call_entry seat.number tenant words told) old.entries seat new.entries
+      seat'
 
 -- a call that memory was refused to, which its seat counts
 pub record RefusesCall (old : BookState) (seat : SeatState) (told : Reply) (new : BookState)
@@ -66,7 +67,7 @@ CallStep keeps old seat tenant words told new seat' =
     AnswersCall keeps old seat tenant words told new seat' ⊎ RefusesCall old seat told new seat'
 
 -- the step of a change of the cache's size, with its one entry and receipt
-pub record Resizes (keeps : Bool) (old : BookState) (seat : SeatState) (leaves : ℕ) (new : BookState)
-    (seat' : SeatState) : Type 0 where
+pub record Resizes (keeps : Bool) (old : BookState) (seat : SeatState) (leaves : ℕ)
+    (new : BookState) (seat' : SeatState) : Type 0 where
   pub core : StoresStay old.core new.core
-  pub adds : Adds keeps (resize_entry seat.number leaves) old seat new seat'
+  pub adds : Adds keeps (resize_entry seat.number leaves) old.entries seat new.entries seat'

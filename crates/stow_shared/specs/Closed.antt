@@ -1,7 +1,6 @@
 -- What is compared when a lock is closed.
 use Rattle.std.specs.Prelude.{◌≡◌, ℕ, ◌≤◌, Bool, true, List, length, filter, sum_by, ◌==◌}
 use Rattle.std.specs.List.{All}
-use Rattle.stow_model.specs.Login as login
 use Rattle.stow_shared.specs.Books.{BookState}
 use Rattle.stow_shared.specs.Entries.{Entry}
 use Rattle.stow_shared.specs.Journals.{entries_by, IsLegal}
@@ -35,8 +34,8 @@ pub record IsWhole (keeps : Bool) (shared : SharedState) (seats : List SeatState
   pub numbers : keeps ≡ true → All (IsOfSeat shared.seats) book.entries
 
 -- the lock was closed: all belongs together, the journal leads to the core, and is as long as the receipts together
-pub record Closes (keeps : Bool) (shared : SharedState) (seats : List SeatState) (closed : BookState)
-    : Type 0 where
+pub record Closes (keeps : Bool) (shared : SharedState) (seats : List SeatState)
+    (closed : BookState) : Type 0 where
   pub whole : IsWhole keeps shared seats closed
   pub legal : keeps ≡ true → IsLegal closed.entries closed.core
   pub lengths : keeps ≡ true → length closed.entries ≡ sum_by (λ seat. length seat.receipts) seats

@@ -48,7 +48,9 @@ IsAnswered tenants (Resize leaves) = Unit {0}
 -- and its store is the last of that run; a change of the cache's size changes no store
 pub record IsLegal (journal : List Entry) (core : CoreState) : Type 0 where
   pub told : (tenant : ℕ) → IsTenant core.entries tenant
-      → told_in tenant journal ≡ replies_after (quota_of core.entries tenant) (line_in tenant journal)
+      → told_in tenant journal
+      ≡ replies_after (quota_of core.entries tenant) (line_in tenant journal)
   pub stores : (tenant : ℕ) → IsTenant core.entries tenant
-      → store_of core tenant ≡ store_after (quota_of core.entries tenant) (line_in tenant journal)
+      → store_of core tenant
+      ≡ store_after (quota_of core.entries tenant) (line_in tenant journal)
   pub answered : AllByRecursion (λ entry. IsAnswered core.entries entry.step) journal

@@ -2,11 +2,10 @@
 ghost use Rattle.std.specs.Prelude.{◌≡◌, ◌↔◌, ◌≤◌, IsTrue, IfOk, OnOk, OnErr, [], true};
 ghost use Rattle.stow_core.specs.State.{IsNewCore};
 ghost use Rattle.stow_model.specs.Reply.{reply_of};
+ghost use Rattle.stow_shared.specs.Books.{Adds};
 ghost use Rattle.stow_shared.specs.Closed.{IsWhole};
 ghost use Rattle.stow_shared.specs.Copies.{AreCopies, AreAlike, copied};
 ghost use Rattle.stow_shared.specs.Entries.{call_entry, entry_of, entries_of};
-ghost use Rattle.stow_shared.specs.Journals.{with_entry, IsLegal};
-ghost use Rattle.stow_shared.specs.Seats.{with_receipt};
 
 use crate::closing::{are_of_seats, are_one_each, have_receipts};
 use crate::copies::Copies;
@@ -147,12 +146,10 @@ fn keep_call<J: Journal, A: Allocator + Copy>(
 ) -> Result<Prepared<A>, AllocError>
     requires { AreAlike J.keeps copies }
     ensures same { IfOk result (λ p. p ≡ prepared) }
-    ensures journal { OnOk result
-        (let entry = call_entry seat.old.number tenant (copied copies) (reply_of prepared.reply)
-        in entries_of journal.new.items ≡ with_entry J.keeps entry (entries_of journal.old.items)) }
-    ensures receipt { OnOk result
-        (let entry = call_entry seat.old.number tenant (copied copies) (reply_of prepared.reply)
-        in seat.new ≡ with_receipt J.keeps entry seat.old) }
+    ensures ok { OnOk result
+        (Adds J.keeps
+        (call_entry seat.old.number tenant (copied copies) (reply_of prepared.reply))
+        (entries_of journal.old.items) seat.old (entries_of journal.new.items) seat.new) }
     ensures err { OnErr result ((journal.new.items ≡ journal.old.items) × (seat.new ≡ seat.old)) }
 {
     let Some(Copies { entry, receipt }) = copies else {
@@ -184,9 +181,9 @@ fn keep<J: Journal, A: Allocator + Copy>(
     receipt: Entry<A>,
 ) -> Result<(), AllocError>
     requires { entry_of receipt ≡ entry_of entry }
-    ensures journal { OnOk result
-        (entries_of journal.new.items ≡ with_entry true (entry_of entry) (entries_of journal.old.items)) }
-    ensures receipt { OnOk result (seat.new ≡ with_receipt true (entry_of entry) seat.old) }
+    ensures ok { OnOk result
+        (Adds true (entry_of entry) (entries_of journal.old.items) seat.old
+        (entries_of journal.new.items) seat.new) }
     ensures err { OnErr result ((journal.new.items ≡ journal.old.items) × (seat.new ≡ seat.old)) }
 {
     journal.reserve(1)?;

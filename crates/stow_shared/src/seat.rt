@@ -30,7 +30,11 @@ impl<J: Journal, A: Allocator> Model for Seat<J, A> {
 
     ghost Value = { SeatState };
 
-    ghost view = { λ s. record { number = s.number; receipts = entries_of s.receipts.items; refused = s.refused } };
+    ghost view = { λ s. record {
+      number = s.number;
+      receipts = entries_of s.receipts.items;
+      refused = s.refused;
+    } };
 }
 
 impl<J: Journal, A: Allocator> Seat<J, A> {

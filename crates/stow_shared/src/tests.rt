@@ -91,6 +91,17 @@ fn told<R: Wait, J: Journal, A: Allocator + Copy>(
     Ok(shared.call(rt, alloc, seat, tenant, &words))
 }
 
+/// How long the journal is at close, if all that is handed back belongs together.
+fn entries_at_close<J: Journal, A: Allocator + Copy>(
+    shared: Shared<J, A>,
+    seats: Vec<Seat<J, A>, A>,
+) -> Option<usize> {
+    match shared.close(seats) {
+        Ok(closed) => Some(closed.entries().len()),
+        Err(_) => None,
+    }
+}
+
 #[test]
 fn seats_are_1_to_1024(rt: HostRuntime) -> Result<(), Fail> {
     let alloc: Global = rt.alloc();
@@ -105,7 +116,7 @@ fn seats_are_1_to_1024(rt: HostRuntime) -> Result<(), Fail> {
         let (shared, handed) = opened::<Kept, Global>(alloc, alloc, seats)?;
         assert_eq!(rt; handed.len(), seats as usize);
         assert_eq!(rt; shared.tenants().count(), 3);
-        assert!(rt; shared.close(handed).is_ok());
+        assert!(rt; entries_at_close(shared, handed) == Some(0));
     }
     Ok(())
 }
@@ -120,7 +131,7 @@ fn a_missing_seat_gives_all_back(rt: HostRuntime) -> Result<(), Fail> {
     };
     assert_eq!(rt; seats.len(), 2);
     seats.push(missing)?;
-    assert!(rt; shared.close(seats).is_ok());
+    assert!(rt; entries_at_close(shared, seats) == Some(0));
     Ok(())
 }
 
@@ -150,7 +161,8 @@ fn one_seat_has_its_entries(rt: HostRuntime) -> Result<(), Fail> {
     };
     assert!(rt; first.seat == 1 && second.seat == 1 && third.seat == 1);
     assert!(rt;
-        matches!(&first.step, Step::Call(1, words, reply) if are_words_of(words, "SET a x") && is_ok(reply))
+        matches!(&first.step, Step::Call(1, words, reply) if are_words_of(words, "SET a x")
+            && is_ok(reply))
     );
     assert!(rt; matches!(&second.step, Step::Resize(5)));
     assert!(rt;
@@ -245,7 +257,7 @@ fn opening_withstands_each_refusal(rt: HostRuntime) -> Result<(), Fail> {
         match result {
             Ok((shared, seats)) => {
                 assert!(rt; asked <= at);
-                assert!(rt; shared.close(seats).is_ok());
+                assert!(rt; entries_at_close(shared, seats) == Some(0));
                 break;
             }
             Err((core, fault)) => {
@@ -284,9 +296,7 @@ fn withstands<R: Wait, B: Allocator>(
     let again = told(rt, heap, &shared, &mut seat, 1, "SET b new")?;
     let same = matches!(missing, Reply::Null) && is_ok(&again);
     seats.push(seat)?;
-    let whole = shared
-        .close(seats)
-        .is_ok_and(|closed| closed.entries().len() == 3);
+    let whole = entries_at_close(shared, seats) == Some(3);
     Ok(Some(refused && kept && same && whole))
 }
 
@@ -328,7 +338,6 @@ fn unkept_calls_ask_for_no_more(rt: HostRuntime) -> Result<(), Fail> {
     heap.set(Plan::Grant);
     seats.push(seat)?;
     heap.set(Plan::RefuseAll);
-    let closed = shared.close(seats);
-    assert!(rt; closed.is_ok_and(|c| c.entries().is_empty()));
+    assert!(rt; entries_at_close(shared, seats) == Some(0));
     Ok(())
 }

@@ -1,4 +1,4 @@
-use Rattle.std.proofs.Common.{◌<◌, length, ◌≤◌, refl, arith, ◌≡◌}
+use Rattle.std.proofs.Common.{◌≤◌, refl, arith}
 use mathlib.Core.Bool.{false≢true}
 use Rattle.stow_shared.specs.declared.entry.Entry as coded
 use Rattle.stow_shared.proofs.Sums.{all_more, all_of_seats, of_seat}

@@ -1,6 +1,5 @@
-use Rattle.std.proofs.Common.{◌<◌, length, ◌≤◌, refl, ap, sym, ◌∙◌, arith, rules, ◌≡◌, ◌≢◌, true, false, eq-eqb}
+use Rattle.std.proofs.Common.{length, ◌≤◌, ap, sym, ◌∙◌, arith, rules, ◌≡◌, ◌≢◌, eq-eqb}
 use mathlib.Core.Bool.{false≢true}
-use Rattle.std.specs.Prelude.{◌==◌}
 use Rattle.std.proofs.lemmas.Bool.{ne_eqb, eqb-true}
 use Rattle.stow_shared.specs.Entries.{entry_of, entries_of}
 use Rattle.stow_shared.specs.Journals.{entries_by}

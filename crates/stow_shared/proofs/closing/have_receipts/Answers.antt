@@ -1,4 +1,3 @@
-use Rattle.std.proofs.Common.{refl}
 use Rattle.stow_shared.specs.Closed.{HasReceipts}
 use Rattle.stow_shared.specs.Entries.{entries_of}
 use Rattle.stow_shared.proofs.Sums.{all_more}

@@ -1,4 +1,3 @@
-use Rattle.std.proofs.Common.{◌≡◌}
 use Rattle.stow_shared.proofs.Seating.{one_more_seat}
 use Rattle.stow_shared.proofs.shared.new_seats.Goals as goal
 

@@ -63,7 +63,7 @@ pub invariant_of-self-in-Ok-keep_call : goal.invariant_of-self-in-Ok-keep_call
 invariant_of-self-in-Ok-keep_call g c =
     let es = entries_of c.self.inside.journal.items in
     let P : List Entry → Type 0 = λ x. IsKept g.J.Journal.keeps x c.commit.new.self in
-    subst P (sym (c.in-Ok-keep_call.ensures.journal ∙ added g c es))
+    subst P (sym (c.in-Ok-keep_call.ensures.ok.journal ∙ added g c es))
     (kept_call g.J.Journal.keeps c.args.seat.now.number c.args.tenant c.args.words.now (reply_of c.commit.result) es c.self.inside.core c.commit.new.self (serves g c) c.self.invariant)
 
 pub returns-in-Ok-keep_call : goal.returns-in-Ok-keep_call
@@ -72,7 +72,7 @@ returns-in-Ok-keep_call g c =
     (inl (record {
       core = serves g c;
       adds = record {
-        journal = c.in-Ok-keep_call.ensures.journal ∙ added g c (entries_of c.self.inside.journal.items);
-        receipt = c.in-Ok-keep_call.ensures.receipt ∙ ap (λ es. record c.args.seat.now { receipts = es }) (added g c c.args.seat.now.receipts);
+        journal = c.in-Ok-keep_call.ensures.ok.journal ∙ added g c (entries_of c.self.inside.journal.items);
+        receipt = c.in-Ok-keep_call.ensures.ok.receipt ∙ ap (λ es. record c.args.seat.now { receipts = es }) (added g c c.args.seat.now.receipts);
       };
     }))

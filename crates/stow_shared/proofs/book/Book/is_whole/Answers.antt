@@ -1,6 +1,5 @@
-use Rattle.std.proofs.Common.{refl, rules, ◌≡◌, true, ap, sym, ◌∙◌}
+use Rattle.std.proofs.Common.{sym, ◌∙◌}
 use mathlib.Core.Bool.{false≢true}
-use Rattle.stow_shared.specs.Entries.{entries_of}
 use Rattle.stow_shared.proofs.book.Book.is_whole.Goals as goal
 
 pub returns-then-have_receipts-clause-whole : goal.returns-then-have_receipts-clause-whole

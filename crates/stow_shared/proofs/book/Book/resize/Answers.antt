@@ -16,7 +16,7 @@ invariant_of-self-2 g c =
     let keeps : g.J.Journal.keeps ≡ true = search rules in
     let es = entries_of c.self.inside.journal.items in
     let P : List Entry → Type 0 = λ x. IsKept g.J.Journal.keeps x c.self.inside.core in
-    subst P (sym (c.in_ok-keep.ensures.journal ∙ added g.J.Journal.keeps c.number-number.result c.args.seat.now.number c.args.leaves es keeps c.number-number.ensures))
+    subst P (sym (c.in_ok-keep.ensures.ok.journal ∙ added g.J.Journal.keeps c.number-number.result c.args.seat.now.number c.args.leaves es keeps c.number-number.ensures))
     (kept_resize g.J.Journal.keeps c.args.seat.now.number c.args.leaves es c.self.inside.core c.self.invariant)
 
 pub returns-clause-ok : goal.returns-clause-ok
@@ -28,7 +28,7 @@ returns-clause-ok g c =
     (record {
       core = record { stores = λ t. refl; tenants = refl };
       adds = record {
-        journal = c.in_ok-keep.ensures.journal ∙ more (entries_of c.self.inside.journal.items);
-        receipt = c.in_ok-keep.ensures.receipt ∙ ap (λ es. record c.args.seat.now { receipts = es }) (more c.args.seat.now.receipts);
+        journal = c.in_ok-keep.ensures.ok.journal ∙ more (entries_of c.self.inside.journal.items);
+        receipt = c.in_ok-keep.ensures.ok.receipt ∙ ap (λ es. record c.args.seat.now { receipts = es }) (more c.args.seat.now.receipts);
       };
     })

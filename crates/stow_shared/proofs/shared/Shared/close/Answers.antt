@@ -1,4 +1,3 @@
-use Rattle.std.proofs.Common.{◌≡◌, refl}
 use Rattle.std.specs.Arc.{arc_value}
 use Rattle.stow_shared.specs.Closed.{IsWhole}
 use Rattle.stow_shared.proofs.Sums.{lengths, one_of_each}
