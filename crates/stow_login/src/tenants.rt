@@ -1,6 +1,6 @@
 //! The tenants of the service.
 ghost use Rattle.std.specs.Bool.{OnTrue};
-ghost use Rattle.std.specs.Prelude.{◌≡◌, ◌<◌, ◌++◌, ◌∷◌, [], false, length, IfSome, OnOk};
+ghost use Rattle.std.specs.Prelude.{◌≡◌, ◌<◌, ◌↔◌, ◌++◌, ◌∷◌, [], false, length, IsTrue, IfSome, OnOk};
 ghost use Rattle.stow_model.specs.Login.{IsTenant, login, quota_of};
 ghost use Rattle.stow_login.specs.Entries.{entry_of, name_of, index_named, is_own};
 ghost use Rattle.stow_login.specs.TenantFile.{IsReading, is_used};
@@ -122,12 +122,36 @@ impl<A: Allocator> Tenants<A> {
         self.tenants[index as usize - 1].name.as_slice()
     }
 
+    /// Whether both are the same tenants in the same order, with the same names, salts, digests and quotas.
+    pub fn is_same(&self, other: &Tenants<A>) -> bool
+        ensures { IsTrue result ↔ (self.now ≡ other.now) }
+    {
+        if self.tenants.len() != other.tenants.len() {
+            return false;
+        }
+        for index in 0..self.tenants.len() {
+            if !is_same_tenant(&self.tenants[index], &other.tenants[index]) {
+                return false;
+            }
+        }
+        true
+    }
+
     pub fn quota(&self, index: u32) -> u64
         requires { IsTenant self.now index }
         ensures { result ≡ quota_of self.now index }
     {
         self.tenants[index as usize - 1].quota
     }
+}
+
+fn is_same_tenant<A: Allocator>(a: &Tenant<A>, b: &Tenant<A>) -> bool
+    ensures { IsTrue result ↔ (entry_of a.now ≡ entry_of b.now) }
+{
+    a.name.as_slice() == b.name.as_slice()
+        && a.salt.as_slice() == b.salt.as_slice()
+        && a.digest == b.digest
+        && a.quota == b.quota
 }
 
 fn is_password<A: Allocator>(tenant: &Tenant<A>, password: &[u8]) -> bool

@@ -5,7 +5,7 @@ use crate::tenants_fault::TenantsFault;
 use std::alloc::{AllocError, Allocator, Global};
 use std::test::Fail;
 use stow_refusing::{Plan, Refusing};
-use stow_testing::tenants::THREE;
+use stow_testing::tenants::{OTHERS, THREE};
 
 /// 64 bytes.
 const LONG: &str = "abcdefghijklmnopqrstuvwxyzABCDEFGHIJKLMNOPQRSTUVWXYZ0123456789-_";
@@ -147,7 +147,9 @@ fn has_quota<A: Allocator>(tenants: &Tenants<A>, name: &[u8], quota: u64) -> boo
 fn tenants_log_in_without_memory(rt: HostRuntime) -> Result<(), Fail> {
     let heap = Refusing::new(rt.alloc());
     let tenants = Tenants::read(&heap, rt.alloc(), THREE).map_err(|_| AllocError)?;
+    let others = Tenants::read(&heap, rt.alloc(), OTHERS).map_err(|_| AllocError)?;
     heap.set(Plan::RefuseAll);
+    assert!(rt; tenants.is_same(&tenants) && !tenants.is_same(&others));
     for (name, password, want) in [
         ("ann", "bc", Some(1)),
         ("ben", "c", Some(2)),

@@ -1,0 +1,5 @@
+pub mod Legal
+pub mod Steps
+pub mod Receipts
+pub mod Sums
+pub mod Seating

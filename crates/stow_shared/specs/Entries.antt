@@ -1,0 +1,37 @@
+-- What a journal tells: which seat took a step, and what it did.
+use Rattle.std.specs.Prelude.{ℕ, List, map, reverse}
+use Rattle.stow_model.specs.Reply.{Reply, reply_of}
+use Rattle.stow_shared.specs.declared.step.Step as coded_step
+use Rattle.stow_shared.specs.declared.step.Step.TheVariants as in_code
+use Rattle.stow_shared.specs.declared.entry.Entry as coded_entry
+
+-- what is done whole while the lock is held, with its answer
+pub data Step : Type 0 where
+  -- the index that called, its words, and what it was told
+  Call : ℕ → List (List ℕ) → Reply → Step
+  -- the cache was asked to hold so many leaves, and does
+  Resize : ℕ → Step
+
+pub record Entry : Type 0 where
+  pub seat : ℕ
+  pub step : Step
+
+-- a call in an entry
+abbrev pub call_entry : ℕ → ℕ → List (List ℕ) → Reply → Entry
+call_entry seat tenant words told = record { seat = seat; step = Call tenant words told }
+
+-- a change of the cache's size in an entry
+abbrev pub resize_entry : ℕ → ℕ → Entry
+resize_entry seat leaves = record { seat = seat; step = Resize leaves }
+
+-- what the code's types stand for, whatever allocator they have their memory from
+abbrev pub step_of : {A : Type 0} → coded_step.Step A → Step
+step_of (in_code.Call tenant words told) = Call tenant words (reply_of told)
+step_of (in_code.Resize leaves) = Resize leaves
+
+abbrev pub entry_of : {A : Type 0} → coded_entry.Entry A → Entry
+entry_of entry = record { seat = entry.seat; step = step_of entry.step }
+
+-- the entries of a list, newest first
+abbrev pub entries_of : {A : Type 0} → List (coded_entry.Entry A) → List Entry
+entries_of entries = reverse (map entry_of entries)

@@ -1,0 +1,193 @@
+//! What the lock holds.
+ghost use Rattle.std.specs.Prelude.{◌≡◌, ◌↔◌, ◌≤◌, IsTrue, IfOk, OnOk, OnErr, [], true};
+ghost use Rattle.stow_core.specs.State.{IsNewCore};
+ghost use Rattle.stow_model.specs.Reply.{reply_of};
+ghost use Rattle.stow_shared.specs.Books.{Adds};
+ghost use Rattle.stow_shared.specs.Closed.{IsWhole};
+ghost use Rattle.stow_shared.specs.Copies.{AreCopies, AreAlike, copied};
+ghost use Rattle.stow_shared.specs.Entries.{call_entry, entry_of, entries_of};
+
+use crate::closing::{are_of_seats, are_one_each, have_receipts};
+use crate::copies::Copies;
+use crate::copying::copied_reply;
+use crate::entry::Entry;
+use crate::journal::Journal;
+use crate::seat::Seat;
+use crate::step::Step;
+use std::alloc::{AllocError, Allocator, Global};
+use std::marker::{Model, PhantomData};
+use stow_core::Core;
+use stow_core::prepared::Prepared;
+use stow_login::tenants::Tenants;
+use stow_model::reply::Reply;
+use stow_model::words::Words;
+
+/// The core, and the journal that leads to it.
+#[derive(Drop)]
+pub struct Book<J: Journal, A: Allocator = Global> {
+    core: Core<A>,
+    journal: Vec<Entry<A>, A>,
+    of: PhantomData<J>,
+}
+
+impl<J: Journal, A: Allocator> Model for Book<J, A> {
+    ghost use Rattle.stow_shared.specs.Books.{BookState, IsKept};
+    ghost use Rattle.stow_shared.specs.Entries.{entries_of};
+
+    ghost Value = { BookState };
+
+    ghost view = { λ b. record { core = b.core; entries = entries_of b.journal.items } };
+
+    ghost invariant = { λ b. IsKept J.keeps (entries_of b.journal.items) b.core };
+}
+
+impl<J: Journal, A: Allocator + Copy> Book<J, A> {
+    ghost use Rattle.stow_shared.specs.Books.{CallStep, Resizes, Leaves, IsKept};
+
+    /// A book of a core in which every store is empty.
+    pub fn new(alloc: A, core: Core<A>) -> Book<J, A>
+        requires { IsNewCore core }
+        ensures core { result.core ≡ core }
+        ensures entries { result.entries ≡ [] }
+    {
+        Book {
+            core,
+            journal: Vec::new(alloc),
+            of: PhantomData,
+        }
+    }
+
+    /// The core, as the steps so far left it.
+    pub fn core(&self) -> &Core<A>
+        ensures { result.now ≡ self.now.core }
+    {
+        &self.core
+    }
+
+    /// The entries of the steps so far, oldest first.
+    pub fn entries(&self) -> &[Entry<A>]
+        ensures { entries_of result.now ≡ self.now.entries }
+    {
+        self.journal.as_slice()
+    }
+
+    /// Whether what is handed back belongs to the book, of which the type keeps that its journal leads to its core.
+    pub fn is_whole(&self, tenants: &Tenants<A>, count: u32, seats: &[Seat<J, A>]) -> bool
+        ensures whole { IsTrue result
+            ↔ IsWhole J.keeps (record { tenants = tenants.now; seats = count }) seats.now self.now }
+        ensures kept { IsKept J.keeps self.now.entries self.now.core }
+    {
+        if !are_one_each(seats, count) || !self.core.tenants().is_same(tenants) {
+            return false;
+        }
+        if !J::is_kept() {
+            return true;
+        }
+        have_receipts(seats, self.journal.as_slice())
+            && are_of_seats(self.journal.as_slice(), count)
+    }
+
+    /// The step of a call. Where memory is refused, no store moves and nothing is added.
+    pub fn call(
+        &mut self,
+        alloc: A,
+        seat: &mut Seat<J, A>,
+        tenant: u32,
+        words: &Words<A>,
+        copies: Option<Copies<A>>,
+    ) -> Reply<A>
+        requires { AreCopies J.keeps words.now copies }
+        ensures { CallStep J.keeps self.old seat.old tenant words.now (reply_of result) self.new
+            seat.new }
+    {
+        let prepared = match self.core.prepare(alloc, tenant, words) {
+            Ok(prepared) => prepared,
+            Err(_) => return seat.refuse(),
+        };
+        match keep_call(alloc, &mut self.journal, seat, tenant, copies, prepared) {
+            Ok(prepared) => self.core.commit(prepared),
+            Err(_) => seat.refuse(),
+        }
+    }
+
+    /// The step of a change of the cache's size. There is no cache yet, so the core stays.
+    pub fn resize(&mut self, seat: &mut Seat<J, A>, leaves: usize) -> Result<(), AllocError>
+        requires { leaves ≤ 65536 }
+        ensures ok { OnOk result
+            (Resizes J.keeps self.old seat.old leaves self.new seat.new) }
+        ensures err { OnErr result (Leaves self.old self.new × (seat.new ≡ seat.old)) }
+    {
+        if !J::is_kept() {
+            return Ok(());
+        }
+        let number = seat.number();
+        let entry = Entry {
+            seat: number,
+            step: Step::Resize(leaves),
+        };
+        let receipt = Entry {
+            seat: number,
+            step: Step::Resize(leaves),
+        };
+        keep(&mut self.journal, seat, entry, receipt)?;
+        Ok(())
+    }
+}
+
+/// Adds a call's entry to the journal, and the same to the seat's receipts, where they are kept, and gives the
+/// prepared answer back. An `Err` adds nothing, and the answer is given up.
+fn keep_call<J: Journal, A: Allocator + Copy>(
+    alloc: A,
+    journal: &mut Vec<Entry<A>, A>,
+    seat: &mut Seat<J, A>,
+    tenant: u32,
+    copies: Option<Copies<A>>,
+    prepared: Prepared<A>,
+) -> Result<Prepared<A>, AllocError>
+    requires { AreAlike J.keeps copies }
+    ensures same { IfOk result (λ p. p ≡ prepared) }
+    ensures ok { OnOk result
+        (Adds J.keeps
+        (call_entry seat.old.number tenant (copied copies) (reply_of prepared.reply))
+        (entries_of journal.old.items) seat.old (entries_of journal.new.items) seat.new) }
+    ensures err { OnErr result ((journal.new.items ≡ journal.old.items) × (seat.new ≡ seat.old)) }
+{
+    let Some(Copies { entry, receipt }) = copies else {
+        return Ok(prepared);
+    };
+    let number = seat.number();
+    let entry = Step::Call(tenant, entry, copied_reply(alloc, prepared.reply())?);
+    let receipt = Step::Call(tenant, receipt, copied_reply(alloc, prepared.reply())?);
+    keep(
+        journal,
+        seat,
+        Entry {
+            seat: number,
+            step: entry,
+        },
+        Entry {
+            seat: number,
+            step: receipt,
+        },
+    )?;
+    Ok(prepared)
+}
+
+/// Adds an entry to the journal, and the same to the seat's receipts. An `Err` adds nothing.
+fn keep<J: Journal, A: Allocator + Copy>(
+    journal: &mut Vec<Entry<A>, A>,
+    seat: &mut Seat<J, A>,
+    entry: Entry<A>,
+    receipt: Entry<A>,
+) -> Result<(), AllocError>
+    requires { entry_of receipt ≡ entry_of entry }
+    ensures ok { OnOk result
+        (Adds true (entry_of entry) (entries_of journal.old.items) seat.old
+        (entries_of journal.new.items) seat.new) }
+    ensures err { OnErr result ((journal.new.items ≡ journal.old.items) × (seat.new ≡ seat.old)) }
+{
+    journal.reserve(1)?;
+    seat.add(receipt)?;
+    journal.push_reserved(entry);
+    Ok(())
+}

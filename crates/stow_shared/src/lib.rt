@@ -1,0 +1,42 @@
+//! A core that threads share, behind a lock, with a journal of what was done under it.
+//!
+//! What the lock holds is a `Book`, the core and its journal, and what is done under it is one `Step` at a time: a call, or a
+//! change of the cache's size. Planning and installing of merges, and quotas, are to be more cases of `Step`. A thread takes
+//! steps from a `Seat`. Over `Kept` each step leaves its entry in the journal and the same entry, as a receipt, in its seat.
+//! Room for both, copies of words and reply too, is got before the step, so a step that memory is refused to leaves neither
+//! and moves no store, and a call so refused is counted in its seat. `Book`'s type keeps that the journal leads from empty
+//! stores to the core (`specs/Journals.antt`): each tenant was told what its own run over its own calls tells, alone, and
+//! its store is the last of that run. Over `Unkept` there is no journal, and a call copies nothing and asks for no memory
+//! beside the core's own.
+//!
+//! Of a value under a lock a proof knows what its type keeps and nothing else. So what `Shared::call` and `Shared::resize`
+//! promise is what their seat gained, and `Shared::close` compares what is handed back with what the lock held. Where it
+//! answers `Ok`, the core's tenants are those that were opened, the journal leads to the core, each seat's receipts are the
+//! journal's entries of its number, in order, and no entry is of anything else: what the seats were told is a legal
+//! journal. Two such journals in which a tenant calls alike tell it the same and leave it the same store
+//! (`laws::two_journals`). `Desk` is the door of a session over a seat.
+//!
+//! Not said: that a call returns, since it waits for the lock, nor in which order steps of different seats come. A
+//! body that answers want of memory, or a `close` that always gives all back, meets its contract; so does a `Shared::call`
+//! that does nothing under the lock and makes its receipt up, whose journal `close` then refuses. Tests call each with
+//! ample memory, from one thread and from two, and with each request for memory refused in turn.
+#![tactic(auto)]
+
+pub mod book;
+pub mod closed;
+mod closing;
+mod comparing;
+pub mod copies;
+mod copying;
+pub mod desk;
+pub mod entry;
+pub mod journal;
+pub mod kept;
+pub mod laws;
+pub mod open_fault;
+pub mod seat;
+pub mod shared;
+pub mod step;
+#[cfg(test)]
+mod tests;
+pub mod unkept;

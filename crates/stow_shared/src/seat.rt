@@ -1,0 +1,97 @@
+//! A seat at the lock.
+ghost use Rattle.std.specs.Prelude.{◌≡◌, OnOk, OnErr, ◌∷◌};
+ghost use Rattle.stow_model.specs.declared.refusal.Refusal.TheVariants as refusal;
+ghost use Rattle.stow_model.specs.Reply.{reply_of};
+ghost use Rattle.stow_model.specs.Reply as reply;
+
+use crate::entry::Entry;
+use crate::journal::Journal;
+use std::alloc::{AllocError, Allocator, Global};
+use std::marker::{Model, PhantomData};
+use stow_model::refusal::Refusal;
+use stow_model::reply::Reply;
+
+/// The most that a count of refused calls may be.
+const COUNT_LIMIT: u64 = 9_223_372_036_854_775_807;
+
+/// The right of one thread to take steps, with a receipt of each where a journal is kept, and the number of its
+/// calls that memory was refused to.
+#[derive(Drop)]
+pub struct Seat<J: Journal, A: Allocator = Global> {
+    number: u32,
+    receipts: Vec<Entry<A>, A>,
+    refused: u64,
+    of: PhantomData<J>,
+}
+
+impl<J: Journal, A: Allocator> Model for Seat<J, A> {
+    ghost use Rattle.stow_shared.specs.Entries.{entries_of};
+    ghost use Rattle.stow_shared.specs.Seats.{SeatState};
+
+    ghost Value = { SeatState };
+
+    ghost view = { λ s. record {
+      number = s.number;
+      receipts = entries_of s.receipts.items;
+      refused = s.refused;
+    } };
+}
+
+impl<J: Journal, A: Allocator> Seat<J, A> {
+    ghost use Rattle.stow_shared.specs.Entries.{entry_of, entries_of};
+    ghost use Rattle.stow_shared.specs.Seats.{new_seat, with_refusal};
+
+    /// A seat from which no step was taken.
+    pub(crate) fn new(alloc: A, number: u32) -> Seat<J, A>
+        ensures { result ≡ new_seat number }
+    {
+        Seat {
+            number,
+            receipts: Vec::new(alloc),
+            refused: 0,
+            of: PhantomData,
+        }
+    }
+
+    /// Its number, from 1.
+    pub fn number(&self) -> u32
+        ensures { result ≡ self.now.number }
+    {
+        self.number
+    }
+
+    /// What it added to the journal, oldest first.
+    pub fn receipts(&self) -> &[Entry<A>]
+        ensures { entries_of result.now ≡ self.now.receipts }
+    {
+        self.receipts.as_slice()
+    }
+
+    /// How many of its calls memory was refused to, up to 9,223,372,036,854,775,807.
+    pub fn refused(&self) -> u64
+        ensures { result ≡ self.now.refused }
+    {
+        self.refused
+    }
+
+    /// Adds a receipt. An `Err` changes nothing.
+    pub(crate) fn add(&mut self, receipt: Entry<A>) -> Result<(), AllocError>
+        ensures ok { OnOk result
+            (self.new ≡ record self.old { receipts = entry_of receipt ∷ self.old.receipts }) }
+        ensures err { OnErr result (self.new ≡ self.old) }
+    {
+        self.receipts.push(receipt)?;
+        Ok(())
+    }
+
+    /// Counts a call that memory was refused to, and says so.
+    pub(crate) fn refuse(&mut self) -> Reply<A>
+        ensures told { reply_of result ≡ reply.Error refusal.OutOfMemory }
+        ensures counted { self.new ≡ with_refusal self.old }
+    {
+        if self.refused < COUNT_LIMIT {
+            self.refused += 1;
+        }
+        Reply::Error(Refusal::OutOfMemory)
+    }
+}

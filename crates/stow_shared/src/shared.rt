@@ -1,0 +1,161 @@
+//! A core that threads share.
+ghost use Rattle.std.specs.Prelude.{◌≡◌, ◌≤◌, IfOk, IfErr, OnOk, OnErr};
+ghost use Rattle.std.specs.Arc.{arc_value};
+ghost use Rattle.stow_core.specs.State.{IsNewCore};
+ghost use Rattle.stow_model.specs.Reply.{reply_of};
+ghost use Rattle.stow_shared.specs.Closed.{Closes};
+ghost use Rattle.stow_shared.specs.Entries.{resize_entry};
+ghost use Rattle.stow_shared.specs.Opened.{AreNewSeats, IsFaultOf, IsSeatCount, Opens};
+ghost use Rattle.stow_shared.specs.Seats.{SeatCalls, with_receipt};
+
+use crate::book::Book;
+use crate::closed::Closed;
+use crate::copies::Copies;
+use crate::journal::Journal;
+use crate::open_fault::OpenFault;
+use crate::seat::Seat;
+use std::alloc::{AllocError, Allocator, Global};
+use std::marker::Model;
+use std::sync::{Arc, Mutex, Wait};
+use stow_core::Core;
+use stow_login::tenants::Tenants;
+use stow_model::reply::Reply;
+use stow_model::words::Words;
+
+/// The most seats at one lock.
+const SEAT_LIMIT: u32 = 1024;
+
+/// A core behind a lock, with its journal where one is kept.
+#[derive(Drop)]
+pub struct Shared<J: Journal, A: Allocator = Global> {
+    tenants: Arc<Tenants<A>, A>,
+    seats: u32,
+    book: Mutex<Book<J, A>>,
+}
+
+impl<J: Journal, A: Allocator> Model for Shared<J, A> {
+    ghost use Rattle.std.specs.Arc.{arc_value};
+    ghost use Rattle.stow_shared.specs.Opened.{SharedState};
+
+    ghost Value = { SharedState };
+
+    ghost view = { λ s. record { tenants = arc_value s.tenants; seats = s.seats } };
+}
+
+impl<J: Journal, A: Allocator + Copy> Shared<J, A> {
+    /// Puts a core in which every store is empty behind a lock, with so many seats, numbered from 1. An `Err` gives
+    /// the core back.
+    pub fn open(
+        alloc: A,
+        core: Core<A>,
+        seats: u32,
+    ) -> Result<(Shared<J, A>, Vec<Seat<J, A>, A>), (Core<A>, OpenFault)>
+        requires { IsNewCore core }
+        ensures opened { IfOk result (λ r. Opens core.entries seats r.0 r.1.items) }
+        ensures core { IfErr result (λ r. r.0 ≡ core) }
+        ensures fault { IfErr result (λ r. IsFaultOf seats r.1) }
+    {
+        if seats == 0 || seats > SEAT_LIMIT {
+            return Err((core, OpenFault::SeatCount));
+        }
+        let Ok(handed) = new_seats(alloc, seats) else {
+            return Err((core, OpenFault::OutOfMemory));
+        };
+        match Arc::try_clone(core.tenants()) {
+            Ok(tenants) => {
+                let book = Mutex::new(Book::new(alloc, core));
+                Ok((
+                    Shared {
+                        tenants,
+                        seats,
+                        book,
+                    },
+                    handed,
+                ))
+            }
+            Err(_) => Err((core, OpenFault::OutOfMemory)),
+        }
+    }
+
+    /// The tenants of the core that was opened.
+    pub fn tenants(&self) -> &Arc<Tenants<A>, A>
+        ensures { arc_value result.now ≡ self.now.tenants }
+    {
+        &self.tenants
+    }
+
+    /// Answers a tenant's words, whole, while the lock is held. The seat gains the receipt of it where entries are
+    /// kept; where memory was refused it gains none, and counts the call.
+    pub fn call<R: Wait>(
+        &self,
+        rt: &R,
+        alloc: A,
+        seat: &mut Seat<J, A>,
+        tenant: u32,
+        words: &Words<A>,
+    ) -> Reply<A>
+        ensures { SeatCalls J.keeps seat.old tenant words.now (reply_of result) seat.new }
+    {
+        match Copies::of::<J>(alloc, words) {
+            Ok(copies) => self.book.lock(rt).call(alloc, seat, tenant, words, copies),
+            Err(_) => seat.refuse(),
+        }
+    }
+
+    /// Asks the cache to hold so many leaves, while the lock is held.
+    pub fn resize<R: Wait>(
+        &self,
+        rt: &R,
+        seat: &mut Seat<J, A>,
+        leaves: usize,
+    ) -> Result<(), AllocError>
+        requires { leaves ≤ 65536 }
+        ensures ok { OnOk result
+            (seat.new ≡ with_receipt J.keeps (resize_entry seat.old.number leaves) seat.old) }
+        ensures err { OnErr result (seat.new ≡ seat.old) }
+    {
+        self.book.lock(rt).resize(seat, leaves)
+    }
+
+    /// Takes the core and the journal out of the lock, where all that is handed back belongs together, which is
+    /// compared here. An `Err` gives all back.
+    pub fn close(
+        self,
+        seats: Vec<Seat<J, A>, A>,
+    ) -> Result<Closed<J, A>, (Shared<J, A>, Vec<Seat<J, A>, A>)>
+        ensures closed { IfOk result (λ closed. Closes J.keeps self seats.items closed) }
+        ensures shared { IfErr result (λ r. r.0 ≡ self) }
+        ensures seats { IfErr result (λ r. r.1.items ≡ seats.items) }
+    {
+        let Shared {
+            tenants,
+            seats: count,
+            book,
+        } = self;
+        let book = book.into_inner();
+        if book.is_whole(&tenants, count, seats.as_slice()) {
+            return Ok(Closed::new(book));
+        }
+        let shared = Shared {
+            tenants,
+            seats: count,
+            book: Mutex::new(book),
+        };
+        Err((shared, seats))
+    }
+}
+
+/// So many seats, numbered from 1.
+fn new_seats<J: Journal, A: Allocator + Copy>(
+    alloc: A,
+    count: u32,
+) -> Result<Vec<Seat<J, A>, A>, AllocError>
+    requires { IsSeatCount count }
+    ensures { IfOk result (λ seats. AreNewSeats count seats.items) }
+{
+    let mut seats = Vec::with_capacity(alloc, count as usize)?;
+    for before in 0..count {
+        seats.push(Seat::new(alloc, before + 1))?;
+    }
+    Ok(seats)
+}

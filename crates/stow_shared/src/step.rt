@@ -1,0 +1,13 @@
+//! What one step under the lock did.
+use std::alloc::{Allocator, Global};
+use stow_model::reply::Reply;
+use stow_model::words::Words;
+
+/// A step that was taken whole while the lock was held, with its answer.
+#[derive(Drop)]
+pub enum Step<A: Allocator = Global> {
+    /// The index that called, its words, and what it was told.
+    Call(u32, Words<A>, Reply<A>),
+    /// The cache was asked to hold so many leaves, and does.
+    Resize(usize),
+}
