@@ -62,11 +62,6 @@ not_node children i d x n at here is = other x n (sym (get_or_from_slice_get chi
   other : {A : Type 0} (x : Leaf A) (n : Subtree) → ◌≡◌ {A = Child A} (in_child.Leaf x) (in_child.Node n) → ⊥
   other x n e = cc
 
--- what follows for a value, if there is one
-pub if_ok : {T E : Type 0} (r : Result T E) (P Q : T → Type 0) → ((x : T) → P x → Q x) → IfOk r P → IfOk r Q
-if_ok (Ok x) P Q f h = f x h
-if_ok (Err e) P Q f h = tt
-
 -- where the leaf at a place begins
 pub low_of_leaf : {A : Type 0} (children : List (Child A)) (i : ℕ) (d : Child A) (x : Leaf A) → slice_get children i ≡ Some (in_child.Leaf x) → d ≡ get_or children i d → (part_of d).low ≡ x.low
 low_of_leaf children i d x at here = ap (λ (c : Child _). (part_of c).low) (here ∙ get_or_from_slice_get children i (in_child.Leaf x) d at)

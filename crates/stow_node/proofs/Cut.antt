@@ -35,7 +35,8 @@ use Rattle.std.proofs.lemmas.List.Filters.{length-filter_both}
 use Rattle.stow_node.proofs.Lowered.{rows_by_part, row_messages-append}
 use Rattle.stow_node.proofs.Newer.{some_left, some_right}
 use Rattle.stow_node.proofs.Raised.{wider, row_fences, first_of_row}
-use Rattle.stow_node.proofs.Row.{both_none, Taken, Apart, message_taken, row_taken, messages_apart, rows_apart, none_before, none_from, low_at_most}
+use Rattle.stow_leaf.proofs.Found.{both_none, or_none}
+use Rattle.stow_node.proofs.Row.{Taken, Apart, message_taken, row_taken, messages_apart, rows_apart, none_before, none_from, low_at_most}
 
 -- ---- a row in two parts
 
@@ -135,13 +136,9 @@ other_nothing : (ms : List TreeMessage) → AllOther ms []
 other_nothing [] = tt
 other_nothing (m ∷ ms) = (tt, other_nothing ms)
 
-or_nothing : (o : Option Op) → or_else o None ≡ o
-or_nothing None = refl
-or_nothing (Some o) = refl
-
 -- messages in an empty buffer
 pub ops-all_alone : (ms : List TreeMessage) (key : List ℕ) (n : ℕ) → MessagesRise ms → ops_in (all_placed ms []) key n ≡ ops_in ms key n
-ops-all_alone ms key n rise = ops-all_placed ms [] key n rise (other_nothing ms) ∙ or_nothing (ops_in ms key n)
+ops-all_alone ms key n rise = ops-all_placed ms [] key n rise (other_nothing ms) ∙ or_none (ops_in ms key n) None refl
 
 -- ---- the two nodes
 

@@ -23,7 +23,8 @@ use Rattle.stow_node.specs.Moves.{accepted, CanAccept, IsSqueezed, Stays, bytes_
 use Rattle.stow_node.proofs.Filled.{some_bytes, heaviest_has_bytes}
 use Rattle.stow_node.proofs.HandedDown.{same_node}
 use Rattle.stow_node.proofs.Lowered.{for_child, can_hand, Lowered, lowered, end_of-set}
-use Rattle.stow_node.proofs.Stayed.{inside_of, part_at, level_at, ChildStays, child_stays}
+use Rattle.stow_leaf.proofs.Steps.{inside_of}
+use Rattle.stow_node.proofs.Stayed.{part_at, level_at, ChildStays, child_stays}
 
 pub stays_then : {x y z : Subtree} → Stays x y → Stays y z → Stays x z
 stays_then s t = record {

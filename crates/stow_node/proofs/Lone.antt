@@ -13,7 +13,7 @@ use Rattle.stow_tree_model.proofs.Orders.{place_cases}
 use Rattle.stow_node.specs.Subtree.{Subtree, messages_of}
 use Rattle.stow_leaf.specs.Intervals.{top_key, spans}
 use Rattle.stow_node.specs.Moves.{CanAccept}
-use Rattle.stow_node.proofs.Newer.{none_some}
+use Rattle.stow_leaf.proofs.Found.{none_some}
 
 pub lone : (t : Subtree) (m : TreeMessage) → messages_of t ≡ [] → spans t.low top_key m.key ≡ true → t.buffer.used + message_size m ≤ t.buffer.capacity → CanAccept (m ∷ []) t
 lone t m none own room = record {

@@ -14,15 +14,13 @@ use Rattle.std.proofs.lemmas.List.Elements.{All-from_recursion}
 use Rattle.stow_message.specs.Rising.{IsNew, AreNew}
 use Rattle.stow_message.proofs.Placed.{AllOther}
 use Rattle.stow_node.specs.Nodes.{AreNewer}
+use Rattle.stow_leaf.proofs.Found.{first_stays}
 use Rattle.stow_leaf.proofs.Ops.{Other, ops-append}
 use Rattle.stow_leaf.proofs.Intervals.{by_test}
 
 pub some_or : {X : Type 0} (a b : Option Op) → (IsSome a → X) → (IsSome b → X) → IsSome (or_else a b) → X
 some_or None b f g h = g h
 some_or (Some op) b f g h = f refl
-
-pub none_some : (o : Option Op) → o ≡ None → IsSome o → ⊥
-none_some o e s = cc
 
 pub some_left : (a b : Option Op) → IsSome a → IsSome (or_else a b)
 some_left None b h = absurd cc
@@ -37,12 +35,6 @@ eq_is a b e = ⊎_elim
     (λ (h : (a ≡ b) × (eq_by_cmp place_cmp a b ≡ true)). h.0)
     (λ (h : (a ≡ b → ⊥) × (eq_by_cmp place_cmp a b ≡ false)). absurd cc)
     (place_cases a b)
-
-first_stays : (n : TreeMessage) (ns : List TreeMessage) (key : List ℕ) (k : ℕ) → IsSome (ops_in ns key k) → IsSome (ops_in (n ∷ ns) key k)
-first_stays n ns key k s = step (eq_by_cmp place_cmp (key, k) (place_of n)) where
-  step : (b : Bool) → IsSome (if b then Some n.op else ops_in ns key k)
-  step true = refl
-  step false = s
 
 -- a newer message has the place of none below
 pub new_to : (m : TreeMessage) (ns : List TreeMessage) → ((k : ℕ) → IsSome (ops_in ns m.key k) → k < m.number) → AllByRecursion (Other m) ns

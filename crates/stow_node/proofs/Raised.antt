@@ -24,7 +24,8 @@ use Rattle.std.proofs.lemmas.List.{length-map}
 use Rattle.stow_node.specs.Moves.{raised}
 use Rattle.stow_node.proofs.Lowered.{rows_by_part}
 use Rattle.stow_leaf.proofs.Ops.{ops-append}
-use Rattle.stow_node.proofs.Row.{both_none, Taken, Apart, message_taken, row_taken, messages_apart, rows_apart, none_before, none_from, low_at_most}
+use Rattle.stow_leaf.proofs.Found.{both_none}
+use Rattle.stow_node.proofs.Row.{Taken, Apart, message_taken, row_taken, messages_apart, rows_apart, none_before, none_from, low_at_most}
 use Rattle.stow_leaf.proofs.Intervals.{lt, lt_trans, lt_le, le_le, lt_not, lt_self, not_spanned, span_low, span_high, spanned}
 
 less_than_itself : (a b : List ℕ) → lt a b ≡ true → b ≡ a → ⊥

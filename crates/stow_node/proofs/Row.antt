@@ -11,6 +11,7 @@ use Rattle.stow_leaf.specs.LeafRows.{LeafRows, row_messages}
 use Rattle.stow_node.specs.Parts.{Part, IsTile, TiledTo, low_or, end_of, messages_in, leaves_in}
 use Rattle.stow_leaf.specs.Intervals.{spans, AreWithin}
 use Rattle.stow_leaf.proofs.Intervals.{lt, lt_trans, lt_le, le_lt, le_le, lt_not, lt_self, under, beyond, span_low, span_high, spanned}
+use Rattle.stow_leaf.proofs.Found.{both_none, or_none, none_or}
 use Rattle.stow_leaf.proofs.Ops.{ops-append}
 
 -- what is taken of each part
@@ -36,9 +37,6 @@ pub rows_apart : (high : List ℕ) (ps : List Part) → TiledTo high ps → Apar
 rows_apart high [] t = tt
 rows_apart high (p ∷ ps) t = ((ap is_lt t.0.ordered, t.0.rows), rows_apart high ps t.1)
 
-pub both_none : (a b : Option Op) → a ≡ None → b ≡ None → or_else a b ≡ None
-both_none a b e f = ap (λ x. or_else x b) e ∙ f
-
 -- nothing is taken for a key below the first part
 pub none_before : (f : Taken) (high : List ℕ) (ps : List Part) (key : List ℕ) (n : ℕ) → Apart f high ps → lt key (low_or high ps) ≡ true → ops_in (flat_map f ps) key n ≡ None
 none_before f high [] key n a l = refl
@@ -62,13 +60,6 @@ none_from f high (p ∷ ps) key n a l =
     (a.0.1.outside key n (beyond p.low (low_or high ps) key (le_le (low_or high ps) high key (low_at_most f high ps a.1) l)))
     (none_from f high ps key n a.1 l)
 
-right_none : (a b : Option Op) → b ≡ None → or_else a b ≡ a
-right_none None b e = e
-right_none (Some op) b e = refl
-
-left_none : (a b : Option Op) → a ≡ None → or_else a b ≡ b
-left_none a b e = ap (λ x. or_else x b) e
-
 -- each part of a row stands at its first or above
 pub low_below : (f : Taken) (high : List ℕ) (p : Part) (ps : List Part) (i : ℕ) (d : Part) → Apart f high (p ∷ ps) → i < length (p ∷ ps) → lt (get_or (p ∷ ps) i d).low p.low ≡ false
 low_below f high p ps zero d a h = lt_self p.low
@@ -81,11 +72,11 @@ pub at_part : (f : Taken) (high : List ℕ) (ps : List Part) (i : ℕ) (d : Part
 at_part f high [] i d key n a h s = absurd (omega arith)
 at_part f high (p ∷ ps) zero d key n a h s =
     ops-append (f p) (flat_map f ps) key n
-    ∙ right_none (ops_in (f p) key n) (ops_in (flat_map f ps) key n) (none_before f high ps key n a.1 (span_high p.low (low_or high ps) key s))
+    ∙ or_none (ops_in (f p) key n) (ops_in (flat_map f ps) key n) (none_before f high ps key n a.1 (span_high p.low (low_or high ps) key s))
 at_part f high (p ∷ []) (suc i) d key n a h s = absurd (omega arith)
 at_part f high (p ∷ q ∷ qs) (suc i) d key n a h s =
     ops-append (f p) (flat_map f (q ∷ qs)) key n
-    ∙ left_none (ops_in (f p) key n) (ops_in (flat_map f (q ∷ qs)) key n)
+    ∙ none_or (ops_in (f p) key n) (ops_in (flat_map f (q ∷ qs)) key n)
     (a.0.1.outside key n (beyond p.low q.low key (le_le q.low (get_or (q ∷ qs) i d).low key (low_below f high q qs i d a.1 (omega arith)) (span_low (get_or (q ∷ qs) i d).low (end_of high (q ∷ qs) i) key s))))
     ∙ at_part f high (q ∷ qs) i d key n a.1 (omega arith) s
 

@@ -21,12 +21,8 @@ use Rattle.stow_leaf.specs.Intervals.{top_key, AreWithin}
 use Rattle.stow_node.specs.Nodes.{part_of, node_part, parts_of, AreNewer, IsBelow, subtree_of, IsNode}
 use Rattle.stow_node.specs.Moves.{Stays}
 use Rattle.stow_leaf.proofs.Ops.{ops-append}
+use Rattle.stow_leaf.proofs.Steps.{inside_of}
 use Rattle.stow_node.proofs.Row.{message_taken, row_taken, same_at, low_or-set, tiled-set, tile_at}
-
-pub inside_of : {X : Type 0} (xs : List X) (i : ℕ) (x : X) → slice_get xs i ≡ Some x → i < length xs
-inside_of [] i x e = absurd cc
-inside_of (y ∷ ys) zero x e = omega arith
-inside_of (y ∷ ys) (suc i) x e = omega (arith, inside_of ys i x e)
 
 -- the part at the place is the child's
 pub part_at : {A : Type 0} (cs : List (Child A)) (i : ℕ) (c : Child A) (d : Part) → slice_get cs i ≡ Some c → get_or (parts_of cs) i d ≡ part_of c

@@ -6,8 +6,8 @@ use Rattle.stow_merge.specs.Pins.{pins_in}
 use Rattle.stow_node.specs.declared.child.Child.TheVariants as in_child
 use Rattle.stow_node.specs.Nodes.{parts_of}
 use Rattle.stow_node.specs.Parts.{high_of}
-use Rattle.stow_node.proofs.Absorbed.{same_leaf, not_node, if_ok}
-use Rattle.stow_node.proofs.Stayed.{inside_of}
+use Rattle.stow_leaf.proofs.Steps.{inside_of, if_ok}
+use Rattle.stow_node.proofs.Absorbed.{same_leaf, not_node}
 use Rattle.stow_node.proofs.absorbing.replacement_at.Goals as goal
 
 pub high_after-high-requires : goal.high_after-high-requires
