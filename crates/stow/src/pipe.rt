@@ -34,14 +34,7 @@ fn serve<'a, A: Allocator + Copy, R: Read, W: Write>(
 ) -> Result<(), Failure<'a>> {
     let mut reader = Counted::new(input);
     let mut writer = Counted::new(output);
-    match serve_connection(
-        alloc,
-        &mut reader,
-        &mut writer,
-        tenants,
-        core,
-        &OpenGate,
-    ) {
+    match serve_connection(alloc, &mut reader, &mut writer, tenants, core, &OpenGate) {
         Served::Quit | Served::Ended | Served::Faulted(_) => Ok(()),
         Served::ReadFailed => Err(failure(Place::Input, &reader)),
         Served::WriteFailed => Err(failure(Place::Output, &writer)),
