@@ -68,6 +68,7 @@ took {A} a ms node can rise =
               ops-all_placed ms a.buffer.messages key n rise (others a ms can)
               ∙ both_none (ops_in ms key n) (ops_in a.buffer.messages key n) (can.within.outside key n o) (node.from.outside key n o);
         };
+        sizes = node.sizes;
         newer = record {
           above = λ key n k u l.
               some_or (ops_in ms key n) (ops_in a.buffer.messages key n)

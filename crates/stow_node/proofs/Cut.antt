@@ -28,7 +28,8 @@ use Rattle.stow_node.specs.declared.node.Node.TheInside.{Inside}
 use Rattle.stow_node.specs.declared.shape.Shape.{Shape}
 use Rattle.stow_node.specs.Subtree.{Subtree, buffered}
 use Rattle.stow_node.specs.Parts.{Part, low_or, IsTile, TiledTo, messages_in, leaves_in, weight_in}
-use Rattle.stow_node.specs.Nodes.{part_of, node_part, parts_of, AreNewer, IsBelow, subtree_of, IsNode}
+use Rattle.stow_leaf.specs.Replacements.{IsLeafSize}
+use Rattle.stow_node.specs.Nodes.{part_of, node_part, parts_of, AreNewer, AreLeafSizes, IsBelow, subtree_of, IsNode}
 use Rattle.stow_node.specs.Halves.{AreHalves}
 use Rattle.stow_node.proofs.Accepted.{length-all_placed}
 use Rattle.std.proofs.lemmas.List.Filters.{length-filter_both}
@@ -86,7 +87,7 @@ below_end high (p ∷ ps) t h =
     let apart = messages_apart high (p ∷ ps) t in
     lt_le p.low (low_or high ps) high apart.0.0 (low_at_most message_taken high ps apart.1)
 
-all_cut : {X : Type 0} (P : X → Type 0) (xs ys : List X) → AllByRecursion P (xs ++ ys) → AllByRecursion P xs × AllByRecursion P ys
+pub all_cut : {X : Type 0} (P : X → Type 0) (xs ys : List X) → AllByRecursion P (xs ++ ys) → AllByRecursion P xs × AllByRecursion P ys
 all_cut P [] ys h = (tt, h)
 all_cut P (x ∷ xs) ys h = let more = all_cut P xs ys h.1 in ((h.0, more.0), more.1)
 
@@ -108,11 +109,11 @@ right_some None None r s h = some_right r s h
 right_some None (Some q) r s h = refl
 right_some (Some p) q r s h = refl
 
-some_cond : (t : Bool) (o : Option Op) → IsSome (cond t o None) → IsSome o
+pub some_cond : (t : Bool) (o : Option Op) → IsSome (cond t o None) → IsSome o
 some_cond true o h = h
 some_cond false o h = absurd cc
 
-none_cond : (t : Bool) (o : Option Op) → o ≡ None → cond t o None ≡ None
+pub none_cond : (t : Bool) (o : Option Op) → o ≡ None → cond t o None ≡ None
 none_cond true o e = e
 none_cond false o e = refl
 
@@ -170,6 +171,7 @@ cut {A} a v w low node e half some more is rise = record {
     wide = let wide = node.wide in (omega arith, omega (arith, widths));
     fits = node.fits;
     from = record { outside = λ key n o. ops-out_of_range low top_key ms key n ∙ none_cond (not (spans low top_key key)) (ops_in ms key n) (node.from.outside key n o) };
+    sizes = leaf_sizes.0;
     newer = record {
       above = λ key n k u l. node.newer.above key n k
           (some_cond (not (spans low top_key key)) (ops_in ms key n) (subst IsSome (ops-out_of_range low top_key ms key n) u))
@@ -184,6 +186,7 @@ cut {A} a v w low node e half some more is rise = record {
     wide = let wide = node.wide in (omega arith, omega (arith, widths));
     fits = refl;
     from = record { outside = λ key n o. upper_ops key n ∙ ap (λ t. cond t (ops_in ms key n) None) o };
+    sizes = leaf_sizes.1;
     newer = record {
       above = λ key n k u l. node.newer.above key n k
           (some_cond (spans low top_key key) (ops_in ms key n) (subst IsSome (upper_ops key n) u))
@@ -259,6 +262,9 @@ cut {A} a v w low node e half some more is rise = record {
 
     begins : low_or low ps ≡ a.low
     begins = ap (λ high. low_or high ps) is ∙ sym (low_or-append top_key ps qs) ∙ ap (low_or top_key) (sym parts) ∙ node.first
+
+    leaf_sizes : AreLeafSizes a.shape.leaf (leaves_in ps) × AreLeafSizes a.shape.leaf (leaves_in qs)
+    leaf_sizes = all_cut (λ (l : LeafRows). IsLeafSize a.shape.leaf l.1) (leaves_in ps) (leaves_in qs) (subst (AreLeafSizes a.shape.leaf) (ap leaves_in parts ∙ flat_map-append (λ (p : Part). p.leaves) ps qs) node.sizes)
 
     to_low : lt top_key low ≡ false
     to_low = ap (lt top_key) is ∙ low_at_most message_taken top_key qs (messages_apart top_key qs right)

@@ -18,7 +18,7 @@ use Rattle.stow_node.specs.Subtree.{Subtree}
 use Rattle.stow_leaf.specs.LeafRows.{row_messages}
 use Rattle.stow_node.specs.Parts.{Part, low_or, high_of, TiledTo, messages_in, leaves_in, weight_in}
 use Rattle.stow_leaf.specs.Intervals.{top_key, AreWithin}
-use Rattle.stow_node.specs.Nodes.{part_of, node_part, parts_of, AreNewer, IsBelow, subtree_of, IsNode}
+use Rattle.stow_node.specs.Nodes.{part_of, node_part, parts_of, AreNewer, IsBelow, subtree_of, IsNode, AreLeafSizes}
 use Rattle.stow_node.specs.Moves.{accepted, CanAccept, IsSqueezed, Stays, bytes_for, messages_for, IsHeaviest, CanHandDown, HandsDown}
 use Rattle.stow_node.proofs.Filled.{some_bytes, heaviest_has_bytes}
 use Rattle.stow_node.proofs.HandedDown.{same_node}
@@ -72,6 +72,7 @@ same_children {A} a v node e = record {
     wide = subst (λ (l : List (Child A)). (1 ≤ length l) × (length l ≤ a.shape.fan_out)) (sym e) node.wide;
     fits = node.fits;
     from = node.from;
+    sizes = subst (λ (l : List (Child A)). AreLeafSizes a.shape.leaf (leaves_in (parts_of l))) (sym e) node.sizes;
     newer = subst (λ (l : List (Child A)). AreNewer a.buffer.messages (messages_in (parts_of l) ++ row_messages (leaves_in (parts_of l)))) (sym e) node.newer;
   };
   is = ap (λ (l : List (Child A)). record {

@@ -8,11 +8,12 @@ use Rattle.stow_node.specs.declared.child.Child.TheVariants as in_child
 use Rattle.stow_leaf.specs.declared.leaf.Leaf.{Leaf}
 use Rattle.stow_node.specs.declared.node.Node.TheInside.{Inside}
 use Rattle.stow_node.specs.declared.shape.Shape.{Shape}
+use Rattle.stow_leaf.proofs.Fronts.{no_rows_size}
 use Rattle.stow_node.specs.Subtree.{first_subtree}
 use Rattle.std.specs.List.{AllByRecursion}
 use Rattle.stow_node.specs.Parts.{TiledTo, low_or, messages_in, leaves_in, weight_in}
 use Rattle.stow_leaf.specs.Intervals.{top_key}
-use Rattle.stow_node.specs.Nodes.{parts_of, IsBelow, subtree_of, IsNode}
+use Rattle.stow_node.specs.Nodes.{parts_of, IsBelow, subtree_of, IsNode, AreLeafSizes}
 
 pub record IsFirst {A : Type 0} (shape : Shape) (a : Inside A) : Type 0 where
   pub is_node : IsNode a
@@ -27,6 +28,7 @@ record Facts {A : Type 0} (shape : Shape) (l : List (Child A)) : Type 0 where
   level : AllByRecursion (IsBelow 1 shape) l
   some : 1 ≤ length l
   few : length l ≤ shape.fan_out
+  sizes : AreLeafSizes shape.leaf (leaves_in (parts_of l))
 
 pub is_first : {A : Type 0} (shape : Shape) (v : Vec (Child A) A) → 1 ≤ shape.fan_out → v.items ≡ in_child.Leaf first_leaf ∷ [] → IsFirst shape (record { low = packed 0 []; height = 1; shape = shape; buffer = message_list [] 0 shape.buffer; children = v })
 is_first {A} shape v wide e = record {
@@ -37,6 +39,7 @@ is_first {A} shape v wide e = record {
     wide = (facts.some, facts.few);
     fits = refl;
     from = record { outside = λ key n o. refl };
+    sizes = facts.sizes;
     newer = record { above = λ key n k u l. absurd cc };
   };
   is = ap (λ (l : List (Child A)). record {
@@ -67,4 +70,5 @@ is_first {A} shape v wide e = record {
       level = (record { level = refl; same = tt }, tt);
       some = omega arith;
       few = wide;
+      sizes = (no_rows_size shape.leaf, tt);
     })

@@ -13,3 +13,4 @@ pub mod Raised
 pub mod Lone
 pub mod Cut
 pub mod Absorbed
+pub mod Flushed

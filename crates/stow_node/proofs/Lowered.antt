@@ -25,7 +25,7 @@ use Rattle.stow_node.specs.Subtree.{Subtree, buffered, messages_of}
 use Rattle.stow_leaf.specs.LeafRows.{LeafRows, row_messages}
 use Rattle.stow_node.specs.Parts.{Part, low_or, end_of, high_of, IsTile, TiledTo, messages_in, leaves_in, weight_in}
 use Rattle.stow_leaf.specs.Intervals.{top_key, spans, AreWithin}
-use Rattle.stow_node.specs.Nodes.{part_of, node_part, parts_of, AreNewer, IsBelow, subtree_of, IsNode}
+use Rattle.stow_node.specs.Nodes.{part_of, node_part, parts_of, AreNewer, IsBelow, subtree_of, IsNode, AreLeafSizes}
 use Rattle.stow_node.specs.Moves.{accepted, CanAccept, Stays}
 use Rattle.stow_node.proofs.Accepted.{length-all_placed, below_of}
 use Rattle.stow_leaf.proofs.Found.{none_some}
@@ -242,6 +242,7 @@ lowered {A} a v b i x node at rise can items is = rw is (record {
     wide = let w = node.wide in let same = row.width in (omega arith, omega arith);
     fits = node.fits;
     from = record { outside = λ key n o. ops-out_of_range x.low high a.buffer.messages key n ∙ none_of (not (spans x.low high key)) (ops_in a.buffer.messages key n) (node.from.outside key n o) };
+    sizes = subst (AreLeafSizes a.shape.leaf) (sym row.leaves) node.sizes;
     newer = record {
       above = λ key n k u l. by_test (spans x.low high key)
           (λ s. absurd (none_some _ (ops-out_of_range x.low high a.buffer.messages key n ∙ ap (λ t. cond (not t) (ops_in a.buffer.messages key n) None) s) u))

@@ -19,7 +19,7 @@ use Rattle.stow_node.specs.Subtree.{Subtree, buffered}
 use Rattle.stow_leaf.specs.LeafRows.{LeafRows, row_messages, first_fence}
 use Rattle.stow_node.specs.Parts.{Part, low_or, IsTile, TiledTo, messages_in, leaves_in, weight_in}
 use Rattle.stow_leaf.specs.Intervals.{top_key, spans, AreWithin}
-use Rattle.stow_node.specs.Nodes.{part_of, node_part, parts_of, IsBelow, subtree_of, IsNode}
+use Rattle.stow_node.specs.Nodes.{part_of, node_part, parts_of, IsBelow, subtree_of, IsNode, AreLeafSizes}
 use Rattle.std.proofs.lemmas.List.{length-map}
 use Rattle.stow_node.specs.Moves.{raised}
 use Rattle.stow_node.proofs.Lowered.{rows_by_part}
@@ -88,6 +88,14 @@ whole_tile a node = record {
     below_top [] t h = absurd (omega arith)
     below_top (p ∷ ps) t h = let apart = messages_apart top_key (p ∷ ps) t in lt_le p.low (low_or top_key ps) top_key apart.0.0 (low_at_most message_taken top_key ps apart.1)
 
+level_above : {A : Type 0} (h : ℕ) (shape : Shape) (cs : List (Child A)) → AllByRecursion (IsBelow h shape) cs → 1 ≤ length cs → 1 ≤ h
+level_above h shape [] all l = absurd (omega arith)
+level_above h shape (c ∷ cs) all l = let e = all.0.level in omega (arith, e)
+
+-- a node stands above leaves
+pub above_leaves : {A : Type 0} (a : Inside A) → IsNode a → 1 ≤ a.height
+above_leaves a node = level_above a.height a.shape a.children.items node.level node.wide.0
+
 pub record IsRaised {A : Type 0} (a : Inside A) (v : Vec (Child A) A) : Type 0 where
   pub is_node : IsNode (record { low = a.low; height = a.height + 1; shape = a.shape; buffer = message_list [] 0 a.shape.buffer; children = v })
   pub is : subtree_of (record { low = a.low; height = a.height + 1; shape = a.shape; buffer = message_list [] 0 a.shape.buffer; children = v }) ≡ raised (subtree_of a)
@@ -97,10 +105,11 @@ is_raised {A} a v node e = record {
   is_node = record {
     tiled = subst (λ (l : List (Child A)). TiledTo top_key (parts_of l)) (sym e) (whole_tile a node, tt);
     first = subst (λ (l : List (Child A)). low_or top_key (parts_of l) ≡ a.low) (sym e) refl;
-    level = subst (AllByRecursion (IsBelow {A = A} (a.height + 1) a.shape)) (sym e) (record { level = refl; same = (refl, node.fits) }, tt);
+    level = subst (AllByRecursion (IsBelow {A = A} (a.height + 1) a.shape)) (sym e) (record { level = refl; same = (refl, node.fits, above_leaves a node) }, tt);
     wide = subst (λ (l : List (Child A)). (1 ≤ length l) × (length l ≤ a.shape.fan_out)) (sym e) (let w = node.wide in (omega arith, omega arith));
     fits = refl;
     from = record { outside = λ key n o. refl };
+    sizes = subst (λ (l : List (Child A)). AreLeafSizes a.shape.leaf (leaves_in (parts_of l))) (sym e) (subst (AreLeafSizes a.shape.leaf) (sym (append-nil (leaves_in (parts_of a.children.items)))) node.sizes);
     newer = record { above = λ key n k u l. absurd cc };
   };
   is = ap (λ (l : List (Child A)). record {

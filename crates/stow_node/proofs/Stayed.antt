@@ -18,7 +18,7 @@ use Rattle.stow_node.specs.Subtree.{Subtree, buffered}
 use Rattle.stow_leaf.specs.LeafRows.{LeafRows, row_messages}
 use Rattle.stow_node.specs.Parts.{Part, low_or, end_of, high_of, IsTile, TiledTo, messages_in, leaves_in, weight_in}
 use Rattle.stow_leaf.specs.Intervals.{top_key, AreWithin}
-use Rattle.stow_node.specs.Nodes.{part_of, node_part, parts_of, AreNewer, IsBelow, subtree_of, IsNode}
+use Rattle.stow_node.specs.Nodes.{part_of, node_part, parts_of, AreNewer, IsBelow, subtree_of, IsNode, AreLeafSizes}
 use Rattle.stow_node.specs.Moves.{Stays}
 use Rattle.stow_leaf.proofs.Ops.{ops-append}
 use Rattle.stow_leaf.proofs.Steps.{inside_of}
@@ -105,7 +105,7 @@ row_stays {A} a i x y node at s = record {
     old = level_at a.height a.shape a.children.items i (in_child.Node x) node.level at
 
     below : IsBelow {A = A} a.height a.shape (in_child.Node y)
-    below = record { level = ap (λ h. h + 1) s.height ∙ old.level; same = (s.shape ∙ old.same.0, s.capacity ∙ old.same.1) }
+    below = record { level = ap (λ h. h + 1) s.height ∙ old.level; same = (s.shape ∙ old.same.0, s.capacity ∙ old.same.1, let h = s.height in let l = old.same.2 in omega (arith, h, l)) }
 
     counted : length (messages_in (set ps i (node_part y))) ≡ length (messages_in ps)
     counted = let c = count-set ps i (node_part x) (node_part y) inside in let e = ap (λ (p : Part). length p.messages) here in let f = s.count in omega arith
@@ -125,6 +125,7 @@ child_stays {A} a v i x y node at e s = record {
     wide = let w = node.wide in let same = row.width in (omega arith, omega arith);
     fits = node.fits;
     from = node.from;
+    sizes = subst (AreLeafSizes a.shape.leaf) (sym row.leaves) node.sizes;
     newer = record { above = λ key n k u l. node.newer.above key n k u (subst IsSome (lower key k) l) };
   };
   stays = record {

@@ -5,3 +5,4 @@ pub mod Heights
 pub mod Moves
 pub mod Halves
 pub mod Absorbs
+pub mod Flushes

@@ -10,7 +10,8 @@ use Rattle.stow_leaf.specs.declared.leaf.Leaf.{Leaf}
 use Rattle.stow_node.specs.declared.node.Node.TheInside.{Inside}
 use Rattle.stow_node.specs.declared.shape.Shape.{Shape}
 use Rattle.stow_node.specs.Subtree.{Subtree, buffered}
-use Rattle.stow_leaf.specs.LeafRows.{row_messages, first_fence}
+use Rattle.stow_leaf.specs.LeafRows.{LeafRows, row_messages, first_fence}
+use Rattle.stow_leaf.specs.Replacements.{IsLeafSize}
 use Rattle.stow_node.specs.Parts.{Part, TiledTo, low_or, messages_in, leaves_in, weight_in}
 use Rattle.stow_leaf.specs.Intervals.{top_key, AreWithin}
 
@@ -46,10 +47,15 @@ pub record AreNewer (upper lower : List TreeMessage) : Type 0 where
   pub above : (key : List ℕ) (n k : ℕ) → IsSome (ops_in upper key n) → IsSome (ops_in lower key k)
       → k < n
 
--- a node grows as its parent does
+-- each leaf is within the target or of one key
+abbrev pub AreLeafSizes : ℕ → List LeafRows → Type 0
+AreLeafSizes target leaves = AllByRecursion (λ leaf. IsLeafSize target leaf.1) leaves
+
+-- a node grows as its parent does, and stands above leaves
 abbrev pub HasShape : {A : Type 0} → Shape → Child A → Type 0
 HasShape shape (in_child.Leaf leaf) = Unit {0}
 HasShape shape (in_child.Node node) = (node.shape ≡ shape) × (node.buffer.capacity ≡ shape.buffer)
+    × (1 ≤ node.height)
 
 -- a child stands one level lower, and grows as its parent does
 pub record IsBelow {A : Type 0} (height : ℕ) (shape : Shape) (child : Child A) : Type 0 where
@@ -79,3 +85,4 @@ pub record IsNode {A : Type 0} (a : Inside A) : Type 0 where
   pub newer : AreNewer a.buffer.messages
       (messages_in (parts_of a.children.items)
       ++ row_messages (leaves_in (parts_of a.children.items)))
+  pub sizes : AreLeafSizes a.shape.leaf (leaves_in (parts_of a.children.items))

@@ -1,14 +1,17 @@
 //! Inner nodes.
 ghost use Rattle.std.specs.Prelude.{◌≡◌, ◌↔◌, ◌+◌, ◌<◌, ◌≤◌, IsTrue, [], ◌∷◌, length, true, false, IfOk, OnOk, OnErr};
 ghost use Rattle.std.specs.List.{sum_by};
+ghost use Rattle.stow_merge.specs.Pins.{pins_in};
 ghost use Rattle.stow_message.specs.MessageBuf.{Fits, without_range};
 ghost use Rattle.stow_message.specs.Packed.{message_size};
 ghost use Rattle.stow_message.specs.Rising.{in_range};
 ghost use Rattle.stow_tree_model.specs.TreeMessage.{message_of};
+ghost use Rattle.stow_node.specs.Flushes.{AreShort, Flushes};
 ghost use Rattle.stow_node.specs.Halves.{AreHalves};
 ghost use Rattle.stow_node.specs.Moves.{accepted, CanAccept, IsSqueezed, Stays, raised};
-ghost use Rattle.stow_node.specs.Subtree.{first_subtree};
+ghost use Rattle.stow_node.specs.Subtree.{first_subtree, messages_of};
 
+use crate::absorbing::absorb;
 use crate::child::{Child, top_key};
 use crate::moving::{bytes_for, hand_down, heaviest};
 use crate::shape::Shape;
@@ -16,6 +19,7 @@ use std::alloc::{AllocError, Allocator, Global};
 use std::marker::Model;
 use std::mem;
 use stow_leaf::leaf::Leaf;
+use stow_merge::pins::Pins;
 use stow_message::message_buf::MessageBuf;
 use stow_page::packed_rows::PackedRows;
 use stow_page::rows::Rows;
@@ -122,6 +126,33 @@ impl<A: Allocator + Copy> Node<A> {
             buffer,
             children,
         })
+    }
+}
+
+impl<A: Allocator + Copy> Node<A> {
+    /// Merges messages for a leaf into it, of a node right above leaves: the leaf for which most bytes are buffered. What
+    /// comes in its place has two places more at least. Where memory is refused nothing has changed.
+    pub fn flush_leaf(&mut self, alloc: A, pins: &Pins<A>) -> Result<(), AllocError>
+        requires level { self.old.height ≡ 1 }
+        requires some { 0 < length self.old.buffer.messages }
+        requires places { self.old.width + 2 ≤ self.old.shape.fan_out }
+        requires short { AreShort (messages_of self.old) }
+        ensures ok { OnOk result (Flushes (pins_in pins.now) self.old self.new) }
+        ensures err { OnErr result (self.new ≡ self.old) }
+    {
+        let index = heaviest(self.children.as_slice(), &self.buffer);
+        let most = self.shape.fan_out as usize - self.width() + 1;
+        let target = self.shape.leaf;
+        absorb(
+            alloc,
+            &mut self.children,
+            index,
+            &mut self.buffer,
+            pins,
+            target,
+            most,
+        )?;
+        Ok(())
     }
 }
 

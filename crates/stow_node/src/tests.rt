@@ -1,12 +1,14 @@
 //! What no clause says: that the calls succeed where there is memory, and which of them ask for none.
 ghost use Rattle.std.specs.Prelude.{◌≡◌, ◌+◌, ◌<◌, ◌≤◌, [], length, IfOk};
 ghost use Rattle.stow_tree_model.specs.Keys.{packed};
+ghost use Rattle.stow_node.specs.Flushes.{AreShort};
 ghost use Rattle.stow_node.specs.Subtree.{messages_of};
 
 use crate::node::Node;
 use crate::shape::Shape;
 use std::alloc::{AllocError, Allocator};
 use std::test::Fail;
+use stow_merge::pins::Pins;
 use stow_raw::raw_buf::RawBuf;
 use stow_refusing::{Plan, Refusing};
 use stow_tree_model::message::Message;
@@ -15,7 +17,7 @@ use stow_tree_model::tenant_key::TenantKey;
 
 /// The smallest tree.
 fn smallest() -> Shape
-    ensures { (1 ≤ result.fan_out) × (result.buffer ≡ 131072) }
+    ensures { (result.fan_out ≡ 4) × (result.buffer ≡ 131072) }
 {
     Shape {
         buffer: 131_072,
@@ -31,6 +33,10 @@ fn put_a<A: Allocator>(node: &mut Node<A>)
     requires room { node.old.buffer.used + 23 ≤ node.old.buffer.capacity }
     ensures some { 0 < length node.new.buffer.messages }
     ensures capacity { node.new.buffer.capacity ≡ node.old.buffer.capacity }
+    ensures short { AreShort (messages_of node.new) }
+    ensures height { node.new.height ≡ node.old.height }
+    ensures width { node.new.width ≡ node.old.width }
+    ensures shape { node.new.shape ≡ node.old.shape }
 {
     node.push(Message {
         key: TenantKey::from_packed(&[0, 0, 0, 1, b'a']),
@@ -115,5 +121,42 @@ fn making_withstands_each_refusal(rt: HostRuntime) -> Result<(), Fail> {
     }
     heap.set(Plan::RefuseAt(9));
     assert!(rt; is_made(&heap));
+    Ok(())
+}
+
+/// Puts a message into a node without any, right above a leaf, and merges it into that leaf.
+fn put_and_flush<A: Allocator + Copy>(
+    alloc: A,
+    node: &mut Node<A>,
+    pins: &Pins<A>,
+) -> Result<(), AllocError>
+    requires none { messages_of node.old ≡ [] }
+    requires low { node.old.low ≡ packed 0 [] }
+    requires room { node.old.buffer.used + 23 ≤ node.old.buffer.capacity }
+    requires level { node.old.height ≡ 1 }
+    requires places { node.old.width + 2 ≤ node.old.shape.fan_out }
+{
+    put_a(node);
+    node.flush_leaf(alloc, pins)
+}
+
+/// Whether a first node can be had, and merges a message into its leaf.
+fn is_flushed<A: Allocator + Copy>(alloc: A) -> bool {
+    let pins = Pins::new(alloc);
+    match Node::first(alloc, smallest()) {
+        Ok(mut node) => put_and_flush(alloc, &mut node, &pins).is_ok(),
+        Err(_) => false,
+    }
+}
+
+#[test]
+fn a_leaf_takes_messages(rt: HostRuntime) -> Result<(), Fail> {
+    let heap = Refusing::new(rt.alloc());
+    assert!(rt; is_flushed(&heap));
+    let asked = heap.asked();
+    for n in 0..asked {
+        heap.set(Plan::RefuseAt(n));
+        assert!(rt; !is_flushed(&heap), "request {n}");
+    }
     Ok(())
 }

@@ -3,7 +3,9 @@ use Rattle.stow_tree_model.specs.Keys.{tenant_of, IsOfTenant}
 use Rattle.stow_tree_model.specs.TreeMessage.{message_of}
 use Rattle.stow_message.specs.Packed.{message_size}
 use Rattle.stow_leaf.specs.Intervals.{top_key, spans}
-use Rattle.stow_node.proofs.Lone.{lone}
+use Rattle.stow_node.specs.Flushes.{AreShort}
+use Rattle.stow_node.specs.Subtree.{Subtree, messages_of}
+use Rattle.stow_node.proofs.Lone.{lone, short_alone}
 use Rattle.stow_node.proofs.tests.put_a.Goals as goal
 
 pub from_packed-requires : goal.from_packed-requires
@@ -22,3 +24,8 @@ push-requires g c =
     lone c.args.node.now _ c.requires.none
     (rw (c.requires.low, c.from_packed.ensures) refl)
     (let room = c.requires.room in let long = ap length c.from_packed.ensures in omega arith)
+
+pub returns-clause-short : goal.returns-clause-short
+returns-clause-short g c =
+    subst (λ (t : Subtree). AreShort (messages_of t)) (sym c.push.ensures)
+    (short_alone c.args.node.now _ (120 ∷ []) c.requires.none refl (omega arith))
