@@ -86,3 +86,15 @@ pub record IsNode {A : Type 0} (a : Inside A) : Type 0 where
       (messages_in (parts_of a.children.items)
       ++ row_messages (leaves_in (parts_of a.children.items)))
   pub sizes : AreLeafSizes a.shape.leaf (leaves_in (parts_of a.children.items))
+
+-- what stands right below a node, and its own messages above it
+pub record AreChildren {A : Type 0} (t : Subtree) (children : List (Child A)) : Type 0 where
+  pub width : t.width ≡ length children
+  pub some : 1 ≤ length children
+  pub low : low_or top_key (parts_of children) ≡ t.low
+  pub deeper : t.deeper ≡ messages_in (parts_of children)
+  pub leaves : t.leaves ≡ leaves_in (parts_of children)
+  pub tiled : TiledTo top_key (parts_of children)
+  pub level : AllByRecursion (IsBelow t.height t.shape) children
+  pub from : AreWithin t.low top_key t.buffer.messages
+  pub newer : AreNewer t.buffer.messages (t.deeper ++ row_messages t.leaves)

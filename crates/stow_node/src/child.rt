@@ -22,7 +22,7 @@ pub enum Child<A: Allocator> {
 
 impl<A: Allocator> Child<A> {
     /// The lowest key that it may hold.
-    pub(crate) fn low(&self) -> TenantKey<'_>
+    pub fn low(&self) -> TenantKey<'_>
         ensures { result.bytes.now ≡ (part_of self.now).low }
     {
         match self {
@@ -50,7 +50,7 @@ fn is_below(key: TenantKey<'_>, fence: TenantKey<'_>) -> bool
 }
 
 /// The place of the child for a key: the last one whose fence is at most the key.
-pub(crate) fn child_for<A: Allocator>(children: &[Child<A>], key: TenantKey<'_>) -> usize
+pub fn child_for<A: Allocator>(children: &[Child<A>], key: TenantKey<'_>) -> usize
     requires some { 0 < length children.now }
     requires within { spans (low_or top_key (parts_of children.now)) top_key key.bytes.now ≡ true }
     ensures { IsFor (parts_of children.now) key.entry.bytes.now result }
@@ -68,7 +68,7 @@ pub(crate) fn child_for<A: Allocator>(children: &[Child<A>], key: TenantKey<'_>)
 }
 
 /// Where the keys of the child at `index` end.
-pub(crate) fn high_after<A: Allocator>(children: &[Child<A>], index: usize) -> TenantKey<'_>
+pub fn high_after<A: Allocator>(children: &[Child<A>], index: usize) -> TenantKey<'_>
     requires { index < length children.now }
     ensures { result.bytes.now ≡ high_of (parts_of children.now) index }
 {

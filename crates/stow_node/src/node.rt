@@ -9,6 +9,7 @@ ghost use Rattle.stow_tree_model.specs.TreeMessage.{message_of};
 ghost use Rattle.stow_node.specs.Flushes.{AreShort, Flushes};
 ghost use Rattle.stow_node.specs.Halves.{AreHalves};
 ghost use Rattle.stow_node.specs.Moves.{accepted, CanAccept, IsSqueezed, Stays, raised};
+ghost use Rattle.stow_node.specs.Nodes.{AreChildren};
 ghost use Rattle.stow_node.specs.Subtree.{first_subtree, messages_of};
 
 use crate::absorbing::absorb;
@@ -176,6 +177,20 @@ impl<A: Allocator> Node<A> {
         ensures { result ≡ self.now.width }
     {
         self.children.len()
+    }
+
+    /// Its own messages.
+    pub fn buffer(&self) -> &MessageBuf<A>
+        ensures { result.now ≡ self.now.buffer }
+    {
+        &self.buffer
+    }
+
+    /// What stands right below it, from the lowest: leaves, or nodes one level lower.
+    pub fn children(&self) -> &[Child<A>]
+        ensures { AreChildren self.now result.now }
+    {
+        self.children.as_slice()
     }
 
     /// Whether there is room for the message in its own buffer.
