@@ -13,9 +13,9 @@ use Rattle.stow_bytes.specs.Bytes.{bytes_cmp}
 use Rattle.stow_tree_model.specs.Op.{Op}
 use Rattle.stow_tree_model.specs.Agreement.{TenantPins}
 use Rattle.stow_tree_model.specs.Keys.{tenant_of}
-use Rattle.stow_tree_model.specs.Merged.{row_message, rows_set, merged, pruned, Stays}
+use Rattle.stow_tree_model.specs.Merged.{op_of_value, row_message, rows_set, merged, pruned, Stays}
 use Rattle.stow_tree_model.specs.Messages.{Messages, ops_of, ops_in, with_all, set_of}
-use Rattle.stow_tree_model.specs.Operations.{Operations, latest, or_else, over, value_in, NoneAbove}
+use Rattle.stow_tree_model.specs.Operations.{Operations, NumberedValue, applied, latest, or_else, over, value_in, numbered, outcome, NoneAbove}
 use Rattle.stow_tree_model.specs.Order.{Place, place_cmp, place_of, version_place, MessagesRise, VersionsRise}
 use Rattle.stow_tree_model.specs.TreeMessage.{TreeMessage}
 use Rattle.stow_tree_model.specs.Value.{IsValue}
@@ -32,7 +32,7 @@ use Rattle.stow_merge.specs.Pages.{HaveShortValues}
 use Rattle.stow_page.specs.Format.{IsVersion}
 use Rattle.stow_page.specs.Rows.{is_above, IsCountUpTo}
 use Rattle.stow_leaf.specs.Intervals.{spans, AreWithin}
-use Rattle.stow_leaf.specs.Replacements.{GiveWay, ops_with}
+use Rattle.stow_leaf.specs.Replacements.{GiveWay, ops_with, AreThere, HasShortValues}
 use Rattle.stow_leaf.proofs.Intervals.{lt, by_test, lt_self}
 
 -- ---- options
@@ -53,6 +53,18 @@ none_some o e s = cc
 pub none_unless : (o : Option Op) → (IsSome o → ⊥) → o ≡ None
 none_unless None f = refl
 none_unless (Some op) f = absurd (f refl)
+
+pub some_or : {X : Type 0} (a b : Option Op) → (IsSome a → X) → (IsSome b → X) → IsSome (or_else a b) → X
+some_or None b f g h = g h
+some_or (Some op) b f g h = f refl
+
+pub some_left : (a b : Option Op) → IsSome a → IsSome (or_else a b)
+some_left None b h = absurd cc
+some_left (Some op) b h = refl
+
+pub some_right : (a b : Option Op) → IsSome b → IsSome (or_else a b)
+some_right None b h = h
+some_right (Some op) b h = refl
 
 -- ---- messages by key
 
@@ -152,6 +164,30 @@ merged_within low high rows batch pins r b v c = by_test (spans low high v.key) 
     absurd (none_some (ops_with batch rows v.key v.number)
     (both_none (ops_in batch v.key v.number) (ops_in (map row_message rows) v.key v.number) (b.outside v.key v.number e) (r.outside v.key v.number e))
     (merged_there rows batch pins v c)))
+
+-- a key that a merge has a version of is one of its rows or messages
+pub merged_keys : (rows : List Version) (batch : List TreeMessage) (pins : TenantPins) (key : List ℕ) (n : ℕ) → IsSome (ops_in (map row_message (merged rows batch pins)) key n) → AreThere (ops_with batch rows key)
+merged_keys rows batch pins key n s = found_row (merged rows batch pins) key n s (λ v c k.
+    subst (λ x. AreThere (ops_with batch rows x)) k (v.number, merged_there rows batch pins v c))
+
+-- ---- values within the limit
+
+put_short : (n : ℕ) (value : Option (List ℕ)) (before : Option NumberedValue) → IsValue value → IsValue (value_in (numbered n (outcome (op_of_value value) (value_in before))))
+put_short n None before h = h
+put_short n (Some bytes) before h = h
+
+short_applied : (vs : List Version) (key : List ℕ) (n : ℕ) (before : Option NumberedValue) → HaveShortValues vs → IsValue (value_in before) → IsValue (value_in (applied n (ops_in (map row_message vs) key n) before))
+short_applied [] key n before h b = b
+short_applied (v ∷ vs) key n before h b = step (eq_by_cmp place_cmp (key, n) (place_of (row_message v))) (short_applied vs key n before h.1 b) where
+  step : (t : Bool) → IsValue (value_in (applied n (ops_in (map row_message vs) key n) before)) → IsValue (value_in (applied n (if t then Some (op_of_value v.value) else ops_in (map row_message vs) key n) before))
+  step true later = put_short n v.value before h.0
+  step false later = later
+
+-- rows with short values give each key short values
+pub short_rows : (vs : List Version) (key : List ℕ) → HaveShortValues vs → HasShortValues (ops_in (map row_message vs) key)
+unfolding latest
+short_rows vs key h zero = short_applied vs key zero None h (record { is_short = λ bytes e. absurd cc })
+short_rows vs key h (suc n) = short_applied vs key (suc n) (latest (ops_in (map row_message vs) key) n) h (short_rows vs key h n)
 
 -- what a merge keeps depends on a key's operations alone
 abbrev KeptBy : List ℕ → Operations → ℕ → Type 0

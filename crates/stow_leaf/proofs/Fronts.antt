@@ -1,5 +1,5 @@
 -- What comes in a leaf's place: all pages of its merge, or the first ones and the rows behind.
-use Rattle.std.proofs.Common.{◌≡◌, ◌≢◌, ℕ, zero, suc, ◌+◌, ◌<◌, ◌≤◌, Bool, true, false, List, [], ◌∷◌, ◌++◌, take, drop, length, map, get_or, Option, Some, None, refl, ap, ◌∙◌, sym, subst, arith, ⊎_elim, length-append}
+use Rattle.std.proofs.Common.{◌≡◌, ◌≢◌, ℕ, zero, suc, ◌+◌, ◌<◌, ◌≤◌, Bool, true, false, cond, List, [], ◌∷◌, ◌++◌, take, drop, length, map, get_or, Option, Some, None, refl, ap, ◌∙◌, sym, subst, arith, ⊎_elim, inl, inr, length-append}
 use Rattle.std.specs.Prelude.{Contains, IsSome, is_some}
 use Rattle.std.specs.List.{AllByRecursion}
 use Rattle.std.specs.Ordering.{is_lt}
@@ -12,6 +12,7 @@ use Rattle.stow_tree_model.specs.Agreement.{TenantPins}
 use Rattle.stow_tree_model.specs.Keys.{tenant_of}
 use Rattle.stow_tree_model.specs.Merged.{row_message, rows_set, merged}
 use Rattle.stow_tree_model.specs.Messages.{ops_in, with_all}
+use Rattle.stow_tree_model.specs.Op.{Op}
 use Rattle.stow_tree_model.specs.Operations.{Operations, latest, or_else, value_in}
 use Rattle.stow_tree_model.specs.Order.{MessagesRise, VersionsRise}
 use Rattle.stow_tree_model.specs.TreeMessage.{TreeMessage}
@@ -27,11 +28,11 @@ use Rattle.stow_merge.specs.Pages.{read_in_order, HaveShortValues, AreLeafPages,
 use Rattle.stow_leaf.specs.Intervals.{spans, AreWithin}
 use Rattle.stow_leaf.specs.LeafRows.{LeafRows, row_messages, first_fence, IsLeafTile, LeavesTo}
 use Rattle.stow_leaf.specs.Making.{leaves_from, AreFilled, IsMerged, IsFront, CanTakeAbove}
-use Rattle.stow_leaf.specs.Replacements.{IsLeafSize, GiveWay, ops_with, CanTake, Replaces, HasMerged, IsReplacement}
+use Rattle.stow_leaf.specs.Replacements.{IsLeafSize, GiveWay, AreThere, HasShortValues, ops_with, IsFence, CanTake, Replaces, HasMerged, IsReplacement}
 use Rattle.stow_leaf.proofs.Intervals.{lt, by_test, lt_self, lt_trans, lt_not, lt_le, le_lt, le_le, spanned, span_low, span_high, at_most}
 use Rattle.stow_leaf.proofs.Ops.{ops-append, ops-in_range}
-use Rattle.stow_leaf.proofs.Found.{or_none, none_or, none_some, none_unless, found, no_row, keys_within, rows_within, from_first, from_first_message, merge_gives_way, stays_itself, merged_within, merged_there, merged_same, IsCut}
-use Rattle.stow_leaf.proofs.Tiles.{Halves, halves, tiles, tiles_then, fence_then, length-leaves_from, leaf_sizes, leaf_messages, ops_parts, size_of_part}
+use Rattle.stow_leaf.proofs.Found.{or_none, none_or, none_some, none_unless, some_or, some_left, some_right, found, found_row, row_there, no_row, keys_within, rows_within, from_first, from_first_message, merge_gives_way, stays_itself, merged_within, merged_there, merged_keys, merged_same, short_rows, IsCut}
+use Rattle.stow_leaf.proofs.Tiles.{Halves, halves, tiles, tiles_then, fence_then, length-leaves_from, leaf_fences, leaf_sizes, leaf_messages, ops_parts, size_of_part}
 
 -- ---- pages
 
@@ -85,6 +86,12 @@ all_pages leaf high batch pins target most pages m few = record {
     rest = λ key o i n. (ap (λ l. ops_in l key n) messages
         ∙ (rows_within leaf.0 high (merged leaf.1 batch pins) (merged_within leaf.0 high leaf.1 batch pins m.tile.rows m.within)).outside key n o
         ∙ sym (m.tile.rows.outside key n o)) i;
+    short = λ key s v. subst (λ l. HasShortValues (ops_in l key)) (sym messages) (short_rows (merged leaf.1 batch pins) key m.short);
+    fences = by_pages pages
+        (λ e. subst (λ ps. AllByRecursion (λ (l : LeafRows). IsFence leaf batch l.0) (leaves_from leaf.0 ps)) (sym e) (inl refl, tt))
+        (λ ne. leaf_fences (IsFence leaf batch) target leaf.0 pages (m.are_pages.are_cut ne) (inl refl)
+        (λ v c. inr (v.number, merged_there leaf.1 batch pins v (subst (λ vs. Contains vs v) m.are_pages.are c))));
+    keys = λ key t. merged_keys leaf.1 batch pins key t.0 (subst (λ l. IsSome (ops_in l key t.0)) messages t.1);
   };
   all = λ l. refl;
 }
@@ -119,6 +126,14 @@ first_pages leaf high batch pins target most pages xs f q ys at m e count some c
       ∙ sym (ap (λ vs. ops_in (map row_message vs) key n) (sym (take-append-drop at leaf.1)) ∙ ops_parts (take at leaf.1) behind key n
       ∙ none_or (ops_in (map row_message (take at leaf.1)) key n) (ops_in (map row_message behind) key n)
       ((rows_within leaf.0 f.key (take at leaf.1) (λ v c. spanned leaf.0 f.key v.key (span_low leaf.0 high v.key (kept v (Contains-append_left (take at leaf.1) behind v c))) (all_member (λ (u : Version). lt u.key f.key ≡ true) (take at leaf.1) v cut.lower c))).outside key n o))) i;
+  short = λ key s v. subst HasShortValues (λ i n. sym (same key n (span_high leaf.0 f.key key s)) i) (short_rows (merged leaf.1 batch pins) key m.short);
+  fences = all_join (λ (l : LeafRows). IsFence leaf batch l.0) (leaves_from leaf.0 xs) ((f.key, behind) ∷ [])
+      (leaf_fences (IsFence leaf batch) target leaf.0 xs h.front (inl refl) (λ v c. inr (v.number, there v (Contains-append_left (read_in_order xs) later v c))))
+      (inr (f.number, there f (Contains-append_right (read_in_order xs) later f (contains_here f (q ++ read_in_order ys)))), tt);
+  keys = λ key t. some_or (ops_in (map row_message (read_in_order xs)) key t.0) (ops_in (map row_message behind) key t.0)
+      (λ s. found_row (read_in_order xs) key t.0 s (λ v c k. subst (λ x. AreThere (ops_with batch leaf.1 x)) k (v.number, there v (Contains-append_left (read_in_order xs) later v c))))
+      (λ s. found_row behind key t.0 s (λ v c k. subst (λ x. AreThere (ops_with batch leaf.1 x)) k (v.number, row_of v (Contains-append_right (take at leaf.1) behind v c))))
+      (subst IsSome (both key t.0) t.1);
 }
   where
     behind : List Version
@@ -141,6 +156,14 @@ first_pages leaf high batch pins target most pages xs f q ys at m e count some c
 
     top : spans leaf.0 high f.key ≡ true
     top = inside f (Contains-append_right (read_in_order xs) later f (contains_here f (q ++ read_in_order ys)))
+
+    there : (v : Version) → Contains (read_in_order xs ++ later) v → IsSome (ops_with batch leaf.1 v.key v.number)
+    there v c = merged_there leaf.1 batch pins v (subst (λ vs. Contains vs v) (sym read_all) c)
+
+    row_of : (v : Version) → Contains (take at leaf.1 ++ behind) v → IsSome (ops_with batch leaf.1 v.key v.number)
+    row_of v c =
+        some_right (ops_in batch v.key v.number) (ops_in (map row_message leaf.1) v.key v.number)
+        (row_there leaf.1 v (subst (λ vs. Contains vs v) (take-append-drop at leaf.1) c))
 
     under : (v : Version) → Contains (read_in_order xs) v → lt v.key f.key ≡ true
     under v c = ap is_lt (h.cross.are_below v f c (contains_here f (q ++ read_in_order ys)))
@@ -208,9 +231,7 @@ rest_ops rows batch m at cut key n l =
 
 pub can_merge_rest : (leaf : LeafRows) (high : List ℕ) (batch : List TreeMessage) (pins : TenantPins) (target : ℕ) (m : TreeMessage) (at : ℕ) → CanTake leaf high batch pins target → Begun leaf high batch m → IsCut leaf.1 m.key at → CanMergeRest leaf high batch pins target m at
 can_merge_rest leaf high batch pins target m at can b cut = record {
-  values = all_from_members (λ v. IsValue v.value) (merged (drop at leaf.1) batch pins) (λ v c.
-      all_member (λ (u : Version). IsValue u.value) (merged leaf.1 batch pins) v can.short
-      (merged_same (drop at leaf.1) leaf.1 batch pins v (λ n. sym (rest_ops leaf.1 batch m at cut v.key n (above v c))) c));
+  values = values;
   is_merged = λ pages are. record {
     tile = record {
       ordered = lt_is (bytes_cmp m.key high) (span_high leaf.0 high m.key b.inside);
@@ -221,6 +242,7 @@ can_merge_rest leaf high batch pins target m at can b cut = record {
       outside = λ key n o. by_test (lt key m.key) (λ l. b.first key n l) (λ l.
           can.within.outside key n (by_test (spans leaf.0 high key) (λ s. absurd (no_path (sym o ∙ spanned m.key high key l (span_high leaf.0 high key s)))) (λ s. s)));
     };
+    short = values;
     are_pages = are;
   };
 }
@@ -236,6 +258,11 @@ can_merge_rest leaf high batch pins target m at can b cut = record {
         ∙ no_row (drop at leaf.1) v.key v.number (λ w d k. no_path (sym (from w d) ∙ ap (λ x. lt x m.key) k ∙ l)))
         (merged_there (drop at leaf.1) batch pins v c)))
         (λ l. l)
+
+    values : HaveShortValues (merged (drop at leaf.1) batch pins)
+    values = all_from_members (λ v. IsValue v.value) (merged (drop at leaf.1) batch pins) (λ v c.
+        all_member (λ (u : Version). IsValue u.value) (merged leaf.1 batch pins) v can.short
+        (merged_same (drop at leaf.1) leaf.1 batch pins v (λ n. sym (rest_ops leaf.1 batch m at cut v.key n (above v c))) c))
 
 -- a leaf of the rows below the first message, before what comes in the others' place
 pub with_lower : (leaf : LeafRows) (high : List ℕ) (batch : List TreeMessage) (pins : TenantPins) (target most fewer : ℕ) (m : TreeMessage) (at : ℕ) (leaves : List LeafRows) (end : List ℕ)
@@ -264,6 +291,17 @@ with_lower leaf high batch pins target most fewer m at leaves end can b less cut
         (λ i n. sym (ops-append (map row_message (take at leaf.1)) (row_messages leaves) key n ∙ none_or (ops_in (map row_message (take at leaf.1)) key n) (ops_in (row_messages leaves) key n) (none_below key n l)) i)
         (r.agrees key (spanned m.key end key l (span_high leaf.0 end key s)))));
     rest = λ key o i n. as_before key n (upper_out key o) i;
+    short = λ key s v. by_test (lt key m.key)
+        (λ l. subst HasShortValues (λ i n. (none_or (ops_in batch key n) (ops_in (map row_message leaf.1) key n) (b.first key n l) ∙ sym (as_before key n (lower_out key l))) i) v)
+        (λ l. subst HasShortValues
+        (λ i n. sym (ops-append (map row_message (take at leaf.1)) (row_messages leaves) key n ∙ none_or (ops_in (map row_message (take at leaf.1)) key n) (ops_in (row_messages leaves) key n) (none_below key n l)) i)
+        (r.short key (spanned m.key end key l (span_high leaf.0 end key s)) (subst HasShortValues (λ i n. rest_ops leaf.1 batch m at cut key n l i) v)));
+    fences = (inl refl, each_fence leaves r.fences);
+    keys = λ key t. some_or (ops_in (map row_message (take at leaf.1)) key t.0) (ops_in (row_messages leaves) key t.0)
+        (λ s. (t.0, some_right (ops_in batch key t.0) (ops_in (map row_message leaf.1) key t.0)
+        (subst IsSome (sym (parts key t.0)) (some_left (ops_in (map row_message (take at leaf.1)) key t.0) (ops_in (map row_message (drop at leaf.1)) key t.0) s))))
+        (λ s. wider key (r.keys key (t.0, s)))
+        (subst IsSome (ops-append (map row_message (take at leaf.1)) (row_messages leaves) key t.0) t.1);
   };
   some = record {
     key = m.key;
@@ -273,6 +311,30 @@ with_lower leaf high batch pins target most fewer m at leaves end can b less cut
   };
 }
   where
+    parts : (key : List ℕ) (n : ℕ) → ops_in (map row_message leaf.1) key n ≡ or_else (ops_in (map row_message (take at leaf.1)) key n) (ops_in (map row_message (drop at leaf.1)) key n)
+    parts key n = ap (λ vs. ops_in (map row_message vs) key n) (sym (take-append-drop at leaf.1)) ∙ ops_parts (take at leaf.1) (drop at leaf.1) key n
+
+    -- what messages and some of the rows have, they have with all
+    wider : (key : List ℕ) → AreThere (ops_with batch (drop at leaf.1) key) → AreThere (ops_with batch leaf.1 key)
+    wider key t = (
+      t.0,
+      some_or (ops_in batch key t.0) (ops_in (map row_message (drop at leaf.1)) key t.0)
+          (λ s. some_left (ops_in batch key t.0) (ops_in (map row_message leaf.1) key t.0) s)
+          (λ s. some_right (ops_in batch key t.0) (ops_in (map row_message leaf.1) key t.0)
+          (subst IsSome (sym (parts key t.0)) (some_right (ops_in (map row_message (take at leaf.1)) key t.0) (ops_in (map row_message (drop at leaf.1)) key t.0) s)))
+          t.1,
+    )
+
+    each_fence : (ls : List LeafRows) → AllByRecursion (λ (l : LeafRows). IsFence (m.key, drop at leaf.1) batch l.0) ls → AllByRecursion (λ (l : LeafRows). IsFence leaf batch l.0) ls
+    each_fence [] h = tt
+    each_fence (l ∷ ls) h = (
+      ⊎_elim
+          (λ (e : l.0 ≡ m.key). inr (subst (λ x. AreThere (ops_with batch leaf.1 x)) (sym e) (m.number, some_left (ops_in batch m.key m.number) (ops_in (map row_message leaf.1) m.key m.number) b.here)))
+          (λ (t : AreThere (ops_with batch (drop at leaf.1) l.0)). inr (wider l.0 t))
+          h.0,
+      each_fence ls h.1,
+    )
+
     below : (v : Version) → Contains (take at leaf.1) v → lt v.key m.key ≡ true
     below v c = all_member (λ (u : Version). lt u.key m.key ≡ true) (take at leaf.1) v cut.lower c
 
@@ -311,6 +373,9 @@ of_all leaf high ms pins target most leaves end r = record {
     ends = r.replaces.ends;
     agrees = λ key s. subst (λ f. GiveWay (pins (tenant_of key)) f (ops_in (row_messages leaves) key)) (λ i n. ap (λ o. or_else o (ops_in (map row_message leaf.1) key n)) (in_interval leaf.0 high ms key n (up key s)) i) (r.replaces.agrees key s);
     rest = r.replaces.rest;
+    short = λ key s v. r.replaces.short key s (subst HasShortValues (λ i n. sym (ap (λ o. or_else o (ops_in (map row_message leaf.1) key n)) (in_interval leaf.0 high ms key n (up key s))) i) v);
+    fences = each_fence leaves r.replaces.fences;
+    keys = λ key t. wider key (r.replaces.keys key t);
   };
   some = record {
     key = r.some.key;
@@ -320,6 +385,23 @@ of_all leaf high ms pins target most leaves end r = record {
   };
 }
   where
+    some_of : (t : Bool) (o : Option Op) → IsSome (cond t o None) → IsSome o
+    some_of true o h = h
+    some_of false o h = absurd cc
+
+    wider : (key : List ℕ) → AreThere (ops_with (in_range leaf.0 high ms) leaf.1 key) → AreThere (ops_with ms leaf.1 key)
+    wider key t = (
+      t.0,
+      some_or (ops_in (in_range leaf.0 high ms) key t.0) (ops_in (map row_message leaf.1) key t.0)
+          (λ s. some_left (ops_in ms key t.0) (ops_in (map row_message leaf.1) key t.0) (some_of (spans leaf.0 high key) (ops_in ms key t.0) (subst IsSome (ops-in_range leaf.0 high ms key t.0) s)))
+          (λ s. some_right (ops_in ms key t.0) (ops_in (map row_message leaf.1) key t.0) s)
+          t.1,
+    )
+
+    each_fence : (ls : List LeafRows) → AllByRecursion (λ (l : LeafRows). IsFence leaf (in_range leaf.0 high ms) l.0) ls → AllByRecursion (λ (l : LeafRows). IsFence leaf ms l.0) ls
+    each_fence [] h = tt
+    each_fence (l ∷ ls) h = (⊎_elim (λ (e : l.0 ≡ leaf.0). inl e) (λ (t : AreThere (ops_with (in_range leaf.0 high ms) leaf.1 l.0)). inr (wider l.0 t)) h.0, each_fence ls h.1)
+
     up : (key : List ℕ) → spans leaf.0 end key ≡ true → spans leaf.0 high key ≡ true
     up key s = spanned leaf.0 high key (span_low leaf.0 end key s) (lt_le key end high (span_high leaf.0 end key s) r.replaces.ends)
 

@@ -195,7 +195,7 @@ front_is leaf high ms pins target most m later pages leaves end can rise e are f
     b = begun_at leaf high bs m later e (filter_rises (is_between leaf.0 high) ms rise) can.within
 
     f : IsFront leaf high bs pins target most pages leaves end
-    f = front bs pins target (record { tile = can.tile; size = can.size; within = can.within; are_pages = are })
+    f = front bs pins target (record { tile = can.tile; size = can.size; within = can.within; short = can.short; are_pages = are })
 
 -- the first message's key is above the fence, where it isn't the fence
 pub above_fence : (leaf : LeafRows) (high : List ℕ) (bs : List TreeMessage) (pins : TenantPins) (m : TreeMessage) (later : List TreeMessage) (target : ℕ) → CanTake leaf high bs pins target → MessagesRise bs → bs ≡ m ∷ later → (m.key ≢ leaf.0) → CanTakeAbove leaf high bs pins target

@@ -109,6 +109,19 @@ fenced_sizes : (target : ℕ) (pages : List (List Version)) → AreLeafPages tar
 fenced_sizes target [] a = tt
 fenced_sizes target (p ∷ pages) a = (a.0.fits, fenced_sizes target pages a.1)
 
+fenced_keys : (P : List ℕ → Type 0) (target : ℕ) (pages : List (List Version)) → AreLeafPages target pages → ((v : Version) → Contains (read_in_order pages) v → P v.key) → AllByRecursion (λ (l : LeafRows). P l.0) (fenced pages)
+fenced_keys P target [] a h = tt
+fenced_keys P target ([] ∷ pages) a h = absurd (a.0.is_filled refl)
+fenced_keys P target ((v ∷ p) ∷ pages) a h = (
+  h v (contains_here v (p ++ read_in_order pages)),
+  fenced_keys P target pages a.1 (λ u c. h u (Contains-append_right (v ∷ p) (read_in_order pages) u c)),
+)
+
+-- the first page's fence is the leaf's, and each other's one of its keys
+pub leaf_fences : (P : List ℕ → Type 0) (target : ℕ) (low : List ℕ) (pages : List (List Version)) → AreLeafPages target pages → P low → ((v : Version) → Contains (read_in_order pages) v → P v.key) → AllByRecursion (λ (l : LeafRows). P l.0) (leaves_from low pages)
+leaf_fences P target low [] a f h = tt
+leaf_fences P target low (p ∷ pages) a f h = (f, fenced_keys P target pages a.1 (λ u c. h u (Contains-append_right p (read_in_order pages) u c)))
+
 pub leaf_sizes : (target : ℕ) (low : List ℕ) (pages : List (List Version)) → AreLeafPages target pages → AllByRecursion (λ (l : LeafRows). IsLeafSize target l.1) (leaves_from low pages)
 leaf_sizes target low [] a = tt
 leaf_sizes target low (p ∷ pages) a = (a.0.fits, fenced_sizes target pages a.1)

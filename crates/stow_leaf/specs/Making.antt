@@ -2,7 +2,7 @@
 use Rattle.std.specs.Prelude.{◌≡◌, ◌≢◌, ℕ, suc, ◌<◌, ◌≤◌, List, [], ◌∷◌, length, slice_index_or}
 use Rattle.std.specs.declared.cmp.Ordering.TheVariants.{Less}
 use Rattle.stow_bytes.specs.Bytes.{bytes_cmp}
-use Rattle.stow_merge.specs.Pages.{ArePagesOf}
+use Rattle.stow_merge.specs.Pages.{HaveShortValues, ArePagesOf}
 use Rattle.stow_tree_model.specs.Agreement.{TenantPins}
 use Rattle.stow_tree_model.specs.Merged.{merged}
 use Rattle.stow_tree_model.specs.Order.{MessagesRise}
@@ -38,6 +38,7 @@ pub record IsMerged (leaf : LeafRows) (high : List ℕ) (batch : List TreeMessag
   pub tile : IsLeafTile leaf high
   pub size : IsLeafSize target leaf.1
   pub within : AreWithin leaf.0 high batch
+  pub short : HaveShortValues (merged leaf.1 batch pins)
   pub are_pages : ArePagesOf (merged leaf.1 batch pins) target pages
 
 -- what comes in a leaf's place: all pages where there are as many places

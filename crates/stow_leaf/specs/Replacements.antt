@@ -1,5 +1,5 @@
 -- What comes in a leaf's place, with messages for it merged.
-use Rattle.std.specs.Prelude.{◌≡◌, ◌≢◌, ℕ, ◌<◌, ◌≤◌, List, [], length, map, true, false, IsSome}
+use Rattle.std.specs.Prelude.{◌≡◌, ◌≢◌, ◌⊎◌, ℕ, ◌<◌, ◌≤◌, List, [], length, map, true, false, IsSome}
 use Rattle.std.specs.Ordering.{is_lt}
 use Rattle.std.specs.List.{AllByRecursion}
 use Rattle.stow_bytes.specs.Bytes.{bytes_cmp}
@@ -10,8 +10,9 @@ use Rattle.stow_tree_model.specs.Agreement.{TenantPins, AgreeAt}
 use Rattle.stow_tree_model.specs.Keys.{tenant_of}
 use Rattle.stow_tree_model.specs.Merged.{row_message, merged}
 use Rattle.stow_tree_model.specs.Messages.{ops_in}
-use Rattle.stow_tree_model.specs.Operations.{Operations, over, NoneAbove}
+use Rattle.stow_tree_model.specs.Operations.{Operations, over, latest, value_in, NoneAbove}
 use Rattle.stow_tree_model.specs.TreeMessage.{TreeMessage}
+use Rattle.stow_tree_model.specs.Value.{IsValue}
 use Rattle.stow_tree_model.specs.Version.{Version}
 use Rattle.stow_leaf.specs.Intervals.{spans, AreWithin}
 use Rattle.stow_leaf.specs.LeafRows.{LeafRows, row_messages, first_fence, IsLeafTile, LeavesTo}
@@ -23,6 +24,14 @@ IsLeafSize target rows = target < length (packed_page rows) → HaveOneKey rows
 -- operations on a key give way to others that mean the same at each pin, and from the newest on
 abbrev pub GiveWay : List ℕ → Operations → Operations → Type 0
 GiveWay pins f g = (bound : ℕ) → NoneAbove bound f → AgreeAt f g pins bound
+
+-- some operation is there
+abbrev pub AreThere : Operations → Type 0
+AreThere f = (n : ℕ) × IsSome (f n)
+
+-- the key has a value within the limit at each number, or none
+abbrev pub HasShortValues : Operations → Type 0
+HasShortValues f = (n : ℕ) → IsValue (value_in (latest f n))
 
 -- what messages and a leaf's rows below them have of a key
 abbrev pub ops_with : List TreeMessage → List Version → List ℕ → Operations
@@ -41,6 +50,10 @@ pub record CanTake (leaf : LeafRows) (high : List ℕ) (batch : List TreeMessage
 abbrev pub CanReplace : LeafRows → List ℕ → List TreeMessage → TenantPins → ℕ → Type 0
 CanReplace leaf high ms pins target = CanTake leaf high (in_range leaf.0 high ms) pins target
 
+-- the leaf's fence, or a key that has operations
+abbrev pub IsFence : LeafRows → List TreeMessage → List ℕ → Type 0
+IsFence leaf ms fence = (fence ≡ leaf.0) ⊎ AreThere (ops_with ms leaf.1 fence)
+
 -- Leaves in the place of one, with the messages of its keys below an end merged: a key below the
 -- end means the same under the pins, and of each other key the rows are as they were.
 pub record Replaces (leaf : LeafRows) (high : List ℕ) (ms : List TreeMessage) (pins : TenantPins)
@@ -55,6 +68,12 @@ pub record Replaces (leaf : LeafRows) (high : List ℕ) (ms : List TreeMessage) 
       → GiveWay (pins (tenant_of key)) (ops_with ms leaf.1 key) (ops_in (row_messages leaves) key)
   pub rest : (key : List ℕ) → spans leaf.0 end key ≡ false
       → ops_in (row_messages leaves) key ≡ ops_in (map row_message leaf.1) key
+  pub short : (key : List ℕ) → spans leaf.0 end key ≡ true
+      → HasShortValues (ops_with ms leaf.1 key) → HasShortValues (ops_in (row_messages leaves) key)
+  -- no other keys come in
+  pub fences : AllByRecursion (λ l. IsFence leaf ms l.0) leaves
+  pub keys : (key : List ℕ) → AreThere (ops_in (row_messages leaves) key)
+      → AreThere (ops_with ms leaf.1 key)
 
 -- a message of a key in the interval is there
 pub record HasMerged (low end : List ℕ) (ms : List TreeMessage) : Type 0 where

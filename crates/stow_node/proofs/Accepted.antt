@@ -21,7 +21,8 @@ use Rattle.stow_node.specs.Nodes.{parts_of, AreNewer, subtree_of, IsNode}
 use Rattle.stow_node.specs.Moves.{accepted, CanAccept}
 use Rattle.stow_leaf.proofs.Ops.{ops-append, ops-all_placed}
 use Rattle.stow_leaf.proofs.Found.{both_none}
-use Rattle.stow_node.proofs.Newer.{some_or, some_left, some_right, all_new_to, newer_than_part}
+use Rattle.stow_node.proofs.Newer.{all_new_to, newer_than_part}
+use Rattle.stow_leaf.proofs.Found.{some_or, some_left, some_right}
 
 length-placed : (m : TreeMessage) (ns : List TreeMessage) → length (placed m ns) ≡ length ns + 1
 length-placed m [] = refl

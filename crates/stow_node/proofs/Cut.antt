@@ -34,9 +34,8 @@ use Rattle.stow_node.specs.Halves.{AreHalves}
 use Rattle.stow_node.proofs.Accepted.{length-all_placed}
 use Rattle.std.proofs.lemmas.List.Filters.{length-filter_both}
 use Rattle.stow_node.proofs.Lowered.{rows_by_part, row_messages-append}
-use Rattle.stow_node.proofs.Newer.{some_left, some_right}
-use Rattle.stow_node.proofs.Raised.{wider, row_fences, first_of_row}
-use Rattle.stow_leaf.proofs.Found.{both_none, or_none}
+use Rattle.stow_node.proofs.Raised.{wider, row_fences, first_of_row, whole_tile}
+use Rattle.stow_leaf.proofs.Found.{both_none, or_none, some_left, some_right}
 use Rattle.stow_node.proofs.Row.{Taken, Apart, message_taken, row_taken, messages_apart, rows_apart, none_before, none_from, low_at_most}
 
 -- ---- a row in two parts
@@ -179,21 +178,7 @@ cut {A} a v w low node e half some more is rise = record {
           (subst IsSome (ops-append (messages_in ps) (row_messages (leaves_in ps)) key k) l)));
     };
   };
-  upper = record {
-    tiled = right;
-    first = sym is;
-    level = (all_cut (IsBelow a.height a.shape) v.items w.items level).1;
-    wide = let wide = node.wide in (omega arith, omega (arith, widths));
-    fits = refl;
-    from = record { outside = λ key n o. upper_ops key n ∙ ap (λ t. cond t (ops_in ms key n) None) o };
-    sizes = leaf_sizes.1;
-    newer = record {
-      above = λ key n k u l. node.newer.above key n k
-          (some_cond (spans low top_key key) (ops_in ms key n) (subst IsSome (upper_ops key n) u))
-          (subst IsSome (sym (below key k)) (right_some (ops_in (messages_in ps) key k) (ops_in (messages_in qs) key k) (ops_in (row_messages (leaves_in ps)) key k) (ops_in (row_messages (leaves_in qs)) key k)
-          (subst IsSome (ops-append (messages_in qs) (row_messages (leaves_in qs)) key k) l)));
-    };
-  };
+  upper = upper_node;
   halves = record {
     low = refl;
     lower_like = record { height = refl; shape = refl; capacity = refl };
@@ -222,7 +207,8 @@ cut {A} a v w low node e half some more is rise = record {
         let h : a.height * length ms ≡ a.height * length (out_of_range low top_key ms) + a.height * length (all_placed (in_range low top_key ms) []) =
         ap (λ c. a.height * c) (sym split) ∙ ap (λ c. a.height * (c + length (out_of_range low top_key ms))) (sym q) ∙ grind arith in
         omega (arith, m, h);
-    apart = record {
+    above = whole_tile (upper_of a w low) upper_node;
+    below = record {
       fences = subst (λ from. AllByRecursion (λ leaf. spans from low leaf.0 ≡ true) (leaves_in ps)) begins (row_fences low ps left);
       first = first_of_row low ps left ∙ begins;
       ordered = lt_is (bytes_cmp a.low low) (ap (λ x. lt x low) (sym begins) ∙ below_end low ps left (omega (arith, length-map v.items part_of, some)));
@@ -302,6 +288,23 @@ cut {A} a v w low node e half some more is rise = record {
         (λ l. halves_over (spans low top_key key) (ops_in ms key n) (ops_in (messages_in ps) key n) (ops_in (messages_in qs) key n)
         (none_from message_taken low ps key n (messages_apart low ps left) l)
         (λ s. node.from.outside key n (beyond a.low top_key key (by_test (lt key top_key) (λ t. absurd (no_path (sym s ∙ spanned low top_key key l t))) (λ t. t)))))
+
+    upper_node : IsNode (upper_of a w low)
+    upper_node = record {
+      tiled = right;
+      first = sym is;
+      level = (all_cut (IsBelow a.height a.shape) v.items w.items level).1;
+      wide = let wide = node.wide in (omega arith, omega (arith, widths));
+      fits = refl;
+      from = record { outside = λ key n o. upper_ops key n ∙ ap (λ t. cond t (ops_in ms key n) None) o };
+      sizes = leaf_sizes.1;
+      newer = record {
+        above = λ key n k u l. node.newer.above key n k
+            (some_cond (spans low top_key key) (ops_in ms key n) (subst IsSome (upper_ops key n) u))
+            (subst IsSome (sym (below key k)) (right_some (ops_in (messages_in ps) key k) (ops_in (messages_in qs) key k) (ops_in (row_messages (leaves_in ps)) key k) (ops_in (row_messages (leaves_in qs)) key k)
+            (subst IsSome (ops-append (messages_in qs) (row_messages (leaves_in qs)) key k) l)));
+      };
+    }
 
 -- ---- the code's cut
 

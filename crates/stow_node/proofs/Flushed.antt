@@ -27,9 +27,9 @@ use Rattle.stow_tree_model.specs.Value.{IsValue}
 use Rattle.stow_tree_model.specs.Version.{Version}
 use Rattle.stow_leaf.specs.Intervals.{top_key, spans, AreWithin}
 use Rattle.stow_leaf.specs.LeafRows.{LeafRows, leaf_rows, row_messages, first_fence, IsLeafTile, LeavesTo}
-use Rattle.stow_leaf.specs.Replacements.{IsLeafSize, GiveWay, ops_with, CanReplace, IsReplacement}
+use Rattle.stow_leaf.specs.Replacements.{IsLeafSize, AreThere, ops_with, IsFence, CanReplace, IsReplacement}
 use Rattle.stow_leaf.specs.declared.leaf.Leaf.{Leaf}
-use Rattle.stow_leaf.proofs.Found.{both_none, or_none, none_or, none_some, merged_short, stays_itself}
+use Rattle.stow_leaf.proofs.Found.{both_none, or_none, none_or, none_some, some_or, some_left, some_right, merged_short}
 use Rattle.stow_leaf.proofs.Fronts.{range_within}
 use Rattle.stow_leaf.proofs.Intervals.{lt, at_most, by_test, le_le, lt_le, le_lt, lt_self, under, beyond, spanned, span_low, span_high}
 use Rattle.stow_leaf.proofs.Ops.{ops-append, ops-in_range, ops-out_of_range}
@@ -39,13 +39,16 @@ use Rattle.stow_node.specs.declared.child.Child.TheVariants as in_child
 use Rattle.stow_node.specs.declared.node.Node.TheInside.{Inside}
 use Rattle.stow_node.specs.declared.shape.Shape.{Shape}
 use Rattle.stow_node.specs.Absorbs.{CanAbsorb, with_leaves, Absorbs}
-use Rattle.stow_node.specs.Flushes.{AreShort, Flushes}
-use Rattle.stow_node.specs.Nodes.{leaf_part, part_of, parts_of, AreNewer, AreLeafSizes, IsBelow, subtree_of, IsNode}
+use Rattle.stow_node.specs.Flushes.{AreShort, MeanTheSame, Keeps, Flushes}
+use Rattle.stow_node.specs.Nodes.{leaf_part, part_of, node_part, parts_of, AreNewer, AreLeafSizes, IsBelow, subtree_of, IsNode}
 use Rattle.stow_node.specs.Parts.{Part, low_or, end_of, high_of, IsTile, TiledTo, messages_in, leaves_in, weight_in}
 use Rattle.stow_node.specs.Subtree.{Subtree, messages_of}
 use Rattle.stow_node.proofs.Accepted.{below_of, whole_ops}
 use Rattle.stow_node.proofs.Cut.{low_or-append, tiled-left, tiled-right, none_cond, some_cond, all_cut}
 use Rattle.stow_node.proofs.Lowered.{rows_by_part, row_messages-append}
+use Rattle.stow_node.proofs.Over.{same_pointwise}
+use Rattle.stow_node.proofs.Raised.{whole_tile}
+use Rattle.stow_node.proofs.Standing.{outside_tile, stands}
 use Rattle.stow_node.proofs.Row.{Taken, Apart, message_taken, row_taken, messages_apart, rows_apart, none_before, none_from, low_at_most}
 use Rattle.std.specs.List.{sum_by}
 use Rattle.stow_message.specs.Packed.{message_size}
@@ -103,12 +106,12 @@ tiled-join high [] ys t u = u
 tiled-join high (x ∷ xs) ys t u = (subst (IsTile x) (sym (low_or-append high xs ys)) t.0, tiled-join high xs ys t.1 u)
 
 -- what is taken of three pieces of a row
-three : (f : Taken) (xs zs ys : List Part) (key : List ℕ) (n : ℕ) → ops_in (flat_map f (xs ++ (zs ++ ys))) key n ≡ or_else (ops_in (flat_map f xs) key n) (or_else (ops_in (flat_map f zs) key n) (ops_in (flat_map f ys) key n))
+pub three : (f : Taken) (xs zs ys : List Part) (key : List ℕ) (n : ℕ) → ops_in (flat_map f (xs ++ (zs ++ ys))) key n ≡ or_else (ops_in (flat_map f xs) key n) (or_else (ops_in (flat_map f zs) key n) (ops_in (flat_map f ys) key n))
 three f xs zs ys key n =
     ap (λ l. ops_in l key n) (flat_map-append f xs (zs ++ ys)) ∙ ops-append (flat_map f xs) (flat_map f (zs ++ ys)) key n
     ∙ ap (or_else (ops_in (flat_map f xs) key n)) (ap (λ l. ops_in l key n) (flat_map-append f zs ys) ∙ ops-append (flat_map f zs) (flat_map f ys) key n)
 
-end_behind : (high : List ℕ) (ps : List Part) (i : ℕ) → i < length ps → end_of high ps i ≡ low_or high (drop (i + 1) ps)
+pub end_behind : (high : List ℕ) (ps : List Part) (i : ℕ) → i < length ps → end_of high ps i ≡ low_or high (drop (i + 1) ps)
 end_behind high [] i h = absurd (omega arith)
 end_behind high (p ∷ ps) zero h = refl
 end_behind high (p ∷ ps) (suc i) h =
@@ -124,11 +127,11 @@ pub record Replaced {A : Type 0} (a : Inside A) (i : ℕ) (leaf : Leaf A) (leave
   pub is : IsReplacement (leaf_rows leaf) (high_of (parts_of a.children.items) i) a.buffer.messages pins a.shape.leaf most (map leaf_rows leaves) end
   pub room : length a.children.items + most ≤ a.shape.fan_out + 1
 
-old_parts : {A : Type 0} (a : Inside A) (i : ℕ) (leaf : Leaf A) → slice_get a.children.items i ≡ Some (in_child.Leaf leaf) → parts_of a.children.items ≡ take i (parts_of a.children.items) ++ (leaf_part leaf ∷ drop (i + 1) (parts_of a.children.items))
-old_parts a i leaf at =
-    let inside : i < length (parts_of a.children.items) = omega (arith, inside_of a.children.items i (in_child.Leaf leaf) at, length-map a.children.items part_of) in
+pub old_parts : {A : Type 0} (a : Inside A) (i : ℕ) (c : Child A) → slice_get a.children.items i ≡ Some c → parts_of a.children.items ≡ take i (parts_of a.children.items) ++ (part_of c ∷ drop (i + 1) (parts_of a.children.items))
+old_parts a i c at =
+    let inside : i < length (parts_of a.children.items) = omega (arith, inside_of a.children.items i c at, length-map a.children.items part_of) in
     sym (take-append-drop i (parts_of a.children.items))
-    ∙ ap (λ l. take i (parts_of a.children.items) ++ l) (drop_more (parts_of a.children.items) i (leaf_part leaf) inside ∙ ap (λ p. p ∷ drop (i + 1) (parts_of a.children.items)) (part_at a.children.items i (in_child.Leaf leaf) (leaf_part leaf) at))
+    ∙ ap (λ l. take i (parts_of a.children.items) ++ l) (drop_more (parts_of a.children.items) i (part_of c) inside ∙ ap (λ p. p ∷ drop (i + 1) (parts_of a.children.items)) (part_at a.children.items i c (part_of c) at))
 
 new_parts : {A : Type 0} (a : Inside A) (i : ℕ) (leaves : List (Leaf A)) → parts_of (with_leaves a.children.items i leaves) ≡ take i (parts_of a.children.items) ++ (leaf_parts leaves ++ drop (i + 1) (parts_of a.children.items))
 new_parts a i leaves =
@@ -150,36 +153,18 @@ pub record Flushed {A : Type 0} (a : Inside A) (v : Vec (Child A) A) (b : Messag
 
 pub flushed : {A : Type 0} (a : Inside A) (v : Vec (Child A) A) (i : ℕ) (leaf : Leaf A) (leaves : List (Leaf A)) (most : ℕ) (end : List ℕ) (pins : TenantPins) → Replaced a i leaf leaves most end pins → v.items ≡ with_leaves a.children.items i leaves → Flushed a v (without_range leaf.low end a.buffer) pins
 flushed {A} a v i leaf leaves most end pins r items = record {
-  is_node = record {
-    tiled = subst (TiledTo top_key) (sym parts) (tiled-join top_key xs (qs ++ ys) (subst (λ low. TiledTo low xs) (sym lows) left) (tiled-join top_key qs ys (subst (λ high. TiledTo high qs) ends (leaf_tiles high leaves r.is.replaces.tiled)) right));
-    first = ap (low_or top_key) parts ∙ low_or-append top_key xs (qs ++ ys) ∙ ap (λ low. low_or low xs) lows ∙ sym (low_or-append top_key xs (p ∷ ys)) ∙ ap (low_or top_key) (sym old) ∙ r.node.first;
-    level = subst (AllByRecursion (IsBelow {A = A} a.height a.shape)) (sym items)
-        (all_join (IsBelow a.height a.shape) (take i a.children.items) (map in_child.Leaf leaves ++ drop (i + 1) a.children.items) sides.0
-        (all_join (IsBelow a.height a.shape) (map in_child.Leaf leaves) (drop (i + 1) a.children.items) (all_leaves a.height a.shape leaves height_one) sides.1));
-    wide = (omega (arith, count, some), let few = r.is.replaces.few in let room = r.room in let l = length-map leaves leaf_rows in omega (arith, count, few, room, l));
-    fits = r.node.fits;
-    from = record { outside = λ key n o. ops-out_of_range leaf.low end ms key n ∙ none_cond (not (spans leaf.low end key)) (ops_in ms key n) (r.node.from.outside key n o) };
-    sizes = subst (AreLeafSizes a.shape.leaf) (sym leaves_are) (all_join (λ (l : LeafRows). IsLeafSize a.shape.leaf l.1) (leaves_in xs) (map leaf_rows leaves ++ leaves_in ys) sizes.0
-        (all_join (λ (l : LeafRows). IsLeafSize a.shape.leaf l.1) (map leaf_rows leaves) (leaves_in ys) r.is.replaces.sizes sizes.1));
-    newer = record {
-      above = λ key n k u l. by_test (spans leaf.low end key)
-          (λ s. absurd (none_some (ops_in (out_of_range leaf.low end ms) key n) (ops-out_of_range leaf.low end ms key n ∙ ap (λ t. cond (not t) (ops_in ms key n) None) s) u))
-          (λ s. r.node.newer.above key n k (some_cond (not (spans leaf.low end key)) (ops_in ms key n) (subst IsSome (ops-out_of_range leaf.low end ms key n) u))
-          (subst IsSome (ops-append (messages_in (parts_of v.items)) (row_messages (leaves_in (parts_of v.items))) key k
-          ∙ (λ j. or_else (same_messages key k j) (same_rows key k s j))
-          ∙ sym (ops-append (messages_in (parts_of a.children.items)) (row_messages (leaves_in (parts_of a.children.items))) key k)) l));
-    };
-  };
+  is_node = node_is;
   flushes = record {
-    low = refl;
-    height = refl;
-    shape = refl;
-    capacity = refl;
-    weight = lighter;
-    agrees = λ key. by_test (spans leaf.low end key)
-        (λ s. subst (λ f. GiveWay (pins (tenant_of key)) f (ops_in (messages_of new) key)) (λ j n. sym (old_inside key n s) j)
-        (subst (GiveWay (pins (tenant_of key)) (ops_with ms leaf.rows key)) (λ j n. sym (new_inside key n s) j) (r.is.replaces.agrees key s)))
-        (λ s. subst (GiveWay (pins (tenant_of key)) (ops_in (messages_of (subtree_of a)) key)) (λ j n. sym (outside key n s) j) (stays_itself (pins (tenant_of key)) (ops_in (messages_of (subtree_of a)) key)));
+    keeps = record {
+      low = refl;
+      height = refl;
+      shape = refl;
+      capacity = refl;
+      sizes = sizes_are;
+      tile = λ h t. stands (subtree_of a) new top_key h refl t (whole_tile (record a { children = v; buffer = without_range leaf.low end a.buffer }) node_is) (fences h t) (λ key. (means key).there);
+      means = means;
+    };
+    lighter = lighter;
   };
 }
   where
@@ -208,7 +193,7 @@ flushed {A} a v i leaf leaves most end pins r items = record {
     inside = inside_of a.children.items i (in_child.Leaf leaf) r.at
 
     old : parts_of a.children.items ≡ xs ++ (p ∷ ys)
-    old = old_parts a i leaf r.at
+    old = old_parts a i (in_child.Leaf leaf) r.at
 
     parts : parts_of v.items ≡ xs ++ (qs ++ ys)
     parts = ap parts_of items ∙ new_parts a i leaves
@@ -353,6 +338,69 @@ flushed {A} a v i leaf leaves most end pins r items = record {
         let none = no_weight leaves in
         omega (arith, split, one (length ms), one (length (out_of_range leaf.low end ms)), after, after_rest, before, before_rest, none, gone)
 
+    sizes_are : AreLeafSizes a.shape.leaf (leaves_in (parts_of v.items))
+    sizes_are = subst (AreLeafSizes a.shape.leaf) (sym leaves_are) (all_join (λ (l : LeafRows). IsLeafSize a.shape.leaf l.1) (leaves_in xs) (map leaf_rows leaves ++ leaves_in ys) sizes.0
+        (all_join (λ (l : LeafRows). IsLeafSize a.shape.leaf l.1) (map leaf_rows leaves) (leaves_in ys) r.is.replaces.sizes sizes.1))
+
+    node_is : IsNode (record a { children = v; buffer = without_range leaf.low end a.buffer })
+    node_is = record {
+      tiled = subst (TiledTo top_key) (sym parts) (tiled-join top_key xs (qs ++ ys) (subst (λ low. TiledTo low xs) (sym lows) left) (tiled-join top_key qs ys (subst (λ high. TiledTo high qs) ends (leaf_tiles high leaves r.is.replaces.tiled)) right));
+      first = ap (low_or top_key) parts ∙ low_or-append top_key xs (qs ++ ys) ∙ ap (λ low. low_or low xs) lows ∙ sym (low_or-append top_key xs (p ∷ ys)) ∙ ap (low_or top_key) (sym old) ∙ r.node.first;
+      level = subst (AllByRecursion (IsBelow {A = A} a.height a.shape)) (sym items)
+          (all_join (IsBelow a.height a.shape) (take i a.children.items) (map in_child.Leaf leaves ++ drop (i + 1) a.children.items) sides.0
+          (all_join (IsBelow a.height a.shape) (map in_child.Leaf leaves) (drop (i + 1) a.children.items) (all_leaves a.height a.shape leaves height_one) sides.1));
+      wide = (omega (arith, count, some), let few = r.is.replaces.few in let room = r.room in let l = length-map leaves leaf_rows in omega (arith, count, few, room, l));
+      fits = r.node.fits;
+      from = record { outside = λ key n o. ops-out_of_range leaf.low end ms key n ∙ none_cond (not (spans leaf.low end key)) (ops_in ms key n) (r.node.from.outside key n o) };
+      sizes = sizes_are;
+      newer = record {
+        above = λ key n k u l. by_test (spans leaf.low end key)
+            (λ s. absurd (none_some (ops_in (out_of_range leaf.low end ms) key n) (ops-out_of_range leaf.low end ms key n ∙ ap (λ t. cond (not t) (ops_in ms key n) None) s) u))
+            (λ s. r.node.newer.above key n k (some_cond (not (spans leaf.low end key)) (ops_in ms key n) (subst IsSome (ops-out_of_range leaf.low end ms key n) u))
+            (subst IsSome (ops-append (messages_in (parts_of v.items)) (row_messages (leaves_in (parts_of v.items))) key k
+            ∙ (λ j. or_else (same_messages key k j) (same_rows key k s j))
+            ∙ sym (ops-append (messages_in (parts_of a.children.items)) (row_messages (leaves_in (parts_of a.children.items))) key k)) l));
+      };
+    }
+
+    means : (key : List ℕ) → MeanTheSame (pins (tenant_of key)) (ops_in (messages_of (subtree_of a)) key) (ops_in (messages_of new) key)
+    means key = by_test (spans leaf.low end key)
+        (λ s. subst (λ f. MeanTheSame (pins (tenant_of key)) f (ops_in (messages_of new) key)) (λ j n. sym (old_inside key n s) j)
+        (subst (MeanTheSame (pins (tenant_of key)) (ops_with ms leaf.rows key)) (λ j n. sym (new_inside key n s) j)
+        (record { way = r.is.replaces.agrees key s; short = r.is.replaces.short key s; there = r.is.replaces.keys key })))
+        (λ s. same_pointwise (pins (tenant_of key)) (ops_in (messages_of (subtree_of a)) key) (ops_in (messages_of new) key) (λ n. outside key n s))
+
+    -- what a leaf and the node's own messages have, the node has
+    part_of_whole : (key : List ℕ) → AreThere (ops_with ms leaf.rows key) → AreThere (ops_in (messages_of (subtree_of a)) key)
+    part_of_whole key t = (
+      t.0,
+      subst IsSome (sym (whole a.buffer a.children key t.0)) (some_or (ops_in ms key t.0) (ops_in (map row_message leaf.rows) key t.0)
+          (λ s. some_left (ops_in ms key t.0) (or_else (ops_in (messages_in (parts_of a.children.items)) key t.0) (ops_in (row_messages (leaves_in (parts_of a.children.items))) key t.0)) s)
+          (λ s. some_right (ops_in ms key t.0) (or_else (ops_in (messages_in (parts_of a.children.items)) key t.0) (ops_in (row_messages (leaves_in (parts_of a.children.items))) key t.0))
+          (some_right (ops_in (messages_in (parts_of a.children.items)) key t.0) (ops_in (row_messages (leaves_in (parts_of a.children.items))) key t.0)
+          (subst IsSome (sym (old_rows key t.0)) (some_right (ops_in (flat_map row_taken xs) key t.0) (or_else (ops_in (map row_message leaf.rows) key t.0) (ops_in (flat_map row_taken ys) key t.0))
+          (some_left (ops_in (map row_message leaf.rows) key t.0) (ops_in (flat_map row_taken ys) key t.0) s)))))
+          t.1),
+    )
+
+    -- the new leaves begin where the node stood
+    fences : (h : List ℕ) → IsTile (node_part (subtree_of a)) h → AllByRecursion (λ (l : LeafRows). spans a.low h l.0 ≡ true) (leaves_in (parts_of v.items))
+    fences h t =
+        let P : LeafRows → Type 0 = λ l. spans a.low h l.0 ≡ true in
+        let all = all_cut P (leaves_in xs) (leaf_rows leaf ∷ leaves_in ys) (subst (AllByRecursion P) (ap leaves_in old ∙ flat_map-append (λ (q : Part). q.leaves) xs (p ∷ ys)) t.fences) in
+        subst (AllByRecursion P) (sym leaves_are) (all_join P (leaves_in xs) (map leaf_rows leaves ++ leaves_in ys) all.0 (all_join P (map leaf_rows leaves) (leaves_in ys) (each h t all.1.0 (map leaf_rows leaves) r.is.replaces.fences) all.1.1))
+      where
+        each : (h : List ℕ) → IsTile (node_part (subtree_of a)) h → spans a.low h leaf.low ≡ true → (ls : List LeafRows) → AllByRecursion (λ (l : LeafRows). IsFence (leaf_rows leaf) ms l.0) ls → AllByRecursion (λ (l : LeafRows). spans a.low h l.0 ≡ true) ls
+        each h t s [] f = tt
+        each h t s (l ∷ ls) f = (
+          ⊎_elim
+              (λ (e : l.0 ≡ leaf.low). ap (spans a.low h) e ∙ s)
+              (λ (k : AreThere (ops_with ms leaf.rows l.0)). by_test (spans a.low h l.0) (λ e. e)
+              (λ o. let u = part_of_whole l.0 k in absurd (none_some (ops_in (messages_of (subtree_of a)) l.0 u.0) (outside_tile (subtree_of a) h l.0 u.0 t o) u.1)))
+              f.0,
+          each h t s ls f.1,
+        )
+
 -- ---- what a leaf needs
 
 child_at : {X : Type 0} (xs : List X) (i : ℕ) → i < length xs → (x : X) × (slice_get xs i ≡ Some x)
@@ -420,7 +468,7 @@ can_absorb {A} a i pins node one heavy many short = record {
     size : IsLeafSize a.shape.leaf leaf.rows
     size =
         let all = all_cut (λ (l : LeafRows). IsLeafSize a.shape.leaf l.1) (leaves_in (take i parts)) (leaf_rows leaf ∷ leaves_in (drop (i + 1) parts))
-        (subst (AreLeafSizes a.shape.leaf) (ap leaves_in (old_parts a i leaf there.at) ∙ flat_map-append (λ (q : Part). q.leaves) (take i parts) (leaf_part leaf ∷ drop (i + 1) parts)) node.sizes) in
+        (subst (AreLeafSizes a.shape.leaf) (ap leaves_in (old_parts a i (in_child.Leaf leaf) there.at) ∙ flat_map-append (λ (q : Part). q.leaves) (take i parts) (leaf_part leaf ∷ drop (i + 1) parts)) node.sizes) in
         all.1.0
 
     no_bytes : sum_by message_size (in_range leaf.low high ms) ≡ 0 → 0 < bytes_for parts a.buffer i (leaf_part leaf) → ⊥

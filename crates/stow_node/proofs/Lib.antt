@@ -14,3 +14,6 @@ pub mod Lone
 pub mod Cut
 pub mod Absorbed
 pub mod Flushed
+pub mod Over
+pub mod Standing
+pub mod Spliced

@@ -28,8 +28,8 @@ use Rattle.stow_leaf.specs.Intervals.{top_key, spans, AreWithin}
 use Rattle.stow_node.specs.Nodes.{part_of, node_part, parts_of, AreNewer, IsBelow, subtree_of, IsNode, AreLeafSizes}
 use Rattle.stow_node.specs.Moves.{accepted, CanAccept, Stays}
 use Rattle.stow_node.proofs.Accepted.{length-all_placed, below_of}
-use Rattle.stow_leaf.proofs.Found.{none_some}
-use Rattle.stow_node.proofs.Newer.{some_or, some_left, some_right, all_new_to, newer_than_part}
+use Rattle.stow_leaf.proofs.Found.{none_some, some_or, some_left, some_right}
+use Rattle.stow_node.proofs.Newer.{all_new_to, newer_than_part}
 use Rattle.stow_leaf.proofs.Ops.{ops-append, ops-in_range, ops-out_of_range, ops-all_placed}
 use Rattle.stow_node.proofs.Row.{Taken, Apart, message_taken, row_taken, messages_apart, rows_apart, at_part, same_at, low_or-set, tiled-set, tile_at, low_at_most}
 use Rattle.stow_leaf.proofs.Intervals.{lt, by_test, lt_le, span_low, span_high, spanned}

@@ -18,18 +18,6 @@ use Rattle.stow_leaf.proofs.Found.{first_stays}
 use Rattle.stow_leaf.proofs.Ops.{Other, ops-append}
 use Rattle.stow_leaf.proofs.Intervals.{by_test}
 
-pub some_or : {X : Type 0} (a b : Option Op) → (IsSome a → X) → (IsSome b → X) → IsSome (or_else a b) → X
-some_or None b f g h = g h
-some_or (Some op) b f g h = f refl
-
-pub some_left : (a b : Option Op) → IsSome a → IsSome (or_else a b)
-some_left None b h = absurd cc
-some_left (Some op) b h = refl
-
-pub some_right : (a b : Option Op) → IsSome b → IsSome (or_else a b)
-some_right None b h = h
-some_right (Some op) b h = refl
-
 eq_is : (a b : Place) → is_eq (place_cmp a b) ≡ true → a ≡ b
 eq_is a b e = ⊎_elim
     (λ (h : (a ≡ b) × (eq_by_cmp place_cmp a b ≡ true)). h.0)

@@ -1,24 +1,37 @@
--- Messages that a node merged into a leaf.
+-- A node after messages moved below it, or were merged into its leaves.
 use Rattle.std.specs.Prelude.{◌≡◌, ℕ, ◌<◌, List}
-use Rattle.stow_leaf.specs.Replacements.{GiveWay}
+use Rattle.stow_leaf.specs.Replacements.{GiveWay, AreThere, HasShortValues}
 use Rattle.stow_tree_model.specs.Agreement.{TenantPins}
 use Rattle.stow_tree_model.specs.Keys.{tenant_of}
 use Rattle.stow_tree_model.specs.Messages.{ops_in}
-use Rattle.stow_tree_model.specs.Operations.{latest, value_in}
+use Rattle.stow_tree_model.specs.Operations.{Operations}
 use Rattle.stow_tree_model.specs.TreeMessage.{TreeMessage}
-use Rattle.stow_tree_model.specs.Value.{IsValue}
+use Rattle.stow_node.specs.Nodes.{node_part, AreLeafSizes}
+use Rattle.stow_node.specs.Parts.{IsTile}
 use Rattle.stow_node.specs.Subtree.{Subtree, messages_of}
 
 -- no key has a value longer than values may be, at any number
 abbrev pub AreShort : List TreeMessage → Type 0
-AreShort ms = (key : List ℕ) (n : ℕ) → IsValue (value_in (latest (ops_in ms key) n))
+AreShort ms = (key : List ℕ) → HasShortValues (ops_in ms key)
 
--- the node means the same under the pins, and its messages are fewer
-pub record Flushes (pins : TenantPins) (old new : Subtree) : Type 0 where
+-- operations on a key mean the same as others under the pins, and bring no longer values
+pub record MeanTheSame (pins : List ℕ) (f g : Operations) : Type 0 where
+  pub way : GiveWay pins f g
+  pub short : HasShortValues f → HasShortValues g
+  pub there : AreThere g → AreThere f
+
+-- the node means the same under the pins, and stands where it stood
+pub record Keeps (pins : TenantPins) (old new : Subtree) : Type 0 where
   pub low : new.low ≡ old.low
   pub height : new.height ≡ old.height
   pub shape : new.shape ≡ old.shape
   pub capacity : new.buffer.capacity ≡ old.buffer.capacity
-  pub weight : new.weight < old.weight
-  pub agrees : (key : List ℕ) → GiveWay (pins (tenant_of key))
+  pub sizes : AreLeafSizes new.shape.leaf new.leaves
+  pub tile : (high : List ℕ) → IsTile (node_part old) high → IsTile (node_part new) high
+  pub means : (key : List ℕ) → MeanTheSame (pins (tenant_of key))
       (ops_in (messages_of old) key) (ops_in (messages_of new) key)
+
+-- and its messages are fewer, or nearer to the leaves
+pub record Flushes (pins : TenantPins) (old new : Subtree) : Type 0 where
+  pub keeps : Keeps pins old new
+  pub lighter : new.weight < old.weight

@@ -3,6 +3,7 @@ use Rattle.std.specs.Prelude.{◌≡◌, ℕ, ◌+◌, ◌/◌, List, ◌++◌, 
 use Rattle.stow_tree_model.specs.Messages.{ops_in}
 use Rattle.stow_tree_model.specs.Operations.{or_else}
 use Rattle.stow_node.specs.Subtree.{Subtree, buffered}
+use Rattle.stow_leaf.specs.Intervals.{top_key}
 use Rattle.stow_node.specs.Parts.{IsTile}
 use Rattle.stow_node.specs.Nodes.{node_part}
 
@@ -24,5 +25,6 @@ pub record AreHalves (old lower upper : Subtree) : Type 0 where
       ≡ or_else (ops_in (buffered lower) key n) (ops_in (buffered upper) key n)
   pub count : length (buffered old) ≡ length (buffered lower) + length (buffered upper)
   pub weight : old.weight ≡ lower.weight + upper.weight
-  -- all that the lower one has is below the upper one's low
-  pub apart : IsTile (node_part lower) upper.low
+  -- all that the lower one has is below the upper one's low, and all that the upper one has from there on
+  pub below : IsTile (node_part lower) upper.low
+  pub above : IsTile (node_part upper) top_key
