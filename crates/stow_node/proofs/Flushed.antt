@@ -403,7 +403,7 @@ flushed {A} a v i leaf leaves most end pins r items = record {
 
 -- ---- what a leaf needs
 
-child_at : {X : Type 0} (xs : List X) (i : ℕ) → i < length xs → (x : X) × (slice_get xs i ≡ Some x)
+pub child_at : {X : Type 0} (xs : List X) (i : ℕ) → i < length xs → (x : X) × (slice_get xs i ≡ Some x)
 child_at [] i l = absurd (omega arith)
 child_at (x ∷ xs) zero l = (x, refl)
 child_at (x ∷ xs) (suc i) l = child_at xs i (omega arith)

@@ -17,3 +17,5 @@ pub mod Flushed
 pub mod Over
 pub mod Standing
 pub mod Spliced
+pub mod Entered
+pub mod Stepping

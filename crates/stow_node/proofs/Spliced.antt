@@ -78,7 +78,7 @@ length-nodes : (A : Type 0) (ts : List Subtree) → length (nodes A ts) ≡ leng
 length-nodes A [] = refl
 length-nodes A (t ∷ ts) = ap suc (length-nodes A ts)
 
-new_parts : {A : Type 0} (cs : List (Child A)) (i : ℕ) (run : List Subtree) → parts_of (with_nodes cs i run) ≡ take i (parts_of cs) ++ (run_parts run ++ drop (i + 1) (parts_of cs))
+pub new_parts : {A : Type 0} (cs : List (Child A)) (i : ℕ) (run : List Subtree) → parts_of (with_nodes cs i run) ≡ take i (parts_of cs) ++ (run_parts run ++ drop (i + 1) (parts_of cs))
 new_parts {A} cs i run =
     map-append part_of (take i cs) (nodes A run ++ drop (i + 1) cs)
     ∙ (λ j. sym (take-map part_of i cs) j ++ ((map-append part_of (nodes A run) (drop (i + 1) cs)) ∙ (λ k. parts_of_nodes A run k ++ sym (drop-map part_of (i + 1) cs) k)) j)

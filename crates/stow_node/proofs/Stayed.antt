@@ -51,7 +51,7 @@ level_at height shape (d ∷ cs) zero c all e = subst (IsBelow height shape) (so
 level_at height shape (d ∷ cs) (suc i) c all e = level_at height shape cs i c all.1 e
 
 -- a child that means the same is a tile where the other was one
-same_tile : (x y : Subtree) (high : List ℕ) → Stays x y → IsTile (node_part x) high → IsTile (node_part y) high
+pub same_tile : (x y : Subtree) (high : List ℕ) → Stays x y → IsTile (node_part x) high → IsTile (node_part y) high
 same_tile x y high s t = record {
   fences = rw (s.leaves, s.low) t.fences;
   first = rw (s.leaves, s.low) t.first;

@@ -4,5 +4,6 @@ pub mod Nodes
 pub mod Heights
 pub mod Moves
 pub mod Halves
+pub mod Entering
 pub mod Absorbs
 pub mod Flushes

@@ -18,6 +18,7 @@
 
 mod absorbing;
 pub mod child;
+mod entering;
 mod moving;
 pub mod node;
 pub mod shape;

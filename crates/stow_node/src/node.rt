@@ -6,7 +6,7 @@ ghost use Rattle.stow_message.specs.MessageBuf.{Fits, without_range};
 ghost use Rattle.stow_message.specs.Packed.{message_size};
 ghost use Rattle.stow_message.specs.Rising.{in_range};
 ghost use Rattle.stow_tree_model.specs.TreeMessage.{message_of};
-ghost use Rattle.stow_node.specs.Flushes.{AreShort, Flushes};
+ghost use Rattle.stow_node.specs.Flushes.{AreShort, Keeps, Flushes};
 ghost use Rattle.stow_node.specs.Halves.{AreHalves};
 ghost use Rattle.stow_node.specs.Moves.{accepted, CanAccept, IsSqueezed, Stays, raised};
 ghost use Rattle.stow_node.specs.Nodes.{AreChildren};
@@ -14,6 +14,7 @@ ghost use Rattle.stow_node.specs.Subtree.{first_subtree, messages_of};
 
 use crate::absorbing::absorb;
 use crate::child::{Child, top_key};
+use crate::entering::next_child;
 use crate::moving::{bytes_for, hand_down, heaviest};
 use crate::shape::Shape;
 use std::alloc::{AllocError, Allocator, Global};
@@ -157,6 +158,47 @@ impl<A: Allocator + Copy> Node<A> {
     }
 }
 
+impl<A: Allocator + Copy> Node<A> {
+    /// One step of its messages towards the leaves: those for the child for which most bytes are buffered move into that
+    /// child's buffer. Where they don't fit there, dead bytes dropped, the step is that child's own; right above leaves
+    /// messages are merged into one. A child that has fewer than two free places is cut in two first. Where memory is
+    /// refused it means what it did.
+    pub fn step(
+        &mut self,
+        alloc: A,
+        pins: &Pins<A>,
+        spare: &mut RawBuf<A>,
+    ) -> Result<(), AllocError>
+        requires some { 0 < length self.old.buffer.messages }
+        requires shape { 4 ≤ self.old.shape.fan_out }
+        requires places { self.old.width + 2 ≤ self.old.shape.fan_out }
+        requires short { AreShort (messages_of self.old) }
+        requires spare { self.old.buffer.capacity ≤ spare.old.capacity }
+        ensures ok { OnOk result (Flushes (pins_in pins.now) self.old self.new) }
+        ensures err { OnErr result (Keeps (pins_in pins.now) self.old self.new) }
+        ensures spare { spare.new.capacity ≡ spare.old.capacity }
+    {
+        let _used = self.buffer.used();
+        let _len = self.buffer.len();
+        if self.height == 1 {
+            return self.flush_leaf(alloc, pins);
+        }
+        let fan_out = self.shape.fan_out as usize;
+        let index = next_child(alloc, &mut self.children, &self.buffer, fan_out)?;
+        let bytes = bytes_for(self.children.as_slice(), index, &self.buffer);
+        match &mut self.children[index] {
+            Child::Leaf(_) => unreachable!(),
+            Child::Node(node) => {
+                if !node.makes_room(bytes, spare) {
+                    return node.step(alloc, pins, spare);
+                }
+            }
+        }
+        hand_down(&mut self.children, index, &mut self.buffer);
+        Ok(())
+    }
+}
+
 impl<A: Allocator> Node<A> {
     /// The lowest key that it may hold.
     pub fn low(&self) -> TenantKey<'_>
@@ -174,7 +216,8 @@ impl<A: Allocator> Node<A> {
 
     /// How many children it has.
     pub fn width(&self) -> usize
-        ensures { result ≡ self.now.width }
+        ensures width { result ≡ self.now.width }
+        ensures few { result ≤ self.now.shape.fan_out }
     {
         self.children.len()
     }

@@ -27,7 +27,7 @@ returns-in_err-absorb-clause-err g c =
 done : (g : given.Over) (c : goal.In_ok-absorb g) → Flushed c.self.inside c.absorb.new.children c.absorb.new.buffer (pins_in c.args.pins.now)
 done g c =
     flushed_by c.self.inside c.absorb.new.children c.heaviest-index.result (c.self.inside.shape.fan_out - c.width.result + 1) (pins_in c.args.pins.now) c.absorb.new.buffer c.self.invariant c.in_ok-absorb.ensures.ok
-    (let w = c.width.ensures in
+    (let w = c.width.ensures.width in
     let own = ap (λ (s : Subtree). s.width) c.self.view_is in
     let shape = ap (λ (s : Subtree). s.shape.fan_out) c.self.view_is in
     let places = c.requires.places in

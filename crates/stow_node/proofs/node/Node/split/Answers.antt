@@ -23,7 +23,7 @@ move_range-requires-clause-room g c =
 done : (g : given.Over) (c : goal.After-result-1 g) → Cut c.self.inside c.split_off.new.self c.in_ok-children.children c.in_ok-low.low
 done g c =
     cut_at c.self.inside c.split_off.new.self c.in_ok-children.children c.in_ok-low.low (c.width-half.result / 2) c.index.result.now c.self.invariant
-    (ap (λ n. n / 2) (c.width-half.ensures ∙ ap (λ (s : Subtree). s.width) (sym c.self.view_is)))
+    (ap (λ n. n / 2) (c.width-half.ensures.width ∙ ap (λ (s : Subtree). s.width) (sym c.self.view_is)))
     (let r = c.requires in let v = ap (λ (s : Subtree). s.width) c.self.view_is in omega (arith, r, v))
     c.in_ok-children.ensures.items c.in_ok-children.ensures.tail
     (c.in_ok-low.ensures ∙ c.low.ensures ∙ ap (λ (x : Child g.row.A.Denot). (part_of x).low) c.index.ensures)
