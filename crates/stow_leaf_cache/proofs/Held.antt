@@ -4,10 +4,12 @@ use Rattle.std.specs.Cmp.Lexicographic.{bytes_decides}
 use Rattle.std.specs.Option.{option_map, option_map_or}
 use Rattle.std.specs.Borrow.{Bor}
 use Rattle.std.specs.Map.Iter.{deref_pair}
-use Rattle.std.specs.Map.{lookup, lookup_entry, remove_entry}
+use Rattle.std.specs.List.{AllByRecursion, IsDistinct}
+use Rattle.std.specs.Map.{keys_of, lookup, lookup_entry, remove_entry}
 use Rattle.lru.specs.LruCache.{LruCache, lru_cache, promoted, put_entries}
 use Rattle.lru.proofs.CallerLemmas.{Contains-lookup_entry}
 use Rattle.lru.proofs.Pairs.{lookup-lookup_entry}
+use Rattle.std.proofs.lemmas.Map.Keys.{IsDistinct-head, IsDistinct-tail}
 use Rattle.std.proofs.lemmas.List.{take_all, take-map, length-map}
 use Rattle.std.specs.Str.{bytes_eq}
 use Rattle.std.specs.declared.vec.Vec.{Vec}
@@ -46,6 +48,28 @@ module _ {K V : Type 0} (test : K → Bool) where
 -- the test that a fence's look-up makes
 abbrev is_fence : {A : Type 0} → List ℕ → Vec ℕ A → Bool
 is_fence fence k = bytes_eq fence k.items
+
+-- ---- what is gone
+
+abbrev same_fence : {A : Type 0} → Vec ℕ A → Vec ℕ A → Bool
+same_fence x y = bytes_eq x.items y.items
+
+none_passes : {A : Type 0} (fence : List ℕ) (k : Vec ℕ A) (es : List (Vec ℕ A × List Version)) → bytes_eq fence k.items ≡ true → AllByRecursion (λ y. same_fence k y ≡ false) (keys_of es) → lookup (is_fence fence) es ≡ None
+none_passes fence k [] t a = refl
+none_passes fence k (e ∷ es) t a =
+    let other : bytes_eq fence e.0.items ≡ false = ap (λ f. bytes_eq f e.0.items) ((bytes_decides fence k.items).0 t) ∙ a.0 in
+    ap (λ b. cond b (Some e.1) (lookup (is_fence fence) es)) other ∙ none_passes fence k es t a.1
+
+none_left : {A : Type 0} (fence : List ℕ) (es : List (Vec ℕ A × List Version)) → IsDistinct same_fence (keys_of es) → lookup (is_fence fence) (remove_entry (is_fence fence) es) ≡ None
+none_left fence [] d = refl
+none_left fence (e ∷ es) d = step (bytes_eq fence e.0.items) refl (none_left fence es (IsDistinct-tail same_fence e.0 (keys_of es) d)) where
+  step : (b : Bool) → bytes_eq fence e.0.items ≡ b → lookup (is_fence fence) (remove_entry (is_fence fence) es) ≡ None → lookup (is_fence fence) (cond b es (e ∷ remove_entry (is_fence fence) es)) ≡ None
+  step true t on = none_passes fence e.0 es t (IsDistinct-head same_fence e.0 (keys_of es) d)
+  step false t on = ap (λ b. cond b (Some e.1) (lookup (is_fence fence) (remove_entry (is_fence fence) es))) t ∙ on
+
+-- a fence whose leaf was taken out has none
+pub gone-rows_under : {A : Type 0} (fence : List ℕ) (held left : LruCache (Vec ℕ A) (List Version)) (n : ℕ) → IsDistinct same_fence (keys_of held.entries) → left ≡ lru_cache (remove_entry (is_fence fence) held.entries) n → rows_under fence (leaves_of left) ≡ None
+gone-rows_under fence held left n d e = ap (λ (l : LruCache (Vec ℕ _) (List Version)). rows_under fence (leaves_of l)) e ∙ rows_under-map fence (remove_entry (is_fence fence) held.entries) ∙ none_left fence held.entries d
 
 -- ---- what comes to the front
 

@@ -1,5 +1,5 @@
 //! Unpacked leaves, the last used first.
-ghost use Rattle.std.specs.Prelude.{◌≡◌, ◌≤◌, [], length, take, is_some, option_map, IfOk, OnOk, OnErr, max};
+ghost use Rattle.std.specs.Prelude.{◌≡◌, ◌≤◌, [], None, length, take, is_some, option_map, IfOk, OnOk, OnErr, max};
 ghost use Rattle.std.specs.NonZero.{non_zero_usize_get};
 ghost use Rattle.stow_leaf_cache.specs.Cache.{Cache, rows_under, leaves_without, cache_resized, IsOffered};
 
@@ -98,8 +98,10 @@ impl<A: Allocator + Copy> LeafCache<A> {
     /// Holds nothing under the low fence from now on.
     pub fn forget(&mut self, low_fence: &[u8])
         ensures leaves { self.new.leaves ≡ leaves_without low_fence.now self.old.leaves }
+        ensures gone { rows_under low_fence.now self.new.leaves ≡ None }
         ensures limit { self.new.limit ≡ self.old.limit }
     {
+        let _held = self.leaves.len();
         let _rows = self.leaves.pop(low_fence);
     }
 

@@ -1,7 +1,6 @@
 -- A node that takes messages into its own buffer.
-use Rattle.std.proofs.Common.{◌≡◌, ℕ, ◌+◌, ◌*◌, Bool, true, false, List, [], ◌∷◌, ◌++◌, length, map, Option, Some, None, refl, sym, ap, ◌∙◌, subst, arith, append_assoc}
+use Rattle.std.proofs.Common.{◌≡◌, ℕ, ◌+◌, ◌*◌, Bool, true, false, List, [], ◌∷◌, ◌++◌, length, refl, sym, ap, ◌∙◌, subst, arith, append_assoc}
 use Rattle.std.specs.Prelude.{IsSome, if◌then◌else◌}
-use Rattle.stow_tree_model.specs.Op.{Op}
 use Rattle.stow_tree_model.specs.Operations.{or_else}
 use Rattle.stow_tree_model.specs.Messages.{ops_in}
 use Rattle.stow_tree_model.specs.Order.{place_of, MessagesRise}
@@ -13,11 +12,10 @@ use Rattle.std.specs.List.Sorted.{IsStrictlySortedBy}
 use Rattle.stow_message.specs.Rising.{is_below, placed, all_placed}
 use Rattle.stow_message.proofs.Placed.{AllOther}
 use Rattle.stow_node.specs.declared.node.Node.TheInside.{Inside}
-use Rattle.stow_node.specs.Subtree.{Subtree, buffered, messages_of}
+use Rattle.stow_node.specs.Subtree.{messages_of}
 use Rattle.stow_leaf.specs.LeafRows.{row_messages}
 use Rattle.stow_node.specs.Parts.{messages_in, leaves_in, weight_in}
-use Rattle.stow_leaf.specs.Intervals.{top_key, spans, AreWithin}
-use Rattle.stow_node.specs.Nodes.{parts_of, AreNewer, subtree_of, IsNode}
+use Rattle.stow_node.specs.Nodes.{parts_of, subtree_of, IsNode}
 use Rattle.stow_node.specs.Moves.{accepted, CanAccept}
 use Rattle.stow_leaf.proofs.Ops.{ops-append, ops-all_placed}
 use Rattle.stow_leaf.proofs.Found.{both_none}

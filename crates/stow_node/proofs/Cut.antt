@@ -1,10 +1,9 @@
 -- A node cut in two between its children.
-use Rattle.std.proofs.Common.{zero, suc, ◌≡◌, ℕ, ◌+◌, ◌*◌, ◌/◌, ◌<◌, ◌≤◌, Bool, true, false, cond, List, [], ◌∷◌, ◌++◌, length, map, take, drop, get_or, Option, Some, None, refl, sym, ap, ◌∙◌, subst, arith, length-append, length-drop}
+use Rattle.std.proofs.Common.{zero, suc, ◌≡◌, ℕ, ◌+◌, ◌*◌, ◌/◌, ◌<◌, ◌≤◌, Bool, true, false, cond, List, [], ◌∷◌, ◌++◌, length, take, drop, get_or, Option, Some, None, refl, sym, ap, ◌∙◌, subst, arith, length-append, length-drop}
 use Rattle.std.specs.Prelude.{IsSome, not}
 use Rattle.std.specs.List.{flat_map, AllByRecursion}
 use Rattle.std.specs.Ordering.{is_lt}
 use Rattle.std.specs.declared.vec.Vec.{Vec}
-use Rattle.std.specs.declared.cmp.Ordering.TheVariants.{Less}
 use Rattle.std.proofs.lemmas.Grind.{flat_map-append}
 use Rattle.std.proofs.lemmas.List.{map-append, length-map, take-append-drop, length-take-le}
 use Rattle.std.proofs.lemmas.List.Sums.{sum_by-append}
@@ -12,24 +11,22 @@ use Rattle.stow_bytes.specs.Bytes.{bytes_cmp}
 use Rattle.stow_message.proofs.Placed.{AllOther}
 use Rattle.stow_message.proofs.Ranges.{filter_rises}
 use Rattle.stow_message.proofs.RisingLists.{no_path, lt_is}
-use Rattle.stow_message.specs.MessageBuf.{MessageList, message_list, with_messages, without_range}
+use Rattle.stow_message.specs.MessageBuf.{message_list, with_messages, without_range}
 use Rattle.stow_message.specs.Rising.{is_between, all_placed, in_range, out_of_range}
 use Rattle.stow_tree_model.specs.Op.{Op}
 use Rattle.stow_tree_model.specs.Messages.{ops_in}
 use Rattle.stow_tree_model.specs.Operations.{or_else}
 use Rattle.stow_tree_model.specs.Order.{MessagesRise}
 use Rattle.stow_tree_model.specs.TreeMessage.{TreeMessage}
-use Rattle.stow_leaf.specs.Intervals.{top_key, spans, AreWithin}
+use Rattle.stow_leaf.specs.Intervals.{top_key, spans}
 use Rattle.stow_leaf.specs.LeafRows.{LeafRows, row_messages, first_fence}
 use Rattle.stow_leaf.proofs.Intervals.{lt, lt_le, lt_self, by_test, under, beyond, spanned, span_low, span_high, not_spanned}
 use Rattle.stow_leaf.proofs.Ops.{ops-append, ops-in_range, ops-out_of_range, ops-all_placed}
 use Rattle.stow_node.specs.declared.child.Child.{Child}
 use Rattle.stow_node.specs.declared.node.Node.TheInside.{Inside}
-use Rattle.stow_node.specs.declared.shape.Shape.{Shape}
-use Rattle.stow_node.specs.Subtree.{Subtree, buffered}
 use Rattle.stow_node.specs.Parts.{Part, low_or, IsTile, TiledTo, messages_in, leaves_in, weight_in}
 use Rattle.stow_leaf.specs.Replacements.{IsLeafSize}
-use Rattle.stow_node.specs.Nodes.{part_of, node_part, parts_of, AreNewer, AreLeafSizes, IsBelow, subtree_of, IsNode}
+use Rattle.stow_node.specs.Nodes.{part_of, parts_of, AreLeafSizes, IsBelow, subtree_of, IsNode}
 use Rattle.stow_node.specs.Halves.{AreHalves}
 use Rattle.stow_node.proofs.Accepted.{length-all_placed}
 use Rattle.std.proofs.lemmas.List.Filters.{length-filter_both}

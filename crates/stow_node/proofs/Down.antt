@@ -1,30 +1,29 @@
 -- One step of messages down: what a node is after each of its ends.
-use Rattle.std.proofs.Common.{zero, suc, ◌≡◌, ℕ, ◌+◌, ◌*◌, ◌<◌, ◌≤◌, List, [], ◌∷◌, ◌++◌, length, map, get_or, set, Option, Some, None, refl, sym, ap, ◌∙◌, subst, arith}
+use Rattle.std.proofs.Common.{zero, suc, ◌≡◌, ℕ, ◌+◌, ◌*◌, ◌<◌, ◌≤◌, List, [], ◌∷◌, ◌++◌, length, get_or, set, Some, refl, sym, ap, ◌∙◌, subst, arith}
 use Rattle.std.specs.Prelude.{slice_get}
 use Rattle.std.specs.List.{sum_by, AllByRecursion}
 use Rattle.std.specs.Vec.{with_item, with_items}
 use Rattle.std.specs.declared.vec.Vec.{Vec}
-use Rattle.std.proofs.lemmas.List.{length-map, length-set, map-set, set-get_or, with_items_is}
+use Rattle.std.proofs.lemmas.List.{length-set, map-set, with_items_is}
 use Rattle.std.proofs.lemmas.Option.{slice_get-get_or}
 use Rattle.stow_tree_model.specs.Order.{MessagesRise}
 use Rattle.stow_tree_model.specs.TreeMessage.{TreeMessage}
 use Rattle.stow_message.specs.MessageBuf.{MessageList, message_list, without_range}
 use Rattle.stow_message.specs.Packed.{message_size}
-use Rattle.stow_message.specs.Rising.{is_between, in_range}
+use Rattle.stow_message.specs.Rising.{in_range}
 use Rattle.stow_node.specs.declared.child.Child.{Child}
 use Rattle.stow_node.specs.declared.child.Child.TheVariants as in_child
 use Rattle.stow_node.specs.declared.node.Node.TheInside.{Inside}
 use Rattle.stow_node.specs.Subtree.{Subtree}
 use Rattle.stow_leaf.specs.LeafRows.{row_messages}
 use Rattle.stow_node.specs.Parts.{Part, low_or, high_of, TiledTo, messages_in, leaves_in, weight_in}
-use Rattle.stow_leaf.specs.Intervals.{top_key, AreWithin}
+use Rattle.stow_leaf.specs.Intervals.{top_key}
 use Rattle.stow_node.specs.Nodes.{part_of, node_part, parts_of, AreNewer, IsBelow, subtree_of, IsNode, AreLeafSizes}
-use Rattle.stow_node.specs.Moves.{accepted, CanAccept, IsSqueezed, Stays, bytes_for, messages_for, IsHeaviest, CanHandDown, HandsDown}
-use Rattle.stow_node.proofs.Filled.{some_bytes, heaviest_has_bytes}
+use Rattle.stow_node.specs.Moves.{accepted, CanAccept, IsSqueezed, Stays, bytes_for, messages_for, HandsDown}
 use Rattle.stow_node.proofs.HandedDown.{same_node}
 use Rattle.stow_node.proofs.Lowered.{for_child, can_hand, Lowered, lowered, end_of-set}
 use Rattle.stow_leaf.proofs.Steps.{inside_of}
-use Rattle.stow_node.proofs.Stayed.{part_at, level_at, ChildStays, child_stays}
+use Rattle.stow_node.proofs.Stayed.{part_at, ChildStays, child_stays}
 
 pub stays_then : {x y z : Subtree} → Stays x y → Stays y z → Stays x z
 stays_then s t = record {
@@ -86,17 +85,6 @@ same_children {A} a v node e = record {
     weight = a.height * length a.buffer.messages + weight_in (parts_of l);
   }) e;
 }
-
-pub put_back : {A : Type 0} (a : Inside A) (i : ℕ) (c : Child A) → IsNode a → c ≡ get_or a.children.items i c → SameChildren a (with_item a.children i c)
-put_back a i c node e = same_children a (with_item a.children i c) node (ap (set a.children.items i) e ∙ set-get_or a.children.items i c)
-
-pub same_stays : (x y : Subtree) → y ≡ x → Stays x y
-same_stays x y e = rw e (stays_itself x)
-
--- ---- messages moved further down
-
-pub went_down : {A : Type 0} (a : Inside A) (i : ℕ) (x y z : Subtree) → IsNode a → slice_get a.children.items i ≡ Some (in_child.Node x) → IsSqueezed x y → Stays y z → ChildStays a x z (with_item a.children i (in_child.Node z))
-went_down a i x y z node at s t = child_stays a (with_item a.children i (in_child.Node z)) i x z node at refl (stays_then (squeezed_same x y s).0 t)
 
 -- ---- messages moved into the child
 
@@ -162,9 +150,6 @@ went_into {A} a i x y v b node rise m some h =
 pub full_has_messages : (y : Subtree) (bytes : ℕ) → y.buffer.capacity < sum_by message_size y.buffer.messages + bytes → bytes ≤ y.buffer.capacity → 0 < length y.buffer.messages
 full_has_messages y bytes full h = some_there y.buffer.messages (omega arith)
 
-pub inside_row : {A : Type 0} (cs lent : List (Child A)) (i : ℕ) → lent ≡ cs → i < length (parts_of lent) → i < length cs
-inside_row cs lent i e h = let l = length-map lent part_of in let same = ap length e in omega arith
-
 -- what is known of the child that most bytes are buffered for
 pub record IsNext {A : Type 0} (a : Inside A) (i bytes : ℕ) (x : Subtree) : Type 0 where
   pub at : slice_get a.children.items i ≡ Some (in_child.Node x)
@@ -173,29 +158,6 @@ pub record IsNext {A : Type 0} (a : Inside A) (i bytes : ℕ) (x : Subtree) : Ty
   pub few : bytes ≤ a.buffer.capacity
   pub capacity : x.buffer.capacity ≡ a.buffer.capacity
   pub lower : x.height < a.height
-
-pub is_next : {A : Type 0} (a : Inside A) (i bytes : ℕ) (x : Subtree) (c : Child A) (lent lent' : List (Child A)) → IsNode a → lent ≡ a.children.items → lent' ≡ a.children.items → IsHeaviest (parts_of lent) a.buffer i → ((d : Part) → bytes ≡ bytes_for (parts_of lent') a.buffer i d)
-    → c ≡ get_or a.children.items i c → c ≡ in_child.Node x → 0 < length a.buffer.messages → sum_by message_size a.buffer.messages ≤ a.buffer.capacity → IsNext a i bytes x
-is_next {A} a i bytes x c lent lent' node e e' heavy is here same some live = record {
-  at = at;
-  bytes_are = are;
-  some = let filled = heaviest_has_bytes (parts_of a.children.items) a.buffer i (node_part x) heaviest (subst (λ low. AreWithin low top_key a.buffer.messages) (sym node.first) node.from) some in omega (arith, are, filled);
-  few = let less = some_bytes (is_between (get_or (parts_of a.children.items) i (node_part x)).low (high_of (parts_of a.children.items) i)) a.buffer.messages in omega (arith, are, less, live);
-  capacity = level.same.1 ∙ sym node.fits;
-  lower = let up : x.height + 1 ≡ a.height = level.level in omega arith;
-}
-  where
-    heaviest : IsHeaviest (parts_of a.children.items) a.buffer i
-    heaviest = subst (λ (l : List (Child A)). IsHeaviest (parts_of l) a.buffer i) e heavy
-
-    at : slice_get a.children.items i ≡ Some (in_child.Node x)
-    at = node_at a.children.items i c x (inside_row a.children.items lent i e heavy.inside) here same
-
-    are : bytes ≡ bytes_for (parts_of a.children.items) a.buffer i (node_part x)
-    are = subst (λ (l : List (Child A)). bytes ≡ bytes_for (parts_of l) a.buffer i (node_part x)) e' (is (node_part x))
-
-    level : IsBelow {A = A} a.height a.shape (in_child.Node x)
-    level = level_at a.height a.shape a.children.items i (in_child.Node x) node.level at
 
 -- the children are those that the slice had in the end
 pub new_items : {A : Type 0} (v : Vec (Child A) A) (i : ℕ) (y : Child A) (l : List (Child A)) (b b' : MessageList) → HandsDown (set v.items i y) i b l b' → (with_items (with_item v i y) l).items ≡ l

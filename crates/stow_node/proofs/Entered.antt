@@ -1,7 +1,7 @@
 -- The child that gets messages next, cut in two where it lacks places.
-use Rattle.std.proofs.Common.{zero, suc, ◌≡◌, ◌≢◌, ℕ, ◌+◌, ◌*◌, ◌/◌, ◌<◌, ◌≤◌, ◌⊎◌, Bool, true, false, List, [], ◌∷◌, ◌++◌, length, map, take, drop, get_or, set, Option, Some, None, refl, sym, ap, ◌∙◌, subst, arith, ⊎_elim, inl, inr, length-append, length-drop}
-use Rattle.std.specs.Prelude.{slice_get, not, if◌then◌else◌}
-use Rattle.std.specs.List.{filter, sum_by, insert, AllByRecursion, flat_map}
+use Rattle.std.proofs.Common.{zero, suc, ◌≡◌, ◌≢◌, ℕ, ◌+◌, ◌<◌, ◌≤◌, ◌⊎◌, Bool, true, false, List, [], ◌∷◌, ◌++◌, length, take, drop, get_or, set, Some, refl, sym, ap, ◌∙◌, subst, arith, ⊎_elim, inl, inr, length-append, length-drop, append-nil}
+use Rattle.std.specs.Prelude.{slice_get, if◌then◌else◌}
+use Rattle.std.specs.List.{sum_by, insert, AllByRecursion}
 use Rattle.std.specs.declared.vec.Vec.{Vec}
 use Rattle.std.proofs.lemmas.Grind.{flat_map-append}
 use Rattle.std.proofs.lemmas.List.{length-map, length-take-le}
@@ -13,7 +13,7 @@ use Rattle.stow_message.specs.Rising.{is_between, in_range}
 use Rattle.stow_tree_model.specs.Agreement.{TenantPins}
 use Rattle.stow_tree_model.specs.Keys.{tenant_of}
 use Rattle.stow_tree_model.specs.TreeMessage.{TreeMessage}
-use Rattle.stow_leaf.specs.Intervals.{top_key, spans, AreWithin}
+use Rattle.stow_leaf.specs.Intervals.{top_key, AreWithin}
 use Rattle.stow_leaf.specs.LeafRows.{LeafRows}
 use Rattle.stow_leaf.specs.declared.leaf.Leaf.{Leaf}
 use Rattle.stow_leaf.specs.Replacements.{IsLeafSize}
@@ -28,14 +28,14 @@ use Rattle.stow_node.specs.Flushes.{Keeps}
 use Rattle.stow_node.specs.Halves.{AreHalves, IsWide, SplitsAt}
 use Rattle.stow_node.specs.Moves.{bytes_for, IsHeaviest}
 use Rattle.stow_node.specs.Nodes.{part_of, node_part, parts_of, AreLeafSizes, IsBelow, subtree_of, IsNode}
-use Rattle.stow_node.specs.Parts.{Part, low_or, end_of, high_of, leaves_in, weight_in}
+use Rattle.stow_node.specs.Parts.{Part, end_of, high_of, leaves_in}
 use Rattle.stow_node.specs.Subtree.{Subtree}
 use Rattle.stow_node.proofs.Cut.{all_cut}
 use Rattle.stow_node.proofs.Down.{node_at, same_children}
 use Rattle.stow_node.proofs.Filled.{heaviest_has_bytes}
 use Rattle.stow_node.proofs.Flushed.{child_at, old_parts}
 use Rattle.stow_node.proofs.Over.{same_itself}
-use Rattle.stow_node.proofs.Spliced.{run_parts, with_nodes, new_parts, Spliced, spliced, halves_take_place}
+use Rattle.stow_node.proofs.Spliced.{new_parts, Spliced, spliced, halves_take_place}
 use Rattle.stow_node.proofs.Stayed.{part_at, level_at}
 
 -- ---- two in the place of one
@@ -188,6 +188,7 @@ pub record Entered {A : Type 0} (a : Inside A) (v : Vec (Child A) A) (i : ℕ) (
   pub is_node : IsNode (record a { children = v })
   pub keeps : Keeps pins (subtree_of a) (subtree_of (record a { children = v }))
   pub weight : (subtree_of (record a { children = v })).weight ≡ (subtree_of a).weight
+  pub leaves : leaves_in (parts_of v.items) ≡ leaves_in (parts_of a.children.items)
   pub node : Subtree
   pub at : slice_get v.items i ≡ Some (in_child.Node node)
   pub places : node.width + 2 ≤ a.shape.fan_out
@@ -223,6 +224,7 @@ module _ {A : Type 0} (a : Inside A) (v : Vec (Child A) A) (i : ℕ) (pins : Ten
         is_node = same.0;
         keeps = subst (Keeps pins (subtree_of a)) (sym same.1) (keeps_itself a pins node);
         weight = ap (λ (t : Subtree). t.weight) same.1;
+        leaves = ap (λ (t : Subtree). t.leaves) same.1;
         node = x;
         at = ap (λ l. slice_get l i) e ∙ at;
         places = h.places (in_child.Node x) at;
@@ -311,6 +313,7 @@ module _ {A : Type 0} (a : Inside A) (v : Vec (Child A) A) (i : ℕ) (pins : Ten
             let l = sum_by-cons (λ (p : Part). p.weight) (node_part lower) (node_part upper ∷ []) in
             let u = sum_by-cons (λ (p : Part). p.weight) (node_part upper) [] in
             omega (arith, w, e, l, u);
+        leaves = whole.leaves_are ∙ ap (λ ls. whole.before ++ (ls ++ whole.after)) (ap (λ ls. lower.leaves ++ ls) (append-nil upper.leaves) ∙ sym s.halves.leaves) ∙ sym whole.leaves_were;
         node = t;
         at = at;
         places = few;

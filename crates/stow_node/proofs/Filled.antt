@@ -1,19 +1,18 @@
 -- A child that messages are buffered for.
-use Rattle.std.proofs.Common.{zero, suc, ◌≡◌, ℕ, ◌+◌, ◌<◌, ◌≤◌, Bool, true, false, List, [], ◌∷◌, length, get_or, Option, Some, None, refl, sym, ap, ◌∙◌, subst, arith}
+use Rattle.std.proofs.Common.{suc, ◌≡◌, ℕ, ◌<◌, ◌≤◌, Bool, true, false, List, [], ◌∷◌, length, get_or, Option, Some, None, refl, sym, ap, subst, arith}
 use Rattle.std.specs.Prelude.{if◌then◌else◌}
 use Rattle.std.specs.List.{sum_by, filter}
 use Rattle.std.proofs.lemmas.List.Sums.{sum_by-cons}
 use Rattle.stow_tree_model.specs.Op.{Op}
-use Rattle.stow_tree_model.specs.Messages.{ops_in}
 use Rattle.stow_tree_model.specs.TreeMessage.{TreeMessage}
 use Rattle.stow_tree_model.proofs.Histories.{ops_in-at}
 use Rattle.stow_message.specs.MessageBuf.{MessageList}
 use Rattle.stow_message.specs.Packed.{message_size}
 use Rattle.stow_message.specs.Rising.{is_between, in_range}
-use Rattle.stow_node.specs.Parts.{Part, low_or, end_of, high_of}
+use Rattle.stow_node.specs.Parts.{Part, low_or, end_of}
 use Rattle.stow_leaf.specs.Intervals.{top_key, spans, AreWithin}
 use Rattle.stow_node.specs.Moves.{bytes_for, IsHeaviest}
-use Rattle.stow_leaf.proofs.Intervals.{lt, by_test, span_low, span_high, spanned, lt_self}
+use Rattle.stow_leaf.proofs.Intervals.{lt, by_test, span_low, span_high, spanned}
 
 -- the bytes of some of the messages are no more than those of all
 pub some_bytes : (f : TreeMessage → Bool) (ms : List TreeMessage) → sum_by message_size (filter f ms) ≤ sum_by message_size ms

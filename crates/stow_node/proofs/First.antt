@@ -1,6 +1,6 @@
 -- A node above one empty leaf.
-use Rattle.std.proofs.Common.{◌≡◌, ℕ, ◌+◌, ◌*◌, ◌≤◌, length, List, [], ◌∷◌, refl, sym, ap, ◌∙◌, arith, subst}
-use Rattle.stow_message.specs.MessageBuf.{MessageList, message_list}
+use Rattle.std.proofs.Common.{◌≡◌, ◌+◌, ◌*◌, ◌≤◌, length, List, [], ◌∷◌, refl, sym, ap, arith, subst}
+use Rattle.stow_message.specs.MessageBuf.{message_list}
 use Rattle.stow_tree_model.specs.Keys.{packed}
 use Rattle.std.specs.declared.vec.Vec.{Vec}
 use Rattle.stow_node.specs.declared.child.Child.{Child}

@@ -1,37 +1,34 @@
 -- A node of which messages were merged into a leaf.
 use Rattle.std.proofs.Common.{zero, suc, ◌≡◌, ◌≢◌, ℕ, ◌+◌, ◌*◌, ◌<◌, ◌≤◌, Bool, true, false, cond, List, [], ◌∷◌, ◌++◌, length, map, take, drop, get_or, Option, Some, None, refl, sym, ap, ◌∙◌, subst, arith, ⊎_elim, length-append, append-nil, length-drop}
-use Rattle.std.specs.Prelude.{IsSome, not, slice_get, Result, Ok, Err, OnErr}
+use Rattle.std.specs.Prelude.{IsSome, not, slice_get, Contains, Result, Ok, Err, OnErr}
+use Rattle.std.proofs.lemmas.List.Elements.{Contains-append_left, Contains-append_right, Contains-append_cases}
+use Rattle.stow_tree_model.proofs.Latest.{contains_cases}
 use Rattle.std.specs.List.{flat_map, AllByRecursion}
 use Rattle.std.specs.Ordering.{is_lt}
 use Rattle.std.specs.declared.vec.Vec.{Vec}
-use Rattle.std.specs.declared.cmp.Ordering.TheVariants.{Less}
 use Rattle.std.proofs.lemmas.Grind.{flat_map-append}
 use Rattle.std.proofs.lemmas.List.{map-append, length-map, take-map, drop-map, drop_more, take-append-drop, length-take-le}
 use Rattle.std.proofs.lemmas.List.Filters.{length-filter_both}
 use Rattle.std.proofs.lemmas.List.Sums.{sum_by-append, sum_by-cons}
-use Rattle.std.proofs.lemmas.Option.{get_or_from_slice_get}
-use Rattle.stow_bytes.specs.Bytes.{bytes_cmp}
 use Rattle.stow_merge.proofs.Lists.{all_join}
-use Rattle.stow_merge.specs.Pages.{HaveShortValues}
-use Rattle.stow_message.proofs.RisingLists.{no_path, lt_is}
-use Rattle.stow_message.specs.MessageBuf.{MessageList, message_list, without_range}
+use Rattle.stow_message.proofs.RisingLists.{no_path}
+use Rattle.stow_message.specs.MessageBuf.{MessageList, without_range}
 use Rattle.stow_message.specs.Rising.{is_between, in_range, out_of_range}
 use Rattle.stow_tree_model.specs.Agreement.{TenantPins}
 use Rattle.stow_tree_model.specs.Keys.{tenant_of}
-use Rattle.stow_tree_model.specs.Merged.{row_message, merged}
+use Rattle.stow_tree_model.specs.Merged.{row_message}
 use Rattle.stow_tree_model.specs.Messages.{ops_in}
 use Rattle.stow_tree_model.specs.Op.{Op}
 use Rattle.stow_tree_model.specs.Operations.{Operations, latest, or_else, value_in}
 use Rattle.stow_tree_model.specs.TreeMessage.{TreeMessage}
 use Rattle.stow_tree_model.specs.Value.{IsValue}
-use Rattle.stow_tree_model.specs.Version.{Version}
 use Rattle.stow_leaf.specs.Intervals.{top_key, spans, AreWithin}
 use Rattle.stow_leaf.specs.LeafRows.{LeafRows, leaf_rows, row_messages, first_fence, IsLeafTile, LeavesTo}
-use Rattle.stow_leaf.specs.Replacements.{IsLeafSize, AreThere, ops_with, IsFence, CanReplace, IsReplacement}
+use Rattle.stow_leaf.specs.Replacements.{IsLeafSize, AreThere, ops_with, IsFence, IsReplacement}
 use Rattle.stow_leaf.specs.declared.leaf.Leaf.{Leaf}
 use Rattle.stow_leaf.proofs.Found.{both_none, or_none, none_or, none_some, some_or, some_left, some_right, merged_short}
 use Rattle.stow_leaf.proofs.Fronts.{range_within}
-use Rattle.stow_leaf.proofs.Intervals.{lt, at_most, by_test, le_le, lt_le, le_lt, lt_self, under, beyond, spanned, span_low, span_high}
+use Rattle.stow_leaf.proofs.Intervals.{lt, by_test, lt_le, lt_self, spanned, span_low, span_high}
 use Rattle.stow_leaf.proofs.Ops.{ops-append, ops-in_range, ops-out_of_range}
 use Rattle.stow_leaf.proofs.Steps.{inside_of}
 use Rattle.stow_node.specs.declared.child.Child.{Child}
@@ -39,17 +36,17 @@ use Rattle.stow_node.specs.declared.child.Child.TheVariants as in_child
 use Rattle.stow_node.specs.declared.node.Node.TheInside.{Inside}
 use Rattle.stow_node.specs.declared.shape.Shape.{Shape}
 use Rattle.stow_node.specs.Absorbs.{CanAbsorb, with_leaves, Absorbs}
-use Rattle.stow_node.specs.Flushes.{AreShort, MeanTheSame, Keeps, Flushes}
-use Rattle.stow_node.specs.Nodes.{leaf_part, part_of, node_part, parts_of, AreNewer, AreLeafSizes, IsBelow, subtree_of, IsNode}
+use Rattle.stow_node.specs.Flushes.{AreShort, MeanTheSame, Flushes}
+use Rattle.stow_node.specs.Nodes.{leaf_part, part_of, node_part, parts_of, AreLeafSizes, IsBelow, subtree_of, IsNode}
 use Rattle.stow_node.specs.Parts.{Part, low_or, end_of, high_of, IsTile, TiledTo, messages_in, leaves_in, weight_in}
 use Rattle.stow_node.specs.Subtree.{Subtree, messages_of}
-use Rattle.stow_node.proofs.Accepted.{below_of, whole_ops}
+use Rattle.stow_node.proofs.Accepted.{whole_ops}
 use Rattle.stow_node.proofs.Cut.{low_or-append, tiled-left, tiled-right, none_cond, some_cond, all_cut}
-use Rattle.stow_node.proofs.Lowered.{rows_by_part, row_messages-append}
+use Rattle.stow_node.proofs.Lowered.{rows_by_part}
 use Rattle.stow_node.proofs.Over.{same_pointwise}
 use Rattle.stow_node.proofs.Raised.{whole_tile}
 use Rattle.stow_node.proofs.Standing.{outside_tile, stands}
-use Rattle.stow_node.proofs.Row.{Taken, Apart, message_taken, row_taken, messages_apart, rows_apart, none_before, none_from, low_at_most}
+use Rattle.stow_node.proofs.Row.{Taken, Apart, message_taken, row_taken, messages_apart, rows_apart, none_before, none_from}
 use Rattle.std.specs.List.{sum_by}
 use Rattle.stow_message.specs.Packed.{message_size}
 use Rattle.stow_node.specs.Moves.{bytes_for, IsHeaviest}
@@ -147,12 +144,24 @@ beside : (s : Bool) (o m m' r r' : Option Op) → s ≡ false → m' ≡ m → r
 beside true o m m' r r' e f g = absurd (no_path (sym e))
 beside false o m m' r r' e f g = λ i. or_else o (or_else (f i) (g i))
 
-pub record Flushed {A : Type 0} (a : Inside A) (v : Vec (Child A) A) (b : MessageList) (pins : TenantPins) : Type 0 where
+pub record Flushed {A : Type 0} (a : Inside A) (v : Vec (Child A) A) (i : ℕ) (b : MessageList) (pins : TenantPins) : Type 0 where
+  pub leaf : Leaf A
+  pub at : slice_get a.children.items i ≡ Some (in_child.Leaf leaf)
+  pub others : (l : LeafRows) → Contains (leaves_in (parts_of a.children.items)) l → l.0 ≢ leaf.low → Contains (leaves_in (parts_of v.items)) l
   pub is_node : IsNode (record a { children = v; buffer = b })
   pub flushes : Flushes pins (subtree_of a) (subtree_of (record a { children = v; buffer = b }))
 
-pub flushed : {A : Type 0} (a : Inside A) (v : Vec (Child A) A) (i : ℕ) (leaf : Leaf A) (leaves : List (Leaf A)) (most : ℕ) (end : List ℕ) (pins : TenantPins) → Replaced a i leaf leaves most end pins → v.items ≡ with_leaves a.children.items i leaves → Flushed a v (without_range leaf.low end a.buffer) pins
+pub flushed : {A : Type 0} (a : Inside A) (v : Vec (Child A) A) (i : ℕ) (leaf : Leaf A) (leaves : List (Leaf A)) (most : ℕ) (end : List ℕ) (pins : TenantPins) → Replaced a i leaf leaves most end pins → v.items ≡ with_leaves a.children.items i leaves → Flushed a v i (without_range leaf.low end a.buffer) pins
 flushed {A} a v i leaf leaves most end pins r items = record {
+  leaf = leaf;
+  at = r.at;
+  others = λ l c ne. subst (λ ls. Contains ls l) (sym leaves_are) (⊎_elim
+      (λ (b : Contains (leaves_in xs) l). Contains-append_left (leaves_in xs) (map leaf_rows leaves ++ leaves_in ys) l b)
+      (λ (b : Contains (leaf_rows leaf ∷ leaves_in ys) l). ⊎_elim
+      (λ (e : leaf_rows leaf ≡ l). absurd (ne (ap (λ (k : LeafRows). k.0) (sym e))))
+      (λ (d : Contains (leaves_in ys) l). Contains-append_right (leaves_in xs) (map leaf_rows leaves ++ leaves_in ys) l (Contains-append_right (map leaf_rows leaves) (leaves_in ys) l d))
+      (contains_cases (leaf_rows leaf) l (leaves_in ys) b))
+      (Contains-append_cases (leaves_in xs) (leaf_rows leaf ∷ leaves_in ys) l (subst (λ ls. Contains ls l) (ap leaves_in old ∙ flat_map-append (λ (q : Part). q.leaves) xs (p ∷ ys)) c)));
   is_node = node_is;
   flushes = record {
     keeps = record {
@@ -498,7 +507,7 @@ pub on_err : {T E : Type 0} (r : Result T E) {P : Type 0} → P → OnErr r P
 on_err (Ok x) p = tt
 on_err (Err e) p = p
 
-pub flushed_by : {A : Type 0} (a : Inside A) (v : Vec (Child A) A) (i most : ℕ) (pins : TenantPins) (b : MessageList) → IsNode a → Absorbs a.children.items i a.buffer pins a.shape.leaf most v.items b → length a.children.items + most ≤ a.shape.fan_out + 1 → Flushed a v b pins
+pub flushed_by : {A : Type 0} (a : Inside A) (v : Vec (Child A) A) (i most : ℕ) (pins : TenantPins) (b : MessageList) → IsNode a → Absorbs a.children.items i a.buffer pins a.shape.leaf most v.items b → length a.children.items + most ≤ a.shape.fan_out + 1 → Flushed a v i b pins
 flushed_by a v i most pins b node r room =
-    subst (λ c. Flushed a v c pins) (sym r.from)
+    subst (λ c. Flushed a v i c pins) (sym r.from)
     (flushed a v i r.replaced.leaf r.leaves most r.end pins (record { node = node; at = r.replaced.at; is = r.replaced.is; room = room }) r.into)

@@ -1,5 +1,5 @@
 -- A child that takes its messages out of the buffer above it.
-use Rattle.std.proofs.Common.{zero, suc, ◌≡◌, ℕ, ◌+◌, ◌<◌, List, [], ◌∷◌, ◌++◌, length, map, get_or, set, take, drop, Option, Some, None, refl, sym, ap, ◌∙◌, subst, arith, length-append}
+use Rattle.std.proofs.Common.{◌≡◌, ℕ, ◌+◌, List, [], ◌∷◌, ◌++◌, length, Option, Some, refl, sym, ap, ◌∙◌, subst, arith, length-append}
 use Rattle.std.specs.Prelude.{slice_get, slice_index_or, slice_set}
 use Rattle.stow_message.specs.MessageBuf.{MessageList, without_range}
 use Rattle.stow_message.specs.Rising.{in_range}
@@ -7,9 +7,9 @@ use Rattle.stow_node.specs.declared.child.Child.{Child}
 use Rattle.stow_node.specs.declared.child.Child.TheVariants as in_child
 use Rattle.stow_leaf.specs.declared.leaf.Leaf.{Leaf}
 use Rattle.stow_node.specs.Subtree.{Subtree}
-use Rattle.stow_node.specs.Parts.{Part, low_or, end_of, high_of}
+use Rattle.stow_node.specs.Parts.{low_or, high_of}
 use Rattle.stow_leaf.specs.Intervals.{top_key}
-use Rattle.stow_node.specs.Nodes.{part_of, parts_of}
+use Rattle.stow_node.specs.Nodes.{parts_of}
 use Rattle.stow_node.specs.Moves.{accepted, CanAccept, messages_for, CanHandDown, HandsDown}
 
 -- a row told as the child at a place, with those before and after it

@@ -19,3 +19,4 @@ pub mod Standing
 pub mod Spliced
 pub mod Entered
 pub mod Stepping
+pub mod Forgotten

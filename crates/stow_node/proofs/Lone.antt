@@ -3,7 +3,6 @@ use Rattle.std.proofs.Common.{zero, suc, cond, ◌≡◌, ◌≢◌, ℕ, ◌+�
 use Rattle.std.proofs.lemmas.Bool.{cond-false}
 use Rattle.std.proofs.lemmas.List.Sums.{sum_by-cons}
 use Rattle.std.specs.Ordering.{eq_by_cmp}
-use Rattle.std.specs.Prelude.{IsSome, if◌then◌else◌}
 use Rattle.stow_bytes.specs.Limits.{value_limit}
 use Rattle.stow_leaf.specs.LeafRows.{row_messages}
 use Rattle.stow_message.specs.Rising.{all_placed}

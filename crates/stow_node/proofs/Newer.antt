@@ -1,21 +1,19 @@
 -- Messages that are newer than those below them.
-use Rattle.std.proofs.Common.{zero, suc, ◌≡◌, ℕ, ◌<◌, ◌≤◌, Bool, true, false, List, [], ◌∷◌, ◌++◌, length, get_or, Option, Some, None, refl, sym, ap, ◌∙◌, subst, arith, ⊎_elim}
-use Rattle.std.specs.Prelude.{is_some, IsSome, if◌then◌else◌}
-use Rattle.std.specs.List.{All, AllByRecursion}
+use Rattle.std.proofs.Common.{◌≡◌, ℕ, ◌<◌, true, false, List, [], ◌∷◌, Some, sym, ap, ◌∙◌, arith, ⊎_elim}
+use Rattle.std.specs.Prelude.{is_some, IsSome}
+use Rattle.std.specs.List.{AllByRecursion}
 use Rattle.std.specs.Ordering.{is_eq, eq_by_cmp}
-use Rattle.stow_tree_model.specs.Op.{Op}
-use Rattle.stow_tree_model.specs.Operations.{or_else}
 use Rattle.stow_tree_model.specs.Messages.{ops_in}
 use Rattle.stow_tree_model.specs.Order.{Place, place_cmp, place_of}
 use Rattle.stow_tree_model.specs.TreeMessage.{TreeMessage}
-use Rattle.stow_tree_model.proofs.Orders.{exact_places, place_cases}
+use Rattle.stow_tree_model.proofs.Orders.{place_cases}
 use Rattle.stow_tree_model.proofs.Histories.{ops_in-at}
 use Rattle.std.proofs.lemmas.List.Elements.{All-from_recursion}
 use Rattle.stow_message.specs.Rising.{IsNew, AreNew}
 use Rattle.stow_message.proofs.Placed.{AllOther}
 use Rattle.stow_node.specs.Nodes.{AreNewer}
 use Rattle.stow_leaf.proofs.Found.{first_stays}
-use Rattle.stow_leaf.proofs.Ops.{Other, ops-append}
+use Rattle.stow_leaf.proofs.Ops.{Other}
 use Rattle.stow_leaf.proofs.Intervals.{by_test}
 
 eq_is : (a b : Place) → is_eq (place_cmp a b) ≡ true → a ≡ b

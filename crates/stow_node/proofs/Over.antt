@@ -1,5 +1,5 @@
 -- Newer operations on a key, over older ones that give way to others.
-use Rattle.std.proofs.Common.{zero, suc, ◌≡◌, ℕ, ◌<◌, ◌≤◌, ◌⊎◌, Bool, true, false, cond, List, [], ◌∷◌, Option, Some, None, refl, sym, ap, ◌∙◌, subst, arith, ⊎_elim, inl, inr}
+use Rattle.std.proofs.Common.{zero, suc, ◌≡◌, ℕ, ◌<◌, ◌≤◌, ◌⊎◌, true, false, cond, List, [], ◌∷◌, Option, Some, None, refl, sym, ap, ◌∙◌, subst, arith, ⊎_elim, inl, inr}
 use Rattle.std.specs.Prelude.{IsSome, Contains, nat_le}
 use Rattle.std.proofs.lemmas.Bool.{cases_lt}
 use Rattle.std.proofs.lemmas.Bool.Decides.{nat_tests}
@@ -8,9 +8,8 @@ use Rattle.stow_tree_model.specs.Op.{Op}
 use Rattle.stow_tree_model.specs.Operations.{Operations, applied, latest, or_else, over, value_in, NoneAbove, NoneUpTo}
 use Rattle.stow_tree_model.specs.Value.{IsValue}
 use Rattle.stow_tree_model.proofs.Latest.{latest_same, above_bound, merges_lem}
-use Rattle.stow_leaf.specs.Replacements.{GiveWay, AreThere, HasShortValues}
+use Rattle.stow_leaf.specs.Replacements.{HasShortValues}
 use Rattle.stow_leaf.proofs.Found.{none_some, none_unless, some_or, some_left, some_right, stays_itself}
-use Rattle.stow_leaf.proofs.Intervals.{by_test}
 use Rattle.stow_node.specs.Flushes.{MeanTheSame}
 
 -- each of the newer operations has a higher number than each of the older ones

@@ -1,24 +1,21 @@
 -- A node above another.
-use Rattle.std.proofs.Common.{◌≡◌, ℕ, ◌+◌, ◌*◌, ◌≤◌, Bool, true, false, List, [], ◌∷◌, ◌++◌, length, Option, Some, None, refl, sym, ap, ◌∙◌, subst, arith, append-nil}
+use Rattle.std.proofs.Common.{◌≡◌, ℕ, ◌+◌, ◌*◌, ◌≤◌, true, false, List, [], ◌∷◌, ◌++◌, length, None, refl, sym, ap, ◌∙◌, subst, arith, append-nil}
 use Rattle.std.specs.List.{AllByRecursion, flat_map}
 use Rattle.std.proofs.lemmas.List.Sums.{sum_by-cons}
 use Rattle.std.specs.Ordering.{is_lt}
 use Rattle.std.specs.declared.vec.Vec.{Vec}
-use Rattle.std.specs.declared.cmp.Ordering.TheVariants.{Less}
 use Rattle.stow_bytes.specs.Bytes.{bytes_cmp}
 use Rattle.stow_message.proofs.RisingLists.{lt_is}
-use Rattle.stow_message.specs.MessageBuf.{MessageList, message_list}
-use Rattle.stow_tree_model.specs.Op.{Op}
-use Rattle.stow_tree_model.specs.Operations.{or_else}
+use Rattle.stow_message.specs.MessageBuf.{message_list}
 use Rattle.stow_tree_model.specs.Messages.{ops_in}
 use Rattle.stow_node.specs.declared.child.Child.{Child}
 use Rattle.stow_node.specs.declared.child.Child.TheVariants as in_child
 use Rattle.stow_node.specs.declared.node.Node.TheInside.{Inside}
 use Rattle.stow_node.specs.declared.shape.Shape.{Shape}
-use Rattle.stow_node.specs.Subtree.{Subtree, buffered}
-use Rattle.stow_leaf.specs.LeafRows.{LeafRows, row_messages, first_fence}
+use Rattle.stow_node.specs.Subtree.{buffered}
+use Rattle.stow_leaf.specs.LeafRows.{LeafRows, first_fence}
 use Rattle.stow_node.specs.Parts.{Part, low_or, IsTile, TiledTo, messages_in, leaves_in, weight_in}
-use Rattle.stow_leaf.specs.Intervals.{top_key, spans, AreWithin}
+use Rattle.stow_leaf.specs.Intervals.{top_key, spans}
 use Rattle.stow_node.specs.Nodes.{part_of, node_part, parts_of, IsBelow, subtree_of, IsNode, AreLeafSizes}
 use Rattle.std.proofs.lemmas.List.{length-map}
 use Rattle.stow_node.specs.Moves.{raised}
@@ -26,7 +23,7 @@ use Rattle.stow_node.proofs.Lowered.{rows_by_part}
 use Rattle.stow_leaf.proofs.Ops.{ops-append}
 use Rattle.stow_leaf.proofs.Found.{both_none}
 use Rattle.stow_node.proofs.Row.{Taken, Apart, message_taken, row_taken, messages_apart, rows_apart, none_before, none_from, low_at_most}
-use Rattle.stow_leaf.proofs.Intervals.{lt, lt_trans, lt_le, le_le, lt_not, lt_self, not_spanned, span_low, span_high, spanned}
+use Rattle.stow_leaf.proofs.Intervals.{lt, lt_le, le_le, lt_not, lt_self, not_spanned, span_low, span_high, spanned}
 
 less_than_itself : (a b : List ℕ) → lt a b ≡ true → b ≡ a → ⊥
 less_than_itself a b l e = cc (lt_self a)

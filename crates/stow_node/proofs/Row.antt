@@ -1,16 +1,14 @@
 -- Messages by key in a row of parts that share out the keys.
-use Rattle.std.proofs.Common.{zero, suc, ◌≡◌, ℕ, ◌+◌, ◌<◌, ◌≤◌, Bool, true, false, List, [], ◌∷◌, ◌++◌, length, map, get_or, set, Option, Some, None, refl, sym, ap, ◌∙◌, subst, arith}
-use Rattle.std.specs.List.{flat_map, AllByRecursion}
-use Rattle.stow_bytes.specs.Bytes.{bytes_cmp}
+use Rattle.std.proofs.Common.{zero, suc, ◌≡◌, ℕ, ◌<◌, true, false, List, [], ◌∷◌, length, get_or, set, None, refl, sym, ap, ◌∙◌, subst, arith}
+use Rattle.std.specs.List.{flat_map}
 use Rattle.std.specs.Ordering.{is_lt}
-use Rattle.stow_tree_model.specs.Op.{Op}
 use Rattle.stow_tree_model.specs.Operations.{or_else}
 use Rattle.stow_tree_model.specs.Messages.{ops_in}
 use Rattle.stow_tree_model.specs.TreeMessage.{TreeMessage}
-use Rattle.stow_leaf.specs.LeafRows.{LeafRows, row_messages}
-use Rattle.stow_node.specs.Parts.{Part, IsTile, TiledTo, low_or, end_of, messages_in, leaves_in}
+use Rattle.stow_leaf.specs.LeafRows.{row_messages}
+use Rattle.stow_node.specs.Parts.{Part, IsTile, TiledTo, low_or, end_of}
 use Rattle.stow_leaf.specs.Intervals.{spans, AreWithin}
-use Rattle.stow_leaf.proofs.Intervals.{lt, lt_trans, lt_le, le_lt, le_le, lt_not, lt_self, under, beyond, span_low, span_high, spanned}
+use Rattle.stow_leaf.proofs.Intervals.{lt, lt_trans, lt_le, le_le, lt_not, lt_self, under, beyond, span_low, span_high}
 use Rattle.stow_leaf.proofs.Found.{both_none, or_none, none_or}
 use Rattle.stow_leaf.proofs.Ops.{ops-append}
 

@@ -1,25 +1,25 @@
 -- A node with nodes in the place of one of its children.
-use Rattle.std.proofs.Common.{zero, suc, ◌≡◌, ℕ, ◌+◌, ◌*◌, ◌<◌, ◌≤◌, Bool, true, false, cond, List, [], ◌∷◌, ◌++◌, length, map, take, drop, get_or, Option, Some, None, refl, sym, ap, ◌∙◌, subst, arith, length-append, append-nil, length-drop}
-use Rattle.std.specs.Prelude.{IsSome, slice_get}
+use Rattle.std.proofs.Common.{suc, ◌≡◌, ℕ, ◌+◌, ◌<◌, ◌≤◌, true, false, List, [], ◌∷◌, ◌++◌, length, map, take, drop, Option, Some, None, refl, sym, ap, ◌∙◌, subst, arith, length-append, append-nil, length-drop}
+use Rattle.std.specs.Prelude.{slice_get}
 use Rattle.std.specs.List.{flat_map, AllByRecursion}
 use Rattle.std.specs.Ordering.{is_lt}
 use Rattle.std.specs.declared.vec.Vec.{Vec}
 use Rattle.std.proofs.lemmas.Grind.{flat_map-append}
-use Rattle.std.proofs.lemmas.List.{map-append, length-map, take-map, drop-map, drop_more, take-append-drop, length-take-le}
+use Rattle.std.proofs.lemmas.List.{map-append, take-map, drop-map, drop_more, take-append-drop, length-take-le}
 use Rattle.std.proofs.lemmas.List.Sums.{sum_by-append, sum_by-cons}
 use Rattle.stow_merge.proofs.Lists.{all_join}
-use Rattle.stow_message.proofs.RisingLists.{no_path, lt_is}
+use Rattle.stow_message.proofs.RisingLists.{no_path}
 use Rattle.stow_tree_model.specs.Agreement.{TenantPins}
 use Rattle.stow_tree_model.specs.Keys.{tenant_of}
 use Rattle.stow_tree_model.specs.Messages.{ops_in}
 use Rattle.stow_tree_model.specs.Op.{Op}
 use Rattle.stow_tree_model.specs.Operations.{Operations, or_else, over}
 use Rattle.stow_tree_model.specs.TreeMessage.{TreeMessage}
-use Rattle.stow_leaf.specs.Intervals.{top_key, spans, AreWithin}
+use Rattle.stow_leaf.specs.Intervals.{top_key, spans}
 use Rattle.stow_leaf.specs.LeafRows.{LeafRows, row_messages, first_fence}
 use Rattle.stow_leaf.specs.Replacements.{IsLeafSize, HasShortValues}
-use Rattle.stow_leaf.proofs.Found.{both_none, or_none, none_or, none_some, some_left, some_right}
-use Rattle.stow_leaf.proofs.Intervals.{lt, by_test, lt_le, le_le, lt_self, beyond, spanned, span_low, span_high, not_spanned}
+use Rattle.stow_leaf.proofs.Found.{or_none, none_or}
+use Rattle.stow_leaf.proofs.Intervals.{lt, by_test, lt_self, beyond, span_low, span_high, not_spanned}
 use Rattle.stow_leaf.proofs.Ops.{ops-append}
 use Rattle.stow_leaf.proofs.Steps.{inside_of}
 use Rattle.stow_node.specs.declared.child.Child.{Child}
@@ -28,14 +28,14 @@ use Rattle.stow_node.specs.declared.node.Node.TheInside.{Inside}
 use Rattle.stow_node.specs.declared.shape.Shape.{Shape}
 use Rattle.stow_node.specs.Flushes.{AreShort, MeanTheSame, Keeps}
 use Rattle.stow_node.specs.Halves.{IsLike, AreHalves}
-use Rattle.stow_node.specs.Nodes.{part_of, node_part, parts_of, AreNewer, AreLeafSizes, IsBelow, subtree_of, IsNode}
-use Rattle.stow_node.specs.Parts.{Part, low_or, high_of, IsTile, TiledTo, messages_in, leaves_in, weight_in}
+use Rattle.stow_node.specs.Nodes.{part_of, node_part, parts_of, AreLeafSizes, IsBelow, subtree_of, IsNode}
+use Rattle.stow_node.specs.Parts.{Part, low_or, IsTile, TiledTo, messages_in, leaves_in, weight_in}
 use Rattle.stow_node.specs.Subtree.{Subtree, buffered, messages_of}
 use Rattle.stow_node.proofs.Accepted.{below_of, whole_ops}
 use Rattle.stow_node.proofs.Cut.{low_or-append, tiled-left, tiled-right, all_cut}
-use Rattle.stow_node.proofs.Flushed.{tiled-join, three, end_behind, old_parts}
-use Rattle.stow_node.proofs.Lowered.{rows_by_part, row_messages-append, end_at_most}
-use Rattle.stow_node.proofs.Over.{Above, or_none_left, or_none_right, nothing_short, same_pointwise, same_nothing, above_same, over_same, short_under}
+use Rattle.stow_node.proofs.Flushed.{tiled-join, three, old_parts}
+use Rattle.stow_node.proofs.Lowered.{rows_by_part, row_messages-append}
+use Rattle.stow_node.proofs.Over.{Above, or_none_left, or_none_right, nothing_short, same_pointwise, above_same, over_same, short_under}
 use Rattle.stow_node.proofs.Raised.{wider, row_fences, whole_tile}
 use Rattle.stow_node.proofs.Row.{Taken, Apart, message_taken, row_taken, messages_apart, rows_apart, none_before, none_from, low_at_most}
 use Rattle.stow_node.proofs.Standing.{parts_ops, outside_tile, stands, narrowed}
@@ -62,6 +62,11 @@ pub record Spliced {A : Type 0} (a : Inside A) (v : Vec (Child A) A) (x : Subtre
   pub is_node : IsNode (record a { children = v })
   pub keeps : Keeps pins (subtree_of a) (subtree_of (record a { children = v }))
   pub weight : (subtree_of (record a { children = v })).weight + x.weight ≡ (subtree_of a).weight + weight_in (run_parts run)
+  -- the leaves below and above stay
+  pub before : List LeafRows
+  pub after : List LeafRows
+  pub leaves_were : leaves_in (parts_of a.children.items) ≡ before ++ (x.leaves ++ after)
+  pub leaves_are : leaves_in (parts_of v.items) ≡ before ++ (leaves_in (run_parts run) ++ after)
 
 abbrev pub nodes : (A : Type 0) → List Subtree → List (Child A)
 nodes A run = map in_child.Node run
@@ -206,6 +211,10 @@ spliced {A} a v i x run pins node at r items room = record {
     means = means;
   };
   weight = weight;
+  before = leaves_in xs;
+  after = leaves_in ys;
+  leaves_were = leaves_were;
+  leaves_are = leaves_are;
 }
   where
     p : Neighbours a i x

@@ -1,18 +1,17 @@
 -- A node that stands where it stood.
-use Rattle.std.proofs.Common.{zero, suc, ◌≡◌, ℕ, ◌<◌, Bool, true, false, List, [], ◌∷◌, ◌++◌, Option, Some, None, refl, sym, ap, ◌∙◌, subst, arith}
+use Rattle.std.proofs.Common.{◌≡◌, ℕ, true, false, List, [], ◌∷◌, None, sym, ap, ◌∙◌, subst}
 use Rattle.std.specs.Prelude.{IsSome}
 use Rattle.std.specs.List.{AllByRecursion}
 use Rattle.std.specs.Ordering.{is_lt}
 use Rattle.stow_bytes.specs.Bytes.{bytes_cmp}
 use Rattle.stow_message.proofs.RisingLists.{no_path, lt_is}
 use Rattle.stow_tree_model.specs.Messages.{ops_in}
-use Rattle.stow_tree_model.specs.Op.{Op}
 use Rattle.stow_tree_model.specs.Operations.{or_else}
-use Rattle.stow_leaf.specs.Intervals.{spans, AreWithin}
+use Rattle.stow_leaf.specs.Intervals.{spans}
 use Rattle.stow_leaf.specs.LeafRows.{LeafRows, row_messages, first_fence}
 use Rattle.stow_leaf.specs.Replacements.{AreThere}
 use Rattle.stow_leaf.proofs.Found.{both_none, none_some, none_unless, some_left, some_right}
-use Rattle.stow_leaf.proofs.Intervals.{lt, lt_self, le_lt, by_test, under, spanned, span_low, span_high, not_spanned}
+use Rattle.stow_leaf.proofs.Intervals.{lt, lt_self, under, spanned, span_low, not_spanned}
 use Rattle.stow_leaf.proofs.Ops.{ops-append}
 use Rattle.stow_node.specs.Nodes.{node_part}
 use Rattle.stow_node.specs.Parts.{Part, IsTile}

@@ -1,11 +1,11 @@
 -- One step of a node's messages towards the leaves: what the node is after each of its ends.
-use Rattle.std.proofs.Common.{zero, suc, ◌≡◌, ℕ, ◌+◌, ◌*◌, ◌<◌, ◌≤◌, List, [], ◌∷◌, ◌++◌, length, take, drop, get_or, set, Option, Some, None, refl, sym, ap, ◌∙◌, subst, arith}
+use Rattle.std.proofs.Common.{zero, suc, ◌≡◌, ℕ, ◌+◌, ◌<◌, ◌≤◌, List, [], ◌∷◌, length, take, drop, get_or, set, Some, refl, sym, ap, ◌∙◌, subst, arith, append-nil, ◌++◌}
 use Rattle.std.specs.Prelude.{slice_get, Result, Ok, Err, OnOk, OnErr}
-use Rattle.std.specs.List.{sum_by, AllByRecursion}
+use Rattle.std.specs.List.{sum_by}
 use Rattle.std.specs.Vec.{with_item}
 use Rattle.std.specs.declared.vec.Vec.{Vec}
 use Rattle.std.proofs.lemmas.List.Sums.{sum_by-cons}
-use Rattle.stow_message.specs.MessageBuf.{MessageList, message_list}
+use Rattle.stow_message.specs.MessageBuf.{MessageList}
 use Rattle.stow_message.specs.Packed.{message_size}
 use Rattle.stow_message.specs.Rising.{is_between}
 use Rattle.stow_tree_model.specs.Agreement.{TenantPins}
@@ -13,25 +13,27 @@ use Rattle.stow_tree_model.specs.Keys.{tenant_of}
 use Rattle.stow_tree_model.specs.Messages.{ops_in}
 use Rattle.stow_tree_model.specs.Operations.{or_else}
 use Rattle.stow_leaf.specs.LeafRows.{row_messages}
-use Rattle.stow_leaf.specs.Intervals.{top_key}
+use Rattle.stow_leaf_cache.specs.Cache.{Cache}
 use Rattle.stow_leaf.proofs.Steps.{inside_of}
 use Rattle.stow_node.specs.declared.child.Child.{Child}
 use Rattle.stow_node.specs.declared.child.Child.TheVariants as in_child
 use Rattle.stow_node.specs.declared.node.Node.TheInside.{Inside}
 use Rattle.stow_node.specs.declared.shape.Shape.{Shape}
 use Rattle.stow_node.specs.Flushes.{AreShort, Keeps, Flushes}
+use Rattle.stow_node.specs.Forgets.{Forgets}
 use Rattle.stow_node.specs.Moves.{IsSqueezed, Stays, bytes_for}
 use Rattle.stow_node.specs.Nodes.{node_part, parts_of, AreLeafSizes, IsBelow, subtree_of, IsNode}
-use Rattle.stow_node.specs.Parts.{Part, high_of, weight_in}
-use Rattle.stow_node.specs.Subtree.{Subtree, buffered, messages_of}
+use Rattle.stow_node.specs.Parts.{Part, high_of, leaves_in}
+use Rattle.stow_node.specs.Subtree.{Subtree, messages_of}
 use Rattle.stow_node.proofs.Down.{IsNext, node_at, squeezed_same, full_has_messages, WentInto}
-use Rattle.stow_node.proofs.Entered.{Entered, child_sizes, keeps_itself}
+use Rattle.stow_node.proofs.Entered.{Entered, child_sizes}
 use Rattle.stow_node.proofs.Filled.{some_bytes}
+use Rattle.stow_node.proofs.Forgotten.{forgets_within}
 use Rattle.stow_node.proofs.HandedDown.{same_node}
 use Rattle.stow_node.proofs.Over.{same_pointwise, same_then}
-use Rattle.stow_node.proofs.Spliced.{Spliced, spliced, with_nodes, one_takes_place, child_short}
+use Rattle.stow_node.proofs.Spliced.{Spliced, spliced, one_takes_place, child_short}
 use Rattle.stow_node.proofs.Standing.{parts_ops}
-use Rattle.stow_node.proofs.Stayed.{same_tile, level_at, part_at}
+use Rattle.stow_node.proofs.Stayed.{same_tile, level_at}
 
 pub keeps_then : (pins : TenantPins) (s t u : Subtree) → Keeps pins s t → Keeps pins t u → Keeps pins s u
 keeps_then pins s t u a b = record {
@@ -126,6 +128,7 @@ pub record Stepped {A : Type 0} (a : Inside A) (v : Vec (Child A) A) (x z : Subt
   pub is_node : IsNode (record a { children = v })
   pub keeps : Keeps pins (subtree_of a) (subtree_of (record a { children = v }))
   pub weight : (subtree_of (record a { children = v })).weight + x.weight ≡ (subtree_of a).weight + z.weight
+  pub forgets : (cache cache' : Cache) → Forgets x.leaves z.leaves cache cache' → Forgets (leaves_in (parts_of a.children.items)) (leaves_in (parts_of v.items)) cache cache'
 
 set_is_splice : {X : Type 0} (xs : List X) (i : ℕ) (x : X) → i < length xs → set xs i x ≡ take i xs ++ (x ∷ drop (i + 1) xs)
 set_is_splice [] i x h = absurd (omega arith)
@@ -143,6 +146,8 @@ stepped {A} a v i bytes x y z pins s q k = record {
       let u = s.entered.weight in
       let one = sum_by-cons (λ (p : Part). p.weight) (node_part z) [] in
       omega (arith, w, u, one);
+  forgets = λ cache cache' f. forgets_within whole.before x.leaves z.leaves whole.after _ _ cache cache' f (sym s.entered.leaves ∙ whole.leaves_were)
+      (whole.leaves_are ∙ ap (λ ls. whole.before ++ (ls ++ whole.after)) (append-nil z.leaves));
 }
   where
     to_y : Keeps pins x y
@@ -159,6 +164,7 @@ pub record Handed {A : Type 0} (a : Inside A) (v : Vec (Child A) A) (b : Message
   pub is_node : IsNode (record a { children = v; buffer = b })
   pub keeps : Keeps pins (subtree_of a) (subtree_of (record a { children = v; buffer = b }))
   pub weight : (subtree_of (record a { children = v; buffer = b })).weight < (subtree_of a).weight
+  pub leaves : leaves_in (parts_of v.items) ≡ leaves_in (parts_of a.children.items)
 
 pub handed : {A : Type 0} (a : Inside A) (v w : Vec (Child A) A) (i bytes : ℕ) (x : Subtree) (b : MessageList) (pins : TenantPins) → Stepping a v i bytes x pins → WentInto (record a { children = v }) w b → Handed a w b pins
 handed a v w i bytes x b pins s into = record {
@@ -166,6 +172,7 @@ handed a v w i bytes x b pins s into = record {
   keeps = keeps_then pins (subtree_of a) (subtree_of (record a { children = v })) (subtree_of (record a { children = w; buffer = b })) s.entered.keeps
       (stays_keeps pins (subtree_of (record a { children = v })) (subtree_of (record a { children = w; buffer = b })) into.stays into.is_node.sizes);
   weight = let l = into.weight in let e = s.entered.weight in omega (arith, l, e);
+  leaves = into.stays.leaves ∙ s.entered.leaves;
 }
 
 -- ---- the child's answer

@@ -7,3 +7,4 @@ pub mod Halves
 pub mod Entering
 pub mod Absorbs
 pub mod Flushes
+pub mod Forgets

@@ -2,18 +2,20 @@
 //!
 //! A `Node` is seen as a `Subtree`: its own buffer, the messages in the buffers below it, the leaves from the lowest, and
 //! its shape. Its type keeps that all leaves stand at one depth, that it has one to fan-out children, that the children
-//! share out the keys by their fences, that each buffer is within the node size, and that each message of a key is newer
-//! than those below it, and that a leaf above the leaf target has one key. `move_down` moves what is buffered for one child into that child, further down where there is no
-//! room; what the node means at each key and number stays, and its messages come nearer to the leaves. `flush_leaf` merges
-//! messages for one leaf of a node right above leaves into it; under the pins the node means the same.
+//! share out the keys by their fences, that each buffer has the node size, that each message of a key is newer than those
+//! below it, and that a leaf above the leaf target has one key.
 //!
-//! This crate is begun, and nothing stands on it yet: nothing is read, and no step of a higher node goes on into a leaf or
-//! splits. So two things are proved and run by no test: `split`, which cuts a node in two, and what `move_down` does among
-//! several children.
-//! A body of `first`, `raise` or `flush_leaf` that always answers `AllocError` meets its contract: tests call each with
-//! ample memory and with each request refused. So does a body of `move_down` that always answers that nothing moved: a test refuses it. How
-//! much work a call does stands in no contract. The search for a key's child (`child_for`) waits for the reads. `raise` asks
-//! for fewer levels than 2^32 - 1, which no tree in memory has.
+//! `step` moves messages one edge towards the leaves, or merges messages into a leaf: the node means the same under the pins,
+//! its messages are fewer or nearer to the leaves, and the cache forgets the leaf that was replaced. A child that lacks places
+//! is cut in two before it is entered; `raise` puts a node above one that has no parent to do so. `buffer` and `children` lend
+//! what reads go by.
+//!
+//! That the child is the one for which most bytes are buffered stands in the contracts of this crate's own functions alone
+//! (`heaviest`, `next_child`): a `step` that went another way would meet its contract. A body of `first`, `raise` or `step`
+//! that always answers `AllocError` meets its contract: tests call each with ample memory and with each request refused. How
+//! much work a call does stands in no contract. Run by no test here: a step among several children, and a child that is cut.
+//! `raise` answers `AllocError` too where the levels can't be counted by 64 bits: as each has a block of its own, no memory
+//! holds them.
 #![tactic(auto)]
 
 mod absorbing;

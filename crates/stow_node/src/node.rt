@@ -7,6 +7,7 @@ ghost use Rattle.stow_message.specs.Packed.{message_size};
 ghost use Rattle.stow_message.specs.Rising.{in_range};
 ghost use Rattle.stow_tree_model.specs.TreeMessage.{message_of};
 ghost use Rattle.stow_node.specs.Flushes.{AreShort, Keeps, Flushes};
+ghost use Rattle.stow_node.specs.Forgets.{Forgets};
 ghost use Rattle.stow_node.specs.Halves.{AreHalves};
 ghost use Rattle.stow_node.specs.Moves.{accepted, CanAccept, IsSqueezed, Stays, raised};
 ghost use Rattle.stow_node.specs.Nodes.{AreChildren};
@@ -21,6 +22,7 @@ use std::alloc::{AllocError, Allocator, Global};
 use std::marker::Model;
 use std::mem;
 use stow_leaf::leaf::Leaf;
+use stow_leaf_cache::leaf_cache::LeafCache;
 use stow_merge::pins::Pins;
 use stow_message::message_buf::MessageBuf;
 use stow_page::packed_rows::PackedRows;
@@ -35,7 +37,7 @@ use stow_tree_model::tenant_key_buf::TenantKeyBuf;
 #[derive(Drop)]
 pub struct Node<A: Allocator = Global> {
     low: TenantKeyBuf<A>,
-    height: u32,
+    height: u64,
     shape: Shape,
     buffer: MessageBuf<A>,
     children: Vec<Child<A>, A>,
@@ -83,12 +85,15 @@ impl<A: Allocator + Copy> Node<A> {
 }
 
 impl<A: Allocator + Copy> Node<A> {
-    /// Puts a node above this one, which becomes its only child. Where memory is refused nothing has changed.
+    /// Puts a node above this one, which becomes its only child. Where memory is refused nothing has changed. More levels
+    /// than 2^64 - 1, each with a block of its own, no memory holds, and none is asked for them.
     pub fn raise(&mut self, alloc: A) -> Result<(), AllocError>
-        requires { self.old.height < 4294967295 }
         ensures raised { OnOk result (self.new ≡ raised self.old) }
         ensures same { OnErr result (self.new ≡ self.old) }
     {
+        let Some(height) = self.height.checked_add(1) else {
+            return Err(AllocError);
+        };
         let low = TenantKeyBuf::from_key(alloc, self.low.as_key())?;
         let buffer = MessageBuf::with_capacity(alloc, self.shape.buffer as usize)?;
         let mut children = Vec::with_capacity(alloc, 1)?;
@@ -101,7 +106,7 @@ impl<A: Allocator + Copy> Node<A> {
         };
         children.push(Child::Node(lower)).unwrap();
         self.children = children;
-        self.height += 1;
+        self.height = height;
         Ok(())
     }
 }
@@ -134,17 +139,24 @@ impl<A: Allocator + Copy> Node<A> {
 impl<A: Allocator + Copy> Node<A> {
     /// Merges messages for a leaf into it, of a node right above leaves: the leaf for which most bytes are buffered. What
     /// comes in its place has two places more at least. Where memory is refused nothing has changed.
-    pub fn flush_leaf(&mut self, alloc: A, pins: &Pins<A>) -> Result<(), AllocError>
+    pub(crate) fn flush_leaf(
+        &mut self,
+        alloc: A,
+        pins: &Pins<A>,
+        cache: &mut LeafCache<A>,
+    ) -> Result<(), AllocError>
         requires level { self.old.height ≡ 1 }
         requires some { 0 < length self.old.buffer.messages }
         requires places { self.old.width + 2 ≤ self.old.shape.fan_out }
         requires short { AreShort (messages_of self.old) }
         ensures ok { OnOk result (Flushes (pins_in pins.now) self.old self.new) }
         ensures err { OnErr result (self.new ≡ self.old) }
+        ensures cache { Forgets self.old.leaves self.new.leaves cache.old cache.new }
     {
         let index = heaviest(self.children.as_slice(), &self.buffer);
         let most = self.shape.fan_out as usize - self.width() + 1;
         let target = self.shape.leaf;
+        cache.forget(self.children[index].low().bytes);
         absorb(
             alloc,
             &mut self.children,
@@ -168,6 +180,7 @@ impl<A: Allocator + Copy> Node<A> {
         alloc: A,
         pins: &Pins<A>,
         spare: &mut RawBuf<A>,
+        cache: &mut LeafCache<A>,
     ) -> Result<(), AllocError>
         requires some { 0 < length self.old.buffer.messages }
         requires shape { 4 ≤ self.old.shape.fan_out }
@@ -176,12 +189,13 @@ impl<A: Allocator + Copy> Node<A> {
         requires spare { self.old.buffer.capacity ≤ spare.old.capacity }
         ensures ok { OnOk result (Flushes (pins_in pins.now) self.old self.new) }
         ensures err { OnErr result (Keeps (pins_in pins.now) self.old self.new) }
+        ensures cache { Forgets self.old.leaves self.new.leaves cache.old cache.new }
         ensures spare { spare.new.capacity ≡ spare.old.capacity }
     {
         let _used = self.buffer.used();
         let _len = self.buffer.len();
         if self.height == 1 {
-            return self.flush_leaf(alloc, pins);
+            return self.flush_leaf(alloc, pins, cache);
         }
         let fan_out = self.shape.fan_out as usize;
         let index = next_child(alloc, &mut self.children, &self.buffer, fan_out)?;
@@ -190,7 +204,7 @@ impl<A: Allocator + Copy> Node<A> {
             Child::Leaf(_) => unreachable!(),
             Child::Node(node) => {
                 if !node.makes_room(bytes, spare) {
-                    return node.step(alloc, pins, spare);
+                    return node.step(alloc, pins, spare, cache);
                 }
             }
         }
@@ -208,7 +222,7 @@ impl<A: Allocator> Node<A> {
     }
 
     /// How many levels of nodes there are from here down.
-    pub fn height(&self) -> u32
+    pub fn height(&self) -> u64
         ensures { result ≡ self.now.height }
     {
         self.height
@@ -220,6 +234,14 @@ impl<A: Allocator> Node<A> {
         ensures few { result ≤ self.now.shape.fan_out }
     {
         self.children.len()
+    }
+
+    /// How large it may grow. Its buffer's block has the node size.
+    pub fn shape(&self) -> Shape
+        ensures shape { result ≡ self.now.shape }
+        ensures block { self.now.buffer.capacity ≡ self.now.shape.buffer }
+    {
+        self.shape
     }
 
     /// Its own messages.
@@ -263,7 +285,7 @@ impl<A: Allocator> Node<A> {
     }
 
     /// Whether so many bytes fit into its own buffer; where they don't at first, dead bytes are dropped.
-    fn makes_room(&mut self, bytes: usize, spare: &mut RawBuf<A>) -> bool
+    pub fn makes_room(&mut self, bytes: usize, spare: &mut RawBuf<A>) -> bool
         requires { self.old.buffer.capacity ≤ spare.old.capacity }
         ensures same { IsSqueezed self.old self.new }
         ensures room { IsTrue result → self.new.buffer.used + bytes ≤ self.new.buffer.capacity }
@@ -277,32 +299,5 @@ impl<A: Allocator> Node<A> {
         }
         self.buffer.squeeze(spare);
         bytes <= capacity - self.buffer.used()
-    }
-
-    /// Moves the messages for the child for which most bytes are buffered into that child's buffer. Where they don't fit
-    /// there, dead bytes dropped, the same is done in that child. Answers whether messages moved: where the way ends
-    /// above a leaf, none did.
-    pub fn move_down(&mut self, spare: &mut RawBuf<A>) -> bool
-        requires some { 0 < length self.old.buffer.messages }
-        requires spare { self.old.buffer.capacity ≤ spare.old.capacity }
-        ensures stays { Stays self.old self.new }
-        ensures moved { IsTrue result → self.new.weight < self.old.weight }
-        ensures unmoved { result ≡ false → self.new.weight ≡ self.old.weight }
-        ensures spare { spare.new.capacity ≡ spare.old.capacity }
-    {
-        let _used = self.buffer.used();
-        let _len = self.buffer.len();
-        let index = heaviest(self.children.as_slice(), &self.buffer);
-        let bytes = bytes_for(self.children.as_slice(), index, &self.buffer);
-        match &mut self.children[index] {
-            Child::Leaf(_) => return false,
-            Child::Node(node) => {
-                if !node.makes_room(bytes, spare) {
-                    return node.move_down(spare);
-                }
-            }
-        }
-        hand_down(&mut self.children, index, &mut self.buffer);
-        true
     }
 }

@@ -4,10 +4,12 @@ ghost use Rattle.stow_tree_model.specs.Keys.{packed};
 ghost use Rattle.stow_node.specs.Flushes.{AreShort};
 ghost use Rattle.stow_node.specs.Subtree.{messages_of};
 
+use crate::child::Child;
 use crate::node::Node;
 use crate::shape::Shape;
 use std::alloc::{AllocError, Allocator};
 use std::test::Fail;
+use stow_leaf_cache::leaf_cache::LeafCache;
 use stow_merge::pins::Pins;
 use stow_raw::raw_buf::RawBuf;
 use stow_refusing::{Plan, Refusing};
@@ -45,16 +47,6 @@ fn put_a<A: Allocator>(node: &mut Node<A>)
     });
 }
 
-#[test]
-fn above_a_leaf_nothing_moves(rt: HostRuntime) -> Result<(), Fail> {
-    let alloc = rt.alloc();
-    let mut spare = RawBuf::with_capacity(alloc, 131_072)?;
-    let mut node = Node::first(alloc, smallest())?;
-    assert!(rt; node.height() == 1 && node.width() == 1 && node.low().bytes == [0; 4].as_slice());
-    assert!(rt; !put_and_move(&mut node, &mut spare));
-    Ok(())
-}
-
 /// A node above another.
 fn two_levels<A: Allocator + Copy>(alloc: A) -> Result<Node<A>, AllocError>
     ensures none { IfOk result (λ n. messages_of n ≡ []) }
@@ -66,38 +58,56 @@ fn two_levels<A: Allocator + Copy>(alloc: A) -> Result<Node<A>, AllocError>
     Ok(node)
 }
 
-/// Puts a message into a node without any, and moves it down.
-fn put_and_move<A: Allocator>(node: &mut Node<A>, spare: &mut RawBuf<A>) -> bool
+/// Puts a message into a node without any, and takes a step.
+fn put_and_step<A: Allocator + Copy>(
+    alloc: A,
+    node: &mut Node<A>,
+    pins: &Pins<A>,
+    spare: &mut RawBuf<A>,
+    cache: &mut LeafCache<A>,
+) -> Result<(), AllocError>
     requires none { messages_of node.old ≡ [] }
     requires low { node.old.low ≡ packed 0 [] }
     requires room { node.old.buffer.used + 23 ≤ node.old.buffer.capacity }
+    requires places { node.old.width + 2 ≤ node.old.shape.fan_out }
+    requires shape { 4 ≤ node.old.shape.fan_out }
     requires spare { node.old.buffer.capacity ≤ spare.old.capacity }
 {
     put_a(node);
-    node.move_down(spare)
+    node.step(alloc, pins, spare, cache)
+}
+
+/// How many messages there are in the buffer of the first child.
+fn buffered_below<A: Allocator>(node: &Node<A>) -> usize {
+    match node.children().first() {
+        Some(Child::Node(lower)) => lower.buffer().len(),
+        Some(Child::Leaf(_)) | None => 0,
+    }
 }
 
 #[test]
 fn messages_move_one_level(rt: HostRuntime) -> Result<(), Fail> {
     let alloc = rt.alloc();
     let mut spare = RawBuf::with_capacity(alloc, 131_072)?;
+    let mut cache = LeafCache::new(alloc, 0)?;
+    let pins = Pins::new(alloc);
     let mut node = two_levels(alloc)?;
-    assert!(rt; node.height() == 2 && node.width() == 1);
-    assert!(rt; put_and_move(&mut node, &mut spare));
+    assert!(rt; node.height() == 2 && node.width() == 1 && node.low().bytes == [0; 4].as_slice());
+    put_and_step(alloc, &mut node, &pins, &mut spare, &mut cache)?;
+    assert_eq!(rt; node.buffer().len(), 0);
+    assert_eq!(rt; buffered_below(&node), 1);
     Ok(())
 }
 
 /// How many requests for memory a put and its way down make, if the nodes can be had.
 fn asked_below<B: Allocator>(heap: &Refusing<B>) -> Result<u64, AllocError> {
     let mut spare = RawBuf::with_capacity(heap, 131_072)?;
+    let mut cache = LeafCache::new(heap, 0)?;
+    let pins = Pins::new(heap);
     let mut node = two_levels(heap)?;
     heap.set(Plan::RefuseAll);
-    let moved = put_and_move(&mut node, &mut spare);
-    if moved {
-        Ok(heap.asked())
-    } else {
-        Err(AllocError)
-    }
+    put_and_step(heap, &mut node, &pins, &mut spare, &mut cache)?;
+    Ok(heap.asked())
 }
 
 #[test]
@@ -124,39 +134,24 @@ fn making_withstands_each_refusal(rt: HostRuntime) -> Result<(), Fail> {
     Ok(())
 }
 
-/// Puts a message into a node without any, right above a leaf, and merges it into that leaf.
-fn put_and_flush<A: Allocator + Copy>(
-    alloc: A,
-    node: &mut Node<A>,
-    pins: &Pins<A>,
-) -> Result<(), AllocError>
-    requires none { messages_of node.old ≡ [] }
-    requires low { node.old.low ≡ packed 0 [] }
-    requires room { node.old.buffer.used + 23 ≤ node.old.buffer.capacity }
-    requires level { node.old.height ≡ 1 }
-    requires places { node.old.width + 2 ≤ node.old.shape.fan_out }
-{
-    put_a(node);
-    node.flush_leaf(alloc, pins)
-}
-
-/// Whether a first node can be had, and merges a message into its leaf.
-fn is_flushed<A: Allocator + Copy>(alloc: A) -> bool {
+/// Whether a first node, a spare block and a cache can be had, and a message is merged into the leaf.
+fn is_flushed<A: Allocator + Copy>(alloc: A) -> Result<bool, AllocError> {
+    let mut spare = RawBuf::with_capacity(alloc, 131_072)?;
+    let mut cache = LeafCache::new(alloc, 0)?;
     let pins = Pins::new(alloc);
-    match Node::first(alloc, smallest()) {
-        Ok(mut node) => put_and_flush(alloc, &mut node, &pins).is_ok(),
-        Err(_) => false,
-    }
+    let mut node = Node::first(alloc, smallest())?;
+    put_and_step(alloc, &mut node, &pins, &mut spare, &mut cache)?;
+    Ok(node.buffer().len() == 0)
 }
 
 #[test]
 fn a_leaf_takes_messages(rt: HostRuntime) -> Result<(), Fail> {
     let heap = Refusing::new(rt.alloc());
-    assert!(rt; is_flushed(&heap));
+    assert_eq!(rt; is_flushed(&heap), Ok(true));
     let asked = heap.asked();
     for n in 0..asked {
         heap.set(Plan::RefuseAt(n));
-        assert!(rt; !is_flushed(&heap), "request {n}");
+        assert!(rt; is_flushed(&heap).is_err(), "request {n}");
     }
     Ok(())
 }

@@ -1,7 +1,6 @@
-use Rattle.std.proofs.Common.{◌≡◌, length, sym, ap, ◌∙◌, subst, List, ℕ, map}
-use Rattle.stow_leaf.specs.declared.leaf.Leaf.{Leaf}
+use Rattle.std.proofs.Common.{◌∙◌, subst}
 use Rattle.stow_merge.specs.Pins.{pins_in}
-use Rattle.stow_node.specs.Absorbs.{IsReplacedBy, with_leaves, Absorbs}
+use Rattle.stow_node.specs.Absorbs.{IsReplacedBy}
 use Rattle.stow_node.proofs.Absorbed.{absorbs, low_of_leaf}
 use Rattle.stow_node.proofs.absorbing.absorb.Goals as goal
 

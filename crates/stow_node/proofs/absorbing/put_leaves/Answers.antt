@@ -1,7 +1,5 @@
-use Rattle.std.proofs.Common.{◌≡◌, ◌+◌, ◌<◌, ◌≤◌, length, sym, ap, ◌∙◌, arith, [], ◌∷◌, ◌++◌}
-use Rattle.std.specs.Vec.{vec_len, vec_capacity}
-use Rattle.stow_node.specs.declared.child.Child.TheVariants as in_child
-use Rattle.stow_node.proofs.Absorbed.{IsPutting, putting_first, putting_next, all_put, place_inside, none_left}
+use Rattle.std.proofs.Common.{arith}
+use Rattle.stow_node.proofs.Absorbed.{putting_first, putting_next, all_put, place_inside, none_left}
 use Rattle.stow_node.proofs.absorbing.put_leaves.Goals as goal
 
 pub loop-leaf-init : goal.loop-leaf-init

@@ -1,4 +1,4 @@
-use Rattle.std.proofs.Common.{◌≡◌, ◌+◌, ◌≤◌, length}
+use Rattle.std.proofs.Common.{◌+◌, ◌≤◌}
 use Rattle.std.specs.Vec.{vec_len, vec_capacity}
 use Rattle.stow_node.proofs.Absorbed.{IsPutting}
 use Rattle.stow_node.proofs.absorbing.put_leaves.Given as goal

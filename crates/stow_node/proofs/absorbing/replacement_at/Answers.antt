@@ -1,4 +1,4 @@
-use Rattle.std.proofs.Common.{◌≡◌, ◌≤◌, ◌<◌, length, sym, ap, ◌∙◌, subst, arith, List, ℕ, map}
+use Rattle.std.proofs.Common.{sym, subst, arith, map}
 use Rattle.stow_leaf.specs.LeafRows.{leaf_rows}
 use Rattle.stow_leaf.specs.Replacements.{CanReplace, IsReplacement}
 use Rattle.stow_leaf.specs.declared.leaf.Leaf.{Leaf}

@@ -1,4 +1,4 @@
-use Rattle.std.proofs.Common.{◌≡◌, ◌+◌, ◌-◌, ◌/◌, ◌<◌, length, map, arith, ap, ◌∙◌, sym}
+use Rattle.std.proofs.Common.{◌+◌, ◌-◌, ◌/◌, arith, ap, ◌∙◌, sym}
 use Rattle.std.proofs.lemmas.List.{length-map}
 use Rattle.stow_node.specs.Nodes.{part_of, parts_of}
 use Rattle.stow_leaf.proofs.Intervals.{lt}

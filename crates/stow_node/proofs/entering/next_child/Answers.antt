@@ -1,8 +1,6 @@
-use Rattle.std.proofs.Common.{◌≡◌, ◌+◌, ◌-◌, ◌<◌, ◌≤◌, length, List, sym, ap, ◌∙◌, refl, subst, inl, inr, arith}
-use Rattle.stow_node.specs.Halves.{SplitsAt}
+use Rattle.std.proofs.Common.{◌+◌, length, ap, refl, inl, inr, arith}
 use Rattle.stow_node.proofs.Entered.{inside_lent, enters_whole, wide_child, one_more, enters_half}
 use Rattle.stow_node.proofs.entering.next_child.Goals as goal
-use Rattle.stow_node.proofs.entering.next_child.Given as given
 
 pub returns-then-width-fan_out-clause-ok : goal.returns-then-width-fan_out-clause-ok
 returns-then-width-fan_out-clause-ok g c =

@@ -1,6 +1,5 @@
-use Rattle.std.proofs.Common.{◌≡◌, ◌+◌, ◌<◌, ◌≤◌, length, List, set, sym, ap, ◌∙◌, refl, subst, arith}
+use Rattle.std.proofs.Common.{set, refl}
 use Rattle.stow_leaf.proofs.Steps.{inside_of}
-use Rattle.stow_node.specs.Halves.{IsWide, SplitsAt}
 use Rattle.stow_node.specs.declared.child.Child.TheVariants as in_child
 use Rattle.stow_node.proofs.Entered.{split_is, not_leaf}
 use Rattle.stow_node.proofs.entering.split_at.Goals as goal

@@ -3,7 +3,6 @@ use Rattle.std.specs.List.{sum_by}
 use Rattle.stow_message.specs.Packed.{message_size}
 use Rattle.stow_message.specs.Rising.{in_range}
 use Rattle.stow_node.specs.Nodes.{parts_of}
-use Rattle.stow_node.specs.Parts.{high_of}
 use Rattle.stow_node.proofs.Places.{low_at}
 use Rattle.stow_node.proofs.moving.bytes_for.Goals as goal
 

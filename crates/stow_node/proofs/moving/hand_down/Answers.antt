@@ -1,13 +1,6 @@
-use Rattle.std.proofs.Common.{◌≡◌, ℕ, zero, suc, ◌+◌, List, [], ◌∷◌, ◌++◌, length, ap, ◌∙◌, sym, subst, refl, arith}
-use Rattle.std.specs.Prelude.{slice_index_or}
-use Rattle.stow_message.specs.Rising.{in_range}
-use Rattle.stow_node.specs.declared.child.Child.{Child}
 use Rattle.stow_node.specs.declared.child.Child.TheVariants as in_child
-use Rattle.stow_node.specs.Moves.{CanAccept}
-use Rattle.stow_node.specs.Nodes.{parts_of}
 use Rattle.stow_node.proofs.HandedDown.{opened, can_accept, handed_down, not_leaf}
 use Rattle.stow_node.proofs.moving.hand_down.Goals as goal
-use Rattle.stow_node.proofs.moving.hand_down.Given as given
 
 pub accept-requires : goal.accept-requires
 accept-requires g c =

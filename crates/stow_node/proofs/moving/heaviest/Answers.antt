@@ -1,4 +1,4 @@
-use Rattle.std.proofs.Common.{◌≡◌, ◌+◌, ◌<◌, length, arith}
+use Rattle.std.proofs.Common.{arith}
 use Rattle.std.proofs.lemmas.List.{length-map}
 use Rattle.stow_node.specs.Nodes.{part_of, parts_of}
 use Rattle.stow_node.proofs.Heaviest.{of_first, next_lighter, next_heavier, heaviest_of_all}

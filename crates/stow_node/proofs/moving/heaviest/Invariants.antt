@@ -1,7 +1,4 @@
-use Rattle.std.proofs.Common.{◌≡◌, ◌<◌, ◌≤◌, ℕ, length}
-use Rattle.stow_node.specs.Moves.{bytes_for}
 use Rattle.stow_node.specs.Nodes.{parts_of}
-use Rattle.stow_node.specs.Parts.{Part}
 use Rattle.stow_node.proofs.Heaviest.{IsHeaviestOf}
 use Rattle.stow_node.proofs.moving.heaviest.Given as goal
 

@@ -1,11 +1,14 @@
-use Rattle.std.proofs.Common.{rules, ◌≡◌, ℕ, ◌+◌, ◌*◌, ◌<◌, ◌≤◌, List, [], ◌∷◌, length, set, map, Option, Some, ap, ◌∙◌, sym, subst, refl, arith}
+use Rattle.std.proofs.Common.{rules, ℕ, ◌+◌, ◌<◌, ◌≤◌, length, set, ap, ◌∙◌, sym, subst, arith}
 use Rattle.std.specs.Vec.{with_item, with_items}
 use Rattle.stow_leaf.proofs.Steps.{inside_of}
 use Rattle.stow_merge.specs.Pins.{pins_in}
 use Rattle.stow_node.specs.declared.child.Child.TheVariants as in_child
-use Rattle.stow_node.specs.Flushes.{AreShort, Keeps, Flushes}
+use Rattle.stow_node.specs.Flushes.{AreShort, Keeps}
 use Rattle.stow_node.specs.Moves.{HandsDown}
-use Rattle.stow_node.specs.Nodes.{subtree_of}
+use Rattle.stow_node.specs.Forgets.{Forgets}
+use Rattle.stow_node.specs.Nodes.{parts_of, subtree_of}
+use Rattle.stow_node.specs.Parts.{leaves_in}
+use Rattle.stow_node.proofs.Forgotten.{forgets_nothing}
 use Rattle.stow_node.specs.Subtree.{Subtree, messages_of}
 use Rattle.stow_node.proofs.Down.{squeezed_same, same_children, MadeRoom, made_room, went_into, new_items}
 use Rattle.stow_node.proofs.Entered.{Entered, entered, not_leaf, keeps_itself}
@@ -118,3 +121,18 @@ returns-clause-ok g t c = record {
   keeps = rw (← c.self.view_is) (done g t c).keeps;
   lighter = let less = (done g t c).weight in let own = ap (λ (s : Subtree). s.weight) c.self.view_is in omega (arith, less, own);
 }
+
+pub returns-in_err-index-clause-cache : goal.returns-in_err-index-clause-cache
+returns-in_err-index-clause-cache g t c =
+    forgets_nothing c.args.self.now.leaves (leaves_in (parts_of c.next_child.new.children.items)) c.args.cache.now
+    (ap (λ children. leaves_in (parts_of children)) c.in_err-index.ensures.err ∙ ap (λ (s : Subtree). s.leaves) c.self.view_is)
+
+pub returns-then-not-makes_room-clause-cache : goal.returns-then-not-makes_room-clause-cache
+returns-then-not-makes_room-clause-cache g t c =
+    let s : Stepping c.self.inside c.next_child.new.children c.in_ok-index.index c.bytes_for-bytes.result c.in-Node.node (pins_in c.args.pins.now) = stepping c.self.inside c.next_child.new.children c.in_ok-index.index c.bytes_for-bytes.result c.in-Node.node (pins_in c.args.pins.now) c.index_mut.result.now c.as_slice.result.now (entered c.self.inside c.next_child.new.children c.in_ok-index.index (pins_in c.args.pins.now) c.self.invariant (λ e. c.if-self-eq1.false e) (subst (λ (s : Subtree). 0 < length s.buffer.messages) (sym c.self.view_is) c.requires.some) (subst (λ (s : Subtree). 4 ≤ s.shape.fan_out) (sym c.self.view_is) c.requires.shape) (subst (λ (s : Subtree). s.width + 2 ≤ s.shape.fan_out) (sym c.self.view_is) c.requires.places) c.in_ok-index.ensures.ok) c.index_mut.ensures.value c.in-Node.is c.as_slice.ensures.value c.bytes_for-bytes.ensures (let u = c.used-used.ensures.live in let w = c.used-used.ensures.within in omega arith) in
+    let done : Stepped c.self.inside (with_item c.next_child.new.children c.in_ok-index.index (in_child.Node c.step.new.self)) c.in-Node.node c.step.new.self (pins_in c.args.pins.now) = stepped c.self.inside c.next_child.new.children c.in_ok-index.index c.bytes_for-bytes.result c.in-Node.node c.makes_room.new.self c.step.new.self (pins_in c.args.pins.now) s c.makes_room.ensures.same (either (pins_in c.args.pins.now) c.makes_room.new.self c.step.new.self c.step.result c.step.ensures.ok c.step.ensures.err) in
+    rw (← c.self.view_is) (done.forgets c.args.cache.now c.step.new.cache (subst (λ ls. Forgets ls c.step.new.self.leaves c.args.cache.now c.step.new.cache) (squeezed_same c.in-Node.node c.makes_room.new.self c.makes_room.ensures.same).0.leaves c.step.ensures.cache))
+
+pub returns-clause-cache : goal.returns-clause-cache
+returns-clause-cache g t c =
+    rw (← c.self.view_is) (forgets_nothing (leaves_in (parts_of c.self.inside.children.items)) _ c.args.cache.now (done g t c).leaves)

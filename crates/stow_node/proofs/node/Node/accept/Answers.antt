@@ -1,9 +1,7 @@
-use Rattle.std.proofs.Common.{◌≡◌, [], ap, sym, subst}
+use Rattle.std.proofs.Common.{[], sym, subst}
 use Rattle.stow_message.proofs.RisingLaws.{rests_rise}
 use Rattle.stow_message.specs.Rising.{in_range}
-use Rattle.stow_tree_model.specs.TreeMessage.{TreeMessage}
 use Rattle.stow_node.specs.Subtree.{Subtree}
-use Rattle.stow_node.specs.Nodes.{subtree_of}
 use Rattle.stow_node.specs.Moves.{CanAccept}
 use Rattle.stow_node.proofs.Accepted.{Took, took, others}
 use Rattle.stow_node.proofs.Newer.{are_new}

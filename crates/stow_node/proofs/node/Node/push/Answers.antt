@@ -1,13 +1,9 @@
 use Rattle.std.proofs.Common.{[], ◌∷◌, sym, subst, arith}
 use Rattle.std.proofs.lemmas.List.Sums.{sum_by-cons}
-use Rattle.std.specs.List.Sorted.{IsStrictlySortedBy}
-use Rattle.stow_message.specs.MessageBuf.{with_messages}
 use Rattle.stow_message.specs.Packed.{message_size}
-use Rattle.stow_tree_model.specs.Order.{MessagesRise}
-use Rattle.stow_tree_model.specs.TreeMessage.{TreeMessage, message_of}
-use Rattle.stow_node.specs.Nodes.{subtree_of}
+use Rattle.stow_tree_model.specs.TreeMessage.{message_of}
 use Rattle.stow_node.specs.Moves.{CanAccept}
-use Rattle.stow_node.proofs.Accepted.{Took, took, others, took_one}
+use Rattle.stow_node.proofs.Accepted.{Took, others, took_one}
 use Rattle.stow_node.proofs.Newer.{are_new}
 use Rattle.stow_node.proofs.node.Node.push.Goals as goal
 use Rattle.stow_node.proofs.node.Node.push.Given as given

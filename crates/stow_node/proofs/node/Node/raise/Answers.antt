@@ -1,4 +1,4 @@
-use Rattle.std.proofs.Common.{rules, ◌≡◌, ◌+◌, ◌<◌, [], ◌∷◌, refl, sym, ap, ◌∙◌, subst, arith}
+use Rattle.std.proofs.Common.{rules, ◌≡◌, ◌+◌, ◌<◌, [], ◌∷◌, refl, ap, ◌∙◌, arith}
 use Rattle.stow_node.specs.declared.child.Child.TheVariants as in_child
 use Rattle.stow_node.specs.Subtree.{Subtree}
 use Rattle.stow_message.specs.MessageBuf.{message_list}
@@ -10,11 +10,6 @@ use Rattle.stow_node.proofs.node.Node.raise.Given as given
 
 pub invariant_of-lower : goal.invariant_of-lower
 invariant_of-lower g c = rw (c.replace.ensures.value, c.replace-2.ensures.value, c.replace-3.ensures.value) c.self.invariant
-
-pub overflow_add-self : goal.overflow_add-self
-overflow_add-self g c =
-    let low : c.self.inside.height + 1 < 4294967296 = let few = c.requires in let own = ap (λ (s : Subtree). s.height) c.self.view_is in omega arith in
-    search (rules, low)
 
 done : (g : given.Over) (c : goal.After-self-1 g) → IsRaised c.self.inside c.push.new.self
 done g c =
@@ -29,7 +24,7 @@ buffer_is : (g : given.Over) (c : goal.After-self-1 g) → c.replace-2.new.dest 
 buffer_is g c = c.replace-2.ensures.after ∙ c.in_ok-buffer.ensures
 
 pub invariant_of-self : goal.invariant_of-self
-invariant_of-self g c = rw (low_is g c, buffer_is g c) (done g c).is_node
+invariant_of-self g c = let e : c.in-Some.height ≡ c.self.inside.height + 1 = omega (arith, c.in-Some.ensures) in rw (low_is g c, buffer_is g c, e) (done g c).is_node
 
 pub returns-clause-raised : goal.returns-clause-raised
-returns-clause-raised g c = rw (low_is g c, buffer_is g c) ((done g c).is ∙ ap raised c.self.view_is)
+returns-clause-raised g c = let e : c.in-Some.height ≡ c.self.inside.height + 1 = omega (arith, c.in-Some.ensures) in rw (low_is g c, buffer_is g c, e) ((done g c).is ∙ ap raised c.self.view_is)

@@ -1,7 +1,6 @@
-use Rattle.std.proofs.Common.{◌≡◌, ◌≤◌, ◌<◌, ◌+◌, ◌/◌, length, sym, ap, ◌∙◌, subst, arith}
+use Rattle.std.proofs.Common.{◌/◌, sym, ap, ◌∙◌, arith}
 use Rattle.stow_message.specs.Rising.{is_between}
-use Rattle.stow_node.specs.Halves.{AreHalves}
-use Rattle.stow_node.specs.Nodes.{part_of, subtree_of, IsNode}
+use Rattle.stow_node.specs.Nodes.{part_of}
 use Rattle.stow_node.specs.declared.child.Child.{Child}
 use Rattle.stow_node.specs.Subtree.{Subtree}
 use Rattle.stow_node.proofs.Cut.{Cut, cut_at}

@@ -1,0 +1,13 @@
+//! Room at the root of the buffered tree (Brodal and Fagerberg 2003; Bender and others 2015).
+//!
+//! `make_room` makes room for so many bytes in the root's own buffer: dead bytes are dropped first, and only where that is not
+//! enough messages move towards the leaves, one step at a time (`Node::step`), or another node is put above the root. What
+//! the tree means stays, under the pins that are given (`specs/Rooms.antt`).
+//!
+//! Nothing stands on this crate yet. A body that answers `AllocError` wherever bytes don't fit at once meets the contract:
+//! a test calls it with ample memory, and with each request refused. How many steps are taken stands in no contract.
+#![tactic(auto)]
+
+pub mod room;
+#[cfg(test)]
+mod tests;

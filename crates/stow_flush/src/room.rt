@@ -1,0 +1,46 @@
+//! Room in the root's own buffer.
+ghost use Rattle.std.specs.Prelude.{◌≡◌, ◌+◌, ◌≤◌, OnOk, OnErr};
+ghost use Rattle.stow_merge.specs.Pins.{pins_in};
+ghost use Rattle.stow_node.specs.Flushes.{AreShort};
+ghost use Rattle.stow_node.specs.Forgets.{Forgets};
+ghost use Rattle.stow_node.specs.Moves.{IsSqueezed};
+ghost use Rattle.stow_node.specs.Subtree.{messages_of};
+ghost use Rattle.stow_flush.specs.Rooms.{Stands, HasRoom, FitsSqueezed};
+
+use std::alloc::{AllocError, Allocator};
+use stow_leaf_cache::leaf_cache::LeafCache;
+use stow_merge::pins::Pins;
+use stow_node::node::Node;
+use stow_raw::raw_buf::RawBuf;
+
+/// Makes room for so many bytes in the root's own buffer. Where they fit once dead bytes are dropped, no message moves.
+/// Where memory is refused, the root means what it did.
+pub fn make_room<A: Allocator + Copy>(
+    alloc: A,
+    root: &mut Node<A>,
+    bytes: usize,
+    pins: &Pins<A>,
+    spare: &mut RawBuf<A>,
+    cache: &mut LeafCache<A>,
+) -> Result<(), AllocError>
+    requires shape { 4 ≤ root.old.shape.fan_out }
+    requires bytes { bytes ≤ root.old.shape.buffer }
+    requires short { AreShort (messages_of root.old) }
+    requires spare { root.old.buffer.capacity ≤ spare.old.capacity }
+    ensures room { OnOk result (HasRoom bytes root.new) }
+    ensures stands { Stands (pins_in pins.now) root.old root.new }
+    ensures unmoved { FitsSqueezed bytes root.old → IsSqueezed root.old root.new }
+    ensures cache { Forgets root.old.leaves root.new.leaves cache.old cache.new }
+    ensures spare { spare.new.capacity ≡ spare.old.capacity }
+{
+    if root.makes_room(bytes, spare) {
+        return Ok(());
+    }
+    while !root.makes_room(bytes, spare) {
+        if root.shape().fan_out as usize - root.width() < 2 {
+            return root.raise(alloc);
+        }
+        root.step(alloc, pins, spare, cache)?;
+    }
+    Ok(())
+}
