@@ -33,9 +33,6 @@ pub fn make_room<A: Allocator + Copy>(
     ensures cache { Forgets root.old.leaves root.new.leaves cache.old cache.new }
     ensures spare { spare.new.capacity ≡ spare.old.capacity }
 {
-    if root.makes_room(bytes, spare) {
-        return Ok(());
-    }
     while !root.makes_room(bytes, spare) {
         if root.shape().fan_out as usize - root.width() < 2 {
             return root.raise(alloc);
