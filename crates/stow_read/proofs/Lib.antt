@@ -1,0 +1,5 @@
+pub mod Newest
+pub mod Looked
+pub mod Shown
+pub mod Below
+pub mod Walked

@@ -1,0 +1,4 @@
+pub mod Found
+pub mod Shown
+pub mod Suffixes
+pub mod Descent
