@@ -102,7 +102,7 @@ falls_dropped ms zero h = h
 falls_dropped [] (suc i) h = h
 falls_dropped (m ∷ ms) (suc i) h = falls_dropped ms i h.1
 
-there_dropped : (ms : List TreeMessage) (i : ℕ) (key : List ℕ) (n : ℕ) → IsSome (ops_in (drop i ms) key n) → IsSome (ops_in ms key n)
+pub there_dropped : (ms : List TreeMessage) (i : ℕ) (key : List ℕ) (n : ℕ) → IsSome (ops_in (drop i ms) key n) → IsSome (ops_in ms key n)
 there_dropped ms zero key n s = s
 there_dropped [] (suc i) key n s = s
 there_dropped (m ∷ ms) (suc i) key n s = first_stays m ms key n (there_dropped ms i key n s)

@@ -38,7 +38,7 @@ data Newest (rows : List Version) (key : List ℕ) (n : ℕ) : Type 0 where
       → ops_in (map row_message rows) key v.number ≡ Some (op_of_value v.value)
       → ((k : ℕ) → v.number < k → k ≤ n → ops_in (map row_message rows) key k ≡ None) → Newest rows key n
 
-up_to_cases : (key : List ℕ) (n : ℕ) (v : Version) → ((key ≡ v.key) × (v.number ≤ n) × (is_up_to key n v ≡ true)) ⊎ ((is_up_to key n v ≡ false) × (key ≡ v.key → v.number ≤ n → ⊥))
+pub up_to_cases : (key : List ℕ) (n : ℕ) (v : Version) → ((key ≡ v.key) × (v.number ≤ n) × (is_up_to key n v ≡ true)) ⊎ ((is_up_to key n v ≡ false) × (key ≡ v.key → v.number ≤ n → ⊥))
 up_to_cases key n v = ⊎_elim
     (λ (same : bytes_eq key v.key ≡ true). ⊎_elim
     (λ (l : n < v.number). inr (and_right (bytes_eq key v.key) (nat_le v.number n) (lt-leb v.number n l), λ e m. omega arith))

@@ -2,3 +2,5 @@ pub mod Found
 pub mod Shown
 pub mod Suffixes
 pub mod Descent
+pub mod Path
+pub mod Versions

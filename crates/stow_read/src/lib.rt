@@ -13,4 +13,6 @@ pub mod found;
 pub mod getting;
 pub mod lent_value;
 pub mod lookup;
+mod path;
 mod suffixes;
+pub mod versions;
