@@ -1,20 +1,18 @@
 -- What stands below a node for one key.
-use Rattle.std.proofs.Common.{◌≡◌, ℕ, zero, suc, ◌+◌, ◌<◌, ◌≤◌, true, false, List, [], ◌∷◌, ◌++◌, length, map, get_or, Option, Some, None, refl, ap, ◌∙◌, sym, subst, arith}
+use Rattle.std.proofs.Common.{◌≡◌, ℕ, zero, suc, ◌<◌, List, [], ◌∷◌, ◌++◌, length, get_or, Some, ap, ◌∙◌, sym, subst, arith}
 use Rattle.std.specs.Prelude.{Contains, IsSome, slice_get}
-use Rattle.std.specs.List.{flat_map, AllByRecursion}
 use Rattle.std.proofs.lemmas.List.{length-map, get_or-map}
 use Rattle.std.proofs.lemmas.Option.{slice_get-get_or}
 use Rattle.stow_tree_model.specs.Messages.{ops_in}
 use Rattle.stow_tree_model.specs.Operations.{or_else}
-use Rattle.stow_tree_model.specs.TreeMessage.{TreeMessage}
 use Rattle.std.proofs.lemmas.List.Elements.{Contains-append_left, Contains-append_right}
 use Rattle.stow_leaf.specs.Intervals.{top_key, spans}
 use Rattle.stow_leaf.specs.LeafRows.{LeafRows, row_messages}
 use Rattle.stow_leaf.proofs.Intervals.{span_low, span_high, spanned, lt_le}
 use Rattle.stow_leaf.proofs.Ops.{ops-append}
 use Rattle.stow_node.specs.declared.child.Child.{Child}
-use Rattle.stow_node.specs.Nodes.{part_of, parts_of, IsBelow, AreChildren}
-use Rattle.stow_node.specs.Parts.{Part, low_or, end_of, high_of, IsTile, TiledTo, messages_in, leaves_in, IsFor}
+use Rattle.stow_node.specs.Nodes.{part_of, parts_of, AreChildren}
+use Rattle.stow_node.specs.Parts.{Part, high_of, TiledTo, messages_in, leaves_in, IsFor}
 use Rattle.stow_node.specs.Subtree.{Subtree}
 use Rattle.stow_node.proofs.Lowered.{rows_by_part, end_at_most}
 use Rattle.stow_node.proofs.Row.{message_taken, row_taken, messages_apart, rows_apart, at_part}

@@ -6,3 +6,4 @@ pub mod Walked
 pub mod Gathered
 pub mod Versioned
 pub mod OwnRows
+pub mod Numbered

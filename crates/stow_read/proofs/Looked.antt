@@ -1,8 +1,7 @@
 -- A look at a key's messages in one buffer.
 use Rattle.std.proofs.Common.{◌≡◌, ℕ, zero, suc, ◌+◌, ◌-◌, ◌<◌, ◌≤◌, Bool, true, false, cond, List, [], ◌∷◌, ◌++◌, length, drop, reverse, get_or, map, Option, Some, None, refl, ap, ◌∙◌, sym, subst, arith, ⊎_elim}
-use Rattle.std.specs.Prelude.{IsSome, filter, ◌==◌}
+use Rattle.std.specs.Prelude.{IsSome, ◌==◌}
 use Rattle.std.specs.List.{AllByRecursion}
-use Rattle.std.specs.Borrow.{Bor}
 use Rattle.std.specs.Ordering.{is_eq, eq_by_cmp}
 use Rattle.std.specs.declared.cmp.Ordering.TheVariants.{Less}
 use Rattle.std.specs.List.Sorted.{IsStrictlySortedBy}
@@ -11,17 +10,17 @@ use Rattle.std.specs.Cmp.Lexicographic.{nat_list_cmp_total}
 use Rattle.std.proofs.lemmas.Bool.{cond-true, cond-false}
 use Rattle.std.proofs.lemmas.List.{reverse-append}
 use Rattle.stow_bytes.specs.Bytes.{bytes_cmp}
-use Rattle.stow_tree_model.specs.Op.{Op, Put, Gone, Append}
+use Rattle.stow_tree_model.specs.Op.{Append}
 use Rattle.stow_tree_model.specs.Operations.{NumberedValue, Operations, applied, latest, or_else, over, numbered, value_in, bytes_or_none}
 use Rattle.stow_tree_model.specs.Messages.{ops_in}
 use Rattle.stow_tree_model.specs.Order.{Place, place_cmp, place_of, MessagesRise}
 use Rattle.stow_tree_model.specs.TreeMessage.{TreeMessage}
-use Rattle.stow_tree_model.proofs.Falling.{Falls, IsHistory}
+use Rattle.stow_tree_model.proofs.Falling.{IsHistory}
 use Rattle.stow_tree_model.proofs.Latest.{latest_same}
 use Rattle.stow_tree_model.proofs.Ordered.{history_of}
 use Rattle.stow_tree_model.proofs.Orders.{key_cases, place_cases, place_total}
 use Rattle.stow_tree_model.proofs.Histories.{ops_in-skip}
-use Rattle.stow_tree_model.proofs.Readings.{drop_one_less, drop_all}
+use Rattle.stow_tree_model.proofs.Readings.{drop_one_less}
 use Rattle.stow_message.specs.Rising.{of_key}
 use Rattle.stow_message.proofs.Ranges.{filter_rises}
 use Rattle.stow_message.proofs.Removed.{all_dropped}

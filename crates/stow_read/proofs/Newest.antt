@@ -1,15 +1,14 @@
 -- What a key has at a number, by the newest of its operations.
-use Rattle.std.proofs.Common.{◌≡◌, ◌≢◌, ℕ, zero, suc, ◌<◌, ◌≤◌, List, [], ◌∷◌, Option, Some, None, refl, ap, ◌∙◌, sym, subst, arith}
+use Rattle.std.proofs.Common.{◌≡◌, ℕ, zero, suc, ◌<◌, ◌≤◌, List, ◌∷◌, Some, None, ap, ◌∙◌, sym, subst, arith}
 use Rattle.std.specs.Prelude.{IsSome, is_some}
-use Rattle.stow_tree_model.specs.Op.{Op}
-use Rattle.stow_tree_model.specs.Operations.{NumberedValue, Operations, applied, latest, or_else, over}
+use Rattle.stow_tree_model.specs.Operations.{Operations, applied, latest, or_else, over}
 use Rattle.stow_tree_model.specs.Messages.{ops_in}
 use Rattle.stow_tree_model.specs.Order.{Place, place_of}
 use Rattle.stow_tree_model.specs.TreeMessage.{TreeMessage}
 use Rattle.stow_tree_model.proofs.Falling.{IsHistory}
 use Rattle.stow_tree_model.proofs.Histories.{ops_in-at, ops_in-skip, ops_in-above}
 use Rattle.stow_tree_model.proofs.Latest.{latest_same, latest_stays}
-use Rattle.stow_leaf.proofs.Found.{none_unless, none_or}
+use Rattle.stow_leaf.proofs.Found.{none_unless}
 use Rattle.stow_read.specs.Suffixes.{IsAbove}
 
 top_step : (f g : Operations) (n : ℕ) → g n ≡ None → ((k : ℕ) → k < n → f k ≡ g k) → latest f n ≡ applied n (f n) (latest g n)

@@ -1,6 +1,6 @@
 -- The rows that a leaf has of one key stand side by side.
-use Rattle.std.proofs.Common.{◌≡◌, ◌≢◌, ℕ, zero, suc, ◌+◌, ◌<◌, ◌≤◌, Bool, true, false, cond, List, [], ◌∷◌, ◌++◌, length, take, drop, map, Option, Some, None, refl, ap, ◌∙◌, sym, subst, arith, ⊎_elim}
-use Rattle.std.specs.Prelude.{filter, slice_get}
+use Rattle.std.proofs.Common.{◌≡◌, ◌≢◌, ℕ, zero, suc, ◌+◌, ◌≤◌, Bool, true, false, cond, List, [], ◌∷◌, ◌++◌, length, take, drop, map, Option, Some, refl, ap, ◌∙◌, sym, subst, arith, ⊎_elim}
+use Rattle.std.specs.Prelude.{slice_get}
 use Rattle.std.specs.List.{AllByRecursion}
 use Rattle.std.specs.List.Sorted.{IsStrictlySortedBy}
 use Rattle.std.specs.declared.cmp.Ordering.TheVariants.{Less}
@@ -11,7 +11,7 @@ use Rattle.stow_tree_model.proofs.Orders.{key_cases}
 use Rattle.stow_page.specs.Format.{AreVersions}
 use Rattle.stow_page.specs.Rows.{IsCountUpTo}
 use Rattle.stow_leaf.proofs.Found.{is_cut, place_le}
-use Rattle.stow_leaf.proofs.Intervals.{lt, lt_self, le_le, at_most}
+use Rattle.stow_leaf.proofs.Intervals.{lt, lt_self, at_most}
 use Rattle.stow_read.proofs.Versioned.{own_rows}
 
 -- the rows before the place have been gone over, and all others' keys are the key or above it

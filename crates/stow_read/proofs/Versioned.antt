@@ -1,16 +1,15 @@
 -- The versions that messages make of older ones.
 use Rattle.std.proofs.Common.{◌≡◌, ◌≢◌, ℕ, zero, suc, ◌+◌, ◌-◌, ◌<◌, ◌≤◌, Bool, true, false, cond, List, [], ◌∷◌, ◌++◌, length, drop, get_or, map, Option, Some, None, refl, ap, ◌∙◌, sym, subst, arith, ⊎_elim}
-use Rattle.std.specs.Prelude.{IsSome, is_some, slice_get, filter, nat_le, ◌&&◌}
+use Rattle.std.specs.Prelude.{IsSome, is_some, slice_get, filter}
 use Rattle.std.specs.List.{AllByRecursion}
 use Rattle.std.specs.List.Sorted.{IsStrictlySortedBy}
-use Rattle.std.specs.Str.{bytes_eq}
 use Rattle.std.specs.declared.cmp.Ordering.TheVariants.{Less}
 use Rattle.std.proofs.lemmas.Bool.{cases_lt}
 use Rattle.stow_tree_model.specs.Merged.{same_key, row_message}
 use Rattle.stow_tree_model.specs.Merged as merged
 use Rattle.stow_tree_model.specs.Messages.{ops_in}
 use Rattle.stow_tree_model.specs.Op.{Op}
-use Rattle.stow_tree_model.specs.Operations.{NumberedValue, Operations, applied, latest, numbered, outcome, value_in, or_else, over}
+use Rattle.stow_tree_model.specs.Operations.{Operations, applied, latest, numbered, outcome, value_in, or_else, over}
 use Rattle.stow_tree_model.specs.Order.{Place, place_cmp, version_place, VersionsRise}
 use Rattle.stow_tree_model.specs.TreeMessage.{TreeMessage}
 use Rattle.stow_tree_model.specs.Version.{Version}
@@ -24,8 +23,8 @@ use Rattle.stow_node.specs.Subtree.{Subtree, messages_of}
 use Rattle.stow_read.specs.Path.{NumbersFall, IsPath}
 use Rattle.stow_read.specs.Shown.{value_shown}
 use Rattle.stow_read.specs.Versions.{AreVersionsOf}
-use Rattle.stow_read.proofs.Gathered.{some_or, AllOwn, AllUnder, there_first, under_number}
-use Rattle.stow_read.proofs.Looked.{falls_dropped, there_dropped}
+use Rattle.stow_read.proofs.Gathered.{some_or, AllOwn, there_first, under_number}
+use Rattle.stow_read.proofs.Looked.{there_dropped}
 use Rattle.stow_read.proofs.Newest.{newest_step}
 use Rattle.stow_read.proofs.Shown.{rows_show, up_to_cases}
 use Rattle.stow_message.proofs.Removed.{all_dropped}

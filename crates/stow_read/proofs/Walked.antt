@@ -1,11 +1,10 @@
 -- The walk down to a key's leaf.
-use Rattle.std.proofs.Common.{◌≡◌, ℕ, ◌<◌, true, false, List, [], ◌∷◌, ◌++◌, map, Option, Some, None, refl, ap, ◌∙◌, sym, subst, append_assoc, arith}
+use Rattle.std.proofs.Common.{◌≡◌, ℕ, true, false, List, [], ◌++◌, map, Option, None, refl, ap, ◌∙◌, sym, subst, append_assoc, arith}
 use Rattle.std.specs.Prelude.{Contains}
 use Rattle.std.specs.Option.{option_map}
 use Rattle.stow_tree_model.specs.Merged.{row_message}
 use Rattle.stow_tree_model.specs.Messages.{ops_in}
-use Rattle.stow_tree_model.specs.Operations.{NumberedValue, latest, or_else, over}
-use Rattle.stow_tree_model.specs.Version.{Version}
+use Rattle.stow_tree_model.specs.Operations.{latest, or_else, over}
 use Rattle.stow_tree_model.proofs.Latest.{latest_same}
 use Rattle.stow_leaf.specs.Intervals.{top_key, spans}
 use Rattle.stow_leaf.specs.LeafRows.{LeafRows, leaf_rows, row_messages}
@@ -19,9 +18,9 @@ use Rattle.std.specs.List.{flat_map}
 use Rattle.stow_leaf.proofs.Ops.{ops-append}
 use Rattle.stow_node.specs.declared.child.Child.{Child}
 use Rattle.stow_node.specs.declared.child.Child.TheVariants as in_child
-use Rattle.stow_node.specs.Nodes.{part_of, parts_of, AreChildren}
+use Rattle.stow_node.specs.Nodes.{parts_of, AreChildren}
 use Rattle.stow_node.specs.Subtree.{Subtree, messages_of}
-use Rattle.stow_read.specs.Descent.{part_messages, LeadsTo}
+use Rattle.stow_read.specs.Descent.{LeadsTo}
 use Rattle.stow_read.specs.Found.{lent_of}
 use Rattle.stow_read.specs.Suffixes.{SuffixList, continued, looked, Carries}
 use Rattle.stow_read.specs.declared.lent_value.LentValue.{LentValue}

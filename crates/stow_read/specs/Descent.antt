@@ -1,5 +1,5 @@
 -- The way down to a key's leaf.
-use Rattle.std.specs.Prelude.{◌≡◌, ℕ, ◌<◌, List, ◌++◌, true, Contains, IsSome}
+use Rattle.std.specs.Prelude.{◌≡◌, ℕ, ◌<◌, List, ◌++◌, true, Contains}
 use Rattle.stow_leaf.specs.Intervals.{top_key, spans}
 use Rattle.stow_leaf.specs.LeafRows.{LeafRows, row_messages}
 use Rattle.stow_tree_model.specs.Messages.{ops_in}

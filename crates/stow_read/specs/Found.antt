@@ -1,5 +1,4 @@
 -- A value that a look-up found: what the code's type stands for.
-use Rattle.std.specs.Prelude.{ℕ, List}
 use Rattle.stow_tree_model.specs.Operations.{NumberedValue}
 use Rattle.stow_tree_model.specs.NumberedValue.{numbered_of}
 use Rattle.stow_read.specs.declared.found.Found.{Found}

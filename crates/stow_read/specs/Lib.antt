@@ -4,3 +4,4 @@ pub mod Suffixes
 pub mod Descent
 pub mod Path
 pub mod Versions
+pub mod Numbered

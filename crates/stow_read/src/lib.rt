@@ -15,4 +15,6 @@ pub mod lent_value;
 pub mod lookup;
 mod path;
 mod suffixes;
+#[cfg(test)]
+mod tests;
 pub mod versions;

@@ -1,9 +1,8 @@
-use Rattle.std.proofs.Common.{◌≡◌, Some, ap, ◌∙◌, sym}
+use Rattle.std.proofs.Common.{ap, ◌∙◌, sym}
 use Rattle.std.specs.Option.{option_map}
 use Rattle.stow_tree_model.specs.Operations.{numbered}
 use Rattle.stow_tree_model.specs.Value.{bytes_at}
 use Rattle.stow_tree_model.specs.Version.{version_of}
-use Rattle.stow_page.specs.Rows.{version_at}
 use Rattle.stow_read.specs.Found.{lent_of}
 use Rattle.stow_read.specs.Shown.{value_shown}
 use Rattle.stow_read.proofs.Shown.{rows_show}

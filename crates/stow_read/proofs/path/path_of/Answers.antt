@@ -1,7 +1,7 @@
-use Rattle.std.proofs.Common.{◌≡◌, ◌++◌, List, map, ap, ◌∙◌, sym, subst}
+use Rattle.std.proofs.Common.{◌++◌, map, ap, ◌∙◌, sym, subst}
 use Rattle.stow_message.specs.MessageBuf.{MessageList}
 use Rattle.stow_tree_model.specs.Order.{MessagesRise}
-use Rattle.stow_tree_model.specs.TreeMessage.{TreeMessage, message_of}
+use Rattle.stow_tree_model.specs.TreeMessage.{message_of}
 use Rattle.stow_read.specs.Path.{IsPath}
 use Rattle.stow_read.proofs.Gathered.{IsGathering, gathering_first, gathering_on, is_path}
 use Rattle.stow_read.proofs.Looked.{newest_of}

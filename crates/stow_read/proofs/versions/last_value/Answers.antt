@@ -1,4 +1,4 @@
-use Rattle.std.proofs.Common.{◌≡◌, Some, ap, ◌∙◌, sym}
+use Rattle.std.proofs.Common.{Some, ap, ◌∙◌, sym}
 use Rattle.std.specs.Option.{option_copied}
 use Rattle.stow_tree_model.specs.VersionBuf.{version_of_buf}
 use Rattle.stow_page.specs.Rows.{value_in_version}

@@ -1,4 +1,4 @@
-use Rattle.std.proofs.Common.{◌≡◌, ◌++◌, ◌∷◌, [], map, ap, ◌∙◌, sym, subst, arith}
+use Rattle.std.proofs.Common.{◌++◌, ◌∷◌, [], map, ap, ◌∙◌, sym, subst, arith}
 use Rattle.std.proofs.lemmas.List.{map-append}
 use Rattle.stow_tree_model.specs.Version.{version_of}
 use Rattle.stow_tree_model.specs.VersionBuf.{version_of_buf}

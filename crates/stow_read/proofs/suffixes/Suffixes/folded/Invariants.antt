@@ -1,4 +1,4 @@
-use Rattle.std.proofs.Common.{◌≡◌, ◌-◌, ◌≤◌, drop, Some}
+use Rattle.std.proofs.Common.{◌≡◌, ◌-◌, drop, Some}
 use Rattle.stow_read.specs.Suffixes.{extended, bytes_lent}
 use Rattle.stow_read.proofs.suffixes.Suffixes.folded.Given as goal
 

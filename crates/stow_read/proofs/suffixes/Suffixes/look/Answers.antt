@@ -1,9 +1,9 @@
-use Rattle.std.proofs.Common.{◌≡◌, ◌<◌, ◌≤◌, ◌+◌, length, drop, get_or, List, Some, ap, ◌∙◌, sym, subst, arith}
+use Rattle.std.proofs.Common.{◌≡◌, ◌<◌, ◌+◌, length, drop, get_or, Some, ap, ◌∙◌, sym, subst, arith}
 use Rattle.stow_tree_model.specs.Op.{op_of}
 use Rattle.stow_tree_model.specs.Operations.{applied, latest, over}
 use Rattle.stow_tree_model.specs.Messages.{ops_in}
-use Rattle.stow_tree_model.specs.TreeMessage.{TreeMessage, message_of}
-use Rattle.stow_read.specs.Suffixes.{SuffixList, suffixes_of, continued}
+use Rattle.stow_tree_model.specs.TreeMessage.{message_of}
+use Rattle.stow_read.specs.Suffixes.{suffixes_of, continued}
 use Rattle.stow_read.proofs.Looked.{newest_of, IsLooking, looking_first, looking_past, looking_on, applied_next, looked_all}
 use Rattle.stow_read.proofs.suffixes.Suffixes.look.Goals as goal
 use Rattle.stow_read.proofs.suffixes.Suffixes.look.Goals.{then-message-at+in-Append+in_ok-add-in-Append, else-message-at}
