@@ -1,0 +1,20 @@
+//! Reads of the buffered tree (Bender and others 2015): what a key has at a number.
+//!
+//! A read goes down one path. What it answers is told by all messages of the node: those in its buffers and those that its
+//! leaves' rows stand for (`messages_of`). Messages in a buffer are newer than those below it, so the first ones found from
+//! the top are the newest.
+//!
+//! A body that always answers `AllocError` meets each contract here: tests call each with ample memory, and with each
+//! request refused. How much of a node a read looks at stands in no contract.
+#![tactic(auto)]
+
+mod descent;
+pub mod found;
+pub mod getting;
+pub mod lent_value;
+pub mod lookup;
+mod path;
+mod suffixes;
+#[cfg(test)]
+mod tests;
+pub mod versions;
