@@ -23,6 +23,7 @@ use stow_resp::encode::Encode;
 use stow_testing::random::Random;
 use stow_testing::tenants::{OTHERS, QUOTA, THREE};
 
+mod held;
 mod worked;
 
 /// A request's words.
