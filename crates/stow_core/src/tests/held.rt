@@ -6,6 +6,8 @@ use linked_list_allocator::LocalHeap;
 use std::alloc::{AllocError, Allocator};
 use std::string::String;
 use std::test::Fail;
+use stow_model::refusal::Refusal;
+use stow_model::reply::Reply;
 use stow_testing::random::Random;
 
 /// Requests in a round.
@@ -41,6 +43,7 @@ fn random_line<A: Allocator + Copy>(
     }
 }
 
+/// One request, to which no memory is refused.
 fn ask<A: Allocator + Copy>(
     core: &mut Core<A>,
     alloc: A,
@@ -48,8 +51,10 @@ fn ask<A: Allocator + Copy>(
     line: &str,
 ) -> Result<(), AllocError> {
     let words = words_of(alloc, line)?;
-    let _reply = core.call(alloc, tenant, &words);
-    Ok(())
+    match core.call(alloc, tenant, &words) {
+        Reply::Error(Refusal::OutOfMemory) => Err(AllocError),
+        _ => Ok(()),
+    }
 }
 
 /// Random requests of three tenants on keys from this one on, and then the deletion of all rows.
