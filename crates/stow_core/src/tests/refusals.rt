@@ -100,9 +100,23 @@ fn refusals<B: Allocator>(
     Ok(None)
 }
 
+/// How many requests for memory the line's call makes.
+fn asked_by_call<B: Allocator>(
+    heap: &Refusing<B>,
+    global: Global,
+    line: &str,
+) -> Result<u64, AllocError> {
+    heap.set(Plan::Grant);
+    let mut core = started(heap, global)?;
+    let words = words_of(heap, line)?;
+    heap.set(Plan::Grant);
+    let _reply = core.call(heap, 1, &words);
+    Ok(heap.asked())
+}
+
 // Each request for memory of a prepare is refused in turn: what stood before still stands, and the same call
 // succeeds once memory is there. Its commit, to which every request is refused, asks for none. No prepare asks for
-// more than it takes: a key that is new, a value, and what a reply copies.
+// more than it takes: a key that is new, a value, and what a reply copies; nor does a call.
 #[test]
 fn prepares_withstand_each_refusal(rt: HostRuntime) -> Result<(), Fail> {
     let global = rt.alloc();
@@ -130,7 +144,8 @@ fn prepares_withstand_each_refusal(rt: HostRuntime) -> Result<(), Fail> {
         ("DEL b a", ":1", "nil", "nil", 3),
     ] {
         let needed = refusals(&heap, global, Case { line, told, a, b })?;
-        assert_eq!(rt; needed, Some(asked), "{line}");
+        let called = asked_by_call(&heap, global, line)?;
+        assert!(rt; needed == Some(asked) && called == asked, "{line}");
     }
     Ok(())
 }

@@ -30,6 +30,13 @@ fn take_all<A: Allocator + Copy>(input: &mut Input<A>, alloc: A) {
     }
 }
 
+/// An array of one word of 50,000 bytes.
+fn feed_long<A: Allocator + Copy>(input: &mut Input<A>, word: &[u8]) -> Result<(), AllocError> {
+    input.feed(b"*1\r\n$50000\r\n")?;
+    input.feed(word)?;
+    input.feed(b"\r\n")
+}
+
 /// Pieces, and one long array among them.
 fn round<A: Allocator + Copy>(
     input: &mut Input<A>,
@@ -42,9 +49,7 @@ fn round<A: Allocator + Copy>(
             take_all(input, alloc);
         }
         if number % 100 == 0 {
-            input.feed(b"*1\r\n$50000\r\n")?;
-            input.feed(long)?;
-            input.feed(b"\r\n")?;
+            feed_long(input, long)?;
             take_all(input, alloc);
         }
     }
@@ -59,6 +64,21 @@ fn a_second_round_holds_no_more(rt: HostRuntime) -> Result<(), Fail> {
     round(&mut input, &heap, long.as_slice())?;
     let held = heap.used();
     round(&mut input, &heap, long.as_slice())?;
+    assert!(rt; heap.used() <= held, "{held}");
+    Ok(())
+}
+
+// Given back or not, the words of a long message are not kept for the next.
+#[test]
+fn long_words_are_not_kept(rt: HostRuntime) -> Result<(), Fail> {
+    let heap = LocalHeap::new(rt.alloc(), 1_048_576)?;
+    let long = vec![in rt.alloc(); b'x'; 50_000]?;
+    let mut input = Input::new(&heap);
+    feed_long(&mut input, long.as_slice())?;
+    drop(input.next(&heap));
+    let held = heap.used();
+    feed_long(&mut input, long.as_slice())?;
+    take_all(&mut input, &heap);
     assert!(rt; heap.used() <= held, "{held}");
     Ok(())
 }
