@@ -1,7 +1,7 @@
 //! Memory is given back: a second equal round of acts leaves no more of it held than the first did.
 use crate::house::House;
 use crate::step_result::StepResult;
-use crate::tests::{Act, events_of, new_house, random_acts};
+use crate::tests::{Act, new_house, random_acts, spelled};
 use linked_list_allocator::LocalHeap;
 use std::alloc::{AllocError, Allocator};
 use std::test::Fail;
@@ -16,10 +16,19 @@ const DELETION: [Act; 2] = [
     Act::Send(2, &[b"DEL", b"a", b"b", b""]),
 ];
 
-/// Carries an act out.
-fn carry<A: Allocator + Copy>(house: &mut House<A>, alloc: A, act: Act) -> Result<(), AllocError> {
-    for event in &events_of(alloc, &[act])? {
-        let _result = house.step(alloc, event);
+/// Carries the acts out, each an event of its own memory.
+fn carry<A: Allocator + Copy>(
+    house: &mut House<A>,
+    alloc: A,
+    acts: &[Act],
+) -> Result<(), AllocError> {
+    for act in acts {
+        let event = match act {
+            Act::Open(c) => Event::Open(*c),
+            Act::Send(c, request) => Event::Piece(*c, spelled(alloc, request)?),
+            Act::Serve(c) => Event::Serve(*c),
+        };
+        let _result = house.step(alloc, &event);
     }
     Ok(())
 }
@@ -39,9 +48,8 @@ fn round<A: Allocator + Copy>(
     alloc: A,
     acts: &[Act],
 ) -> Result<(), AllocError> {
-    for act in acts.iter().chain(&DELETION) {
-        carry(house, alloc, *act)?;
-    }
+    carry(house, alloc, acts)?;
+    carry(house, alloc, &DELETION)?;
     drain(house, alloc, 1);
     drain(house, alloc, 2);
     Ok(())

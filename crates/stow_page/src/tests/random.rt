@@ -115,12 +115,12 @@ fn random_look_ups(rt: HostRuntime) -> Result<(), Fail> {
     Ok(())
 }
 
-/// The page of a key's first versions, so many.
-fn long_page<A: Allocator + Copy>(alloc: A, count: u32) -> Result<Vec<u8, A>, AllocError> {
+/// The page of a key's first 3,000 versions.
+fn long_page<A: Allocator + Copy>(alloc: A) -> Result<Vec<u8, A>, AllocError> {
     let mut page = Vec::from_slice(alloc, &[1])?;
-    page.extend_from_slice(&count.to_be_bytes())?;
-    for before in 0..count {
-        append(&mut page, 1, b'a', u64::from(before) + 1, 1)?;
+    page.extend_from_slice(&3_000u32.to_be_bytes())?;
+    for number in 1..3_001u64 {
+        append(&mut page, 1, b'a', number, 1)?;
     }
     Ok(page)
 }
@@ -128,7 +128,7 @@ fn long_page<A: Allocator + Copy>(alloc: A, count: u32) -> Result<Vec<u8, A>, Al
 #[test]
 fn a_long_page_is_read_and_made(rt: HostRuntime) -> Result<(), Fail> {
     let alloc = rt.alloc();
-    let page = long_page(alloc, 3_000)?;
+    let page = long_page(alloc)?;
     let rows = rows_of(alloc, page.as_slice())?.ok_or("no page")?;
     assert_eq!(rt; rows.len(), 3_000);
     assert!(rt; pushed(alloc, &rows)?.as_bytes() == page.as_slice());
