@@ -399,6 +399,21 @@ fn bad_lines_are_told_by_their_number(rt: HostRuntime) -> Result<(), Fail> {
     Ok(())
 }
 
+/// The status of a command line whose output can't be written.
+fn status_when_full(alloc: Global, line: &str) -> Result<u8, AllocError> {
+    let words = words_of(alloc, line)?;
+    let mut errors = Vec::new(alloc);
+    let mut input = HELLO;
+    Ok(program(
+        alloc,
+        &Shelf,
+        words.as_slice(),
+        &mut input,
+        &mut Full,
+        &mut errors,
+    ))
+}
+
 #[test]
 fn the_status_tells_why_it_ended(rt: HostRuntime) -> Result<(), Fail> {
     let alloc = rt.alloc();
@@ -430,18 +445,9 @@ fn the_status_tells_why_it_ended(rt: HostRuntime) -> Result<(), Fail> {
         assert!(rt; failed.status == 4 && failed.output.is_empty());
         assert!(rt; failed.errors.as_slice() == b"stow: input or output failed\n".as_slice());
     }
-    let words = words_of(alloc, "pipe --tenants three.toml")?;
-    let mut errors = Vec::new(alloc);
-    let mut input = HELLO;
-    let status = program(
-        alloc,
-        &Shelf,
-        words.as_slice(),
-        &mut input,
-        &mut Full,
-        &mut errors,
-    );
-    assert!(rt; status == 4);
+    for line in ["pipe --tenants three.toml", "--help"] {
+        assert!(rt; status_when_full(alloc, line)? == 4, "{line}");
+    }
     Ok(())
 }
 

@@ -9,6 +9,7 @@ use stow_login::tenants::Tenants;
 use stow_testing::tenants::THREE;
 
 mod alone;
+mod held;
 mod refusals;
 mod text;
 mod worked;

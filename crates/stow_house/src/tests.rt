@@ -23,6 +23,7 @@ use stow_resp::encode::Encode;
 use stow_testing::random::Random;
 use stow_testing::tenants::{OTHERS, QUOTA, THREE};
 
+mod held;
 mod worked;
 
 /// A request's words.
@@ -326,14 +327,14 @@ fn random_acts<A: Allocator + Copy>(alloc: A, count: u64) -> Result<Vec<Act, A>,
 #[test]
 fn random_requests_are_answered_as_alone(rt: HostRuntime) -> Result<(), Fail> {
     let alloc = rt.alloc();
-    let acts = random_acts(alloc, 2_000)?;
+    let acts = random_acts(alloc, 8_000)?;
     let events = events_of(alloc, acts.as_slice())?;
     let mut house = new_house(alloc, alloc)?;
     let Ok(outputs) = house.run(alloc, events.as_slice()) else {
         assert!(rt; false, "memory was refused");
         return Ok(());
     };
-    assert!(rt; outputs.told().len() > 900);
+    assert!(rt; outputs.told().len() > 3_600);
     compare(&rt, alloc, acts.as_slice(), &outputs)?;
     Ok(())
 }

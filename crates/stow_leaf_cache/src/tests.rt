@@ -9,6 +9,8 @@ use stow_page::page::{Page, unpack};
 use stow_page::rows::Rows;
 use stow_refusing::{Plan, Refusing};
 
+mod held;
+
 /// The rows of a page with one version, of tenant 1's key `a`, by this write.
 fn rows_of<A: Allocator + Copy>(alloc: A, number: u8) -> Result<Rows<A>, AllocError> {
     let mut bytes = Vec::from_slice(

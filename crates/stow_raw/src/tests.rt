@@ -14,6 +14,8 @@ fn send<T: Send>(x: T) -> T
 
 #[test]
 fn rooms_of_a_block(rt: HostRuntime) -> Result<(), Fail> {
+    let large = RawBuf::with_capacity(rt.alloc(), 16_777_216)?;
+    assert_eq!(rt; large.room(), 16_777_216);
     let mut buf = send(RawBuf::with_capacity(rt.alloc(), 16)?);
     buf.push_front(b"hello");
     buf.insert_slot(0, 7);

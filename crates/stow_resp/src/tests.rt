@@ -9,6 +9,7 @@ use std::test::Fail;
 use stow_model::stream_fault::fault_text;
 use stow_refusing::{Plan, Refusing};
 
+mod held;
 mod inline;
 
 /// Writes what an input gives: a message as `M` and its words in brackets, a quoted line as `Q`, a blank as `B`,

@@ -208,25 +208,38 @@ fn pieces_may_be_small_and_blank(rt: HostRuntime) -> Result<(), Fail> {
     Ok(())
 }
 
-/// What a task tells where one request for memory is refused, or nothing where it asks for fewer.
+/// What a task tells where one request for memory is refused, and whether it ends well, or nothing where it asks for
+/// fewer.
 fn told_at<B: Allocator>(
     heap: &Refusing<B>,
     global: Global,
     task: Task,
     mut input: &[u8],
     at: u64,
-) -> Result<Option<Vec<u8>>, AllocError> {
+) -> Result<Option<(Vec<u8>, bool)>, AllocError> {
     heap.set(Plan::Grant);
     let tenants = Tenants::read(heap, global, THREE).map_err(|_| AllocError)?;
     let mut output = Vec::new(global);
     heap.set(Plan::RefuseAt(at));
-    let ended = serve(heap, tenants, task, &mut input, &mut output);
+    let is_well = serve(heap, tenants, task, &mut input, &mut output).is_ok();
     let asked = heap.asked();
     heap.set(Plan::Grant);
-    Ok((asked > at || ended.is_err()).then_some(output))
+    Ok((asked > at || !is_well).then_some((output, is_well)))
 }
 
-// One request for memory after another is refused: what is told is a beginning of what may be told then.
+/// Whether the output is one of these texts, or a beginning of one where the task didn't end well.
+fn is_one_of(output: &[u8], is_well: bool, texts: &[&str]) -> bool {
+    for text in texts {
+        let text = text.as_bytes();
+        if text == output || !is_well && text.starts_with(output) {
+            return true;
+        }
+    }
+    false
+}
+
+// One request for memory after another is refused: what is told is a beginning of what may be told then, and all of
+// it where the task ends well.
 #[test]
 fn each_task_withstands_each_refusal(rt: HostRuntime) -> Result<(), Fail> {
     let heap = Refusing::new(rt.alloc());
@@ -247,16 +260,67 @@ fn each_task_withstands_each_refusal(rt: HostRuntime) -> Result<(), Fail> {
     ] {
         let mut refusals = 0u64;
         for at in 0..200u64 {
-            let Some(output) = told_at(&heap, rt.alloc(), task, input, at)? else {
+            let Some((output, is_well)) = told_at(&heap, rt.alloc(), task, input, at)? else {
                 break;
             };
-            let is_right = told
-                .iter()
-                .any(|it| it.as_bytes().starts_with(output.as_slice()));
-            assert!(rt; is_right, "request {at}");
+            assert!(rt;
+                is_one_of(output.as_slice(), is_well, &told),
+                "request {at}"
+            );
             refusals = at + 1;
         }
         assert!(rt; refusals >= least && refusals < 200, "{refusals} refusals");
     }
+    Ok(())
+}
+
+/// Counts what was flushed of the bytes that are written. Its flush may fail.
+#[derive(Drop)]
+struct Flushed {
+    written: usize,
+    flushed: usize,
+    breaks: bool,
+}
+
+impl Write for Flushed {
+    fn write(&mut self, buf: &[u8]) -> io::Result<usize> {
+        self.written = self.written.saturating_add(buf.len());
+        Ok(buf.len())
+    }
+
+    fn flush(&mut self) -> io::Result<()> {
+        if self.breaks {
+            return Err(io::Error::from(ErrorKind::Other));
+        }
+        self.flushed = self.written;
+        Ok(())
+    }
+}
+
+/// How many bytes a task flushed, or nothing where it failed.
+fn flushed(
+    alloc: Global,
+    task: Task,
+    mut input: &[u8],
+    breaks: bool,
+) -> Result<Option<usize>, AllocError> {
+    let tenants = Tenants::read(alloc, alloc, THREE).map_err(|_| AllocError)?;
+    let mut output = Flushed {
+        written: 0,
+        flushed: 0,
+        breaks,
+    };
+    let ended = serve(alloc, tenants, task, &mut input, &mut output);
+    Ok(ended.is_ok().then_some(output.flushed))
+}
+
+#[test]
+fn what_is_told_is_flushed(rt: HostRuntime) -> Result<(), Fail> {
+    let alloc = rt.alloc();
+    let pipe = flushed(alloc, Task::Pipe, HELLO, false)?;
+    assert_eq!(rt; pipe, Some(HELLO_REPLIES.len()));
+    assert_eq!(rt; flushed(alloc, Task::Script, b"open 1\n", false)?, Some(5));
+    assert!(rt; flushed(alloc, Task::Pipe, HELLO, true)?.is_none());
+    assert!(rt; flushed(alloc, Task::Script, b"open 1\n", true)?.is_none());
     Ok(())
 }

@@ -100,14 +100,29 @@ fn refusals<B: Allocator>(
     Ok(None)
 }
 
+/// How many requests for memory the line's call makes.
+fn asked_by_call<B: Allocator>(
+    heap: &Refusing<B>,
+    global: Global,
+    line: &str,
+) -> Result<u64, AllocError> {
+    heap.set(Plan::Grant);
+    let mut core = started(heap, global)?;
+    let words = words_of(heap, line)?;
+    heap.set(Plan::Grant);
+    let _reply = core.call(heap, 1, &words);
+    Ok(heap.asked())
+}
+
 // Each request for memory of a prepare is refused in turn: what stood before still stands, and the same call
-// succeeds once memory is there. Its commit, to which every request is refused, asks for none.
+// succeeds once memory is there. Its commit, to which every request is refused, asks for none. No prepare asks for
+// more than it takes: a key that is new, a value, and what a reply copies; nor does a call.
 #[test]
 fn prepares_withstand_each_refusal(rt: HostRuntime) -> Result<(), Fail> {
     let global = rt.alloc();
     let heap = Refusing::new(global);
     let used = "ERR value is not an integer or out of range";
-    for (line, told, a, b, least) in [
+    for (line, told, a, b, asked) in [
         ("SET a new", "OK", "$new", "nil", 1),
         ("SET b new", "OK", "$old", "$new", 2),
         ("SET b new NX", "OK", "$old", "$new", 2),
@@ -126,10 +141,11 @@ fn prepares_withstand_each_refusal(rt: HostRuntime) -> Result<(), Fail> {
         ("DECR b", ":-1", "$old", "$-1", 2),
         ("INCRBY b 12", ":12", "$old", "$12", 2),
         ("INCR a", used, "$old", "nil", 0),
-        ("DEL b a", ":1", "nil", "nil", 2),
+        ("DEL b a", ":1", "nil", "nil", 3),
     ] {
         let needed = refusals(&heap, global, Case { line, told, a, b })?;
-        assert!(rt; matches!(needed, Some(n) if n >= least), "{line}");
+        let called = asked_by_call(&heap, global, line)?;
+        assert!(rt; needed == Some(asked) && called == asked, "{line}");
     }
     Ok(())
 }

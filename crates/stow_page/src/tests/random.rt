@@ -1,6 +1,6 @@
 //! Random pages, as they are and with a byte changed, cut off or added, beside the plain reader.
 use crate::tests::plain::first_fault;
-use crate::tests::{fault_of, rows_of};
+use crate::tests::{fault_of, pushed, rows_of};
 use std::alloc::{AllocError, Allocator};
 use std::test::Fail;
 use stow_tree_model::tenant_key_buf::TenantKeyBuf;
@@ -112,5 +112,25 @@ fn random_look_ups(rt: HostRuntime) -> Result<(), Fail> {
             assert!(rt; rows.version_at(key.as_key(), number).map(|v| v.number) == want);
         }
     }
+    Ok(())
+}
+
+/// The page of a key's first 3,000 versions.
+fn long_page<A: Allocator + Copy>(alloc: A) -> Result<Vec<u8, A>, AllocError> {
+    let mut page = Vec::from_slice(alloc, &[1])?;
+    page.extend_from_slice(&3_000u32.to_be_bytes())?;
+    for number in 1..3_001u64 {
+        append(&mut page, 1, b'a', number, 1)?;
+    }
+    Ok(page)
+}
+
+#[test]
+fn a_long_page_is_read_and_made(rt: HostRuntime) -> Result<(), Fail> {
+    let alloc = rt.alloc();
+    let page = long_page(alloc)?;
+    let rows = rows_of(alloc, page.as_slice())?.ok_or("no page")?;
+    assert_eq!(rt; rows.len(), 3_000);
+    assert!(rt; pushed(alloc, &rows)?.as_bytes() == page.as_slice());
     Ok(())
 }
