@@ -16,7 +16,7 @@ use Rattle.stow_tree_model.proofs.Orders.{place_cases}
 use Rattle.stow_leaf.specs.Intervals.{top_key, spans}
 use Rattle.stow_leaf.specs.LeafRows.{row_messages}
 use Rattle.stow_leaf.specs.declared.leaf.Leaf.{Leaf}
-use Rattle.stow_leaf.proofs.Found.{some_or, first_stays, or_none}
+use Rattle.stow_leaf.proofs.Found.{some_or, some_left, some_right, first_stays, or_none}
 use Rattle.stow_leaf.proofs.Ops.{ops-append}
 use Rattle.stow_node.specs.declared.child.Child.{Child}
 use Rattle.stow_node.specs.declared.child.Child.TheVariants as in_child
@@ -29,14 +29,6 @@ use Rattle.stow_read.proofs.Looked.{newest_of, newest_falls, newest_all, ops_of_
 use Rattle.stow_read.proofs.Walked.{ops_over}
 
 -- ---- options
-
-pub some_left : (a b : Option Op) → IsSome a → IsSome (or_else a b)
-some_left None b h = absurd cc
-some_left (Some op) b h = refl
-
-pub some_right : (a b : Option Op) → IsSome b → IsSome (or_else a b)
-some_right None b h = h
-some_right (Some op) b h = refl
 
 pub or_assoc : (p q r : Option Op) → or_else (or_else p q) r ≡ or_else p (or_else q r)
 or_assoc None q r = refl

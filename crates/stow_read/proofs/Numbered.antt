@@ -6,7 +6,7 @@ use Rattle.std.proofs.lemmas.Bool.{cases_lt}
 use Rattle.std.proofs.lemmas.List.Sums.{sum_by-cons}
 use Rattle.stow_leaf.specs.Intervals.{top_key, spans}
 use Rattle.stow_leaf.specs.LeafRows.{row_messages}
-use Rattle.stow_leaf.proofs.Found.{none_unless}
+use Rattle.stow_leaf.proofs.Found.{none_unless, some_or, some_left, some_right}
 use Rattle.stow_message.specs.Packed.{message_size}
 use Rattle.stow_message.specs.Rising.{is_below, placed}
 use Rattle.stow_node.specs.Flushes.{Flushes}
@@ -20,7 +20,6 @@ use Rattle.stow_tree_model.specs.TreeMessage.{TreeMessage}
 use Rattle.stow_tree_model.proofs.Histories.{ops_in-skip}
 use Rattle.stow_tree_model.proofs.Orders.{place_cases}
 use Rattle.stow_read.specs.Numbered.{AreNumberedBelow}
-use Rattle.stow_read.proofs.Gathered.{some_or, some_left, some_right}
 use Rattle.stow_read.proofs.Walked.{ops_over}
 
 -- an operation of messages is the first one's or another's
