@@ -298,7 +298,7 @@ impl Write for Flushed {
 }
 
 /// How many bytes a task flushed, or nothing where it failed.
-fn flushed(
+fn flushed_by(
     alloc: Global,
     task: Task,
     mut input: &[u8],
@@ -317,10 +317,13 @@ fn flushed(
 #[test]
 fn what_is_told_is_flushed(rt: HostRuntime) -> Result<(), Fail> {
     let alloc = rt.alloc();
-    let pipe = flushed(alloc, Task::Pipe, HELLO, false)?;
+    let pipe = flushed_by(alloc, Task::Pipe, HELLO, false)?;
     assert_eq!(rt; pipe, Some(HELLO_REPLIES.len()));
-    assert_eq!(rt; flushed(alloc, Task::Script, b"open 1\n", false)?, Some(5));
-    assert!(rt; flushed(alloc, Task::Pipe, HELLO, true)?.is_none());
-    assert!(rt; flushed(alloc, Task::Script, b"open 1\n", true)?.is_none());
+    assert_eq!(rt;
+        flushed_by(alloc, Task::Script, b"open 1\n", false)?,
+        Some(5)
+    );
+    assert!(rt; flushed_by(alloc, Task::Pipe, HELLO, true)?.is_none());
+    assert!(rt; flushed_by(alloc, Task::Script, b"open 1\n", true)?.is_none());
     Ok(())
 }
