@@ -298,8 +298,11 @@ with_lower leaf high batch pins target most fewer m at leaves end can b less cut
         (r.short key (spanned m.key end key l (span_high leaf.0 end key s)) (subst HasShortValues (λ i n. rest_ops leaf.1 batch m at cut key n l i) v)));
     fences = (inl refl, each_fence leaves r.fences);
     keys = λ key t. some_or (ops_in (map row_message (take at leaf.1)) key t.0) (ops_in (row_messages leaves) key t.0)
-        (λ s. (t.0, some_right (ops_in batch key t.0) (ops_in (map row_message leaf.1) key t.0)
-        (subst IsSome (sym (parts key t.0)) (some_left (ops_in (map row_message (take at leaf.1)) key t.0) (ops_in (map row_message (drop at leaf.1)) key t.0) s))))
+        (λ s. (
+          t.0,
+          some_right (ops_in batch key t.0) (ops_in (map row_message leaf.1) key t.0)
+              (subst IsSome (sym (parts key t.0)) (some_left (ops_in (map row_message (take at leaf.1)) key t.0) (ops_in (map row_message (drop at leaf.1)) key t.0) s)),
+        ))
         (λ s. wider key (r.keys key (t.0, s)))
         (subst IsSome (ops-append (map row_message (take at leaf.1)) (row_messages leaves) key t.0) t.1);
   };
