@@ -52,6 +52,8 @@ fn two_levels<A: Allocator + Copy>(alloc: A) -> Result<Node<A>, AllocError>
     ensures none { IfOk result (λ n. messages_of n ≡ []) }
     ensures low { IfOk result (λ n. n.low ≡ packed 0 []) }
     ensures room { IfOk result (λ n. (n.buffer.used ≡ 0) × (n.buffer.capacity ≡ 131072)) }
+    ensures places { IfOk result (λ n. n.width + 2 ≤ n.shape.fan_out) }
+    ensures shape { IfOk result (λ n. 4 ≤ n.shape.fan_out) }
 {
     let mut node = Node::first(alloc, smallest())?;
     node.raise(alloc)?;
@@ -85,17 +87,25 @@ fn buffered_below<A: Allocator>(node: &Node<A>) -> usize {
     }
 }
 
-#[test]
-fn messages_move_one_level(rt: HostRuntime) -> Result<(), Fail> {
-    let alloc = rt.alloc();
+/// Whether a node above one child for all keys has this height.
+fn is_above_one<A: Allocator>(node: &Node<A>, height: u64) -> bool {
+    node.height() == height && node.width() == 1 && node.low().bytes == [0; 4].as_slice()
+}
+
+/// Whether a message moves out of the upper buffer of two into the lower one.
+fn moves_one_level<A: Allocator + Copy>(alloc: A) -> Result<bool, AllocError> {
     let mut spare = RawBuf::with_capacity(alloc, 131_072)?;
     let mut cache = LeafCache::new(alloc, 0)?;
     let pins = Pins::new(alloc);
     let mut node = two_levels(alloc)?;
-    assert!(rt; node.height() == 2 && node.width() == 1 && node.low().bytes == [0; 4].as_slice());
+    let stands = is_above_one(&node, 2);
     put_and_step(alloc, &mut node, &pins, &mut spare, &mut cache)?;
-    assert_eq!(rt; node.buffer().len(), 0);
-    assert_eq!(rt; buffered_below(&node), 1);
+    Ok(stands && node.buffer().len() == 0 && buffered_below(&node) == 1)
+}
+
+#[test]
+fn messages_move_one_level(rt: HostRuntime) -> Result<(), Fail> {
+    assert!(rt; moves_one_level(rt.alloc())?);
     Ok(())
 }
 
