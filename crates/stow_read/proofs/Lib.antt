@@ -7,3 +7,6 @@ pub mod Gathered
 pub mod Versioned
 pub mod OwnRows
 pub mod Numbered
+pub mod NextKeys
+pub mod NextRows
+pub mod NextBelow

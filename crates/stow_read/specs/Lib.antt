@@ -5,3 +5,4 @@ pub mod Descent
 pub mod Path
 pub mod Versions
 pub mod Numbered
+pub mod NextKey

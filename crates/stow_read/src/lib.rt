@@ -13,6 +13,7 @@ pub mod found;
 pub mod getting;
 pub mod lent_value;
 pub mod lookup;
+mod next_key;
 mod path;
 mod suffixes;
 #[cfg(test)]
