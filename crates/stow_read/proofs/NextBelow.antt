@@ -1,27 +1,35 @@
 -- The next key of an interval, below a node and in it.
 use Rattle.std.proofs.Common.{◌≡◌, ℕ, zero, suc, ◌+◌, ◌<◌, ◌≤◌, Bool, true, false, List, [], ◌∷◌, ◌++◌, length, drop, get_or, map, Option, Some, None, refl, ap, ◌∙◌, sym, subst, arith, ⊎_elim}
-use Rattle.std.specs.Prelude.{IsSome, not, nat_lt}
+use Rattle.std.specs.Prelude.{IsSome, is_some, not, nat_lt}
 use Rattle.std.specs.Ordering.{is_lt}
+use Rattle.std.specs.Option.{option_map}
 use Rattle.std.proofs.lemmas.Bool.Decides.{nat_tests}
 use Rattle.std.proofs.lemmas.List.{length-map, get_or-map}
 use Rattle.stow_tree_model.specs.Messages.{ops_in}
 use Rattle.stow_tree_model.specs.Operations.{Operations, or_else}
 use Rattle.stow_leaf.specs.Intervals.{top_key, spans}
 use Rattle.stow_leaf.specs.LeafRows.{row_messages}
-use Rattle.stow_leaf.proofs.Found.{none_unless, both_none, none_some}
-use Rattle.stow_leaf.proofs.Intervals.{lt, by_test, lt_trans, lt_le, le_lt, le_le, lt_not, spanned, span_low, span_high}
+use Rattle.stow_leaf.proofs.Found.{none_unless, both_none, none_some, or_none}
+use Rattle.stow_leaf.proofs.Intervals.{lt, by_test, lt_trans, lt_le, le_lt, le_le, lt_not, lt_self, spanned, span_low, span_high, beyond}
 use Rattle.stow_leaf.proofs.Ops.{ops-append}
 use Rattle.stow_node.specs.Nodes.{AreChildren, part_of, parts_of}
 use Rattle.stow_node.specs.declared.child.Child.{Child}
+use Rattle.stow_node.specs.declared.child.Child.TheVariants as in_child
+use Rattle.stow_leaf.specs.declared.leaf.Leaf.{Leaf}
+use Rattle.stow_tree_model.specs.Merged.{row_message}
+use Rattle.stow_tree_model.specs.Op.{Op}
 use Rattle.stow_node.specs.Parts.{Part, IsTile, TiledTo, low_or, high_of, end_of, messages_in, leaves_in, IsFor}
 use Rattle.stow_node.specs.Subtree.{Subtree, messages_of}
+use Rattle.stow_node.proofs.Lowered.{end_at_most}
+use Rattle.stow_node.proofs.Stayed.{level_at}
+use Rattle.std.proofs.lemmas.Option.{slice_get-get_or}
 use Rattle.stow_node.proofs.Row.{message_taken, messages_apart, low_at_most, tile_at}
 use Rattle.stow_read.specs.Descent.{part_messages}
 use Rattle.stow_read.specs.NextKey.{is_from, fence_at, IsFromPart, IsEnd, HaveNone, IsLowest, IsNextKey}
 use Rattle.stow_read.proofs.Below.{row_has}
 use Rattle.stow_read.proofs.Gathered.{some_or, some_left, some_right}
-use Rattle.stow_read.proofs.NextKeys.{apart, not_is, not_under, from_above}
-use Rattle.stow_read.proofs.Walked.{ops_over}
+use Rattle.stow_read.proofs.NextKeys.{apart, not_is, not_under, from_above, drop_past}
+use Rattle.stow_read.proofs.Walked.{ops_over, none_outside}
 
 fence_is : (ps : List Part) (i : ℕ) (d : Part) → i < length ps → fence_at ps i ≡ (get_or ps i d).low
 fence_is [] i d l = absurd (omega arith)
@@ -177,3 +185,99 @@ from_the_start ps start after first i l = record { first_is = λ _. (refl, refl)
 -- what a child has of the interval, for the row
 pub child_part : {A : Type 0} (cs : List (Child A)) (i : ℕ) (c : Child A) → i < length cs → c ≡ get_or cs i c → get_or (parts_of cs) i (part_of c) ≡ part_of c
 child_part cs i c l e = get_or-map part_of cs i c (part_of c) l ∙ ap part_of (sym e)
+
+-- ---- a node's children
+
+pub same_next : (f g : List ℕ → Operations) (start : List ℕ) (after : Bool) (to : List ℕ) (found : Option (List ℕ)) → ((key : List ℕ) (n : ℕ) → f key n ≡ g key n) → IsNextKey f start after to found → IsNextKey g start after to found
+same_next f g start after to None same none = λ key h l n. sym (same key n) ∙ none key h l n
+same_next f g start after to (Some key) same low = record {
+  from = low.from;
+  below = low.below;
+  number = low.number;
+  there = subst IsSome (same key low.number) low.there;
+  none = λ k h l n. sym (same k n) ∙ low.none k h l n;
+}
+
+pub leaf_next : {A : Type 0} (c : Child A) (leaf : Leaf A) (start : List ℕ) (after : Bool) (to : List ℕ) (found : Option (List ℕ)) → c ≡ in_child.Leaf leaf → IsNextKey (ops_in (map row_message leaf.rows)) start after to found → IsNextKey (ops_in (part_messages (part_of c))) start after to found
+leaf_next {A} c leaf start after to found is next = subst (λ (d : Child A). IsNextKey (ops_in (part_messages (part_of d))) start after to found) (sym is)
+    (same_next (ops_in (map row_message leaf.rows)) (ops_in (map row_message leaf.rows ++ [])) start after to found
+    (λ key n. sym (ops-append (map row_message leaf.rows) [] key n ∙ or_none (ops_in (map row_message leaf.rows) key n) None refl)) next)
+
+pub node_next : {A : Type 0} (c : Child A) (lower : Subtree) (start : List ℕ) (after : Bool) (to : List ℕ) (found : Option (List ℕ)) → c ≡ in_child.Node lower → IsNextKey (ops_in (messages_of lower)) start after to found → IsNextKey (ops_in (part_messages (part_of c))) start after to found
+node_next {A} c lower start after to found is next = subst (λ (d : Child A). IsNextKey (ops_in (part_messages (part_of d))) start after to found) (sym is) next
+
+rest_of : {A : Type 0} (t : Subtree) (cs : List (Child A)) (key : List ℕ) (n : ℕ) → AreChildren t cs → ops_in (messages_of t) key n ≡ or_else (ops_in t.buffer.messages key n) (ops_in (messages_in (parts_of cs) ++ row_messages (leaves_in (parts_of cs))) key n)
+rest_of t cs key n are = ops_over t key n ∙ (λ i. or_else (ops_in t.buffer.messages key n) (ops_in (are.deeper i ++ row_messages (are.leaves i)) key n))
+
+-- a child without a key of the interval
+pub child_clear : {A : Type 0} (t : Subtree) (cs : List (Child A)) (start : List ℕ) (after : Bool) (end : List ℕ) (first i : ℕ) (c : Child A) (from : List ℕ) (own : Bool) (found : Option (List ℕ)) → AreChildren t cs → IsFor (parts_of cs) start first → i < length cs → c ≡ get_or cs i c
+    → IsClear (parts_of cs) start after end first i → IsFromPart (parts_of cs) start after first i from own → IsNextKey (ops_in (part_messages (part_of c))) from own end found → is_some found ≡ false → IsClear (parts_of cs) start after end first (i + 1)
+child_clear t cs start after end first i c from own None are for l e clear p none e' =
+    clear_next (parts_of cs) start after end first i from own (part_of c) are.tiled for (omega (arith, length-map cs part_of)) clear p
+    (subst (λ (q : Part). HaveNone (ops_in (part_messages q)) from own end) (sym (child_part cs i c l e)) none)
+child_clear t cs start after end first i c from own (Some key) are for l e clear p low e' = absurd (let z : true ≡ false = e' in cc)
+
+-- the next key stands in this child
+pub child_found : {A : Type 0} (t : Subtree) (cs : List (Child A)) (start : List ℕ) (after : Bool) (to end : List ℕ) (first i : ℕ) (c : Child A) (from : List ℕ) (own : Bool) (here found : Option (List ℕ)) → AreChildren t cs → i < length cs → c ≡ get_or cs i c
+    → IsClear (parts_of cs) start after end first i → IsFromPart (parts_of cs) start after first i from own → IsNextKey (ops_in t.buffer.messages) start after to here → IsEnd to here end → IsNextKey (ops_in (part_messages (part_of c))) from own end found → is_some found ≡ true
+    → IsNextKey (ops_in (messages_of t)) start after to found
+child_found t cs start after to end first i c from own here None are l e clear p next is low e' = absurd (let z : false ≡ true = e' in cc)
+child_found t cs start after to end first i c from own here (Some key) are l e clear p next is low e' =
+    below_next (ops_in t.buffer.messages) (ops_in (messages_in (parts_of cs) ++ row_messages (leaves_in (parts_of cs)))) (ops_in (messages_of t)) start after to end here key (λ k n. rest_of t cs k n are) next is
+    (found_below (parts_of cs) start after end first i from own (part_of c) key are.tiled (omega (arith, length-map cs part_of)) clear p
+    (subst (λ (q : Part). IsLowest (ops_in (part_messages q)) from own end key) (sym (child_part cs i c l e)) low))
+
+-- the next child begins where the search ends
+pub children_end : {A : Type 0} (t : Subtree) (cs : List (Child A)) (start : List ℕ) (after : Bool) (to end : List ℕ) (first i : ℕ) (c : Child A) (here : Option (List ℕ)) → AreChildren t cs → i < length cs → c ≡ get_or cs i c
+    → IsClear (parts_of cs) start after end first i → IsNextKey (ops_in t.buffer.messages) start after to here → IsEnd to here end → lt (part_of c).low end ≡ false → IsNextKey (ops_in (messages_of t)) start after to here
+children_end t cs start after to end first i c here are l e clear next is low =
+    own_next (ops_in t.buffer.messages) (ops_in (messages_in (parts_of cs) ++ row_messages (leaves_in (parts_of cs)))) (ops_in (messages_of t)) start after to end here (λ k n. rest_of t cs k n are) next is
+    (none_below (parts_of cs) start after end first i clear (ap (λ k. lt k end) (sym (fence_of_child cs i c l e)) ∙ low))
+
+none_right : (a b : Option Op) → or_else a b ≡ None → b ≡ None
+none_right None b e = e
+none_right (Some op) b e = absurd cc
+
+-- no child is left
+pub children_done : {A : Type 0} (t : Subtree) (cs : List (Child A)) (start : List ℕ) (after : Bool) (to end : List ℕ) (first i : ℕ) (here : Option (List ℕ)) → AreChildren t cs → length cs ≤ i
+    → IsClear (parts_of cs) start after end first i → IsNextKey (ops_in t.buffer.messages) start after to here → IsEnd to here end → IsNextKey (ops_in (messages_of t)) start after to here
+children_done t cs start after to end first i here are l clear next is =
+    own_next (ops_in t.buffer.messages) (ops_in (messages_in (parts_of cs) ++ row_messages (leaves_in (parts_of cs)))) (ops_in (messages_of t)) start after to end here (λ k n. rest_of t cs k n are) next is
+    (λ key f below n. by_test (lt key top_key)
+    (λ u. clear.none key f below (ap (λ ps. lt key (low_or top_key ps)) (drop_past (parts_of cs) i (omega (arith, length-map cs part_of))) ∙ u) n)
+    (λ u. none_right (ops_in t.buffer.messages key n) (ops_in (messages_in (parts_of cs) ++ row_messages (leaves_in (parts_of cs))) key n)
+    (sym (rest_of t cs key n are) ∙ none_outside t cs key n are (beyond t.low top_key key u))))
+
+-- a child is searched from a key that it may hold
+pub from_inside : {A : Type 0} (t : Subtree) (cs : List (Child A)) (start : List ℕ) (after : Bool) (first i : ℕ) (c : Child A) (from : List ℕ) (own : Bool) → AreChildren t cs → IsFor (parts_of cs) start first → first ≤ i → i < length cs → c ≡ get_or cs i c → IsFromPart (parts_of cs) start after first i from own
+    → spans (part_of c).low top_key from ≡ true
+from_inside t cs start after first i c from own are for f l e p = by_test (nat_lt first i)
+    (λ u. let is = p.later_is (grind (arith, nat_tests, u)) in
+    ap (spans (part_of c).low top_key) (is.0 ∙ sym (fence_of_child cs i c l e)) ∙ spanned (part_of c).low top_key (part_of c).low (lt_self (part_of c).low) low_top)
+    (λ u. let same : i ≡ first = grind (arith, nat_tests, u, f) in
+    ap (spans (part_of c).low top_key) (p.first_is same).0
+    ∙ spanned (part_of c).low top_key start
+    (ap (lt start) (sym here) ∙ ap (λ k. lt start (get_or (parts_of cs) k (part_of c)).low) same ∙ span_low (get_or (parts_of cs) first (part_of c)).low (high_of (parts_of cs) first) start (for.spanned (part_of c)))
+    (lt_le start (high_of (parts_of cs) first) top_key (span_high (get_or (parts_of cs) first (part_of c)).low (high_of (parts_of cs) first) start (for.spanned (part_of c))) (end_at_most message_taken top_key (parts_of cs) first (messages_apart top_key (parts_of cs) are.tiled) for.inside)))
+  where
+    inside : i < length (parts_of cs)
+    inside = omega (arith, length-map cs part_of)
+
+    here : (get_or (parts_of cs) i (part_of c)).low ≡ (part_of c).low
+    here = ap (λ (q : Part). q.low) (child_part cs i c l e)
+
+    low_top : lt (part_of c).low top_key ≡ true
+    low_top = ap (λ low. lt low top_key) (sym here) ∙ lt_le (get_or (parts_of cs) i (part_of c)).low (high_of (parts_of cs) i) top_key
+        (let t' = tile_at top_key (parts_of cs) i (part_of c) are.tiled inside in ap is_lt t'.ordered)
+        (end_at_most message_taken top_key (parts_of cs) i (messages_apart top_key (parts_of cs) are.tiled) inside)
+
+-- a node among the children is lower
+pub child_lower : {A : Type 0} (t : Subtree) (cs : List (Child A)) (i : ℕ) (c : Child A) (lower : Subtree) → AreChildren t cs → i < length cs → c ≡ get_or cs i c → c ≡ in_child.Node lower → lower.height < t.height
+child_lower t cs i c lower are l e is =
+    let level = (level_at t.height t.shape cs i c are.level (slice_get-get_or cs i c l ∙ ap (λ x. Some x) (sym e))).level in
+    let same : (part_of c).height ≡ lower.height = ap (λ d. (part_of d).height) is in
+    omega (arith, level, same)
+
+pub some_mapped : {X Y : Type 0} (f : X → Y) (o : Option X) → is_some (option_map f o) ≡ is_some o
+some_mapped f None = refl
+some_mapped f (Some x) = refl

@@ -180,7 +180,7 @@ empty_range (m ∷ ms) start to l = step (spans start to m.key) refl ∙ empty_r
   step true e = apart (le_lt start m.key to (span_low start to m.key e) (span_high start to m.key e)) l
   step false e = refl
 
-drop_past : {X : Type 0} (xs : List X) (i : ℕ) → length xs ≤ i → drop i xs ≡ []
+pub drop_past : {X : Type 0} (xs : List X) (i : ℕ) → length xs ≤ i → drop i xs ≡ []
 drop_past [] zero h = refl
 drop_past [] (suc i) h = refl
 drop_past (x ∷ xs) zero h = absurd (omega arith)
