@@ -10,3 +10,4 @@ pub mod Numbered
 pub mod NextKeys
 pub mod NextRows
 pub mod NextBelow
+pub mod Ranged

@@ -6,3 +6,4 @@ pub mod Path
 pub mod Versions
 pub mod Numbered
 pub mod NextKey
+pub mod Range

@@ -15,6 +15,8 @@ pub mod lent_value;
 pub mod lookup;
 mod next_key;
 mod path;
+pub mod range;
+pub mod row;
 mod suffixes;
 #[cfg(test)]
 mod tests;
