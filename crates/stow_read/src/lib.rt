@@ -13,7 +13,10 @@ pub mod found;
 pub mod getting;
 pub mod lent_value;
 pub mod lookup;
+mod next_key;
 mod path;
+pub mod range;
+pub mod row;
 mod suffixes;
 #[cfg(test)]
 mod tests;

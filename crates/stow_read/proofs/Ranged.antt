@@ -1,0 +1,142 @@
+-- The rows of an interval, one after another.
+use Rattle.std.proofs.Common.{◌≡◌, ℕ, zero, suc, ◌+◌, ◌<◌, ◌≤◌, Bool, true, false, cond, List, [], ◌∷◌, ◌++◌, length, map, Option, Some, None, refl, ap, ◌∙◌, sym, subst, arith, ⊎_elim, inl, inr, ◌⊎◌}
+use Rattle.std.specs.Prelude.{Contains, IsSome, not, filter}
+use Rattle.std.specs.List.{AllByRecursion}
+use Rattle.std.specs.List.Sorted.{IsStrictlySortedBy}
+use Rattle.std.specs.Ordering.{is_lt}
+use Rattle.std.specs.declared.cmp.Ordering.TheVariants.{Less}
+use Rattle.std.proofs.lemmas.List.{length-append, map-append}
+use Rattle.std.proofs.lemmas.List.Elements.{Contains-append_left, Contains-append_right}
+use Rattle.stow_bytes.specs.Bytes.{bytes_cmp}
+use Rattle.stow_tree_model.specs.Operations.{Operations, NumberedValue, latest, value_in}
+use Rattle.stow_tree_model.proofs.Histories.{latest_none}
+use Rattle.stow_message.proofs.RisingLists.{lt_is}
+use Rattle.stow_leaf.specs.Intervals.{spans}
+use Rattle.stow_leaf.proofs.Intervals.{lt, by_test, lt_trans, lt_le, at_most, spanned, span_low, span_high}
+use Rattle.stow_read.specs.NextKey.{is_from, HaveNone, IsLowest, IsNextKey}
+use Rattle.stow_read.specs.Range.{KeyValue, AreUnder, IsRange}
+use Rattle.stow_read.proofs.NextKeys.{apart, not_is}
+
+abbrev pub keys_of : List KeyValue → List (List ℕ)
+keys_of rows = map (λ (row : KeyValue). row.0) rows
+
+-- the key stands before the next one
+abbrev pub IsBefore : Option (List ℕ) → List ℕ → Type 0
+IsBefore None key = Unit {0}
+IsBefore (Some k) key = lt key k ≡ true
+
+-- the next key is of the interval, and all rows are under it
+abbrev pub IsNextOf : List ℕ → List ℕ → List KeyValue → Option (List ℕ) → Type 0
+IsNextOf from to rows None = Unit {0}
+IsNextOf from to rows (Some k) = (spans from to k ≡ true) × AreUnder rows k
+
+-- the keys before the next one have been gone over
+pub record IsSoFar (ops : List ℕ → Operations) (from to : List ℕ) (at count : ℕ) (rows : List KeyValue) (next : Option (List ℕ)) : Type 0 where
+  pub rise : IsStrictlySortedBy bytes_cmp (keys_of rows)
+  pub inside : AllByRecursion (λ (row : KeyValue). spans from to row.0 ≡ true) rows
+  pub values : AllByRecursion (λ (row : KeyValue). value_in (latest (ops row.0) at) ≡ Some row.1) rows
+  pub few : length rows ≤ count
+  pub next_is : IsNextOf from to rows next
+  pub all : (key : List ℕ) → spans from to key ≡ true → IsSome (latest (ops key) at) → IsBefore next key → Contains (keys_of rows) key
+
+nothing : {X : Type 0} (f : Operations) (at : ℕ) → ((n : ℕ) → f n ≡ None) → IsSome (latest f at) → X
+nothing f at none s = absurd (let z = latest_none f at (λ k l. none k) in cc)
+
+pub so_far_first : (ops : List ℕ → Operations) (from to : List ℕ) (at count : ℕ) (next : Option (List ℕ)) → IsNextKey ops from false to next → IsSoFar ops from to at count [] next
+unfolding IsStrictlySortedBy
+so_far_first ops from to at count None none = record {
+  rise = tt;
+  inside = tt;
+  values = tt;
+  few = omega arith;
+  next_is = tt;
+  all = λ key s v b. nothing (ops key) at (none key (ap not (span_low from to key s)) (span_high from to key s)) v;
+}
+so_far_first ops from to at count (Some k) low = record {
+  rise = tt;
+  inside = tt;
+  values = tt;
+  few = omega arith;
+  next_is = (spanned from to k (not_is (lt k from) low.from) low.below, tt);
+  all = λ key s v b. nothing (ops key) at (low.none key (ap not (span_low from to key s)) b) v;
+}
+
+-- no key between the one that was gone over and the next one has a value
+between : (ops : List ℕ → Operations) (from to : List ℕ) (at : ℕ) (k : List ℕ) (next : Option (List ℕ)) (key : List ℕ) → IsNextKey ops k true to next → lt k key ≡ true → spans from to key ≡ true → IsBefore next key → IsSome (latest (ops key) at) → ⊥
+between ops from to at k None key none l s b v = nothing (ops key) at (none key l (span_high from to key s)) v
+between ops from to at k (Some j) key low l s b v = nothing (ops key) at (low.none key l b) v
+
+next_of : (ops : List ℕ → Operations) (from to : List ℕ) (k : List ℕ) (rows : List KeyValue) (next : Option (List ℕ)) → IsNextKey ops k true to next → spans from to k ≡ true → ((j : List ℕ) → lt k j ≡ true → AreUnder rows j) → IsNextOf from to rows next
+next_of ops from to k rows None none s under = tt
+next_of ops from to k rows (Some j) low s under = (spanned from to j not_below low.below, under j low.from) where
+  not_below : lt j from ≡ false
+  not_below = by_test (lt j from) (λ e. apart (lt_trans k j from low.from e) (span_low from to k s)) (λ e. e)
+
+under_more : (rows : List KeyValue) (k j : List ℕ) → AreUnder rows k → lt k j ≡ true → AreUnder rows j
+under_more [] k j a l = tt
+under_more (row ∷ rows) k j a l = (lt_trans row.0 k j a.0 l, under_more rows k j a.1 l)
+
+-- the key has no value
+pub so_far_past : (ops : List ℕ → Operations) (from to : List ℕ) (at count : ℕ) (rows : List KeyValue) (k : List ℕ) (next : Option (List ℕ)) → IsSoFar ops from to at count rows (Some k) → latest (ops k) at ≡ None → IsNextKey ops k true to next → IsSoFar ops from to at count rows next
+so_far_past ops from to at count rows k next r none is = record {
+  rise = r.rise;
+  inside = r.inside;
+  values = r.values;
+  few = r.few;
+  next_is = next_of ops from to k rows next is r.next_is.0 (λ j l. under_more rows k j r.next_is.1 l);
+  all = λ key s v b. by_test (lt key k)
+      (λ e. r.all key s v e)
+      (λ e. ⊎_elim
+      (λ (h : k ≡ key). absurd (let z : latest (ops key) at ≡ None = ap (λ x. latest (ops x) at) (sym h) ∙ none in cc))
+      (λ (h : lt k key ≡ true). absurd (between ops from to at k next key is h s b v))
+      (at_most k key e));
+}
+
+push_above : (key : List ℕ) (rows : List KeyValue) (k v : List ℕ) → AllByRecursion (λ q. bytes_cmp key q ≡ Less) (keys_of rows) → bytes_cmp key k ≡ Less → AllByRecursion (λ q. bytes_cmp key q ≡ Less) (keys_of (rows ++ (k, v) ∷ []))
+push_above key [] k v a l = (l, tt)
+push_above key (row ∷ rows) k v a l = (a.0, push_above key rows k v a.1 l)
+
+push_rises : (rows : List KeyValue) (k v : List ℕ) → IsStrictlySortedBy bytes_cmp (keys_of rows) → AreUnder rows k → IsStrictlySortedBy bytes_cmp (keys_of (rows ++ (k, v) ∷ []))
+unfolding IsStrictlySortedBy
+push_rises [] k v up u = (tt, tt)
+push_rises (row ∷ rows) k v up u = (push_above row.0 rows k v up.0 (lt_is (bytes_cmp row.0 k) u.0), push_rises rows k v up.1 u.1)
+
+all_push : (P : KeyValue → Type 0) (rows : List KeyValue) (row : KeyValue) → AllByRecursion P rows → P row → AllByRecursion P (rows ++ row ∷ [])
+all_push P [] row a p = (p, tt)
+all_push P (r ∷ rows) row a p = (a.0, all_push P rows row a.1 p)
+
+-- the key has a value
+pub so_far_more : (ops : List ℕ → Operations) (from to : List ℕ) (at count : ℕ) (rows : List KeyValue) (k v : List ℕ) (next : Option (List ℕ)) → IsSoFar ops from to at count rows (Some k) → value_in (latest (ops k) at) ≡ Some v → length rows < count → IsNextKey ops k true to next → IsSoFar ops from to at count (rows ++ (k, v) ∷ []) next
+so_far_more ops from to at count rows k v next r has room is = record {
+  rise = push_rises rows k v r.rise r.next_is.1;
+  inside = all_push (λ (row : KeyValue). spans from to row.0 ≡ true) rows (k, v) r.inside r.next_is.0;
+  values = all_push (λ (row : KeyValue). value_in (latest (ops row.0) at) ≡ Some row.1) rows (k, v) r.values has;
+  few = omega (arith, length-append rows ((k, v) ∷ []));
+  next_is = next_of ops from to k (rows ++ (k, v) ∷ []) next is r.next_is.0 (λ j l. all_push (λ (row : KeyValue). lt row.0 j ≡ true) rows (k, v) (under_more rows k j r.next_is.1 l) l);
+  all = λ key s w b. subst (λ ks. Contains ks key) (sym (map-append (λ (row : KeyValue). row.0) rows ((k, v) ∷ []))) (by_test (lt key k)
+      (λ e. Contains-append_left (keys_of rows) (k ∷ []) key (r.all key s w e))
+      (λ e. ⊎_elim
+      (λ (h : k ≡ key). Contains-append_right (keys_of rows) (k ∷ []) key (0, omega arith, h))
+      (λ (h : lt k key ≡ true). absurd (between ops from to at k next key is h s b w))
+      (at_most k key e)));
+}
+
+-- no key is left
+pub range_all : (ops : List ℕ → Operations) (from to : List ℕ) (at count : ℕ) (rows : List KeyValue) → IsSoFar ops from to at count rows None → IsRange ops from to at count rows
+range_all ops from to at count rows r = record { rise = r.rise; inside = r.inside; values = r.values; few = r.few; all = λ key s v. inl (r.all key s v tt) }
+
+-- there are as many as were asked for
+pub range_enough : (ops : List ℕ → Operations) (from to : List ℕ) (at count : ℕ) (rows : List KeyValue) (k : List ℕ) → IsSoFar ops from to at count rows (Some k) → length rows ≡ count → IsRange ops from to at count rows
+range_enough ops from to at count rows k r full = record {
+  rise = r.rise;
+  inside = r.inside;
+  values = r.values;
+  few = r.few;
+  all = λ key s v. by_test (lt key k)
+      (λ e. inl (r.all key s v e))
+      (λ e. inr (full, under_all rows key e r.next_is.1));
+}
+  where
+    under_all : (xs : List KeyValue) (key : List ℕ) → lt key k ≡ false → AreUnder xs k → AreUnder xs key
+    under_all [] key e a = tt
+    under_all (x ∷ xs) key e a = (lt_le x.0 k key a.0 e, under_all xs key e a.1)
