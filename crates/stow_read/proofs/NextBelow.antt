@@ -9,7 +9,7 @@ use Rattle.stow_tree_model.specs.Messages.{ops_in}
 use Rattle.stow_tree_model.specs.Operations.{Operations, or_else}
 use Rattle.stow_leaf.specs.Intervals.{top_key, spans}
 use Rattle.stow_leaf.specs.LeafRows.{row_messages}
-use Rattle.stow_leaf.proofs.Found.{none_unless, both_none, none_some, or_none}
+use Rattle.stow_leaf.proofs.Found.{none_unless, both_none, none_some, or_none, some_left, some_right}
 use Rattle.stow_leaf.proofs.Intervals.{lt, by_test, lt_trans, lt_le, le_lt, le_le, lt_not, lt_self, spanned, span_low, span_high, beyond}
 use Rattle.stow_leaf.proofs.Ops.{ops-append}
 use Rattle.stow_node.specs.Nodes.{AreChildren, part_of, parts_of}
@@ -27,7 +27,6 @@ use Rattle.stow_node.proofs.Row.{message_taken, messages_apart, low_at_most, til
 use Rattle.stow_read.specs.Descent.{part_messages}
 use Rattle.stow_read.specs.NextKey.{is_from, fence_at, IsFromPart, IsEnd, HaveNone, IsLowest, IsNextKey}
 use Rattle.stow_read.proofs.Below.{row_has}
-use Rattle.stow_read.proofs.Gathered.{some_or, some_left, some_right}
 use Rattle.stow_read.proofs.NextKeys.{apart, not_is, not_under, from_above, drop_past}
 use Rattle.stow_read.proofs.Walked.{ops_over, none_outside}
 
