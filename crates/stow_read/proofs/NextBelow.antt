@@ -1,5 +1,5 @@
 -- The next key of an interval, below a node and in it.
-use Rattle.std.proofs.Common.{◌≡◌, ℕ, zero, suc, ◌+◌, ◌<◌, ◌≤◌, Bool, true, false, List, [], ◌∷◌, ◌++◌, length, drop, get_or, map, Option, Some, None, refl, ap, ◌∙◌, sym, subst, arith, ⊎_elim}
+use Rattle.std.proofs.Common.{◌≡◌, ℕ, zero, suc, ◌+◌, ◌<◌, ◌≤◌, Bool, true, false, List, [], ◌∷◌, ◌++◌, length, drop, get_or, map, Option, Some, None, refl, ap, ◌∙◌, sym, subst, arith}
 use Rattle.std.specs.Prelude.{IsSome, is_some, not, nat_lt}
 use Rattle.std.specs.Ordering.{is_lt}
 use Rattle.std.specs.Option.{option_map}
@@ -9,8 +9,8 @@ use Rattle.stow_tree_model.specs.Messages.{ops_in}
 use Rattle.stow_tree_model.specs.Operations.{Operations, or_else}
 use Rattle.stow_leaf.specs.Intervals.{top_key, spans}
 use Rattle.stow_leaf.specs.LeafRows.{row_messages}
-use Rattle.stow_leaf.proofs.Found.{none_unless, both_none, none_some, or_none, some_left, some_right}
-use Rattle.stow_leaf.proofs.Intervals.{lt, by_test, lt_trans, lt_le, le_lt, le_le, lt_not, lt_self, spanned, span_low, span_high, beyond}
+use Rattle.stow_leaf.proofs.Found.{both_none, none_some, or_none, some_left, some_right}
+use Rattle.stow_leaf.proofs.Intervals.{lt, by_test, lt_trans, lt_le, lt_not, lt_self, spanned, span_low, span_high, beyond}
 use Rattle.stow_leaf.proofs.Ops.{ops-append}
 use Rattle.stow_node.specs.Nodes.{AreChildren, part_of, parts_of}
 use Rattle.stow_node.specs.declared.child.Child.{Child}
@@ -18,12 +18,12 @@ use Rattle.stow_node.specs.declared.child.Child.TheVariants as in_child
 use Rattle.stow_leaf.specs.declared.leaf.Leaf.{Leaf}
 use Rattle.stow_tree_model.specs.Merged.{row_message}
 use Rattle.stow_tree_model.specs.Op.{Op}
-use Rattle.stow_node.specs.Parts.{Part, IsTile, TiledTo, low_or, high_of, end_of, messages_in, leaves_in, IsFor}
+use Rattle.stow_node.specs.Parts.{Part, IsTile, TiledTo, low_or, high_of, messages_in, leaves_in, IsFor}
 use Rattle.stow_node.specs.Subtree.{Subtree, messages_of}
 use Rattle.stow_node.proofs.Lowered.{end_at_most}
 use Rattle.stow_node.proofs.Stayed.{level_at}
 use Rattle.std.proofs.lemmas.Option.{slice_get-get_or}
-use Rattle.stow_node.proofs.Row.{message_taken, messages_apart, low_at_most, tile_at}
+use Rattle.stow_node.proofs.Row.{message_taken, messages_apart, tile_at}
 use Rattle.stow_read.specs.Descent.{part_messages}
 use Rattle.stow_read.specs.NextKey.{is_from, fence_at, IsFromPart, IsEnd, HaveNone, IsLowest, IsNextKey}
 use Rattle.stow_read.proofs.Below.{row_has}

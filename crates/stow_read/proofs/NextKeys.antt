@@ -1,19 +1,15 @@
 -- The next key of an interval, in a buffer's messages and in a leaf's rows.
-use Rattle.std.proofs.Common.{◌≡◌, ◌≢◌, ℕ, zero, suc, ◌+◌, ◌-◌, ◌<◌, ◌≤◌, Bool, true, false, cond, List, [], ◌∷◌, length, drop, get_or, map, Option, Some, None, refl, ap, ◌∙◌, sym, subst, arith, ⊎_elim}
-use Rattle.std.specs.Prelude.{Contains, IsSome, is_some, filter, not, slice_get}
+use Rattle.std.proofs.Common.{◌≡◌, ◌≢◌, ℕ, zero, suc, ◌<◌, ◌≤◌, Bool, true, false, cond, List, [], ◌∷◌, length, drop, get_or, Option, Some, None, refl, ap, ◌∙◌, sym, subst, arith, ⊎_elim}
+use Rattle.std.specs.Prelude.{Contains, IsSome, is_some, not}
 use Rattle.std.specs.List.{AllByRecursion}
 use Rattle.std.specs.List.Sorted.{IsStrictlySortedBy}
-use Rattle.std.specs.Ordering.{is_eq, is_lt, nat_cmp, ordering_then, eq_by_cmp}
-use Rattle.std.specs.declared.cmp.Ordering.{Ordering}
-use Rattle.std.specs.declared.cmp.Ordering.TheVariants.{Less, Equal, Greater}
+use Rattle.std.specs.Ordering.{is_eq}
 use Rattle.std.proofs.lemmas.Bool.{cond-true}
 use Rattle.stow_bytes.specs.Bytes.{bytes_cmp}
-use Rattle.stow_tree_model.specs.Merged.{same_key, row_message}
+use Rattle.stow_tree_model.specs.Merged.{same_key}
 use Rattle.stow_tree_model.specs.Messages.{ops_in}
-use Rattle.stow_tree_model.specs.Op.{Op}
-use Rattle.stow_tree_model.specs.Order.{Place, place_cmp, place_of, version_place, MessagesRise, VersionsRise}
+use Rattle.stow_tree_model.specs.Order.{Place, MessagesRise}
 use Rattle.stow_tree_model.specs.TreeMessage.{TreeMessage}
-use Rattle.stow_tree_model.specs.Version.{Version}
 use Rattle.stow_tree_model.proofs.Histories.{ops_in-at, ops_in-skip}
 use Rattle.stow_tree_model.proofs.Orders.{key_cases}
 use Rattle.stow_tree_model.proofs.Readings.{drop_one_less}
@@ -24,7 +20,7 @@ use Rattle.stow_leaf.specs.Intervals.{spans}
 use Rattle.stow_leaf.proofs.Found.{found, first_stays, from_first_message, none_unless}
 use Rattle.stow_leaf.proofs.Intervals.{lt, by_test, lt_self, lt_not, lt_trans, lt_le, le_lt, le_le, at_most, spanned, span_low, span_high}
 use Rattle.stow_leaf.proofs.Ops.{ops-in_range}
-use Rattle.stow_read.specs.NextKey.{is_from, passed_of, HaveNone, IsLowest, IsNextKey}
+use Rattle.stow_read.specs.NextKey.{is_from, passed_of, HaveNone, IsLowest}
 
 -- ---- the lower end
 

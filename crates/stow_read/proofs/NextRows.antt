@@ -1,18 +1,16 @@
 -- The next key of an interval in a leaf's rows.
-use Rattle.std.proofs.Common.{◌≡◌, ◌≢◌, ℕ, zero, suc, ◌<◌, ◌≤◌, Bool, true, false, List, [], ◌∷◌, length, get_or, map, Option, Some, None, refl, ap, ◌∙◌, sym, subst, arith, ⊎_elim, ◌⊎◌}
-use Rattle.std.specs.Prelude.{Contains, IsSome, not, slice_get}
-use Rattle.std.specs.List.{AllByRecursion}
+use Rattle.std.proofs.Common.{◌≡◌, ℕ, zero, suc, ◌<◌, ◌≤◌, Bool, true, false, List, [], ◌∷◌, length, get_or, map, Option, Some, refl, ap, ◌∙◌, sym, subst, arith, ⊎_elim, ◌⊎◌}
+use Rattle.std.specs.Prelude.{IsSome, not, slice_get}
 use Rattle.std.specs.Ordering.{is_lt, nat_cmp, ordering_then, ordering_reverse}
 use Rattle.std.specs.declared.cmp.Ordering.{Ordering}
 use Rattle.std.specs.declared.cmp.Ordering.TheVariants.{Less, Equal, Greater}
 use Rattle.std.specs.Cmp.Lexicographic.{nat_list_cmp_total}
 use Rattle.std.proofs.lemmas.Bool.{cases_order}
-use Rattle.std.proofs.lemmas.Bool.Decides.{nat_tests}
 use Rattle.std.proofs.lemmas.Option.{slice_get-get_or, slice_get_within}
 use Rattle.stow_bytes.specs.Bytes.{bytes_cmp}
 use Rattle.stow_tree_model.specs.Merged.{row_message}
 use Rattle.stow_tree_model.specs.Messages.{ops_in}
-use Rattle.stow_tree_model.specs.Order.{place_cmp, version_place, VersionsRise}
+use Rattle.stow_tree_model.specs.Order.{version_place, VersionsRise}
 use Rattle.stow_tree_model.specs.Version.{Version}
 use Rattle.stow_tree_model.proofs.Orders.{less_than, same_number, more_than}
 use Rattle.stow_page.specs.Format.{IsVersion, AreVersions}

@@ -1,14 +1,13 @@
 -- The rows of an interval, one after another.
-use Rattle.std.proofs.Common.{◌≡◌, ℕ, zero, suc, ◌+◌, ◌<◌, ◌≤◌, Bool, true, false, cond, List, [], ◌∷◌, ◌++◌, length, map, Option, Some, None, refl, ap, ◌∙◌, sym, subst, arith, ⊎_elim, inl, inr, ◌⊎◌}
-use Rattle.std.specs.Prelude.{Contains, IsSome, not, filter}
+use Rattle.std.proofs.Common.{◌≡◌, ℕ, zero, suc, ◌<◌, ◌≤◌, Bool, true, false, cond, List, [], ◌∷◌, ◌++◌, length, map, Option, Some, None, refl, ap, ◌∙◌, sym, subst, arith, ⊎_elim, inl, inr}
+use Rattle.std.specs.Prelude.{Contains, IsSome, not}
 use Rattle.std.specs.List.{AllByRecursion}
 use Rattle.std.specs.List.Sorted.{IsStrictlySortedBy}
-use Rattle.std.specs.Ordering.{is_lt}
 use Rattle.std.specs.declared.cmp.Ordering.TheVariants.{Less}
 use Rattle.std.proofs.lemmas.List.{length-append, map-append}
 use Rattle.std.proofs.lemmas.List.Elements.{Contains-append_left, Contains-append_right}
 use Rattle.stow_bytes.specs.Bytes.{bytes_cmp}
-use Rattle.stow_tree_model.specs.Operations.{Operations, NumberedValue, latest, value_in}
+use Rattle.stow_tree_model.specs.Operations.{Operations, latest, value_in}
 use Rattle.stow_tree_model.proofs.Histories.{latest_none}
 use Rattle.stow_message.proofs.RisingLists.{lt_is}
 use Rattle.stow_leaf.specs.Intervals.{spans, top_key}
@@ -20,7 +19,7 @@ use Rattle.stow_node.specs.declared.child.Child.{Child}
 use Rattle.stow_tree_model.specs.Messages.{ops_in}
 use Rattle.stow_tree_model.specs.TreeMessage.{TreeMessage}
 use Rattle.stow_read.proofs.Walked.{none_outside}
-use Rattle.stow_read.specs.NextKey.{is_from, HaveNone, IsLowest, IsNextKey}
+use Rattle.stow_read.specs.NextKey.{HaveNone, IsNextKey}
 use Rattle.stow_read.specs.Range.{KeyValue, AreUnder, IsRange}
 use Rattle.stow_read.proofs.NextKeys.{apart, not_is}
 

@@ -252,6 +252,7 @@ fn are_rows<A: Allocator>(rows: &[Row<A>], wanted: &[(TenantKey<'_>, &[u8])]) ->
 }
 
 /// A range that is asked for.
+#[derive(Clone, Copy)]
 struct Asked<'a> {
     from: TenantKey<'a>,
     to: TenantKey<'a>,
@@ -277,7 +278,13 @@ fn a_range_has_the_first_keys_with_a_value(rt: HostRuntime) -> Result<(), Fail> 
     let without_b: [(TenantKey<'_>, &[u8]); 2] = [(key_a(), b"x"), (key_c(), b"z")];
     let all = all.as_slice();
     let (a, b, c, top) = (key_a(), key_b(), key_c(), key_outside());
-    let cases: [(TenantKey<'_>, TenantKey<'_>, u64, usize, &[(TenantKey<'_>, &[u8])]); 10] = [
+    let cases: [(
+        TenantKey<'_>,
+        TenantKey<'_>,
+        u64,
+        usize,
+        &[(TenantKey<'_>, &[u8])],
+    ); 10] = [
         (a, top, 3, 9, all),
         (a, top, 3, 3, all),
         (a, top, 3, 1, &all[..1]),

@@ -1,7 +1,6 @@
-use Rattle.std.proofs.Common.{◌≡◌, ◌<◌, ◌≤◌, length, get_or, sym, ap, ◌∙◌, subst, arith}
+use Rattle.std.proofs.Common.{length, get_or, ap, ◌∙◌, arith}
 use Rattle.stow_message.specs.Rising.{in_range}
 use Rattle.stow_tree_model.specs.TreeMessage.{message_of}
-use Rattle.stow_read.specs.NextKey.{passed_of}
 use Rattle.stow_read.proofs.NextKeys.{buffer_none, buffer_next}
 use Rattle.stow_read.proofs.next_key.next_in_buffer.Goals as goal
 

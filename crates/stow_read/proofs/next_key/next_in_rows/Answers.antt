@@ -1,4 +1,4 @@
-use Rattle.std.proofs.Common.{◌≡◌, ◌≤◌, ℕ, length, sym, ap, ◌∙◌, subst, arith}
+use Rattle.std.proofs.Common.{sym, ◌∙◌, subst, arith}
 use Rattle.stow_tree_model.specs.Version.{version_of}
 use Rattle.stow_page.specs.Rows.{IsCountUpTo}
 use Rattle.stow_read.proofs.NextRows.{rows_none, rows_next, rows_end}

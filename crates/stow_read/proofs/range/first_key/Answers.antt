@@ -1,4 +1,4 @@
-use Rattle.std.proofs.Common.{◌≡◌, map, Option, false, None, sym, ap, ◌∙◌, subst}
+use Rattle.std.proofs.Common.{false, None, sym, ap, ◌∙◌, subst}
 use Rattle.std.specs.Option.{option_map}
 use Rattle.stow_leaf.specs.Intervals.{top_key, spans}
 use Rattle.stow_leaf.proofs.Intervals.{lt, lt_self}

@@ -1,17 +1,16 @@
-use Rattle.std.proofs.Common.{◌≡◌, ◌<◌, ℕ, List, [], ◌∷◌, ◌++◌, length, map, Option, Some, None, sym, ap, ◌∙◌, subst, arith, Vec}
+use Rattle.std.proofs.Common.{◌<◌, List, [], ◌∷◌, ◌++◌, map, Option, Some, sym, ap, ◌∙◌, subst, arith, Vec}
 use Rattle.std.specs.Option.{option_map}
 use Rattle.std.proofs.lemmas.List.{length-map, map-append}
 use Rattle.stow_node.specs.Subtree.{messages_of}
 use Rattle.stow_tree_model.specs.Messages.{ops_in}
-use Rattle.stow_tree_model.specs.Operations.{NumberedValue, latest, value_in}
+use Rattle.stow_tree_model.specs.Operations.{value_in}
 use Rattle.stow_tree_model.specs.declared.tenant_key.TenantKey.{TenantKey}
 use Rattle.stow_read.specs.Found.{found_value}
-use Rattle.stow_read.specs.Range.{KeyValue, key_value}
+use Rattle.stow_read.specs.Range.{key_value}
 use Rattle.stow_read.specs.declared.row.Row.{Row}
 use Rattle.stow_read.proofs.Ranged.{IsSoFar, left_from, so_far_first, so_far_past, so_far_more, range_all, range_enough, fewer_left, held_inside}
 use Rattle.stow_read.proofs.range.range.Goals as goal
 use Rattle.stow_read.proofs.range.range.Goals.{in-Some-found+in_ok-value+in_ok-key+in_ok-push, in_default-found}
-
 
 pub loop-next-init : goal.loop-next-init
 loop-next-init g c =
