@@ -14,9 +14,9 @@ is_from start true key = is_lt (bytes_cmp start key)
 is_from start false key = not (is_lt (bytes_cmp key start))
 
 -- the number that rows of the keys from the start on are above
-abbrev pub number_of : Bool → ℕ
-number_of true = 18446744073709551615
-number_of false = 0
+abbrev pub passed_number : Bool → ℕ
+passed_number true = 18446744073709551615
+passed_number false = 0
 
 -- how many messages of the start itself are passed over
 abbrev pub passed_of : List ℕ → Bool → List TreeMessage → ℕ

@@ -8,7 +8,7 @@ ghost use Rattle.stow_node.specs.Nodes.{parts_of};
 ghost use Rattle.stow_node.specs.Subtree.{messages_of};
 ghost use Rattle.stow_tree_model.specs.Merged.{row_message};
 ghost use Rattle.stow_tree_model.specs.Messages.{ops_in};
-ghost use Rattle.stow_read.specs.NextKey.{IsNextKey, IsEnd, IsFromPart, number_of, passed_of};
+ghost use Rattle.stow_read.specs.NextKey.{IsNextKey, IsEnd, IsFromPart, passed_number, passed_of};
 
 use std::alloc::Allocator;
 use stow_message::message_buf::MessageBuf;
@@ -43,8 +43,8 @@ fn passed_over<A: Allocator>(buffer: &MessageBuf<A>, start: Start<'_>) -> usize
 }
 
 /// The number that rows of the keys looked for are above.
-fn number_of(after: bool) -> u64
-    ensures { result ≡ number_of after }
+fn passed_number(after: bool) -> u64
+    ensures { result ≡ passed_number after }
 {
     if after { u64::MAX } else { 0 }
 }
@@ -78,7 +78,7 @@ fn next_in_rows<'a, A: Allocator>(
         start.entry.after to.entry.bytes.now (option_map (λ key. key.bytes.now) result) }
 {
     let len = rows.len();
-    let at = rows.count_up_to(start.key, number_of(start.after));
+    let at = rows.count_up_to(start.key, passed_number(start.after));
     if at >= len {
         return None;
     }

@@ -253,7 +253,7 @@ fn are_rows<A: Allocator>(rows: &[Row<A>], wanted: &[(TenantKey<'_>, &[u8])]) ->
 
 /// A range that is asked for.
 #[derive(Clone, Copy)]
-struct Asked<'a> {
+struct Query<'a> {
     from: TenantKey<'a>,
     to: TenantKey<'a>,
     at: u64,
@@ -263,11 +263,11 @@ struct Asked<'a> {
 /// Whether the range has these keys and values.
 fn is_range<A: Allocator + Copy>(
     alloc: A,
-    asked: Asked<'_>,
+    query: Query<'_>,
     wanted: &[(TenantKey<'_>, &[u8])],
 ) -> Result<bool, AllocError> {
     let node = tree_of_keys(alloc)?;
-    let rows = range(alloc, &node, asked.from, asked.to, asked.at, asked.count)?;
+    let rows = range(alloc, &node, query.from, query.to, query.at, query.count)?;
     Ok(are_rows(rows.as_slice(), wanted))
 }
 
@@ -298,13 +298,13 @@ fn a_range_has_the_first_keys_with_a_value(rt: HostRuntime) -> Result<(), Fail> 
     ];
     for i in 0..cases.len() {
         let (from, to, at, count, wanted) = cases[i];
-        let asked = Asked {
+        let query = Query {
             from,
             to,
             at,
             count,
         };
-        assert!(rt; is_range(alloc, asked, wanted)?, "case {i}");
+        assert!(rt; is_range(alloc, query, wanted)?, "case {i}");
     }
     Ok(())
 }
