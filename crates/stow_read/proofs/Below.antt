@@ -25,7 +25,7 @@ leaves_of (p ∷ ps) zero d leaf h c = Contains-append_left p.leaves (leaves_in 
 leaves_of (p ∷ ps) (suc i) d leaf h c = Contains-append_right p.leaves (leaves_in ps) leaf (leaves_of ps i d leaf (omega arith) c)
 
 -- what a row of parts has for a key is what the part for it has
-row_has : (ps : List Part) (i : ℕ) (d : Part) (key : List ℕ) (n : ℕ) → TiledTo top_key ps → IsFor ps key i → ops_in (messages_in ps ++ row_messages (leaves_in ps)) key n ≡ ops_in (part_messages (get_or ps i d)) key n
+pub row_has : (ps : List Part) (i : ℕ) (d : Part) (key : List ℕ) (n : ℕ) → TiledTo top_key ps → IsFor ps key i → ops_in (messages_in ps ++ row_messages (leaves_in ps)) key n ≡ ops_in (part_messages (get_or ps i d)) key n
 row_has ps i d key n tiled for =
     ops-append (messages_in ps) (row_messages (leaves_in ps)) key n
     ∙ (λ j. or_else

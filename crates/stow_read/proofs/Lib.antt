@@ -7,3 +7,7 @@ pub mod Gathered
 pub mod Versioned
 pub mod OwnRows
 pub mod Numbered
+pub mod NextKeys
+pub mod NextRows
+pub mod NextBelow
+pub mod Ranged

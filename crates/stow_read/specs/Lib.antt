@@ -5,3 +5,5 @@ pub mod Descent
 pub mod Path
 pub mod Versions
 pub mod Numbered
+pub mod NextKey
+pub mod Range

@@ -1,8 +1,9 @@
-//! Reads of the buffered tree (Bender and others 2015): what a key has at a number.
+//! Reads of the buffered tree (Bender and others 2015): what a key has at a number, and the first keys of an interval.
 //!
 //! A read goes down one path. What it answers is told by all messages of the node: those in its buffers and those that its
 //! leaves' rows stand for (`messages_of`). Messages in a buffer are newer than those below it, so the first ones found from
-//! the top are the newest.
+//! the top are the newest. A range goes from key to key: it looks for the next one that has messages, in the buffers on the
+//! way and in the leaves from there on, and reads that one.
 //!
 //! A body that always answers `AllocError` meets each contract here: tests call each with ample memory, and with each
 //! request refused. How much of a node a read looks at stands in no contract.
@@ -13,7 +14,10 @@ pub mod found;
 pub mod getting;
 pub mod lent_value;
 pub mod lookup;
+mod next_key;
 mod path;
+pub mod range;
+pub mod row;
 mod suffixes;
 #[cfg(test)]
 mod tests;

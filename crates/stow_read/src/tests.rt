@@ -6,6 +6,8 @@ ghost use Rattle.stow_read.specs.Numbered.{AreNumberedBelow};
 use crate::descent::may_hold;
 use crate::found::Found;
 use crate::getting::get;
+use crate::range::range;
+use crate::row::Row;
 use crate::versions::versions;
 use std::alloc::{AllocError, Allocator};
 use std::test::Fail;
@@ -28,6 +30,16 @@ fn key_a() -> TenantKey<'static>
     ensures tenant { IsOfTenant result.bytes.now }
 {
     TenantKey::from_packed(&[0, 0, 0, 1, b'a'])
+}
+
+/// Tenant 1's `b`.
+fn key_b() -> TenantKey<'static> {
+    TenantKey::from_packed(&[0, 0, 0, 1, b'b'])
+}
+
+/// Tenant 1's `c`.
+fn key_c() -> TenantKey<'static> {
+    TenantKey::from_packed(&[0, 0, 0, 1, b'c'])
 }
 
 /// A key above those of all tenants.
@@ -208,6 +220,112 @@ fn is_outside<A: Allocator + Copy>(alloc: A) -> Result<bool, AllocError> {
 #[test]
 fn a_key_outside_has_nothing(rt: HostRuntime) -> Result<(), Fail> {
     assert!(rt; is_outside(rt.alloc())?);
+    Ok(())
+}
+
+/// Two levels above a leaf. The leaf has a value of `a`, the lower node has one of `b`, and the root one of `c` and the
+/// removal of `b`.
+fn tree_of_keys<A: Allocator + Copy>(alloc: A) -> Result<Node<A>, AllocError> {
+    let mut node = with_row(alloc)?;
+    let second = put(&mut node, key_b(), 2, Op::Put(b"y"));
+    node.raise(alloc)?;
+    let third = put(&mut node, key_c(), 3, Op::Put(b"z"));
+    let fourth = put(&mut node, key_b(), 4, Op::Gone);
+    if second && third && fourth {
+        Ok(node)
+    } else {
+        Err(AllocError)
+    }
+}
+
+fn are_rows<A: Allocator>(rows: &[Row<A>], wanted: &[(TenantKey<'_>, &[u8])]) -> bool {
+    if rows.len() != wanted.len() {
+        return false;
+    }
+    for i in 0..wanted.len() {
+        let (key, value) = wanted[i];
+        if rows[i].key.as_key().bytes != key.bytes || rows[i].value.as_slice() != value {
+            return false;
+        }
+    }
+    true
+}
+
+/// A range that is asked for.
+#[derive(Clone, Copy)]
+struct Query<'a> {
+    from: TenantKey<'a>,
+    to: TenantKey<'a>,
+    at: u64,
+    count: usize,
+}
+
+/// Whether the range has these keys and values.
+fn is_range<A: Allocator + Copy>(
+    alloc: A,
+    query: Query<'_>,
+    wanted: &[(TenantKey<'_>, &[u8])],
+) -> Result<bool, AllocError> {
+    let node = tree_of_keys(alloc)?;
+    let rows = range(alloc, &node, query.from, query.to, query.at, query.count)?;
+    Ok(are_rows(rows.as_slice(), wanted))
+}
+
+#[test]
+fn a_range_has_the_first_keys_with_a_value(rt: HostRuntime) -> Result<(), Fail> {
+    let alloc = rt.alloc();
+    let all: [(TenantKey<'_>, &[u8]); 3] = [(key_a(), b"x"), (key_b(), b"y"), (key_c(), b"z")];
+    let without_b: [(TenantKey<'_>, &[u8]); 2] = [(key_a(), b"x"), (key_c(), b"z")];
+    let all = all.as_slice();
+    let (a, b, c, top) = (key_a(), key_b(), key_c(), key_outside());
+    let cases: [(
+        TenantKey<'_>,
+        TenantKey<'_>,
+        u64,
+        usize,
+        &[(TenantKey<'_>, &[u8])],
+    ); 10] = [
+        (a, top, 3, 9, all),
+        (a, top, 3, 3, all),
+        (a, top, 3, 1, &all[..1]),
+        (a, top, 3, 0, &all[..0]),
+        (a, top, 4, 2, without_b.as_slice()),
+        (a, top, 2, 9, &all[..2]),
+        (a, c, 3, 9, &all[..2]),
+        (b, c, 3, 9, &all[1..2]),
+        (b, c, 4, 9, &all[..0]),
+        (top, top, 3, 9, &all[..0]),
+    ];
+    for i in 0..cases.len() {
+        let (from, to, at, count, wanted) = cases[i];
+        let query = Query {
+            from,
+            to,
+            at,
+            count,
+        };
+        assert!(rt; is_range(alloc, query, wanted)?, "case {i}");
+    }
+    Ok(())
+}
+
+/// Whether the tree can be had, and its range is read.
+fn is_range_read<A: Allocator + Copy>(alloc: A) -> bool {
+    match tree_of_keys(alloc) {
+        Ok(node) => range(alloc, &node, key_a(), key_outside(), 3, 9).is_ok(),
+        Err(_) => false,
+    }
+}
+
+#[test]
+fn a_range_withstands_each_refusal(rt: HostRuntime) -> Result<(), Fail> {
+    let heap = Refusing::new(rt.alloc());
+    assert!(rt; is_range_read(&heap));
+    let asked = heap.asked();
+    for n in 0..asked {
+        heap.set(Plan::RefuseAt(n));
+        assert!(rt; !is_range_read(&heap), "request {n}");
+    }
     Ok(())
 }
 

@@ -1,0 +1,149 @@
+//! The next key that has messages.
+ghost use Rattle.std.specs.Prelude.{◌≡◌, ◌<◌, length, true, map};
+ghost use Rattle.std.specs.Option.{option_map};
+ghost use Rattle.std.specs.Ordering.{is_lt};
+ghost use Rattle.stow_bytes.specs.Bytes.{bytes_cmp};
+ghost use Rattle.stow_leaf.specs.Intervals.{top_key, spans};
+ghost use Rattle.stow_node.specs.Nodes.{parts_of};
+ghost use Rattle.stow_node.specs.Subtree.{messages_of};
+ghost use Rattle.stow_tree_model.specs.Merged.{row_message};
+ghost use Rattle.stow_tree_model.specs.Messages.{ops_in};
+ghost use Rattle.stow_read.specs.NextKey.{IsNextKey, IsEnd, IsFromPart, passed_number, passed_of};
+
+use std::alloc::Allocator;
+use stow_message::message_buf::MessageBuf;
+use stow_node::child::{Child, child_for};
+use stow_node::node::Node;
+use stow_page::rows::Rows;
+use stow_tree_model::tenant_key::TenantKey;
+
+/// Where keys are looked for from: this key on, or after it.
+#[derive(Clone, Copy)]
+pub(crate) struct Start<'a> {
+    pub(crate) key: TenantKey<'a>,
+    pub(crate) after: bool,
+}
+
+/// Whether a key stands below another.
+pub(crate) fn is_below(key: TenantKey<'_>, other: TenantKey<'_>) -> bool
+    ensures { result ≡ is_lt (bytes_cmp key.entry.bytes.now other.entry.bytes.now) }
+{
+    key.bytes.cmp(other.bytes).is_lt()
+}
+
+/// How many messages of the start's own key are passed over.
+fn passed_over<A: Allocator>(buffer: &MessageBuf<A>, start: Start<'_>) -> usize
+    ensures { result ≡ passed_of start.entry.key.bytes.now start.entry.after buffer.now.messages }
+{
+    if start.after {
+        buffer.of_key(start.key).len()
+    } else {
+        0
+    }
+}
+
+/// The number that rows of the keys looked for are above.
+fn passed_number(after: bool) -> u64
+    ensures { result ≡ passed_number after }
+{
+    if after { u64::MAX } else { 0 }
+}
+
+/// The next key below `to` that has messages in a buffer.
+fn next_in_buffer<'a, A: Allocator>(
+    buffer: &'a MessageBuf<A>,
+    start: Start<'_>,
+    to: TenantKey<'_>,
+) -> Option<TenantKey<'a>>
+    ensures { IsNextKey (ops_in buffer.now.messages) start.entry.key.bytes.now start.entry.after
+        to.entry.bytes.now (option_map (λ key. key.bytes.now) result) }
+{
+    let _len = buffer.len();
+    let run = buffer.in_range(start.key, to);
+    let passed = passed_over(buffer, start);
+    if passed < run.len() {
+        Some(run.get(passed).key)
+    } else {
+        None
+    }
+}
+
+/// The next key below `to` that has rows in a leaf.
+fn next_in_rows<'a, A: Allocator>(
+    rows: &'a Rows<A>,
+    start: Start<'_>,
+    to: TenantKey<'_>,
+) -> Option<TenantKey<'a>>
+    ensures { IsNextKey (ops_in (map row_message rows.now)) start.entry.key.bytes.now
+        start.entry.after to.entry.bytes.now (option_map (λ key. key.bytes.now) result) }
+{
+    let len = rows.len();
+    let at = rows.count_up_to(start.key, passed_number(start.after));
+    if at >= len {
+        return None;
+    }
+    let key = rows.get(at).key;
+    if is_below(key, to) { Some(key) } else { None }
+}
+
+/// The key, or else the upper end.
+fn lower_end<'b>(key: Option<TenantKey<'b>>, to: TenantKey<'b>) -> TenantKey<'b>
+    ensures { IsEnd to.entry.bytes.now (option_map (λ k. k.bytes.now) key.entry) result.bytes.now }
+{
+    match key {
+        None => to,
+        Some(key) => key,
+    }
+}
+
+/// Where the child at the place is searched from: the start in the first one, its low fence in each other.
+fn start_in<'b, A: Allocator>(
+    children: &'b [Child<A>],
+    start: Start<'b>,
+    first: usize,
+    i: usize,
+) -> Start<'b>
+    requires { i < length children.now }
+    ensures { IsFromPart (parts_of children.now) start.entry.key.bytes.now start.entry.after first i
+        result.key.bytes.now result.after }
+{
+    if i > first {
+        Start {
+            key: children[i].low(),
+            after: false,
+        }
+    } else {
+        start
+    }
+}
+
+/// The next key below `to` that has messages, by all messages of the node.
+#[cycle(next_key)]
+pub(crate) fn next_key<'a, A: Allocator>(
+    node: &'a Node<A>,
+    start: Start<'_>,
+    to: TenantKey<'_>,
+) -> Option<TenantKey<'a>>
+    requires { spans node.now.low top_key start.key.bytes.now ≡ true }
+    ensures { IsNextKey (ops_in (messages_of node.now)) start.entry.key.bytes.now
+        start.entry.after to.entry.bytes.now (option_map (λ key. key.bytes.now) result) }
+{
+    let children = node.children();
+    let own = next_in_buffer(node.buffer(), start, to);
+    let end = lower_end(own, to);
+    let first = child_for(children, start.key);
+    for i in first..children.len() {
+        if i > first && !is_below(children[i].low(), end) {
+            return own;
+        }
+        let from = start_in(children, start, first, i);
+        let found = match &children[i] {
+            Child::Leaf(leaf) => next_in_rows(&leaf.rows, from, end),
+            Child::Node(lower) => next_key(lower, from, end),
+        };
+        if found.is_some() {
+            return found;
+        }
+    }
+    own
+}
