@@ -23,13 +23,17 @@
 //! reader or a writer returns.
 #![tactic(auto)]
 
+mod accepting;
 mod client;
 pub mod counted;
 pub mod gate;
 pub mod laws;
 pub mod open_gate;
 pub mod place;
+pub mod pool;
+pub mod pool_fault;
 mod replies;
+pub mod seat_of;
 pub mod served;
 pub mod serving;
 pub mod sink;
@@ -38,3 +42,5 @@ mod stop;
 #[cfg(test)]
 mod tests;
 mod turn;
+pub mod worker;
+mod working;
