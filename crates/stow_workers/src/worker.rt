@@ -1,24 +1,25 @@
-//! A seat in a pool.
-ghost use Rattle.std.specs.Prelude.{◌≡◌};
-ghost use Rattle.stow_workers.specs.Pools.{number_of};
+//! A worker of a pool.
+ghost use Rattle.stow_shared.specs.Seats.{SeatState};
+ghost use Rattle.stow_workers.specs.Pools.{HasCalled, IsWorkerOf};
 
-use crate::seat_of::SeatOf;
+use crate::seat_promise::SeatPromise;
 use std::alloc::{Allocator, Global};
 use std::thread::{PromisedHandle, Threads};
 use stow_shared::journal::Journal;
 use stow_shared::seat::Seat;
 
-/// A seat in a pool: with the thread that serves connections from it, or unused.
+/// A seat of a pool: with the thread that serves connections from it, or without one.
 #[derive(Drop)]
 pub enum Worker<J: Journal, A: Allocator = Global> {
-    Running(PromisedHandle<Seat<J, A>, SeatOf>),
+    Running(PromisedHandle<Seat<J, A>, SeatPromise<J, A>>),
     Idle(Seat<J, A>),
 }
 
 impl<J: Journal, A: Allocator> Worker<J, A> {
     /// The seat, once its thread has ended.
     pub fn join<R: Threads>(self, rt: &R) -> Seat<J, A>
-        ensures { result.number ≡ number_of self }
+        ensures { (first : SeatState) → IsWorkerOf J.keeps first self
+            → HasCalled J.keeps first result }
     {
         match self {
             Worker::Running(thread) => thread.join(rt),
