@@ -1,8 +1,8 @@
 //! The program `stow`.
 //!
-//! It reads its arguments and the tenant file that they name, makes a new service, and either answers the bytes
-//! of one connection (`pipe`) or carries a script's events out (`script`). Proved of it: it is safe, it returns,
-//! and a script's output lines are those of `specs/Lines.antt`. What else it says is shown by tests; what the
+//! It reads its arguments and the tenant file that they name, makes a new service, and answers the bytes of one
+//! connection (`pipe`), carries a script's events out (`script`) or serves connections over TCP (`serve`). Proved of
+//! it: it is safe, it returns where it doesn't serve, and a script's output lines are those of `specs/Lines.antt`. What else it says is shown by tests; what the
 //! service answers is proved in the crates below.
 #![tactic(auto)]
 
@@ -10,9 +10,12 @@ mod arguments;
 mod failure;
 mod folder;
 mod line;
+mod network;
 mod pipe;
 mod program;
 mod script;
+mod serve;
+mod serving;
 mod stumble;
 #[cfg(test)]
 mod tests;

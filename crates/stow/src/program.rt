@@ -1,7 +1,8 @@
 //! What the program does, over any reader and writers.
-use crate::arguments::{Arguments, Task, read_arguments};
+use crate::arguments::{Arguments, Job, Task, read_arguments};
 use crate::failure::{Failure, INPUT_OUTPUT, Place};
 use crate::folder::Folder;
+use crate::network::Network;
 use crate::pipe::pipe;
 use crate::script::script;
 use std::alloc::{AllocError, Allocator, Global};
@@ -16,8 +17,9 @@ use stow_login::tenants_fault::TenantsFault;
 
 /// Does what the words ask for, the first being the program's own name, and gives the exit status: 0; 2
 /// where the arguments or the script are refused; 3 where the tenant file is; 4 where input or output failed;
-/// 5 where memory was refused. The arguments are looked at first, then the tenant file, then the script.
-pub fn program<D: Folder, R: Read, W: Write, E: Write>(
+/// 5 where memory was refused. The arguments are looked at first, then the address, the tenant file and the
+/// script.
+pub fn program<D: Folder + Network, R: Read, W: Write, E: Write>(
     alloc: Global,
     folder: &D,
     words: &[String],
@@ -30,21 +32,25 @@ pub fn program<D: Folder, R: Read, W: Write, E: Write>(
         Err(Failure::Help(text)) => return help(&text, output),
         Err(failure) => return tell(alloc, &failure, false, errors),
     };
-    match run(alloc, folder, &arguments, input, output) {
+    match run(alloc, folder, &arguments, input, output, errors) {
         Ok(()) => 0,
         Err(failure) => tell(alloc, &failure, arguments.explain, errors),
     }
 }
 
-fn run<'a, D: Folder, R: Read, W: Write>(
+fn run<'a, D: Folder + Network, R: Read, W: Write, E: Write>(
     alloc: Global,
     folder: &D,
     arguments: &Arguments<'a>,
     input: &mut R,
     output: &mut W,
+    errors: &mut E,
 ) -> Result<(), Failure<'a>> {
     let tenants = read_tenants(alloc, folder, arguments.tenants)?;
-    serve(alloc, tenants, arguments.task, input, output)
+    match arguments.job {
+        Job::Input(task) => serve(alloc, tenants, task, input, output),
+        Job::Serve(serving) => folder.serve(alloc, tenants, serving, output, errors),
+    }
 }
 
 /// The tenants of the file of this path. A file that isn't UTF-8 is no TOML text.

@@ -1,6 +1,7 @@
 //! The program over memory: worked examples whose answers come from the service's description.
 use crate::failure::Failure;
 use crate::folder::Folder;
+use crate::network::Network;
 use crate::program::program;
 use std::alloc::{AllocError, Global};
 use std::io;
@@ -12,6 +13,7 @@ use stow_testing::tenants::THREE;
 
 mod fields;
 mod limits;
+mod serve;
 mod streams;
 mod worked;
 
@@ -117,6 +119,8 @@ impl Folder for Shelf {
         }
     }
 }
+
+impl Network for Shelf {}
 
 /// The words of a command line, after the program's own name.
 fn words_of(alloc: Global, line: &str) -> Result<Vec<String>, AllocError> {

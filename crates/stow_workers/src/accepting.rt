@@ -23,7 +23,7 @@ pub fn accept<R: Wait, A: Allocator>(
     for _ in 0..count {
         match next_stream(listener) {
             Ok(stream) => drop(streams.send(rt, stream)),
-            Err(_) => return Some(PoolFault::AcceptFailed),
+            Err(error) => return Some(PoolFault::AcceptFailed(error)),
         }
     }
     None
@@ -34,7 +34,7 @@ fn next_stream(listener: &TcpListener) -> io::Result<TcpStream> {
     for stream in listener.incoming() {
         match stream {
             Ok(stream) => {
-                // Without it replies are only slower.
+                // Where the system refuses this, replies are only slower.
                 let _ = stream.set_nodelay(true);
                 return Ok(stream);
             }

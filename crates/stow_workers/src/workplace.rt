@@ -47,6 +47,13 @@ impl<'a, R: Wait, J: Journal, G: Gate, A: Allocator + Copy> Workplace<'a, R, J, 
             shared: self.shared,
             seat,
         };
-        serve_connection(self.alloc, &mut reader, &mut writer, tenants, &mut desk, self.gate)
+        serve_connection(
+            self.alloc,
+            &mut reader,
+            &mut writer,
+            tenants,
+            &mut desk,
+            self.gate,
+        )
     }
 }

@@ -2,6 +2,7 @@
 //! is told nowhere.
 use crate::arguments::Task;
 use crate::folder::Folder;
+use crate::network::Network;
 use crate::program::{program, serve};
 use crate::tests::words_of;
 use std::alloc::{AllocError, Global};
@@ -180,6 +181,8 @@ impl<'a> Folder for One<'a> {
         Ok(self.bytes)
     }
 }
+
+impl Network for One<'_> {}
 
 /// A tenant file of so many tenants, whose password is "abc", with a comment before each.
 fn many(alloc: Global, count: u32) -> Result<String, AllocError> {
