@@ -36,6 +36,7 @@ impl<R: Net<Listener = TcpListener, Stream = TcpStream> + Threads + Wait + Sync>
         output: &mut W,
         errors: &mut E,
     ) -> Result<(), Failure<'static>> {
-        serve_connections(self.rt, alloc, tenants, serving, output, errors)
+        let listener = Place::Network.check(TcpListener::bind(self.rt, serving.listen))?;
+        serve_connections(self.rt, alloc, &listener, tenants, serving, output, errors)
     }
 }

@@ -6,7 +6,7 @@ use log::sink::Writer;
 use std::alloc::{AllocError, Allocator};
 use std::io;
 use std::io::Write;
-use std::net::{Net, SocketAddr, TcpListener, TcpStream};
+use std::net::{SocketAddr, TcpListener};
 use std::sync::{Arc, Wait};
 use std::thread::Threads;
 use stow_core::Core;
@@ -19,18 +19,19 @@ use stow_workers::open_gate::OpenGate;
 use stow_workers::pool::Pool;
 use stow_workers::pool_fault::PoolFault;
 
-/// Listens, tells the address on the output, and serves connections over a new service of the tenants. Where notices
+/// Tells the listener's address on the output, and serves its connections over a new service of the tenants. Where notices
 /// are wanted, a line of a log tells the start and another one the end.
 pub fn serve_connections<R, A, W: Write, E: Write>(
     rt: &R,
     alloc: A,
+    listener: &TcpListener,
     tenants: Tenants<A>,
     serving: Serving,
     output: &mut W,
     errors: &mut E,
 ) -> Result<(), Failure<'static>>
 where
-    R: Net<Listener = TcpListener, Stream = TcpStream> + Threads + Wait + Sync,
+    R: Threads + Wait + Sync,
     A: Allocator + Copy + Send + Sync,
 {
     let tenants = Arc::new(alloc, tenants).map_err(AllocError::from)?;
@@ -38,14 +39,13 @@ where
     let Ok((shared, seats)) = Shared::<Unkept, A>::open(alloc, core, serving.workers) else {
         return Err(Failure::Memory);
     };
-    let listener = Place::Network.check(TcpListener::bind(rt, serving.listen))?;
     let address = Place::Network.check(listener.local_addr())?;
     Place::Output.check(tell_address(address, output))?;
     notice(serving, "start", errors);
     let (_, fault) = Pool::run(
         rt,
         alloc,
-        &listener,
+        listener,
         &shared,
         seats,
         0,

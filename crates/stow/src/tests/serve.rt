@@ -1,5 +1,5 @@
 //! `stow serve` over loopback: its statuses, its texts, and one client.
-use crate::failure::Failure;
+use crate::failure::{Failure, Place};
 use crate::folder::Folder;
 use crate::network::Network;
 use crate::program::program;
@@ -41,7 +41,8 @@ where
         output: &mut W,
         errors: &mut E,
     ) -> Result<(), Failure<'static>> {
-        serve_connections(self.rt, alloc, tenants, serving, output, errors)
+        let listener = Place::Network.check(TcpListener::bind(self.rt, serving.listen))?;
+        serve_connections(self.rt, alloc, &listener, tenants, serving, output, errors)
     }
 }
 
