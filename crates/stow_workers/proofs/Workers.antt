@@ -1,5 +1,5 @@
 -- What calls do to a seat, one connection after another, and relations of lists place by place.
-use Rattle.std.proofs.Common.{◌≡◌, ℕ, Bool, List, [], ◌∷◌, ◌++◌, ◌∙◌, refl, sym, subst, ap, length, arith, append_assoc, append-nil}
+use Rattle.std.proofs.Common.{◌≡◌, ℕ, Bool, List, [], ◌∷◌, ◌++◌, ◌∙◌, refl, sym, subst, ap, length, arith}
 use Rattle.stow_model.specs.Reply.{Reply}
 use Rattle.stow_shared.specs.Seats.{SeatState, SeatCalls}
 use Rattle.stow_workers.specs.Exchanges.{Call, LeadTo}

@@ -22,3 +22,8 @@ AreEach R (x ∷ xs) [] = ⊥
 abbrev pub IsWorkerOf : {J A : Type 0} → Bool → SeatState → Worker J A → Type 0
 IsWorkerOf keeps seat (worker.Running thread) = thread.promise.seat.value ≡ seat
 IsWorkerOf keeps seat (worker.Idle handed) = HasCalled keeps seat handed
+
+-- what joining a worker gives: the seat that it is a worker of, after calls
+abbrev pub GivesBack : {J A : Type 0} → Bool → Worker J A → SeatState → Type 0
+GivesBack keeps worker seat =
+    (first : SeatState) → IsWorkerOf keeps first worker → HasCalled keeps first seat

@@ -1,7 +1,7 @@
 //! Threads that serve the connections of a listener.
 ghost use denote.Param.Send.{Frees, IsSend, IsSync};
 ghost use Rattle.std.specs.Prelude.{◌≡◌, ◌<◌, ◌≤◌, vec_len, vec_capacity, []};
-ghost use Rattle.stow_workers.specs.Pools.{AreEach, HasCalled, IsWorkerOf};
+ghost use Rattle.stow_workers.specs.Pools.{AreEach, GivesBack, HasCalled, IsWorkerOf};
 
 use crate::accepting::accept;
 use crate::gate::Gate;
@@ -155,7 +155,7 @@ fn join_all<R: Threads, J: Journal, A: Allocator>(
     mut returned: Vec<Seat<J, A>, A>,
 ) -> Vec<Seat<J, A>, A>
     requires { (returned.items ≡ []) × (vec_len workers ≤ vec_capacity returned) }
-    ensures { AreEach (λ worker seat. (first : _) → IsWorkerOf J.keeps first worker → HasCalled J.keeps first seat) workers.items result.items }
+    ensures { AreEach (GivesBack J.keeps) workers.items result.items }
 {
     for worker in workers {
         returned.push_reserved(worker.join(rt));

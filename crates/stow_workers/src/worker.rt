@@ -1,6 +1,5 @@
 //! A worker of a pool.
-ghost use Rattle.stow_shared.specs.Seats.{SeatState};
-ghost use Rattle.stow_workers.specs.Pools.{HasCalled, IsWorkerOf};
+ghost use Rattle.stow_workers.specs.Pools.{GivesBack};
 
 use crate::seat_promise::SeatPromise;
 use std::alloc::{Allocator, Global};
@@ -18,8 +17,7 @@ pub enum Worker<J: Journal, A: Allocator = Global> {
 impl<J: Journal, A: Allocator> Worker<J, A> {
     /// The seat, once its thread has ended.
     pub fn join<R: Threads>(self, rt: &R) -> Seat<J, A>
-        ensures { (first : SeatState) → IsWorkerOf J.keeps first self
-            → HasCalled J.keeps first result }
+        ensures { GivesBack J.keeps self result }
     {
         match self {
             Worker::Running(thread) => thread.join(rt),

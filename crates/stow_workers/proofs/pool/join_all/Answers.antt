@@ -1,13 +1,13 @@
 use Rattle.std.proofs.Common.{rules, ◌≡◌, [], ◌∷◌, ◌++◌, ◌∙◌, refl, sym, ap, subst, length, arith, append_assoc, append-nil}
-use Rattle.std.specs.Vec.Iter.{into_iter_items, into_iter_len}
-use Rattle.stow_workers.specs.Pools.{AreEach, HasCalled, IsWorkerOf}
+use Rattle.std.specs.Vec.Iter.{into_iter_items}
+use Rattle.stow_workers.specs.Pools.{AreEach, GivesBack}
 use Rattle.stow_workers.proofs.Workers.{each_more, each_none, nothing_left}
 use Rattle.stow_workers.proofs.pool.join_all.Goals as goal
 
 pub loop-worker-init : goal.loop-worker-init
 loop-worker-init g c = (
   refl,
-  subst (λ items. AreEach (λ worker seat. (first : _) → IsWorkerOf g.J.Journal.keeps first worker → HasCalled g.J.Journal.keeps first seat) [] items) (sym c.requires.0) (each_none (λ worker seat. (first : _) → IsWorkerOf g.J.Journal.keeps first worker → HasCalled g.J.Journal.keeps first seat)),
+  subst (λ items. AreEach (GivesBack g.J.Journal.keeps) [] items) (sym c.requires.0) (each_none (GivesBack g.J.Journal.keeps)),
   search rules,
   search rules,
 )
@@ -18,7 +18,7 @@ loop-worker-preserved g c =
     let x = c.in-Some.worker in
     let steps : into_iter_items at.worker-iterator ≡ x ∷ into_iter_items c.next.new.self = c.in-Some.ensures.steps.0 in (
       append_assoc at.yielded (x ∷ []) _ ∙ rw (← steps) at.invariant.0,
-      subst (λ items. AreEach (λ worker seat. (first : _) → IsWorkerOf g.J.Journal.keeps first worker → HasCalled g.J.Journal.keeps first seat) (at.yielded ++ x ∷ []) items) (sym c.push_reserved.ensures.items) (each_more (λ worker seat. (first : _) → IsWorkerOf g.J.Journal.keeps first worker → HasCalled g.J.Journal.keeps first seat) _ _ _ _ at.invariant.1 c.join.ensures),
+      subst (λ items. AreEach (GivesBack g.J.Journal.keeps) (at.yielded ++ x ∷ []) items) (sym c.push_reserved.ensures.items) (each_more (GivesBack g.J.Journal.keeps) _ _ _ _ at.invariant.1 c.join.ensures),
       let was = at.invariant.2 in
           let gone = c.in-Some.ensures.steps.1 in
           let short = ap length steps in
@@ -36,4 +36,4 @@ returns g c =
     let none = c.in-None.ensures.steps in
     let empty : into_iter_items at.worker-iterator ≡ [] = nothing_left _ (sym at.invariant.2 ∙ none.0) in
     let all = sym (append-nil at.yielded) ∙ rw empty at at.invariant.0 ∙ c.into_iter-worker-iterator.ensures.into_iter_gives.0 in
-    subst (λ l. AreEach (λ worker seat. (first : _) → IsWorkerOf g.J.Journal.keeps first worker → HasCalled g.J.Journal.keeps first seat) l at.returned.items) all at.invariant.1
+    subst (λ l. AreEach (GivesBack g.J.Journal.keeps) l at.returned.items) all at.invariant.1

@@ -1,5 +1,5 @@
 use Rattle.std.proofs.Common.{rules, ◌≡◌, [], ◌∷◌, ◌++◌, ◌∙◌, refl, sym, ap, subst, length, arith, append_assoc, append-nil}
-use Rattle.std.specs.Vec.Iter.{into_iter_items, into_iter_len}
+use Rattle.std.specs.Vec.Iter.{into_iter_items}
 use Rattle.stow_workers.specs.Pools.{AreEach, IsWorkerOf}
 use Rattle.stow_workers.proofs.Workers.{each_more, each_none, nothing_left}
 use Rattle.stow_workers.proofs.pool.start_all.Goals as goal
