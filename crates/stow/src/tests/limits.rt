@@ -2,7 +2,6 @@
 //! is told nowhere.
 use crate::arguments::Task;
 use crate::folder::Folder;
-use crate::network::Network;
 use crate::program::{program, serve};
 use crate::tests::words_of;
 use std::alloc::{AllocError, Global};
@@ -182,8 +181,6 @@ impl<'a> Folder for One<'a> {
     }
 }
 
-impl Network for One<'_> {}
-
 /// A tenant file of so many tenants, whose password is "abc", with a comment before each.
 fn many(alloc: Global, count: u32) -> Result<String, AllocError> {
     let comment = vec![in alloc; b'x'; 150]?;
@@ -212,6 +209,7 @@ fn the_last_tenant_logs_in(rt: HostRuntime) -> Result<(), Fail> {
     let mut output = Vec::new(alloc);
     let mut errors = Vec::new(alloc);
     let ended = program(
+        &rt,
         alloc,
         &folder,
         words.as_slice(),

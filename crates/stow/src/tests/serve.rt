@@ -1,50 +1,11 @@
 //! `stow serve` over loopback: its statuses, its texts, and one client.
-use crate::failure::{Failure, Place};
-use crate::folder::Folder;
-use crate::network::Network;
 use crate::program::program;
-use crate::serve::serve_connections;
-use crate::serving::Serving;
-use crate::tests::{Held, Shelf, words_of};
-use std::alloc::{Allocator, Global};
+use crate::tests::{Shelf, words_of};
+use std::alloc::Global;
 use std::io;
 use std::io::{Read, Write};
 use std::net::{Net, SocketAddr, TcpListener, TcpStream};
-use std::sync::Wait;
 use std::test::Fail;
-use std::thread::Threads;
-use stow_login::tenants::Tenants;
-
-/// Files over memory, and the system's own sockets.
-#[derive(Drop)]
-struct Loopback<'a, R> {
-    rt: &'a R,
-}
-
-impl<R> Folder for Loopback<'_, R> {
-    type File = Held;
-
-    fn open(&self, path: &str) -> io::Result<Held> {
-        Shelf.open(path)
-    }
-}
-
-impl<R> Network for Loopback<'_, R>
-where
-    R: Net<Listener = TcpListener, Stream = TcpStream> + Threads + Wait + Sync,
-{
-    fn serve<A: Allocator + Copy + Send + Sync, W: Write, E: Write>(
-        &self,
-        alloc: A,
-        tenants: Tenants<A>,
-        serving: Serving,
-        output: &mut W,
-        errors: &mut E,
-    ) -> Result<(), Failure<'static>> {
-        let listener = Place::Network.check(TcpListener::bind(self.rt, serving.listen))?;
-        serve_connections(self.rt, alloc, &listener, tenants, serving, output, errors)
-    }
-}
 
 /// An output that, once it tells an address, makes a client's requests there.
 #[derive(Drop)]
@@ -87,8 +48,9 @@ fn a_client_is_served(rt: HostRuntime) -> Result<(), Fail> {
     };
     let mut errors = Vec::new(alloc);
     let status = program(
+        &rt,
         alloc,
-        &Loopback { rt: &rt },
+        &Shelf,
         words.as_slice(),
         &mut input,
         &mut output,
@@ -148,8 +110,9 @@ fn serving_may_be_refused(rt: HostRuntime) -> Result<(), Fail> {
         let mut input: &[u8] = b"";
         let (mut output, mut errors) = (Vec::new(alloc), Vec::new(alloc));
         let status = program(
+            &rt,
             alloc,
-            &Loopback { rt: &rt },
+            &Shelf,
             words.as_slice(),
             &mut input,
             &mut output,
@@ -172,6 +135,7 @@ fn serving_may_be_refused(rt: HostRuntime) -> Result<(), Fail> {
         let mut input: &[u8] = b"";
         let (mut output, mut errors) = (Vec::new(alloc), Vec::new(alloc));
         let status = program(
+            &rt,
             alloc,
             &Shelf,
             words.as_slice(),
