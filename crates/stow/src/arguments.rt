@@ -1,10 +1,11 @@
 //! The command line.
 use crate::failure::Failure;
+use crate::serving::Serving;
 use clap::error::ErrorKind;
-use clap::{Arg, ArgAction, ArgMatches, Command, Error};
+use clap::{Arg, ArgAction, ArgMatches, Command, Error, value_parser};
 use std::alloc::Global;
 
-/// What the program is asked to do.
+/// What is done with standard input.
 #[derive(Clone, Copy, Debug, PartialEq, Eq)]
 pub enum Task {
     /// Standard input is one connection.
@@ -13,10 +14,19 @@ pub enum Task {
     Script,
 }
 
+/// What the program is run for.
+#[derive(Clone, Copy, Debug, PartialEq, Eq)]
+pub enum Job {
+    /// Something is done with standard input.
+    Input(Task),
+    /// Connections are served.
+    Serve(Serving),
+}
+
 /// What the words of the command line say.
 #[derive(Debug, Drop)]
 pub struct Arguments<'a> {
-    pub task: Task,
+    pub job: Job,
     /// The path of the tenant file.
     pub tenants: &'a str,
     /// Whether a second line tells more of what goes wrong.
@@ -25,14 +35,13 @@ pub struct Arguments<'a> {
 
 /// What the words say, of which the first is the program's own name.
 pub fn read_arguments(alloc: Global, words: &[String]) -> Result<Arguments<'_>, Failure<'static>> {
-    match found(alloc, words) {
-        Ok(Some(arguments)) => Ok(arguments),
-        Ok(None) => Err(Failure::Arguments(String::new(alloc))),
+    match matched(alloc, words) {
+        Ok(matches) => arguments_of(alloc, &matches),
         Err(error) => Err(refused(alloc, &error)),
     }
 }
 
-fn found(alloc: Global, words: &[String]) -> Result<Option<Arguments<'_>>, Error> {
+fn matched(alloc: Global, words: &[String]) -> Result<ArgMatches<'_>, Error> {
     let pipe = Command::new(alloc, "pipe")
         .about("Answers the requests on standard input, as one connection")
         .arg(tenants(alloc))?
@@ -45,9 +54,44 @@ fn found(alloc: Global, words: &[String]) -> Result<Option<Arguments<'_>>, Error
         .about("An ordered key-value service for many tenants, spoken to in RESP2")
         .subcommand_required(true)
         .subcommand(pipe)?
-        .subcommand(script)?;
-    let matches = command.try_get_matches_from(words)?;
-    Ok(arguments_of(&matches))
+        .subcommand(script)?
+        .subcommand(serve(alloc)?)?;
+    command.try_get_matches_from(words)
+}
+
+/// The command that serves connections.
+fn serve<'a>(alloc: Global) -> Result<Command<'a>, Error> {
+    let listen = Arg::new(alloc, "listen")
+        .long("listen")
+        .value_name("ADDRESS")
+        .help("The IP address and port to listen at")
+        .default_value("127.0.0.1:6379");
+    let workers = Arg::new(alloc, "workers")
+        .long("workers")
+        .value_name("COUNT")
+        .help("How many connections are served at once: the others wait")
+        .value_parser(value_parser!(u32).range(1..=256))
+        .default_value("4");
+    let connections = Arg::new(alloc, "connections")
+        .long("connections")
+        .value_name("COUNT")
+        .help("After how many connections the program ends; 0 for no end")
+        .value_parser(value_parser!(u64).range(0..=65_535))
+        .default_value("0");
+    let notices = Arg::new(alloc, "notices")
+        .long("notices")
+        .help("Tells the start and the end in a line each on standard error")
+        .action(ArgAction::SetTrue);
+    Ok(
+        Command::new(alloc, "serve")
+            .about("Serves connections over TCP, each by a thread of its own")
+            .arg(tenants(alloc))?
+            .arg(explain(alloc))?
+            .arg(listen)?
+            .arg(workers)?
+            .arg(connections)?
+            .arg(notices)?,
+    )
 }
 
 /// The option that each task needs.
@@ -68,22 +112,47 @@ fn explain<'a>(alloc: Global) -> Arg<'a> {
         .action(ArgAction::SetTrue)
 }
 
-/// What was matched; each task that is matched has its file.
-fn arguments_of<'a>(matches: &ArgMatches<'a>) -> Option<Arguments<'a>> {
-    let (name, matches) = matches.subcommand()?;
-    let task = if name == "script" {
-        Task::Script
-    } else {
-        Task::Pipe
+/// What was matched; each command that is matched has its file and its numbers.
+fn arguments_of<'a>(
+    alloc: Global,
+    matches: &ArgMatches<'a>,
+) -> Result<Arguments<'a>, Failure<'static>> {
+    let nothing = Failure::Arguments(String::new(alloc));
+    let Some((name, matches)) = matches.subcommand() else {
+        return Err(nothing);
     };
-    Some(Arguments {
-        task,
-        tenants: matches.get_str("tenants")?,
+    let Some(tenants) = matches.get_str("tenants") else {
+        return Err(nothing);
+    };
+    let job = match name {
+        "serve" => Job::Serve(serving_of(matches).ok_or(nothing)??),
+        "script" => Job::Input(Task::Script),
+        _ => Job::Input(Task::Pipe),
+    };
+    Ok(Arguments {
+        job,
+        tenants,
         explain: matches.get_flag("explain"),
     })
 }
 
-/// What is told where the parser gives no task.
+/// How connections are to be served; an `Err` where the address is none.
+fn serving_of(matches: &ArgMatches<'_>) -> Option<Result<Serving, Failure<'static>>> {
+    let listen = matches.get_str("listen")?;
+    let workers = matches.get_one::<u32>("workers")?;
+    let connections = matches.get_one::<u64>("connections")?;
+    let Ok(listen) = listen.parse() else {
+        return Some(Err(Failure::BadAddress));
+    };
+    Some(Ok(Serving {
+        listen,
+        workers,
+        connections,
+        notices: matches.get_flag("notices"),
+    }))
+}
+
+/// What is told where the parser gives no command.
 fn refused(alloc: Global, error: &Error) -> Failure<'static> {
     if error.kind() == ErrorKind::OutOfMemory {
         return Failure::Memory;

@@ -20,6 +20,8 @@ pub enum Place<'a> {
     File(&'a str),
     Input,
     Output,
+    /// The address that connections come to.
+    Network,
 }
 
 /// Why the program ends early.
@@ -29,6 +31,8 @@ pub enum Failure<'a> {
     Help(String),
     /// The arguments are refused: the parser's text for standard error.
     Arguments(String),
+    /// The address to listen at is no IP address with a port.
+    BadAddress,
     /// The tenant file is refused, and where, if there was memory to tell it.
     Tenants(TenantsFault, Option<String>),
     /// The script's line of this number, counted from 1, is none, and what it stumbles on.
@@ -60,7 +64,7 @@ impl<'a> Failure<'a> {
     pub fn status(&self) -> u8 {
         match self {
             Failure::Help(_) => 0,
-            Failure::Arguments(_) | Failure::BadLine(_, _) => REFUSED,
+            Failure::Arguments(_) | Failure::BadAddress | Failure::BadLine(_, _) => REFUSED,
             Failure::Tenants(_, _) => TENANTS,
             Failure::InputOutput(_, _) => INPUT_OUTPUT,
             Failure::Memory => MEMORY,
@@ -74,6 +78,7 @@ impl<'a> Failure<'a> {
                 alloc,
                 text.as_str(),
             ),
+            Failure::BadAddress => String::from_str(alloc, "stow: bad address\n"),
             Failure::Tenants(fault, _) => {
                 format!(in alloc; "stow: tenant file refused: fault {}\n", fault.number())
             }
@@ -114,6 +119,7 @@ impl<'a> Place<'a> {
             Place::File(path) => path,
             Place::Input => "standard input",
             Place::Output => "standard output",
+            Place::Network => "the address",
         }
     }
 }

@@ -1,18 +1,21 @@
 //! The program `stow`.
 //!
-//! It reads its arguments and the tenant file that they name, makes a new service, and either answers the bytes
-//! of one connection (`pipe`) or carries a script's events out (`script`). Proved of it: it is safe, it returns,
-//! and a script's output lines are those of `specs/Lines.antt`. What else it says is shown by tests; what the
-//! service answers is proved in the crates below.
+//! It reads its arguments and the tenant file that they name, makes a new service, and answers the bytes of one
+//! connection (`pipe`), carries a script's events out (`script`) or serves connections over TCP (`serve`). Proved of
+//! it: it is safe; what `pipe` and `script` do (`program::serve`) returns; and a script's output lines are those of
+//! `specs/Lines.antt`. What else it says is shown by tests; what the service answers is proved in the crates below.
 #![tactic(auto)]
 
 mod arguments;
 mod failure;
 mod folder;
 mod line;
+mod network;
 mod pipe;
 mod program;
 mod script;
+mod serve;
+mod serving;
 mod stumble;
 #[cfg(test)]
 mod tests;
@@ -26,6 +29,7 @@ use std::process::ExitCode;
 fn main(rt: HostRuntime) -> ExitCode {
     match words(&rt) {
         Ok(words) => ExitCode::from(program(
+            &rt,
             rt.alloc(),
             &System { rt: &rt },
             words.as_slice(),

@@ -1,13 +1,16 @@
 //! What the program does, over any reader and writers.
-use crate::arguments::{Arguments, Task, read_arguments};
+use crate::arguments::{Arguments, Job, Task, read_arguments};
 use crate::failure::{Failure, INPUT_OUTPUT, Place};
 use crate::folder::Folder;
+use crate::network::listen;
 use crate::pipe::pipe;
 use crate::script::script;
 use std::alloc::{AllocError, Allocator, Global};
 use std::io;
 use std::io::{Read, Write};
-use std::sync::Arc;
+use std::net::{Net, TcpListener, TcpStream};
+use std::sync::{Arc, Wait};
+use std::thread::Threads;
 use stow_core::Core;
 use stow_house::house::House;
 use stow_login::explaining::explain;
@@ -16,35 +19,48 @@ use stow_login::tenants_fault::TenantsFault;
 
 /// Does what the words ask for, the first being the program's own name, and gives the exit status: 0; 2
 /// where the arguments or the script are refused; 3 where the tenant file is; 4 where input or output failed;
-/// 5 where memory was refused. The arguments are looked at first, then the tenant file, then the script.
-pub fn program<D: Folder, R: Read, W: Write, E: Write>(
+/// 5 where memory was refused. The arguments are looked at first, then the address, the tenant file and the
+/// script.
+pub fn program<H, D: Folder, R: Read, W: Write, E: Write>(
+    rt: &H,
     alloc: Global,
     folder: &D,
     words: &[String],
     input: &mut R,
     output: &mut W,
     errors: &mut E,
-) -> u8 {
+) -> u8
+where
+    H: Net<Listener = TcpListener, Stream = TcpStream> + Threads + Wait + Sync,
+{
     let arguments = match read_arguments(alloc, words) {
         Ok(arguments) => arguments,
         Err(Failure::Help(text)) => return help(&text, output),
         Err(failure) => return tell(alloc, &failure, false, errors),
     };
-    match run(alloc, folder, &arguments, input, output) {
+    match run(rt, alloc, folder, &arguments, input, output, errors) {
         Ok(()) => 0,
         Err(failure) => tell(alloc, &failure, arguments.explain, errors),
     }
 }
 
-fn run<'a, D: Folder, R: Read, W: Write>(
+fn run<'a, H, D: Folder, R: Read, W: Write, E: Write>(
+    rt: &H,
     alloc: Global,
     folder: &D,
     arguments: &Arguments<'a>,
     input: &mut R,
     output: &mut W,
-) -> Result<(), Failure<'a>> {
+    errors: &mut E,
+) -> Result<(), Failure<'a>>
+where
+    H: Net<Listener = TcpListener, Stream = TcpStream> + Threads + Wait + Sync,
+{
     let tenants = read_tenants(alloc, folder, arguments.tenants)?;
-    serve(alloc, tenants, arguments.task, input, output)
+    match arguments.job {
+        Job::Input(task) => serve(alloc, tenants, task, input, output),
+        Job::Serve(serving) => listen(rt, alloc, tenants, serving, output, errors),
+    }
 }
 
 /// The tenants of the file of this path. A file that isn't UTF-8 is no TOML text.

@@ -5,13 +5,17 @@ use crate::program::program;
 use std::alloc::{AllocError, Global};
 use std::io;
 use std::io::{Read, Write};
+use std::net::{Net, TcpListener, TcpStream};
 use std::process::Abort;
+use std::sync::Wait;
 use std::test::Fail;
+use std::thread::Threads;
 use stow_login::tenants_fault::TenantsFault;
 use stow_testing::tenants::THREE;
 
 mod fields;
 mod limits;
+mod serve;
 mod streams;
 mod worked;
 
@@ -129,11 +133,20 @@ fn words_of(alloc: Global, line: &str) -> Result<Vec<String>, AllocError> {
 }
 
 /// Runs a command line over files and input.
-fn run_line<R: Read>(alloc: Global, line: &str, input: &mut R) -> Result<Ended, AllocError> {
+fn run_line<H, R: Read>(
+    rt: &H,
+    alloc: Global,
+    line: &str,
+    input: &mut R,
+) -> Result<Ended, AllocError>
+where
+    H: Net<Listener = TcpListener, Stream = TcpStream> + Threads + Wait + Sync,
+{
     let words = words_of(alloc, line)?;
     let mut output = Vec::new(alloc);
     let mut errors = Vec::new(alloc);
     let status = program(
+        rt,
         alloc,
         &Shelf,
         words.as_slice(),
@@ -149,20 +162,26 @@ fn run_line<R: Read>(alloc: Global, line: &str, input: &mut R) -> Result<Ended, 
 }
 
 /// Runs the task for the three tenants.
-fn run<R: Read>(alloc: Global, task: &str, input: &mut R) -> Result<Ended, AllocError> {
+fn run<H, R: Read>(rt: &H, alloc: Global, task: &str, input: &mut R) -> Result<Ended, AllocError>
+where
+    H: Net<Listener = TcpListener, Stream = TcpStream> + Threads + Wait + Sync,
+{
     let line = format!(in alloc; "{task} --tenants three.toml")?;
-    run_line(alloc, line.as_str(), input)
+    run_line(rt, alloc, line.as_str(), input)
 }
 
 /// Runs the task over the bytes, and wants status 0 and this output.
-fn expect<R: Abort + Alloc<A = Global>>(
-    rt: &R,
-    task: &str,
-    input: &[u8],
-    output: &[u8],
-) -> Result<(), AllocError> {
+fn expect<H>(rt: &H, task: &str, input: &[u8], output: &[u8]) -> Result<(), AllocError>
+where
+    H: Abort
+        + Alloc<A = Global>
+        + Net<Listener = TcpListener, Stream = TcpStream>
+        + Threads
+        + Wait
+        + Sync,
+{
     let mut left = input;
-    let ended = run(rt.alloc(), task, &mut left)?;
+    let ended = run(rt, rt.alloc(), task, &mut left)?;
     let text = String::from_utf8_lossy(rt.alloc(), ended.output.as_slice())?;
     assert!(rt; ended.status == 0, "status {}", ended.status);
     assert!(rt; ended.output.as_slice() == output, "output {text:?}");
@@ -179,7 +198,7 @@ fn a_connection_is_answered_in_every_cutting(rt: HostRuntime) -> Result<(), Fail
             first,
             step: 4096,
         };
-        let ended = run(alloc, "pipe", &mut pieces)?;
+        let ended = run(&rt, alloc, "pipe", &mut pieces)?;
         assert!(rt;
             ended.status == 0 && ended.output.as_slice() == HELLO_REPLIES,
             "cut at {first}"
@@ -190,7 +209,7 @@ fn a_connection_is_answered_in_every_cutting(rt: HostRuntime) -> Result<(), Fail
         first: 0,
         step: 1,
     };
-    let ended = run(alloc, "pipe", &mut pieces)?;
+    let ended = run(&rt, alloc, "pipe", &mut pieces)?;
     assert!(rt; ended.status == 0 && ended.output.as_slice() == HELLO_REPLIES);
     Ok(())
 }
@@ -391,7 +410,7 @@ fn bad_lines_are_told_by_their_number(rt: HostRuntime) -> Result<(), Fail> {
     ];
     for (script, errors) in table.iter() {
         let mut left: &[u8] = script;
-        let ended = run(alloc, "script", &mut left)?;
+        let ended = run(&rt, alloc, "script", &mut left)?;
         let text = String::from_utf8_lossy(alloc, ended.errors.as_slice())?;
         assert!(rt; ended.status == 2 && ended.output.is_empty());
         assert!(rt; ended.errors.as_slice() == *errors, "told {text:?}");
@@ -400,11 +419,15 @@ fn bad_lines_are_told_by_their_number(rt: HostRuntime) -> Result<(), Fail> {
 }
 
 /// The status of a command line whose output can't be written.
-fn status_when_full(alloc: Global, line: &str) -> Result<u8, AllocError> {
+fn status_when_full<H>(rt: &H, alloc: Global, line: &str) -> Result<u8, AllocError>
+where
+    H: Net<Listener = TcpListener, Stream = TcpStream> + Threads + Wait + Sync,
+{
     let words = words_of(alloc, line)?;
     let mut errors = Vec::new(alloc);
     let mut input = HELLO;
     Ok(program(
+        rt,
         alloc,
         &Shelf,
         words.as_slice(),
@@ -430,23 +453,23 @@ fn the_status_tells_why_it_ended(rt: HostRuntime) -> Result<(), Fail> {
         "script --tenants three.toml --bogus",
         "bogus --tenants empty.toml",
     ] {
-        let ended = run_line(alloc, line, &mut none)?;
+        let ended = run_line(&rt, alloc, line, &mut none)?;
         assert!(rt;
             ended.status == 2 && ended.output.is_empty() && !ended.errors.is_empty(),
             "{line}"
         );
     }
     for line in ["--help", "pipe --help"] {
-        let help = run_line(alloc, line, &mut none)?;
+        let help = run_line(&rt, alloc, line, &mut none)?;
         assert!(rt; help.status == 0 && !help.output.is_empty() && help.errors.is_empty());
     }
     for task in ["pipe", "script"].iter() {
-        let failed = run(alloc, task, &mut Broken)?;
+        let failed = run(&rt, alloc, task, &mut Broken)?;
         assert!(rt; failed.status == 4 && failed.output.is_empty());
         assert!(rt; failed.errors.as_slice() == b"stow: input or output failed\n".as_slice());
     }
     for line in ["pipe --tenants three.toml", "--help"] {
-        assert!(rt; status_when_full(alloc, line)? == 4, "{line}");
+        assert!(rt; status_when_full(&rt, alloc, line)? == 4, "{line}");
     }
     Ok(())
 }
@@ -465,7 +488,7 @@ fn a_refused_tenant_file_is_told(rt: HostRuntime) -> Result<(), Fail> {
         for task in ["pipe", "script"] {
             let line = format!(in alloc; "{task} --tenants {file}")?;
             let mut bad_line: &[u8] = b"shape\n";
-            let ended = run_line(alloc, line.as_str(), &mut bad_line)?;
+            let ended = run_line(&rt, alloc, line.as_str(), &mut bad_line)?;
             assert!(rt; ended.status == status && ended.output.is_empty(), "{line}");
             assert!(rt; ended.errors.as_slice() == told.as_bytes(), "{line}");
         }
@@ -562,12 +585,12 @@ fn what_went_wrong_is_explained(rt: HostRuntime) -> Result<(), Fail> {
         ),
     ] {
         let mut left = input.as_bytes();
-        let plain = run_line(alloc, task, &mut left)?;
+        let plain = run_line(&rt, alloc, task, &mut left)?;
         let once = format!(in alloc; "stow: {first}\n")?;
         assert!(rt; plain.errors.as_slice() == once.as_bytes(), "{input}");
         let mut left = input.as_bytes();
         let asked = format!(in alloc; "{task} --explain")?;
-        let ended = run_line(alloc, asked.as_str(), &mut left)?;
+        let ended = run_line(&rt, alloc, asked.as_str(), &mut left)?;
         let twice = format!(in alloc; "stow: {first}\nstow: {second}\n")?;
         assert!(rt;
             ended.status == plain.status && ended.output.is_empty(),
@@ -582,13 +605,19 @@ fn what_went_wrong_is_explained(rt: HostRuntime) -> Result<(), Fail> {
 #[test]
 fn a_stream_that_fails_is_explained(rt: HostRuntime) -> Result<(), Fail> {
     let alloc = rt.alloc();
-    let ended = run_line(alloc, "pipe --explain --tenants three.toml", &mut Broken)?;
+    let ended = run_line(
+        &rt,
+        alloc,
+        "pipe --explain --tenants three.toml",
+        &mut Broken,
+    )?;
     let told: &[u8] = b"stow: input or output failed\nstow: standard input: other error\n";
     assert!(rt; ended.status == 4 && ended.errors.as_slice() == told);
     let words = words_of(alloc, "script --tenants three.toml --explain")?;
     let mut errors = Vec::new(alloc);
     let mut input: &[u8] = b"open 1\n";
     let status = program(
+        &rt,
         alloc,
         &Shelf,
         words.as_slice(),

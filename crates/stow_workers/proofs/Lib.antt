@@ -3,3 +3,4 @@ pub mod Passing
 pub mod Turning
 pub mod Pieces
 pub mod OneConnection
+pub mod Workers

@@ -5,3 +5,4 @@ pub mod Sent
 pub mod Talks
 pub mod Answered
 pub mod Laws
+pub mod Pools

@@ -1,5 +1,5 @@
-//! Connections served by workers: today the service of one connection, from its reader to its writer, through any
-//! door.
+//! Connections served by workers: the service of one connection, from its reader to its writer, through any door,
+//! and a pool of threads that serve the connections of a listener over a shared core.
 //!
 //! Promised, and proved (`serving::serve_connection`, `specs/Talks.antt`), of every reader and writer that tell
 //! their bytes:
@@ -17,19 +17,33 @@
 //! - Through a core with empty stores it is the history of one connection, of which the isolation theorem speaks
 //!   (`laws`, whose body is empty, so no wrong body can be tried on it).
 //!
-//! Only tested: that want of memory is told only where it was refused, so a body that gives up with it is right by
+//! - A pool (`pool::Pool`) gives each seat back in its place, at a fault too, and nothing but calls was done from it:
+//!   it gained the receipt of each, where receipts are kept, or counted that memory was refused to it
+//!   (`specs/Pools.antt`). Whoever then closes the lock learns from it that these receipts are one legal journal.
+//!
+//! Only tested of the pool, over loopback: that it serves at all, that its workers do so side by side, that a client
+//! which breaks off, faults or reads nothing leaves its worker to the next one, which fault it tells, and that it
+//! ends. Nothing is said of a socket's bytes, of the channel that hands connections over, or of when a thread runs;
+//! a pool that serves nobody meets its contract. That a refused thread, or refused memory, gives the seats back is
+//! proved, and no test refuses the pool either.
+//!
+//! Only tested of a connection: that want of memory is told only where it was refused, so a body that gives up with it is right by
 //! the contracts; that replies are written before the next piece is read, and once much of them waits; that
 //! the gate is passed around each call of a door. A gate's method promises nothing. Not said: time, and that a
 //! reader or a writer returns.
 #![tactic(auto)]
 
+mod accepting;
 mod client;
 pub mod counted;
 pub mod gate;
 pub mod laws;
 pub mod open_gate;
 pub mod place;
+pub mod pool;
+pub mod pool_fault;
 mod replies;
+pub mod seat_promise;
 pub mod served;
 pub mod serving;
 pub mod sink;
@@ -38,3 +52,5 @@ mod stop;
 #[cfg(test)]
 mod tests;
 mod turn;
+pub mod worker;
+pub mod workplace;

@@ -18,7 +18,9 @@ use stow_refusing::{Plan, Refusing};
 use stow_testing::tenants::THREE;
 
 mod ends;
+mod hold;
 mod passes;
+mod pool;
 
 /// A login, a write and a read, of 31, 28 and 20 bytes.
 const HELLO: &[u8] =

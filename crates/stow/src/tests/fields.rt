@@ -1,15 +1,21 @@
 //! The fields of a script's lines: what is let in, and what is not.
 use crate::tests::run;
 use std::alloc::{AllocError, Global};
+use std::net::{Net, TcpListener, TcpStream};
+use std::sync::Wait;
 use std::test::Fail;
+use std::thread::Threads;
 
 /// The status of a script of one line, which is 0 where the line is let in, and 2 where it isn't.
-fn status_of(alloc: Global, word: &str, field: &[u8]) -> Result<u8, AllocError> {
+fn status_of<H>(rt: &H, alloc: Global, word: &str, field: &[u8]) -> Result<u8, AllocError>
+where
+    H: Net<Listener = TcpListener, Stream = TcpStream> + Threads + Wait + Sync,
+{
     let mut line = Vec::from_slice(alloc, word.as_bytes())?;
     line.push(b' ')?;
     line.extend_from_slice(field)?;
     let mut left = line.as_slice();
-    Ok(run(alloc, "script", &mut left)?.status)
+    Ok(run(rt, alloc, "script", &mut left)?.status)
 }
 
 // A number has no sign, no zero in front and nothing beside it; each kind has its two ends.
@@ -23,19 +29,19 @@ fn numbers_of_lines(rt: HostRuntime) -> Result<(), Fail> {
     ] {
         for word in words.split_whitespace() {
             assert!(rt;
-                status_of(alloc, word, low.as_bytes())? == 0,
+                status_of(&rt, alloc, word, low.as_bytes())? == 0,
                 "{word} {low}"
             );
             assert!(rt;
-                status_of(alloc, word, high.as_bytes())? == 0,
+                status_of(&rt, alloc, word, high.as_bytes())? == 0,
                 "{word} {high}"
             );
             assert!(rt;
-                status_of(alloc, word, beyond.as_bytes())? == 2,
+                status_of(&rt, alloc, word, beyond.as_bytes())? == 2,
                 "{word} {beyond}"
             );
             assert!(rt;
-                low == "0" || status_of(alloc, word, b"0")? == 2,
+                low == "0" || status_of(&rt, alloc, word, b"0")? == 2,
                 "{word} 0"
             );
             for bad in [
@@ -59,11 +65,11 @@ fn numbers_of_lines(rt: HostRuntime) -> Result<(), Fail> {
                 "18446744073709551617",
             ] {
                 assert!(rt;
-                    status_of(alloc, word, bad.as_bytes())? == 2,
+                    status_of(&rt, alloc, word, bad.as_bytes())? == 2,
                     "{word} {bad}"
                 );
             }
-            assert!(rt; status_of(alloc, word, b"\xd9\xa3")? == 2);
+            assert!(rt; status_of(&rt, alloc, word, b"\xd9\xa3")? == 2);
         }
     }
     Ok(())
@@ -77,7 +83,10 @@ fn texts_of_lines(rt: HostRuntime) -> Result<(), Fail> {
         let field = [b'1', b' ', byte];
         let is_printing = (b' '..=b'~').contains(&byte) && byte != b'\\';
         let status = if is_printing || byte == b'\n' { 0 } else { 2 };
-        assert!(rt; status_of(alloc, "piece", &field)? == status, "byte {byte}");
+        assert!(rt;
+            status_of(&rt, alloc, "piece", &field)? == status,
+            "byte {byte}"
+        );
         let field = [b'1', b' ', b'\\', byte];
         let status = if matches!(byte, b'r' | b'n' | b'\\') {
             0
@@ -85,7 +94,7 @@ fn texts_of_lines(rt: HostRuntime) -> Result<(), Fail> {
             2
         };
         assert!(rt;
-            status_of(alloc, "piece", &field)? == status,
+            status_of(&rt, alloc, "piece", &field)? == status,
             "escape {byte}"
         );
     }
@@ -103,7 +112,7 @@ fn texts_of_lines(rt: HostRuntime) -> Result<(), Fail> {
         ("65536 a", 2),
     ] {
         assert!(rt;
-            status_of(alloc, "piece", text.as_bytes())? == status,
+            status_of(&rt, alloc, "piece", text.as_bytes())? == status,
             "{text}"
         );
     }
@@ -133,7 +142,7 @@ fn words_of_lines(rt: HostRuntime) -> Result<(), Fail> {
         ("plan 1 # late", 2),
     ] {
         let mut left = script.as_bytes();
-        let ended = run(alloc, "script", &mut left)?;
+        let ended = run(&rt, alloc, "script", &mut left)?;
         assert!(rt; ended.status == status, "{script}");
     }
     Ok(())

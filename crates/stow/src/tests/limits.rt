@@ -209,6 +209,7 @@ fn the_last_tenant_logs_in(rt: HostRuntime) -> Result<(), Fail> {
     let mut output = Vec::new(alloc);
     let mut errors = Vec::new(alloc);
     let ended = program(
+        &rt,
         alloc,
         &folder,
         words.as_slice(),

@@ -82,6 +82,7 @@ fn bytes_may_come_and_go_one_by_one(rt: HostRuntime) -> Result<(), Fail> {
         };
         let mut input = Slow::new(HELLO, false);
         let ended = program(
+            &rt,
             alloc,
             &Shelf,
             words.as_slice(),
@@ -110,7 +111,7 @@ fn a_reader_may_break_after_the_end(rt: HostRuntime) -> Result<(), Fail> {
         ("QUIT", 4, ""),
     ] {
         let mut reader = Slow::new(input.as_bytes(), true);
-        let ended = run(alloc, "pipe", &mut reader)?;
+        let ended = run(&rt, alloc, "pipe", &mut reader)?;
         assert!(rt;
             ended.status == status && ended.output.as_slice() == told.as_bytes(),
             "{input}"
@@ -200,7 +201,7 @@ fn pieces_may_be_small_and_blank(rt: HostRuntime) -> Result<(), Fail> {
         first: 0,
         step: 1,
     };
-    let ended = run(alloc, "pipe", &mut pieces)?;
+    let ended = run(&rt, alloc, "pipe", &mut pieces)?;
     assert!(rt; ended.status == 0 && ended.output.as_slice() == output.as_slice());
     let mut blanks = vec![in alloc; b'\n'; 4_096]?;
     blanks.extend_from_slice(b"QUIT\n")?;

@@ -1,0 +1,26 @@
+//! Where connections come from.
+use crate::failure::{Failure, Place};
+use crate::serve::serve_connections;
+use crate::serving::Serving;
+use std::alloc::Global;
+use std::io::Write;
+use std::net::{Net, TcpListener, TcpStream};
+use std::sync::Wait;
+use std::thread::Threads;
+use stow_login::tenants::Tenants;
+
+/// Listens at the address, and serves the connections that come there over a new service of the tenants.
+pub fn listen<H, W: Write, E: Write>(
+    rt: &H,
+    alloc: Global,
+    tenants: Tenants<Global>,
+    serving: Serving,
+    output: &mut W,
+    errors: &mut E,
+) -> Result<(), Failure<'static>>
+where
+    H: Net<Listener = TcpListener, Stream = TcpStream> + Threads + Wait + Sync,
+{
+    let listener = Place::Network.check(TcpListener::bind(rt, serving.listen))?;
+    serve_connections(rt, alloc, &listener, tenants, serving, output, errors)
+}

@@ -1,0 +1,15 @@
+//! What `stow serve` is asked to do.
+use std::net::SocketAddr;
+
+/// Where and how connections are served.
+#[derive(Clone, Copy, Debug, PartialEq, Eq)]
+pub struct Serving {
+    /// The address to listen at.
+    pub listen: SocketAddr,
+    /// How many connections are served at once: 1 to 256.
+    pub workers: u32,
+    /// After how many connections the program ends; 0 for no end.
+    pub connections: u64,
+    /// Whether start and end are told on standard error.
+    pub notices: bool,
+}

@@ -1,0 +1,59 @@
+//! Where workers serve connections.
+ghost use Rattle.stow_workers.specs.Pools.{HasCalled};
+
+use crate::counted::Counted;
+use crate::gate::Gate;
+use crate::served::Served;
+use crate::serving::serve_connection;
+use crossbeam_channel::Receiver;
+use std::alloc::Allocator;
+use std::net::TcpStream;
+use std::sync::Wait;
+use stow_shared::desk::Desk;
+use stow_shared::journal::Journal;
+use stow_shared::seat::Seat;
+use stow_shared::shared::Shared;
+
+/// What the workers of a pool have in common: where connections come from, and what serves them.
+#[derive(Drop)]
+pub struct Workplace<'a, R: Wait, J: Journal, G: Gate, A: Allocator> {
+    pub rt: &'a R,
+    pub alloc: A,
+    pub streams: &'a Receiver<TcpStream, A>,
+    pub shared: &'a Shared<J, A>,
+    pub gate: &'a G,
+}
+
+impl<'a, R: Wait, J: Journal, G: Gate, A: Allocator + Copy> Workplace<'a, R, J, G, A> {
+    /// Serves one connection after another from a seat, until no more can come, and gives the seat back.
+    pub fn work(&self, mut seat: Seat<J, A>) -> Seat<J, A>
+        ensures { HasCalled J.keeps seat result }
+    {
+        for stream in self.streams.iter(self.rt) {
+            self.serve(&stream, &mut seat);
+        }
+        seat
+    }
+
+    /// Serves one connection, however it ends.
+    fn serve(&self, stream: &TcpStream, seat: &mut Seat<J, A>) -> Served
+        ensures { HasCalled J.keeps seat.old seat.new }
+    {
+        let mut reader = Counted::new(stream);
+        let mut writer = Counted::new(stream);
+        let tenants = self.shared.tenants();
+        let mut desk = Desk {
+            rt: self.rt,
+            shared: self.shared,
+            seat,
+        };
+        serve_connection(
+            self.alloc,
+            &mut reader,
+            &mut writer,
+            tenants,
+            &mut desk,
+            self.gate,
+        )
+    }
+}
