@@ -50,7 +50,7 @@ next_held ops start after to None none = tt
 next_held ops start after to (Some k) low = record { number = low.number; there = low.there }
 
 -- the keys before the next one have been gone over
-pub record IsSoFar (ops : List ℕ → Operations) (from to : List ℕ) (at count : ℕ) (rows : List KeyValue) (next : Option (List ℕ)) : Type 0 where
+pub record IsRangeSoFar (ops : List ℕ → Operations) (from to : List ℕ) (at count : ℕ) (rows : List KeyValue) (next : Option (List ℕ)) : Type 0 where
   pub rise : IsStrictlySortedBy bytes_cmp (keys_of rows)
   pub inside : AllByRecursion (λ (row : KeyValue). spans from to row.0 ≡ true) rows
   pub values : AllByRecursion (λ (row : KeyValue). value_in (latest (ops row.0) at) ≡ Some row.1) rows
@@ -62,7 +62,7 @@ pub record IsSoFar (ops : List ℕ → Operations) (from to : List ℕ) (at coun
 nothing : {X : Type 0} (f : Operations) (at : ℕ) → ((n : ℕ) → f n ≡ None) → IsSome (latest f at) → X
 nothing f at none s = absurd (let z = latest_none f at (λ k l. none k) in cc)
 
-pub so_far_first : (ops : List ℕ → Operations) (from to : List ℕ) (at count : ℕ) (next : Option (List ℕ)) → IsNextKey ops from false to next → IsSoFar ops from to at count [] next
+pub so_far_first : (ops : List ℕ → Operations) (from to : List ℕ) (at count : ℕ) (next : Option (List ℕ)) → IsNextKey ops from false to next → IsRangeSoFar ops from to at count [] next
 unfolding IsStrictlySortedBy
 so_far_first ops from to at count None none = record {
   rise = tt;
@@ -99,7 +99,7 @@ under_more [] k j a l = tt
 under_more (row ∷ rows) k j a l = (lt_trans row.0 k j a.0 l, under_more rows k j a.1 l)
 
 -- the key has no value
-pub so_far_past : (ops : List ℕ → Operations) (from to : List ℕ) (at count : ℕ) (rows : List KeyValue) (k : List ℕ) (next : Option (List ℕ)) → IsSoFar ops from to at count rows (Some k) → latest (ops k) at ≡ None → IsNextKey ops k true to next → IsSoFar ops from to at count rows next
+pub so_far_past : (ops : List ℕ → Operations) (from to : List ℕ) (at count : ℕ) (rows : List KeyValue) (k : List ℕ) (next : Option (List ℕ)) → IsRangeSoFar ops from to at count rows (Some k) → latest (ops k) at ≡ None → IsNextKey ops k true to next → IsRangeSoFar ops from to at count rows next
 so_far_past ops from to at count rows k next r none is = record {
   rise = r.rise;
   inside = r.inside;
@@ -129,7 +129,7 @@ all_push P [] row a p = (p, tt)
 all_push P (r ∷ rows) row a p = (a.0, all_push P rows row a.1 p)
 
 -- the key has a value
-pub so_far_more : (ops : List ℕ → Operations) (from to : List ℕ) (at count : ℕ) (rows : List KeyValue) (k v : List ℕ) (next : Option (List ℕ)) → IsSoFar ops from to at count rows (Some k) → value_in (latest (ops k) at) ≡ Some v → length rows < count → IsNextKey ops k true to next → IsSoFar ops from to at count (rows ++ (k, v) ∷ []) next
+pub so_far_more : (ops : List ℕ → Operations) (from to : List ℕ) (at count : ℕ) (rows : List KeyValue) (k v : List ℕ) (next : Option (List ℕ)) → IsRangeSoFar ops from to at count rows (Some k) → value_in (latest (ops k) at) ≡ Some v → length rows < count → IsNextKey ops k true to next → IsRangeSoFar ops from to at count (rows ++ (k, v) ∷ []) next
 so_far_more ops from to at count rows k v next r has room is = record {
   rise = push_rises rows k v r.rise r.next_is.1;
   inside = all_push (λ (row : KeyValue). spans from to row.0 ≡ true) rows (k, v) r.inside r.next_is.0;
@@ -146,11 +146,11 @@ so_far_more ops from to at count rows k v next r has room is = record {
 }
 
 -- no key is left
-pub range_all : (ops : List ℕ → Operations) (from to : List ℕ) (at count : ℕ) (rows : List KeyValue) → IsSoFar ops from to at count rows None → IsRange ops from to at count rows
+pub range_all : (ops : List ℕ → Operations) (from to : List ℕ) (at count : ℕ) (rows : List KeyValue) → IsRangeSoFar ops from to at count rows None → IsRange ops from to at count rows
 range_all ops from to at count rows r = record { rise = r.rise; inside = r.inside; values = r.values; few = r.few; all = λ key s v. inl (r.all key s v tt) }
 
 -- there are as many as were asked for
-pub range_enough : (ops : List ℕ → Operations) (from to : List ℕ) (at count : ℕ) (rows : List KeyValue) (k : List ℕ) → IsSoFar ops from to at count rows (Some k) → length rows ≡ count → IsRange ops from to at count rows
+pub range_enough : (ops : List ℕ → Operations) (from to : List ℕ) (at count : ℕ) (rows : List KeyValue) (k : List ℕ) → IsRangeSoFar ops from to at count rows (Some k) → length rows ≡ count → IsRange ops from to at count rows
 range_enough ops from to at count rows k r full = record {
   rise = r.rise;
   inside = r.inside;
@@ -168,48 +168,48 @@ range_enough ops from to at count rows k r full = record {
 -- ---- the keys that are left
 
 -- how many messages stand from the key on
-abbrev pub counted : List ℕ → List TreeMessage → ℕ
-counted k [] = 0
-counted k (m ∷ ms) = cond (lt m.key k) (counted k ms) (suc (counted k ms))
+abbrev pub count_from : List ℕ → List TreeMessage → ℕ
+count_from k [] = 0
+count_from k (m ∷ ms) = cond (lt m.key k) (count_from k ms) (suc (count_from k ms))
 
 abbrev pub left_from : List TreeMessage → Option (List ℕ) → ℕ
 left_from ms None = 0
-left_from ms (Some k) = counted k ms
+left_from ms (Some k) = count_from k ms
 
-counted_less : (ms : List TreeMessage) (k j : List ℕ) → lt k j ≡ true → counted j ms ≤ counted k ms
+counted_less : (ms : List TreeMessage) (k j : List ℕ) → lt k j ≡ true → count_from j ms ≤ count_from k ms
 counted_less [] k j l = omega arith
 counted_less (m ∷ ms) k j l = step (lt m.key k) (lt m.key j) refl refl (counted_less ms k j l) where
-  step : (a b : Bool) → lt m.key k ≡ a → lt m.key j ≡ b → counted j ms ≤ counted k ms → cond b (counted j ms) (suc (counted j ms)) ≤ cond a (counted k ms) (suc (counted k ms))
+  step : (a b : Bool) → lt m.key k ≡ a → lt m.key j ≡ b → count_from j ms ≤ count_from k ms → cond b (count_from j ms) (suc (count_from j ms)) ≤ cond a (count_from k ms) (suc (count_from k ms))
   step true true e f h = h
   step true false e f h = apart (lt_trans m.key k j e l) f
   step false true e f h = omega arith
   step false false e f h = omega arith
 
-held_counts : (ms : List TreeMessage) (k j : List ℕ) (w : TreeMessage) → lt k j ≡ true → Contains ms w → w.key ≡ k → counted j ms < counted k ms
+held_counts : (ms : List TreeMessage) (k j : List ℕ) (w : TreeMessage) → lt k j ≡ true → Contains ms w → w.key ≡ k → count_from j ms < count_from k ms
 held_counts [] k j w l c e = absurd (let i = c.1 in omega arith)
 held_counts (m ∷ ms) k j w l (zero, i, is) e = step (lt m.key k) (lt m.key j) refl refl (counted_less ms k j l) where
   own : m.key ≡ k
   own = ap (λ (x : TreeMessage). x.key) is ∙ e
 
-  step : (a b : Bool) → lt m.key k ≡ a → lt m.key j ≡ b → counted j ms ≤ counted k ms → cond b (counted j ms) (suc (counted j ms)) < cond a (counted k ms) (suc (counted k ms))
+  step : (a b : Bool) → lt m.key k ≡ a → lt m.key j ≡ b → count_from j ms ≤ count_from k ms → cond b (count_from j ms) (suc (count_from j ms)) < cond a (count_from k ms) (suc (count_from k ms))
   step true b f g h = apart f (ap (λ x. lt x k) own ∙ lt_self k)
   step false true f g h = omega arith
   step false false f g h = apart (ap (λ x. lt x j) own ∙ l) g
 held_counts (m ∷ ms) k j w l (suc p, i, is) e = step (lt m.key k) (lt m.key j) refl refl (held_counts ms k j w l (p, (omega arith), is) e) where
-  step : (a b : Bool) → lt m.key k ≡ a → lt m.key j ≡ b → counted j ms < counted k ms → cond b (counted j ms) (suc (counted j ms)) < cond a (counted k ms) (suc (counted k ms))
+  step : (a b : Bool) → lt m.key k ≡ a → lt m.key j ≡ b → count_from j ms < count_from k ms → cond b (count_from j ms) (suc (count_from j ms)) < cond a (count_from k ms) (suc (count_from k ms))
   step true true f g h = h
   step true false f g h = apart (lt_trans m.key k j f l) g
   step false true f g h = omega arith
   step false false f g h = omega arith
 
-counts : (ms : List TreeMessage) (k : List ℕ) (w : TreeMessage) → Contains ms w → w.key ≡ k → 0 < counted k ms
+counts : (ms : List TreeMessage) (k : List ℕ) (w : TreeMessage) → Contains ms w → w.key ≡ k → 0 < count_from k ms
 counts [] k w c e = absurd (let i = c.1 in omega arith)
 counts (m ∷ ms) k w (zero, i, is) e = step (lt m.key k) refl where
-  step : (a : Bool) → lt m.key k ≡ a → 0 < cond a (counted k ms) (suc (counted k ms))
+  step : (a : Bool) → lt m.key k ≡ a → 0 < cond a (count_from k ms) (suc (count_from k ms))
   step true f = apart f (ap (λ (x : TreeMessage). lt x.key k) is ∙ ap (λ x. lt x k) e ∙ lt_self k)
   step false f = omega arith
 counts (m ∷ ms) k w (suc p, i, is) e = step (lt m.key k) (counts ms k w (p, (omega arith), is) e) where
-  step : (a : Bool) → 0 < counted k ms → 0 < cond a (counted k ms) (suc (counted k ms))
+  step : (a : Bool) → 0 < count_from k ms → 0 < cond a (count_from k ms) (suc (count_from k ms))
   step true h = h
   step false h = omega arith
 

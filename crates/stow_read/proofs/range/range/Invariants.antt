@@ -4,11 +4,11 @@ use Rattle.stow_node.specs.Subtree.{messages_of}
 use Rattle.stow_tree_model.specs.Messages.{ops_in}
 use Rattle.stow_tree_model.specs.declared.tenant_key.TenantKey.{TenantKey}
 use Rattle.stow_read.specs.Range.{key_value}
-use Rattle.stow_read.proofs.Ranged.{IsSoFar, left_from}
+use Rattle.stow_read.proofs.Ranged.{IsRangeSoFar, left_from}
 use Rattle.stow_read.proofs.range.range.Given as goal
 
 abbrev pub invariant-loop-next : goal.invariant-loop-next
-invariant-loop-next g l = IsSoFar (ops_in (messages_of l.node)) l.fn.from.bytes.now l.fn.to.bytes.now l.at l.count (map key_value l.rows.items) (option_map (λ (k : TenantKey). k.bytes.now) l.next)
+invariant-loop-next g l = IsRangeSoFar (ops_in (messages_of l.node)) l.fn.from.bytes.now l.fn.to.bytes.now l.at l.count (map key_value l.rows.items) (option_map (λ (k : TenantKey). k.bytes.now) l.next)
 
 abbrev pub decreases-loop-next : goal.decreases-loop-next
 decreases-loop-next g l = left_from (messages_of l.node) (option_map (λ (k : TenantKey). k.bytes.now) l.next)
