@@ -1,0 +1,5 @@
+pub mod Texts
+pub mod Numbers
+pub mod Lines
+pub mod Scripts
+pub mod Telling

@@ -1,4 +1,7 @@
 //! Why the program ends early.
+ghost use Rattle.std.specs.Prelude.{◌≡◌, ◌≢◌, IfOk, MatchResult, string_bytes};
+ghost use Rattle.stow.specs.Statuses.{failure_at, status_of, text_of_failure};
+
 use crate::stumble::Stumble;
 use std::alloc::{AllocError, Global};
 use std::io;
@@ -44,7 +47,9 @@ pub enum Failure<'a> {
 
 impl<'a> Failure<'a> {
     /// Reading or writing failed there.
-    pub fn at(place: Place<'a>, error: io::Error) -> Failure<'a> {
+    pub fn at(place: Place<'a>, error: io::Error) -> Failure<'a>
+        ensures { result ≡ failure_at place.entry error }
+    {
         if error.kind() == io::ErrorKind::OutOfMemory {
             Failure::Memory
         } else {
@@ -53,7 +58,10 @@ impl<'a> Failure<'a> {
     }
 
     /// The tenant file is refused, and where.
-    pub fn tenants(fault: TenantsFault, place: Option<String>) -> Failure<'a> {
+    pub fn tenants(fault: TenantsFault, place: Option<String>) -> Failure<'a>
+        ensures memory { fault ≡ TenantsFault.OutOfMemory → result ≡ Failure.Memory }
+        ensures tenants { fault ≢ TenantsFault.OutOfMemory → result ≡ Failure.Tenants fault place }
+    {
         match fault {
             TenantsFault::OutOfMemory => Failure::Memory,
             _ => Failure::Tenants(fault, place),
@@ -61,7 +69,9 @@ impl<'a> Failure<'a> {
     }
 
     /// The status that the program ends with.
-    pub fn status(&self) -> u8 {
+    pub fn status(&self) -> u8
+        ensures { result ≡ status_of self.now }
+    {
         match self {
             Failure::Help(_) => 0,
             Failure::Arguments(_) | Failure::BadAddress | Failure::BadLine(_, _) => REFUSED,
@@ -72,7 +82,9 @@ impl<'a> Failure<'a> {
     }
 
     /// What is told of it: the help, the argument parser's text, or one line.
-    pub fn text(&self, alloc: Global) -> Result<String, AllocError> {
+    pub fn text(&self, alloc: Global) -> Result<String, AllocError>
+        ensures { IfOk result (λ text. string_bytes text ≡ text_of_failure self.now) }
+    {
         match self {
             Failure::Help(text) | Failure::Arguments(text) => String::from_str(
                 alloc,
@@ -107,7 +119,10 @@ impl<'a> Failure<'a> {
 
 impl<'a> Place<'a> {
     /// What was read or written there, or the failure that it ended with.
-    pub fn check<T: Drop>(self, outcome: io::Result<T>) -> Result<T, Failure<'a>> {
+    pub fn check<T: Drop>(self, outcome: io::Result<T>) -> Result<T, Failure<'a>>
+        ensures { MatchResult outcome (λ value. result ≡ Ok value)
+            (λ error. result ≡ Err (failure_at self.entry error)) }
+    {
         match outcome {
             Ok(value) => Ok(value),
             Err(error) => Err(Failure::at(self, error)),
@@ -125,6 +140,11 @@ impl<'a> Place<'a> {
 }
 
 impl From<AllocError> for Failure<'_> {
+    ghost use Rattle.std.specs.Prelude.{◌≡◌};
+    ghost use Rattle.stow.specs.declared.failure.Failure.TheVariants.{Memory};
+
+    ghost from_gives = { λ _ failure. failure ≡ Memory };
+
     fn from(_error: AllocError) -> Self {
         Failure::Memory
     }

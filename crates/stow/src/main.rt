@@ -2,8 +2,12 @@
 //!
 //! It reads its arguments and the tenant file that they name, makes a new service, and answers the bytes of one
 //! connection (`pipe`), carries a script's events out (`script`) or serves connections over TCP (`serve`). Proved of
-//! it: it is safe; what `pipe` and `script` do (`program::serve`) returns; and a script's output lines are those of
-//! `specs/Lines.antt`. What else it says is shown by tests; what the service answers is proved in the crates below.
+//! it: it is safe; what `pipe` and `script` do (`program::serve`) returns; a script is read as `specs/Script.antt`
+//! says; of a reader and a writer that tell their bytes, what is written are the lines of its events' results
+//! (`specs/Told.antt`), all of them where it ends well; and each failure has its status and its line
+//! (`specs/Statuses.antt`). Not proved of it: which words of the command line ask for what, and, of a pipe, that
+//! what `serve_connection` says of its reader and its writer holds of the program's own. What the service answers
+//! is proved in the crates below.
 #![tactic(auto)]
 
 mod arguments;
@@ -11,8 +15,10 @@ mod failure;
 mod folder;
 mod line;
 mod network;
+mod number;
 mod pipe;
 mod program;
+mod reading;
 mod script;
 mod serve;
 mod serving;

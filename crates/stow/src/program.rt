@@ -1,4 +1,9 @@
 //! What the program does, over any reader and writers.
+ghost use Rattle.std.specs.Prelude.{◌≡◌, string_bytes};
+ghost use Rattle.std.specs.Io.KnownBytes.{Appends};
+ghost use Rattle.stow.specs.Statuses.{IsStatus, status_of};
+ghost use Rattle.stow.specs.Told.{IsServed};
+
 use crate::arguments::{Arguments, Job, Task, read_arguments};
 use crate::failure::{Failure, INPUT_OUTPUT, Place};
 use crate::folder::Folder;
@@ -32,6 +37,7 @@ pub fn program<H, D: Folder, R: Read, W: Write, E: Write>(
 ) -> u8
 where
     H: Net<Listener = TcpListener, Stream = TcpStream> + Threads + Wait + Sync,
+    ensures { IsStatus result }
 {
     let arguments = match read_arguments(alloc, words) {
         Ok(arguments) => arguments,
@@ -94,7 +100,10 @@ pub fn serve<'a, A: Allocator + Copy, R: Read, W: Write>(
     task: Task,
     input: &mut R,
     output: &mut W,
-) -> Result<(), Failure<'a>> {
+) -> Result<(), Failure<'a>>
+    ensures { IsServed task tenants (R.remaining input.old) (W.contents output.old)
+        (W.contents output.new) result }
+{
     let tenants = Arc::new(alloc, tenants).map_err(AllocError::from)?;
     let mut core = Core::new(alloc, tenants.clone()?)?;
     match task {
@@ -104,7 +113,11 @@ pub fn serve<'a, A: Allocator + Copy, R: Read, W: Write>(
 }
 
 /// Writes the help.
-fn help<W: Write>(text: &String, output: &mut W) -> u8 {
+fn help<W: Write>(text: &String, output: &mut W) -> u8
+    ensures status { IsStatus result }
+    ensures written { result ≡ 0
+        → Appends (W.contents output.old) (W.contents output.new) (string_bytes text.now) }
+{
     match output.write_all(text.as_bytes()) {
         Ok(()) => 0,
         Err(_) => INPUT_OUTPUT,
@@ -112,7 +125,9 @@ fn help<W: Write>(text: &String, output: &mut W) -> u8 {
 }
 
 /// Tells why the program ends early, and more of it where that was asked for. A text that can't be written is dropped.
-fn tell<E: Write>(alloc: Global, failure: &Failure<'_>, explain: bool, errors: &mut E) -> u8 {
+fn tell<E: Write>(alloc: Global, failure: &Failure<'_>, explain: bool, errors: &mut E) -> u8
+    ensures { result ≡ status_of failure.now }
+{
     if let Ok(text) = failure.text(alloc) {
         let _ = errors.write_all(text.as_bytes());
     }

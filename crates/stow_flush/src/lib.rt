@@ -4,7 +4,7 @@
 //! enough messages move towards the leaves, one step at a time (`Node::step`), or another node is put above the root. What
 //! the tree means stays, under the pins that are given (`specs/Rooms.antt`).
 //!
-//! Nothing stands on this crate yet. A body that answers `AllocError` wherever bytes don't fit at once meets the contract:
+//! A body that answers `AllocError` wherever bytes don't fit at once meets the contract:
 //! a test calls it with ample memory, and with each request refused. How many steps are taken stands in no contract.
 #![tactic(auto)]
 

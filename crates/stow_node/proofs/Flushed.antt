@@ -59,7 +59,7 @@ use Rattle.stow_node.proofs.Stayed.{level_at, part_at}
 abbrev pub leaf_parts : {A : Type 0} → List (Leaf A) → List Part
 leaf_parts leaves = map leaf_part leaves
 
-low_of_leaves : {A : Type 0} (high : List ℕ) (leaves : List (Leaf A)) → low_or high (leaf_parts leaves) ≡ first_fence high (map leaf_rows leaves)
+pub low_of_leaves : {A : Type 0} (high : List ℕ) (leaves : List (Leaf A)) → low_or high (leaf_parts leaves) ≡ first_fence high (map leaf_rows leaves)
 low_of_leaves high [] = refl
 low_of_leaves high (l ∷ leaves) = refl
 
@@ -72,7 +72,7 @@ leaf_tile l high t = record {
   rows = record { outside = λ key n o. ap (λ ms. ops_in ms key n) (append-nil (map row_message l.rows)) ∙ t.rows.outside key n o };
 }
 
-leaf_tiles : {A : Type 0} (high : List ℕ) (leaves : List (Leaf A)) → LeavesTo high (map leaf_rows leaves) → TiledTo high (leaf_parts leaves)
+pub leaf_tiles : {A : Type 0} (high : List ℕ) (leaves : List (Leaf A)) → LeavesTo high (map leaf_rows leaves) → TiledTo high (leaf_parts leaves)
 leaf_tiles high [] t = tt
 leaf_tiles high (l ∷ leaves) t = (subst (IsTile (leaf_part l)) (sym (low_of_leaves high leaves)) (leaf_tile l (first_fence high (map leaf_rows leaves)) t.0), leaf_tiles high leaves t.1)
 
@@ -80,7 +80,7 @@ rows_of_leaves : {A : Type 0} (leaves : List (Leaf A)) → flat_map row_taken (l
 rows_of_leaves [] = refl
 rows_of_leaves (l ∷ leaves) = (λ i. append-nil (map row_message l.rows) i ++ rows_of_leaves leaves i)
 
-no_messages : {A : Type 0} (leaves : List (Leaf A)) → messages_in (leaf_parts leaves) ≡ []
+pub no_messages : {A : Type 0} (leaves : List (Leaf A)) → messages_in (leaf_parts leaves) ≡ []
 no_messages [] = refl
 no_messages (l ∷ leaves) = no_messages leaves
 
@@ -88,11 +88,11 @@ leaves_of_leaves : {A : Type 0} (leaves : List (Leaf A)) → leaves_in (leaf_par
 leaves_of_leaves [] = refl
 leaves_of_leaves (l ∷ leaves) = ap (λ ls. leaf_rows l ∷ ls) (leaves_of_leaves leaves)
 
-no_weight : {A : Type 0} (leaves : List (Leaf A)) → weight_in (leaf_parts leaves) ≡ 0
+pub no_weight : {A : Type 0} (leaves : List (Leaf A)) → weight_in (leaf_parts leaves) ≡ 0
 no_weight [] = refl
 no_weight (l ∷ leaves) = omega (arith, sum_by-cons (λ (p : Part). p.weight) (leaf_part l) (leaf_parts leaves), no_weight leaves)
 
-all_leaves : {A : Type 0} (h : ℕ) (shape : Shape) (leaves : List (Leaf A)) → h ≡ 1 → AllByRecursion (IsBelow {A = A} h shape) (map in_child.Leaf leaves)
+pub all_leaves : {A : Type 0} (h : ℕ) (shape : Shape) (leaves : List (Leaf A)) → h ≡ 1 → AllByRecursion (IsBelow {A = A} h shape) (map in_child.Leaf leaves)
 all_leaves h shape [] e = tt
 all_leaves h shape (l ∷ leaves) e = (record { level = sym e; same = tt }, all_leaves h shape leaves e)
 

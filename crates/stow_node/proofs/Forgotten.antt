@@ -61,3 +61,25 @@ forgets_one fence old new cache cache' limit without gone others = record {
   held = λ leaf c. held_before fence cache.leaves leaf (subst (λ ls. Contains ls leaf) without c);
   stands = λ leaf c o. others leaf o (λ e. found_under leaf cache'.leaves c (ap (λ f. rows_under f cache'.leaves) e ∙ gone));
 }
+
+pub forgets_then : (old middle new : List LeafRows) (a b c : Cache) → Forgets old middle a b → Forgets middle new b c → Forgets old new a c
+forgets_then old middle new a b c f g = record {
+  limit = g.limit ∙ f.limit;
+  held = λ leaf h. f.held leaf (g.held leaf h);
+  stands = λ leaf h o. g.stands leaf h (f.stands leaf (g.held leaf h) o);
+}
+
+-- two leaves that were forgotten may go, and all others stay
+pub forgets_two : (one two : List ℕ) (old new : List LeafRows) (a b c : Cache) → b.limit ≡ a.limit → b.leaves ≡ leaves_without one a.leaves → rows_under one b.leaves ≡ None
+    → c.limit ≡ b.limit → c.leaves ≡ leaves_without two b.leaves → rows_under two c.leaves ≡ None
+    → ((leaf : LeafRows) → Contains old leaf → leaf.0 ≢ one → leaf.0 ≢ two → Contains new leaf) → Forgets old new a c
+forgets_two one two old new a b c limit without gone limit2 without2 gone2 others = record {
+  limit = limit2 ∙ limit;
+  held = λ leaf h. held_before one a.leaves leaf (subst (λ ls. Contains ls leaf) without (before leaf h));
+  stands = λ leaf h o. others leaf o
+      (λ e. found_under leaf b.leaves (before leaf h) (ap (λ f. rows_under f b.leaves) e ∙ gone))
+      (λ e. found_under leaf c.leaves h (ap (λ f. rows_under f c.leaves) e ∙ gone2));
+}
+  where
+    before : (leaf : LeafRows) → Contains c.leaves leaf → Contains b.leaves leaf
+    before leaf h = held_before two b.leaves leaf (subst (λ ls. Contains ls leaf) without2 h)

@@ -20,3 +20,7 @@ pub mod Spliced
 pub mod Entered
 pub mod Stepping
 pub mod Forgotten
+pub mod Joined
+pub mod Pairs
+pub mod Fewer
+pub mod Readied

@@ -16,34 +16,38 @@ use Rattle.stow_tree_model.specs.Order.{Place, place_cmp, place_of}
 use Rattle.stow_tree_model.specs.TreeMessage.{TreeMessage}
 use Rattle.stow_tree_model.proofs.Orders.{place_cases}
 use Rattle.stow_node.specs.Subtree.{Subtree, buffered, messages_of}
-use Rattle.stow_leaf.specs.Intervals.{top_key, spans}
+use Rattle.stow_leaf.specs.Intervals.{top_key, spans, AreWithin}
 use Rattle.stow_node.specs.Moves.{accepted, CanAccept}
 use Rattle.stow_leaf.proofs.Found.{none_some}
+
+-- a message is of its own key and number alone
+pub at_own : {X : Type 0} (m : TreeMessage) (key : List ℕ) (n : ℕ) → (key ≡ m.key → n ≡ m.number → X) → (ops_in (m ∷ []) key n ≡ None → X) → X
+at_own m key n f g = ⊎_elim
+    (λ (e : (◌≡◌ {A = Place} (key, n) (place_of m)) × (eq_by_cmp place_cmp (key, n) (place_of m) ≡ true)). f (ap (λ (p : Place). p.0) e.0) (ap (λ (p : Place). p.1) e.0))
+    (λ (e : (◌≢◌ {A = Place} (key, n) (place_of m)) × (eq_by_cmp place_cmp (key, n) (place_of m) ≡ false)). g (cond-false _ _ _ e.1))
+    (place_cases (key, n) (place_of m))
+
+pub within_alone : (low : List ℕ) (m : TreeMessage) → spans low top_key m.key ≡ true → AreWithin low top_key (m ∷ [])
+within_alone low m own = record { outside = λ key n o. at_own m key n (λ k e. absurd (apart (ap (spans low top_key) k ∙ own) o)) (λ none. none) } where
+  apart : {b : Bool} → b ≡ true → b ≡ false → ⊥
+  apart e f = cc
 
 pub lone : (t : Subtree) (m : TreeMessage) → messages_of t ≡ [] → spans t.low top_key m.key ≡ true → t.buffer.used + message_size m ≤ t.buffer.capacity → CanAccept (m ∷ []) t
 lone t m none own room = record {
   room = omega (arith, sum_by-cons message_size m []);
   newer = record { above = λ key n k u l. absurd (none_some (ops_in (messages_of t) key k) (ap (λ ms. ops_in ms key k) none) l) };
-  within = record {
-    outside = λ key n o. ⊎_elim
-        (λ (e : (◌≡◌ {A = Place} (key, n) (place_of m)) × (eq_by_cmp place_cmp (key, n) (place_of m) ≡ true)). absurd (apart (ap (λ (p : Place). spans t.low top_key p.0) e.0 ∙ own) o))
-        (λ (e : (◌≢◌ {A = Place} (key, n) (place_of m)) × (eq_by_cmp place_cmp (key, n) (place_of m) ≡ false)). cond-false _ _ _ e.1)
-        (place_cases (key, n) (place_of m));
-  };
+  within = within_alone t.low m own;
 }
-  where
-    apart : {b : Bool} → b ≡ true → b ≡ false → ⊥
-    apart e f = cc
 
 -- ---- a put alone is short
 
 -- an operation that puts a short value
-abbrev IsShortPut : Op → Type 0
+abbrev pub IsShortPut : Op → Type 0
 IsShortPut (Put value) = length value ≤ value_limit
 IsShortPut Gone = Unit {0}
 IsShortPut (Append suffix) = ⊥
 
-applied_short : (n : ℕ) (o : Option Op) (before : Option NumberedValue) → ((op : Op) → o ≡ Some op → IsShortPut op) → IsValue (value_in before) → IsValue (value_in (applied n o before))
+pub applied_short : (n : ℕ) (o : Option Op) (before : Option NumberedValue) → ((op : Op) → o ≡ Some op → IsShortPut op) → IsValue (value_in before) → IsValue (value_in (applied n o before))
 applied_short n None before h v = v
 applied_short n (Some (Put value)) before h v = record { is_short = λ bytes e. subst (λ (l : List ℕ). length l ≤ value_limit) (same value bytes e) (h (Put value) refl) } where
   same : (a b : List ℕ) → ◌≡◌ {A = Option (List ℕ)} (Some a) (Some b) → a ≡ b
@@ -60,7 +64,7 @@ latest_short f zero h = applied_short 0 (f 0) None (h 0) (record { is_short = λ
   nothing b e = cc
 latest_short f (suc n) h = applied_short (suc n) (f (suc n)) (latest f n) (h (suc n)) (latest_short f n h)
 
-one_op : (m : TreeMessage) (key : List ℕ) (k : ℕ) (op : Op) → ops_in (m ∷ []) key k ≡ Some op → m.op ≡ op
+pub one_op : (m : TreeMessage) (key : List ℕ) (k : ℕ) (op : Op) → ops_in (m ∷ []) key k ≡ Some op → m.op ≡ op
 one_op m key k op e = by_case (eq_by_cmp place_cmp (key, k) (place_of m)) e where
   by_case : (b : Bool) → cond b (Some m.op) None ≡ Some op → m.op ≡ op
   by_case true f = cc

@@ -182,10 +182,10 @@ pub either : {T E : Type 0} (pins : TenantPins) (y z : Subtree) (r : Result T E)
 either pins y z (Ok x) f k = f.keeps
 either pins y z (Err e) f k = k
 
+pub on_ok : {T E : Type 0} (r : Result T E) {P : Type 0} → P → OnOk r P
+on_ok (Ok x) p = p
+on_ok (Err e) p = tt
+
 pub ok_then : {T E : Type 0} (r : Result T E) {P Q : Type 0} → (P → Q) → OnOk r P → OnOk r Q
 ok_then (Ok x) f p = f p
 ok_then (Err e) f p = tt
-
-pub err_then : {T E : Type 0} (r : Result T E) {P Q : Type 0} → (P → Q) → OnErr r P → OnErr r Q
-err_then (Ok x) f p = tt
-err_then (Err e) f p = f p

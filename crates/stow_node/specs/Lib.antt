@@ -8,3 +8,5 @@ pub mod Entering
 pub mod Absorbs
 pub mod Flushes
 pub mod Forgets
+pub mod Joins
+pub mod Ready

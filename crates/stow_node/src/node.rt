@@ -9,6 +9,7 @@ ghost use Rattle.stow_tree_model.specs.TreeMessage.{message_of};
 ghost use Rattle.stow_node.specs.Flushes.{AreShort, Keeps, Flushes};
 ghost use Rattle.stow_node.specs.Forgets.{Forgets};
 ghost use Rattle.stow_node.specs.Halves.{AreHalves};
+ghost use Rattle.stow_node.specs.Joins.{NoneToJoin};
 ghost use Rattle.stow_node.specs.Moves.{accepted, CanAccept, IsSqueezed, Stays, raised};
 ghost use Rattle.stow_node.specs.Nodes.{AreChildren};
 ghost use Rattle.stow_node.specs.Subtree.{first_subtree, messages_of};
@@ -16,6 +17,7 @@ ghost use Rattle.stow_node.specs.Subtree.{first_subtree, messages_of};
 use crate::absorbing::absorb;
 use crate::child::{Child, top_key};
 use crate::entering::next_child;
+use crate::joining::join_small;
 use crate::moving::{bytes_for, hand_down, heaviest};
 use crate::shape::Shape;
 use std::alloc::{AllocError, Allocator, Global};
@@ -138,7 +140,8 @@ impl<A: Allocator + Copy> Node<A> {
 
 impl<A: Allocator + Copy> Node<A> {
     /// Merges messages for a leaf into it, of a node right above leaves: the leaf for which most bytes are buffered. What
-    /// comes in its place has two places more at least. Where memory is refused nothing has changed.
+    /// comes in its place has two places more at least. Then small leaves are joined with a neighbour. Where memory is refused
+    /// it means what it did.
     pub(crate) fn flush_leaf(
         &mut self,
         alloc: A,
@@ -150,7 +153,8 @@ impl<A: Allocator + Copy> Node<A> {
         requires places { self.old.width + 2 ≤ self.old.shape.fan_out }
         requires short { AreShort (messages_of self.old) }
         ensures ok { OnOk result (Flushes (pins_in pins.now) self.old self.new) }
-        ensures err { OnErr result (self.new ≡ self.old) }
+        ensures joined { OnOk result (NoneToJoin self.old.shape.leaf self.new.leaves) }
+        ensures err { OnErr result (Keeps (pins_in pins.now) self.old self.new) }
         ensures cache { Forgets self.old.leaves self.new.leaves cache.old cache.new }
     {
         let index = heaviest(self.children.as_slice(), &self.buffer);
@@ -166,7 +170,7 @@ impl<A: Allocator + Copy> Node<A> {
             target,
             most,
         )?;
-        Ok(())
+        join_small(alloc, &mut self.children, target, cache)
     }
 }
 

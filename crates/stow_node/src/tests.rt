@@ -1,7 +1,8 @@
 //! What no clause says: that the calls succeed where there is memory, and which of them ask for none.
-ghost use Rattle.std.specs.Prelude.{◌≡◌, ◌+◌, ◌<◌, ◌≤◌, [], length, IfOk};
+ghost use Rattle.std.specs.Prelude.{◌≡◌, ℕ, ◌+◌, ◌<◌, ◌≤◌, [], length, IsTrue, IfOk};
 ghost use Rattle.stow_tree_model.specs.Keys.{packed};
 ghost use Rattle.stow_node.specs.Flushes.{AreShort};
+ghost use Rattle.stow_node.specs.Ready.{IsReadyAbove};
 ghost use Rattle.stow_node.specs.Subtree.{messages_of};
 
 use crate::child::Child;
@@ -15,6 +16,7 @@ use stow_raw::raw_buf::RawBuf;
 use stow_refusing::{Plan, Refusing};
 use stow_tree_model::message::Message;
 use stow_tree_model::op::Op;
+use stow_tree_model::plain::message;
 use stow_tree_model::tenant_key::TenantKey;
 
 /// The smallest tree.
@@ -163,5 +165,135 @@ fn a_leaf_takes_messages(rt: HostRuntime) -> Result<(), Fail> {
         heap.set(Plan::RefuseAt(n));
         assert!(rt; is_flushed(&heap).is_err(), "request {n}");
     }
+    Ok(())
+}
+
+/// Puts tenant 1's key of one byte into a node, or removes it, if the message fits there. Its number follows the last.
+fn put<A: Allocator>(node: &mut Node<A>, key: u8, last: u64, value: Option<&[u8]>) -> bool
+    requires few { last < 1000 }
+    requires ready { IsReadyAbove last node.old }
+    ensures { IsTrue result → IsReadyAbove (last + 1) node.new }
+{
+    let op = match value {
+        Some(value) => Op::Put(value),
+        None => Op::Gone,
+    };
+    let packed = [0, 0, 0, 1, key];
+    let Some(made) = message(TenantKey::from_packed(&packed), last + 1, op) else {
+        return false;
+    };
+    let fits = node.fits(made);
+    if fits {
+        node.push(made);
+    }
+    fits
+}
+
+/// The keys that the leaves are filled with.
+const KEYS: &[u8] = b"abcdefghijkl";
+
+/// Puts the keys into a node, or removes them, if all messages fit there.
+fn put_all<A: Allocator>(node: &mut Node<A>, last: u64, value: Option<&[u8]>) -> bool
+    requires few { last < 900 }
+    requires ready { IsReadyAbove last node.old }
+    ensures { IsTrue result → IsReadyAbove (last + 12) node.new }
+{
+    for i in 0..KEYS.len() {
+        if !put(node, KEYS[i], last + i as u64, value) {
+            return false;
+        }
+    }
+    true
+}
+
+/// Takes a step, if there are messages and places for it.
+fn flush<A: Allocator + Copy>(alloc: A, node: &mut Node<A>) -> Result<(), AllocError>
+    requires { AreShort (messages_of node.old) }
+    ensures short { AreShort (messages_of node.new) }
+    ensures ready { (last : ℕ) → IsReadyAbove last node.old → IsReadyAbove last node.new }
+{
+    let shape = node.shape();
+    let width = node.width();
+    if node.buffer().len() == 0 || shape.fan_out < 4 || (shape.fan_out as usize) - width < 2 {
+        return Ok(());
+    }
+    let mut spare = RawBuf::with_capacity(alloc, shape.buffer as usize)?;
+    let mut cache = LeafCache::new(alloc, 0)?;
+    node.step(alloc, &Pins::new(alloc), &mut spare, &mut cache)
+}
+
+/// A node above leaves of four keys each, and messages that remove all of them.
+fn to_empty<A: Allocator + Copy>(alloc: A) -> Result<Node<A>, AllocError>
+    ensures { IfOk result (λ node. AreShort (messages_of node)) }
+{
+    let shape = Shape {
+        buffer: 131_072,
+        leaf: 4096,
+        fan_out: 16,
+    };
+    let mut node = Node::first(alloc, shape)?;
+    let value = Vec::from_elem(alloc, b'x', 1000)?;
+    if !put_all(&mut node, 0, Some(value.as_slice())) {
+        return Err(AllocError);
+    }
+    flush(alloc, &mut node)?;
+    if !put_all(&mut node, 12, None) {
+        return Err(AllocError);
+    }
+    Ok(node)
+}
+
+/// How many leaves there are before and after each of three steps that empty one.
+fn widths<A: Allocator + Copy>(alloc: A) -> Result<[usize; 4], AllocError> {
+    let mut node = to_empty(alloc)?;
+    let full = node.width();
+    flush(alloc, &mut node)?;
+    let first = node.width();
+    flush(alloc, &mut node)?;
+    let second = node.width();
+    flush(alloc, &mut node)?;
+    Ok([full, first, second, node.width()])
+}
+
+// A page of four keys with values of 1,000 bytes has 4,077 bytes: two of them are more than the target, and one fits
+// with an empty one.
+#[test]
+fn emptied_leaves_are_joined(rt: HostRuntime) -> Result<(), Fail> {
+    assert!(rt; widths(rt.alloc())? == [3, 2, 1, 1]);
+    Ok(())
+}
+
+/// The number of leaves once a step was refused its nth request, and three more steps were taken with memory. `None`
+/// where it asked for fewer, `Err` where it did not answer that it was refused.
+fn refused<B: Allocator>(heap: &Refusing<B>, n: u64) -> Result<Option<usize>, AllocError> {
+    heap.set(Plan::Grant);
+    let mut node = to_empty(heap)?;
+    heap.set(Plan::RefuseAt(n));
+    let is_done = flush(heap, &mut node).is_ok();
+    if heap.asked() <= n {
+        return Ok(None);
+    }
+    if is_done {
+        return Err(AllocError);
+    }
+    heap.set(Plan::Grant);
+    flush(heap, &mut node)?;
+    flush(heap, &mut node)?;
+    flush(heap, &mut node)?;
+    Ok(Some(node.width()))
+}
+
+#[test]
+fn joins_withstand_each_refusal(rt: HostRuntime) -> Result<(), Fail> {
+    let heap = Refusing::new(rt.alloc());
+    let mut refusals = 0u64;
+    for n in 0..100u64 {
+        let Some(width) = refused(&heap, n)? else {
+            break;
+        };
+        assert_eq!(rt; width, 1, "request {n}");
+        refusals = n + 1;
+    }
+    assert!(rt; refusals > 10, "{refusals} refusals");
     Ok(())
 }

@@ -7,3 +7,4 @@ pub mod Pages
 pub mod Unique
 pub mod Whole
 pub mod OneField
+pub mod Joined

@@ -20,7 +20,7 @@ places_from-append n (w ∷ later) v =
     let e : n + length (entry w) + length (entries later) ≡ n + length (entries (w ∷ later)) = add_assoc n (length (entry w)) (length (entries later)) ∙ ap (λ m. n + m) (sym (length-append (entry w) (entries later))) in
     ap (λ ps. n ∷ ps) (more ∙ ap (λ m. places_from (n + length (entry w)) later ++ m ∷ []) e)
 
-length-places_from : (n : ℕ) (rows : List Version) → length (places_from n rows) ≡ length rows
+pub length-places_from : (n : ℕ) (rows : List Version) → length (places_from n rows) ≡ length rows
 unfolding places_from
 length-places_from n [] = refl
 length-places_from n (v ∷ later) = ap suc (length-places_from (n + length (entry v)) later)

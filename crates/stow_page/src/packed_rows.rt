@@ -1,5 +1,6 @@
 //! Versions of a leaf in one block.
-ghost use Rattle.std.specs.Prelude.{◌≡◌, ◌==◌, ◌↔◌, IsTrue, ◌+◌, ◌<◌, ◌≤◌, ◌^◌, [], ◌∷◌, ◌++◌, length, slice_get, Some, option_map, IfOk, OnOk, OnErr};
+ghost use Rattle.std.specs.Prelude.{◌≡◌, ◌==◌, ◌↔◌, IsTrue, ◌+◌, ◌<◌, ◌≤◌, ◌^◌, [], ◌∷◌, ◌++◌, length, map, slice_get, Some, option_map, IfOk, OnOk, OnErr};
+ghost use Rattle.std.specs.List.{All};
 ghost use Rattle.stow_tree_model.specs.Version.{version_of};
 ghost use Rattle.stow_tree_model.specs.Order.{VersionsRise};
 ghost use Rattle.stow_page.specs.Format.{packed_page, AreVersions};
@@ -43,6 +44,31 @@ impl<A: Allocator + Copy> PackedRows<A> {
             bytes,
             places: Vec::new(alloc),
         })
+    }
+
+    /// Versions and others above them, in a block of their own. Their entries are copied as they stand.
+    pub(crate) fn joined(
+        alloc: A,
+        lower: &PackedRows<A>,
+        upper: &PackedRows<A>,
+    ) -> Result<PackedRows<A>, AllocError>
+        requires rise { VersionsRise (lower.now ++ upper.now) }
+        requires room { length (packed_page (lower.now ++ upper.now)) < 2 ^ 32 }
+        ensures { IfOk result (λ r. r ≡ lower.now ++ upper.now) }
+    {
+        let (_, entries) = upper.bytes.as_slice().split_at(5);
+        let mut bytes = Vec::with_capacity(alloc, lower.bytes.len() + entries.len())?;
+        bytes.extend_from_slice(lower.bytes.as_slice())?;
+        bytes.extend_from_slice(entries)?;
+        let from = (lower.bytes.len() - 5) as u32;
+        let places = joined_places(
+            alloc,
+            lower.places.as_slice(),
+            upper.places.as_slice(),
+            from,
+        )?;
+        write_count(&mut bytes, places.len() as u32);
+        Ok(PackedRows { bytes, places })
     }
 }
 
@@ -187,4 +213,23 @@ fn write_count<A: Allocator>(bytes: &mut Vec<u8, A>, count: u32)
     ensures { bytes.new.items ≡ with_count bytes.old.items count }
 {
     bytes[1..5].copy_from_slice(&count.to_be_bytes());
+}
+
+/// Places, and others that stand so many bytes further on than they did.
+fn joined_places<A: Allocator + Copy>(
+    alloc: A,
+    lower: &[u32],
+    upper: &[u32],
+    by: u32,
+) -> Result<Vec<u32, A>, AllocError>
+    requires { All (λ place. by + place < 2 ^ 32) upper.now }
+    ensures { IfOk result (λ places. places.items
+        ≡ lower.now ++ map (λ place. by + place) upper.now) }
+{
+    let mut places = Vec::from_slice(alloc, lower)?;
+    places.reserve(upper.len())?;
+    for i in 0..upper.len() {
+        places.push(by + upper[i])?;
+    }
+    Ok(places)
 }

@@ -1,5 +1,5 @@
 //! The versions of one leaf, unpacked and shared.
-ghost use Rattle.std.specs.Prelude.{◌≡◌, ◌==◌, ◌<◌, ◌^◌, length, slice_get, Some, option_map, IfOk};
+ghost use Rattle.std.specs.Prelude.{◌≡◌, ◌==◌, ◌<◌, ◌^◌, ◌++◌, length, slice_get, Some, option_map, IfOk};
 ghost use Rattle.std.specs.Arc.{arc_value};
 ghost use Rattle.stow_tree_model.specs.Order.{VersionsRise};
 ghost use Rattle.stow_tree_model.specs.Value.{bytes_at};
@@ -28,6 +28,20 @@ impl<A: Allocator> Model for Rows<A> {
     ghost Value = { List Version };
 
     ghost view = { λ r. arc_value r.packed };
+}
+
+impl<A: Allocator + Copy> Rows<A> {
+    /// These versions and others above them, in a block of their own.
+    pub fn joined(&self, alloc: A, upper: &Rows<A>) -> Result<Rows<A>, AllocError>
+        requires rise { VersionsRise (self.now ++ upper.now) }
+        requires room { length (packed_page (self.now ++ upper.now)) < 2 ^ 32 }
+        ensures { IfOk result (λ r. r ≡ self.now ++ upper.now) }
+    {
+        Rows::new(
+            alloc,
+            PackedRows::joined(alloc, &self.packed, &upper.packed)?,
+        )
+    }
 }
 
 impl<A: Allocator> Rows<A> {

@@ -24,6 +24,10 @@ const TWICE: &[u8] =
 const REMOVED: &[u8] =
     b"\x01\x00\x00\x00\x02\x00\x05\x00\x00\x00\x01a\x00\x00\x00\x00\x00\x00\x00\x01\x00\x00\x01x\x00\x05\x00\x00\x00\x01a\x00\x00\x00\x00\x00\x00\x00\x02\x01";
 
+/// The tombstone alone.
+const TOMBSTONE: &[u8] =
+    b"\x01\x00\x00\x00\x01\x00\x05\x00\x00\x00\x01a\x00\x00\x00\x00\x00\x00\x00\x02\x01";
+
 /// The number of the fault that bytes from elsewhere have, or 0.
 pub(crate) fn fault_of<A: Allocator + Copy>(alloc: A, bytes: &[u8]) -> Result<u8, AllocError> {
     let bytes = Vec::from_slice(alloc, bytes)?;
@@ -139,6 +143,40 @@ fn pushed_anew(rt: HostRuntime) -> Result<(), Fail> {
     assert_eq!(rt; entry_size(rows.get(0)), 19);
     assert_eq!(rt; entry_size(rows.get(1)), 16);
     assert!(rt; !packed.is_below(rows.get(0)));
+    Ok(())
+}
+
+/// The page of versions and of one that stands above them.
+fn with_one_above<A: Allocator + Copy>(
+    alloc: A,
+    lower: PackedRows<A>,
+    upper: PackedRows<A>,
+) -> Result<Option<Page<A>>, AllocError> {
+    if upper.len() != 1 {
+        return Ok(None);
+    }
+    let version = upper.get(0);
+    if !lower.is_below(version) || !lower.has_room_for(version) {
+        return Ok(None);
+    }
+    let rows = Rows::new(alloc, lower)?;
+    let above = Rows::new(alloc, upper)?;
+    Ok(Some(pack(&rows.joined(alloc, &above)?)?))
+}
+
+/// The pages of a put and of a tombstone, joined.
+fn joined_page<A: Allocator + Copy>(alloc: A) -> Result<Option<Page<A>>, AllocError> {
+    let (Some(lower), Some(upper)) = (rows_of(alloc, WORKED)?, rows_of(alloc, TOMBSTONE)?) else {
+        return Ok(None);
+    };
+    with_one_above(alloc, pushed(alloc, &lower)?, pushed(alloc, &upper)?)
+}
+
+#[test]
+fn joined_pages(rt: HostRuntime) -> Result<(), Fail> {
+    let alloc = rt.alloc();
+    let page = joined_page(alloc)?.ok_or("not above")?;
+    assert!(rt; page.as_bytes() == REMOVED);
     Ok(())
 }
 

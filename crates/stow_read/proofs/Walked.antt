@@ -1,5 +1,5 @@
 -- The walk down to a key's leaf.
-use Rattle.std.proofs.Common.{◌≡◌, ℕ, true, false, List, [], ◌++◌, map, Option, None, refl, ap, ◌∙◌, sym, subst, append_assoc, arith}
+use Rattle.std.proofs.Common.{◌≡◌, ℕ, ◌<◌, true, false, List, [], ◌++◌, map, Option, None, refl, ap, ◌∙◌, sym, subst, append_assoc, arith}
 use Rattle.std.specs.Prelude.{Contains}
 use Rattle.std.specs.Option.{option_map}
 use Rattle.stow_tree_model.specs.Merged.{row_message}
@@ -83,6 +83,24 @@ leaf_there {A} root here leaf c key at old now walking leads is = walking.leaves
   where
     to : LeadsTo {A = A} here key (in_child.Leaf leaf)
     to = subst (LeadsTo here key) is leads
+
+-- the nodes down to this one hold the key's leaf
+pub record IsLeading (root here : Subtree) (key : List ℕ) : Type 0 where
+  pub spanned : spans here.low top_key key ≡ true
+  pub leaves : (leaf : LeafRows) → Contains here.leaves leaf → Contains root.leaves leaf
+
+pub leading_first : (root : Subtree) (key : List ℕ) → spans root.low top_key key ≡ true → IsLeading root root key
+leading_first root key s = record { spanned = s; leaves = λ leaf c. c }
+
+pub leading_on : {A : Type 0} (root here lower : Subtree) (c : Child A) (key : List ℕ) → IsLeading root here key → LeadsTo here key c → c ≡ in_child.Node lower → (lower.height < here.height) × IsLeading root lower key
+leading_on {A} root here lower c key leading leads is = (to.lower, record { spanned = to.spanned; leaves = λ leaf k. leading.leaves leaf (to.leaves leaf k) }) where
+  to : LeadsTo {A = A} here key (in_child.Node lower)
+  to = subst (LeadsTo here key) is leads
+
+pub leading_to : {A : Type 0} (root here : Subtree) (leaf : Leaf A) (c : Child A) (key : List ℕ) → IsLeading root here key → LeadsTo here key c → c ≡ in_child.Leaf leaf → Contains root.leaves (leaf_rows leaf)
+leading_to {A} root here leaf c key leading leads is = leading.leaves (leaf_rows leaf) (to.leaves (leaf_rows leaf) (0, omega arith, refl)) where
+  to : LeadsTo {A = A} here key (in_child.Leaf leaf)
+  to = subst (LeadsTo here key) is leads
 
 -- a node has nothing of a key that it may not hold
 pub none_outside : {A : Type 0} (t : Subtree) (cs : List (Child A)) (key : List ℕ) (k : ℕ) → AreChildren t cs → spans t.low top_key key ≡ false → ops_in (messages_of t) key k ≡ None

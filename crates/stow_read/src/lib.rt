@@ -12,6 +12,7 @@
 mod descent;
 pub mod found;
 pub mod getting;
+pub mod leaf_for;
 pub mod lent_value;
 pub mod lookup;
 mod next_key;

@@ -13,15 +13,9 @@ use Rattle.stow_node.specs.Subtree.{Subtree, messages_of}
 use Rattle.stow_node.proofs.Down.{squeezed_same, same_children, MadeRoom, made_room, went_into, new_items}
 use Rattle.stow_node.proofs.Entered.{Entered, entered, not_leaf, keeps_itself}
 use Rattle.stow_node.proofs.Flushed.{on_err}
-use Rattle.stow_node.proofs.Stepping.{Stepping, stepping, CanStep, can_step, Stepped, stepped, Handed, handed, either, ok_then, err_then}
+use Rattle.stow_node.proofs.Stepping.{Stepping, stepping, CanStep, can_step, Stepped, stepped, Handed, handed, either, ok_then}
 use Rattle.stow_node.proofs.node.Node.+step.Goals as goal
 use Rattle.stow_node.proofs.node.Node.+step.Given as given
-
-pub returns-then-self-eq1-clause-err : goal.returns-then-self-eq1-clause-err
-returns-then-self-eq1-clause-err g t c =
-    err_then c.flush_leaf.result
-    (λ e. subst (Keeps (pins_in c.args.pins.now) c.args.self.now) (sym e) (subst (λ (s : Subtree). Keeps (pins_in c.args.pins.now) s s) c.self.view_is (keeps_itself c.self.inside (pins_in c.args.pins.now) c.self.invariant)))
-    c.flush_leaf.ensures.err
 
 pub invariant_of-self : goal.invariant_of-self
 invariant_of-self g t c = (same_children c.self.inside c.next_child.new.children c.self.invariant c.in_err-index.ensures.err).is_node

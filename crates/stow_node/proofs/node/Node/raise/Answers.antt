@@ -1,6 +1,5 @@
-use Rattle.std.proofs.Common.{rules, ◌≡◌, ◌+◌, ◌<◌, [], ◌∷◌, refl, ap, ◌∙◌, arith}
+use Rattle.std.proofs.Common.{◌≡◌, ◌+◌, [], ◌∷◌, refl, ap, ◌∙◌, arith}
 use Rattle.stow_node.specs.declared.child.Child.TheVariants as in_child
-use Rattle.stow_node.specs.Subtree.{Subtree}
 use Rattle.stow_message.specs.MessageBuf.{message_list}
 use Rattle.stow_node.specs.Moves.{raised}
 use Rattle.stow_node.specs.Nodes.{subtree_of}

@@ -1,0 +1,225 @@
+-- What is told of a script's events.
+use Rattle.std.proofs.Common.{◌≡◌, ℕ, ◌+◌, ◌<◌, ◌≤◌, true, false, List, [], ◌∷◌, ◌++◌, length, take, drop, map, get_or, Option, IfSome, Result, Ok, Err, refl, ap, ◌∙◌, sym, subst, inl, inr, append-nil, append_assoc}
+use Rattle.std.specs.Prelude.{codes, IfErr, IfOk, MatchResult, OnOk, OnErr}
+use Rattle.std.specs.Result.{IsErrAnd, is_err}
+use Rattle.std.specs.declared.vec.Vec.{Vec}
+use Rattle.std.proofs.lemmas.List.{take_all, take_more, take-append-drop, map-append}
+use Rattle.std.specs.Io.KnownBytes.{Appends, Keeps}
+use Rattle.std.proofs.KnownBytes.{Appends-nil, Appends-trans, Appends-kept, Keeps-refl}
+use Rattle.std.specs.declared.io.Error.{Error}
+use Rattle.std.specs.declared.io.ErrorKind.{ErrorKind}
+use Rattle.std.specs.declared.io.ErrorKind.TheVariants as kind
+use Rattle.std.specs.IoError.{error_kind}
+use Rattle.stow_model.specs.Event.{Event, event_of, On, By}
+use Rattle.stow_model.specs.declared.event.Event as coded
+use Rattle.stow_model.specs.Reply.{encoding}
+use Rattle.stow_model.specs.Event as event
+use Rattle.stow_house.specs.declared.step_result.StepResult as result
+use Rattle.stow_house.specs.StepResult.{StepResult, step_result_of, Done, Answered, More, Blank, Refused, NoMemory, CanAnswer}
+use Rattle.stow_house.specs.Steps.{HouseState, IsStepOf}
+use Rattle.stow_workers.specs.Sent.{Begins}
+use Rattle.stow.specs.declared.failure.Failure.{Failure}
+use Rattle.stow.specs.declared.failure.Failure.TheVariants as failure
+use Rattle.stow.specs.declared.failure.Place.TheVariants as place
+use Rattle.stow.specs.Lines.{IsText, WritesLine}
+use Rattle.stow.specs.Read.{IsScriptRead}
+use Rattle.stow.specs.Text.{text_of}
+use Rattle.stow.specs.Statuses.{failure_at, failure_of_kind}
+use Rattle.stow.specs.Told.{CarriesOut, CarriesOutPart, EndsTelling, IsCarriedOut, IsIdle, IsScript, IsScripted, IsWritten, Leads, Progress}
+
+-- ---- one event more
+
+leads_more : (old : HouseState) (events : List Event) (lines : List ℕ) (mid : HouseState) (e : Event) (r : StepResult) (new : HouseState) (text : List ℕ)
+    → Leads old events lines mid → IsStepOf mid e r new → IsText e r text → Leads old (events ++ e ∷ []) (lines ++ (text ++ 10 ∷ [])) new
+leads_more old [] lines mid e r new text h step is =
+    (r, new, text, [], subst (λ house. IsStepOf house e r new) h.1 step, is, ap (λ ls. ls ++ (text ++ 10 ∷ [])) h.0, (refl, refl))
+leads_more old (first ∷ events) lines mid e r new text h step is =
+    let more = leads_more h.1 events h.3 mid e r new text h.7 step is in
+    (h.0, h.1, h.2, h.3 ++ (text ++ 10 ∷ []), h.4, h.5, ap (λ ls. ls ++ (text ++ 10 ∷ [])) h.6 ∙ append_assoc h.2 (10 ∷ h.3) (text ++ 10 ∷ []), more)
+
+-- these events took place; of their lines some were written, and the rest waits
+pub record IsToldSoFar (done : List Event) (old new : Progress) (waiting : List ℕ) : Type 0 where
+  pub lines : List ℕ
+  pub leads : Leads old.house done lines new.house
+  pub sent : List ℕ
+  pub split : lines ≡ sent ++ waiting
+  pub written : Appends old.written new.written sent
+
+pub told_more : (done : List Event) (old mid : Progress) (waiting : List ℕ) (e : Event) (r : StepResult) (house : HouseState) (text more : List ℕ)
+    → IsToldSoFar done old mid waiting → IsStepOf mid.house e r house → IsText e r text → more ≡ waiting ++ (text ++ 10 ∷ [])
+    → IsToldSoFar (done ++ e ∷ []) old (record { house = house; written = mid.written }) more
+told_more done old mid waiting e r house text more told step is added = record {
+  lines = told.lines ++ (text ++ 10 ∷ []);
+  leads = leads_more old.house done told.lines mid.house e r house text told.leads step is;
+  sent = told.sent;
+  split = ap (λ ls. ls ++ (text ++ 10 ∷ [])) told.split ∙ append_assoc told.sent waiting (text ++ 10 ∷ []) ∙ ap (λ ls. told.sent ++ ls) (sym added);
+  written = told.written;
+}
+
+-- what waited was written
+pub told_sent : (done : List Event) (old mid : Progress) (waiting : List ℕ) (written : Option (List ℕ)) (none : List ℕ)
+    → IsToldSoFar done old mid waiting → Appends mid.written written waiting → none ≡ []
+    → IsToldSoFar done old (record { house = mid.house; written = written }) none
+told_sent done old mid waiting written none told appended empty = record {
+  lines = told.lines;
+  leads = told.leads;
+  sent = told.sent ++ waiting;
+  split = told.split ∙ sym (append-nil (told.sent ++ waiting)) ∙ ap (λ ls. (told.sent ++ waiting) ++ ls) (sym empty);
+  written = Appends-trans old.written mid.written written told.sent waiting told.written appended;
+}
+
+pub told_all : (events : List Event) (old mid : Progress) (waiting : List ℕ) (written : Option (List ℕ))
+    → IsToldSoFar events old mid waiting → Appends mid.written written waiting
+    → CarriesOut events old (record { house = mid.house; written = written })
+told_all events old mid waiting written told appended = record {
+  lines = told.lines;
+  leads = told.leads;
+  written = subst (Appends old.written written) (sym told.split) (Appends-trans old.written mid.written written told.sent waiting told.written appended);
+}
+
+-- of what waited a beginning was written
+pub told_part : (events done later : List Event) (old mid : Progress) (waiting front : List ℕ) (written : Option (List ℕ))
+    → events ≡ done ++ later → IsToldSoFar done old mid waiting → Begins front waiting → Appends mid.written written front
+    → CarriesOutPart events old (record { house = mid.house; written = written })
+told_part events done later old mid waiting front written split told begins appended = record {
+  done = done;
+  later = later;
+  split = split;
+  lines = told.lines;
+  leads = told.leads;
+  front = told.sent ++ front;
+  begins = (begins.0, told.split ∙ ap (λ ls. told.sent ++ ls) begins.1 ∙ sym (append_assoc told.sent front begins.0));
+  written = Appends-trans old.written mid.written written told.sent front told.written appended;
+}
+
+-- each answer that an event can have has a text
+a_text : (e : Event) (r : StepResult) → CanAnswer e r → (text : List ℕ) × IsText e r text
+a_text (On c event.Open) Done can = (codes "open", refl)
+a_text (On c event.Open) Refused can = (codes "refused", refl)
+a_text (On c event.Open) NoMemory can = (codes "memory", refl)
+a_text (On c event.Open) _ can = absurd can
+a_text (On c (event.Piece bytes)) Done can = (codes "taken", refl)
+a_text (On c (event.Piece bytes)) Refused can = (codes "refused", refl)
+a_text (On c (event.Piece bytes)) NoMemory can = (codes "memory", refl)
+a_text (On c (event.Piece bytes)) _ can = absurd can
+a_text (On c event.Serve) (Answered reply) can = (codes "reply " ++ text_of (encoding reply), refl)
+a_text (On c event.Serve) More can = (codes "more", refl)
+a_text (On c event.Serve) Blank can = (codes "blank", refl)
+a_text (On c event.Serve) Refused can = (codes "refused", refl)
+a_text (On c event.Serve) NoMemory can = (codes "memory", refl)
+a_text (On c event.Serve) _ can = absurd can
+a_text (On c event.Close) Done can = (codes "closed", refl)
+a_text (On c event.Close) Refused can = (codes "refused", refl)
+a_text (On c event.Close) _ can = absurd can
+a_text (By (event.Plan f)) r can = subst (λ s. (text : List ℕ) × IsText (By (event.Plan f)) s text) (sym can) (codes "none", refl)
+a_text (By (event.Merge f)) r can = subst (λ s. (text : List ℕ) × IsText (By (event.Merge f)) s text) (sym can) (codes "refused", refl)
+a_text (By (event.Install f)) r can = subst (λ s. (text : List ℕ) × IsText (By (event.Install f)) s text) (sym can) (codes "refused", refl)
+a_text (By (event.Resize n)) r (inl done) = subst (λ s. (text : List ℕ) × IsText (By (event.Resize n)) s text) (sym done.1) (codes "resized", refl)
+a_text (By (event.Resize n)) r (inr refused) = subst (λ s. (text : List ℕ) × IsText (By (event.Resize n)) s text) (sym refused.1) (codes "refused", refl)
+
+-- the line of the last event was not kept
+pub told_refused : (events done later : List Event) (old mid : Progress) (waiting front : List ℕ) (e : Event) (r : StepResult) (house : HouseState) (written : Option (List ℕ))
+    → events ≡ (done ++ e ∷ []) ++ later → IsToldSoFar done old mid waiting → IsStepOf mid.house e r house → CanAnswer e r
+    → Begins front waiting → Appends mid.written written front
+    → CarriesOutPart events old (record { house = house; written = written })
+told_refused events done later old mid waiting front e r house written split told step can begins appended =
+    let line = a_text e r can in
+    let more = told_more done old mid waiting e r house line.0 (waiting ++ (line.0 ++ 10 ∷ [])) told step line.1 refl in
+    told_part events (done ++ e ∷ []) later old (record { house = house; written = mid.written }) (waiting ++ (line.0 ++ 10 ∷ [])) front written split more
+    (begins.0 ++ (line.0 ++ 10 ∷ []), ap (λ ls. ls ++ (line.0 ++ 10 ∷ [])) begins.1 ∙ append_assoc front begins.0 (line.0 ++ 10 ∷ []))
+    appended
+
+-- ---- writes
+
+pub all_begins : (bytes : List ℕ) → Begins bytes bytes
+all_begins bytes = ([], sym (append-nil bytes))
+
+pub some_written : {E : Type 0} (bytes : List ℕ) (old new : Option (List ℕ)) (r : Result (Unit {0}) E) → IsWritten bytes old new r → (front : List ℕ) × Begins front bytes × Appends old new front
+some_written bytes old new (Ok done) h = (bytes, all_begins bytes, h)
+some_written bytes old new (Err error) h = h
+
+-- ---- failures
+
+ends_of_kind : (k : ErrorKind) (error : Error) → EndsTelling (failure_of_kind k place.Output error)
+ends_of_kind kind.OutOfMemory error = tt
+ends_of_kind _ error = tt
+
+pub ends_at_output : (error : Error) → EndsTelling (failure_at place.Output error)
+ends_at_output error = ends_of_kind (error_kind error) error
+
+-- an ending is handed on
+pub ended : (events : List Event) (old new : Progress) (r : Result (Unit {0}) Failure) (f : Failure) → IsErrAnd r (λ e. e ≡ f) → EndsTelling f → CarriesOutPart events old new → IsCarriedOut events old new r
+ended events old new (Ok done) f is ends part = absurd is
+ended events old new (Err e) f is ends part = (subst EndsTelling (sym is) ends, part)
+
+-- what a write that failed is told as
+pub failed_write : (r : Result (Unit {0}) Error) (f : Failure) (is : MatchResult r (λ u. ◌≡◌ {A = Result (Unit {0}) Failure} (Err f) (Ok u)) (λ error. ◌≡◌ {A = Result (Unit {0}) Failure} (Err f) (Err (failure_at place.Output error)))) → EndsTelling f
+failed_write (Ok done) f is = cc is
+failed_write (Err error) f is = let same : f ≡ failure_at place.Output error = cc is in subst EndsTelling (sym same) (ends_at_output error)
+
+pub on_ok : {T E P : Type 0} (r : Result T E) → is_err r ≡ false → OnOk r P → P
+on_ok (Ok x) ok h = h
+on_ok (Err e) ok h = cc ok
+
+pub on_err : {T E P : Type 0} (r : Result T E) → is_err r ≡ true → OnErr r P → P
+on_err (Ok x) bad h = cc bad
+on_err (Err e) bad h = h
+
+-- the events up to a place, this one, and those after it
+pub event_at : {A : Type 0} (events : List (coded.Event A)) (i : ℕ) (e : coded.Event A) → i < length events → e ≡ get_or events i e → map event_of (take (i + 1) events) ≡ map event_of (take i events) ++ event_of e ∷ []
+event_at events i e lt is = ap (map event_of) (take_more events i e lt ∙ ap (λ x. take i events ++ x ∷ []) (sym is)) ∙ map-append event_of (take i events) (e ∷ [])
+
+pub events_split : {A : Type 0} (events : List (coded.Event A)) (i : ℕ) → map event_of events ≡ map event_of (take i events) ++ map event_of (drop i events)
+events_split events i = ap (map event_of) (sym (take-append-drop i events)) ∙ map-append event_of (take i events) (drop i events)
+
+-- ---- as the code carries events out
+
+pub event_told : {A : Type 0} (events : List (coded.Event A)) (i : ℕ) (e : coded.Event A) (r : result.StepResult A) (old mid : Progress) (house : HouseState) (kept more : List ℕ)
+    → i < length events → e ≡ get_or events i e → IsToldSoFar (map event_of (take i events)) old mid kept
+    → IsStepOf mid.house (event_of e) (step_result_of r) house → WritesLine e r kept more
+    → IsToldSoFar (map event_of (take (i + 1) events)) old (record { house = house; written = mid.written }) more
+event_told events i e r old mid house kept more lt is told step line =
+    subst (λ done. IsToldSoFar done old (record { house = house; written = mid.written }) more) (sym (event_at events i e lt is))
+    (told_more (map event_of (take i events)) old mid kept (event_of e) (step_result_of r) house line.0 more told step line.1 line.2)
+
+pub part_told : {A : Type 0} (events : List (coded.Event A)) (i : ℕ) (old mid : Progress) (kept : List ℕ) (written : Option (List ℕ)) (bytes : List ℕ) (r : Result (Unit {0}) Error)
+    → IsToldSoFar (map event_of (take i events)) old mid kept → bytes ≡ kept → IsWritten bytes mid.written written r
+    → CarriesOutPart (map event_of events) old (record { house = mid.house; written = written })
+part_told events i old mid kept written bytes r told same h =
+    let some = some_written bytes mid.written written r h in
+    told_part (map event_of events) (map event_of (take i events)) (map event_of (drop i events)) old mid kept some.0 written (events_split events i) told
+    (subst (Begins some.0) same some.1) some.2
+
+pub refused_part : {A : Type 0} (events : List (coded.Event A)) (i : ℕ) (e : coded.Event A) (r : StepResult) (old mid : Progress) (house : HouseState) (kept bytes front : List ℕ) (written : Option (List ℕ))
+    → i < length events → e ≡ get_or events i e → IsToldSoFar (map event_of (take i events)) old mid kept
+    → IsStepOf mid.house (event_of e) r house → CanAnswer (event_of e) r → bytes ≡ kept → Begins front bytes → Appends mid.written written front
+    → CarriesOutPart (map event_of events) old (record { house = house; written = written })
+refused_part events i e r old mid house kept bytes front written lt is told step can same begins appended =
+    told_refused (map event_of events) (map event_of (take i events)) (map event_of (drop (i + 1) events)) old mid kept front (event_of e) r house written
+    (events_split events (i + 1) ∙ ap (λ done. done ++ map event_of (drop (i + 1) events)) (event_at events i e lt is))
+    told step can (subst (Begins front) same begins) appended
+
+pub finished_all : {A : Type 0} (events : List (coded.Event A)) (i : ℕ) (old mid : Progress) (kept bytes : List ℕ) (written : Option (List ℕ)) (r : Result (Unit {0}) Failure)
+    → length events ≤ i → IsToldSoFar (map event_of (take i events)) old mid kept → bytes ≡ kept → IsWritten bytes mid.written written r → IfErr r EndsTelling
+    → IsCarriedOut (map event_of events) old (record { house = mid.house; written = written }) r
+finished_all events i old mid kept bytes written (Ok done) all told same h ends =
+    told_all (map event_of events) old mid kept written (subst (λ es. IsToldSoFar (map event_of es) old mid kept) (take_all i events all) told) (subst (Appends mid.written written) same h)
+finished_all events i old mid kept bytes written (Err f) all told same h ends =
+    (ends, told_part (map event_of events) (map event_of (take i events)) (map event_of (drop i events)) old mid kept h.0 written (events_split events i) told (subst (Begins h.0) same h.1) h.2)
+
+-- ---- as the code writes
+
+pub checked_ok : (r : Result (Unit {0}) Error) (u : Unit {0}) (bytes : List ℕ) (old new : Option (List ℕ))
+    → MatchResult r (λ v. ◌≡◌ {A = Result (Unit {0}) Failure} (Ok u) (Ok v)) (λ error. ◌≡◌ {A = Result (Unit {0}) Failure} (Ok u) (Err (failure_at place.Output error)))
+    → IsWritten bytes old new r → Appends old new bytes
+checked_ok (Ok done) u bytes old new is h = h
+checked_ok (Err error) u bytes old new is h = cc is
+
+pub flushed : (bytes : List ℕ) (old mid new : Option (List ℕ)) (r : Result (Unit {0}) Failure) → Appends old mid bytes → Keeps mid new → IsWritten bytes old new r
+flushed bytes old mid new (Ok done) appended kept = Appends-kept old mid new bytes appended kept
+flushed bytes old mid new (Err f) appended kept = (bytes, all_begins bytes, Appends-kept old mid new bytes appended kept)
+
+-- what holds of a value that another error was put in the place of
+pub ok_holds : {T E : Type 0} (F : Type 0) (P : T → Type 0) (r : Result T E) (t : T) → MatchResult r (λ x. ◌≡◌ {A = Result T F} (Ok t) (Ok x)) (λ e. ⊥) → IfOk r P → P t
+ok_holds F P (Ok x) t is h = let same : x ≡ t = cc is in subst P same h
+ok_holds F P (Err e) t is h = absurd is

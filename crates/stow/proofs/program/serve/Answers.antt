@@ -1,0 +1,12 @@
+use Rattle.std.proofs.Common.{◌≡◌, [], inr, ◌∙◌, subst}
+use Rattle.std.specs.Arc.{arc_value}
+use Rattle.stow_house.specs.Steps.{Stands, state_of}
+use Rattle.stow.proofs.Telling.{ok_holds}
+use Rattle.stow.proofs.program.serve.Goals as goal
+
+pub returns : goal.returns
+returns g c =
+    let whole : arc_value c.in_ok-tenants.tenants ≡ c.args.tenants = ok_holds _ (λ lent. arc_value lent ≡ c.args.tenants) c.new.result c.in_ok-tenants.tenants c.in_ok-tenants.ensures.cases c.new.ensures.ok in
+    let entries = c.in_ok-core.ensures.entries ∙ c.in_ok-clone.ensures.cases ∙ whole in
+    let stands = c.new-in-Script.ensures.stands c.in_ok-core.ensures.empty in
+    rw c.in-Script.is (inr (state_of c.new-in-Script.result, state_of c.script.new.house, subst (λ es. Stands es (state_of c.new-in-Script.result) []) entries stands, c.script.ensures))

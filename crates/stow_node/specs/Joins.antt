@@ -1,0 +1,89 @@
+-- Small leaves that become one with a neighbour.
+use Rattle.std.specs.Prelude.{◌≡◌, ◌⊎◌, ℕ, zero, suc, ◌*◌, ◌<◌, ◌≤◌, List, ◌∷◌, ◌++◌, map, length, slice_get, Some, Option, None, Bool, true, false}
+use Rattle.stow_leaf.specs.Intervals.{top_key}
+use Rattle.stow_leaf.specs.LeafRows.{LeafRows, leaf_rows, LeavesTo}
+use Rattle.stow_leaf.specs.declared.leaf.Leaf.{Leaf}
+use Rattle.stow_page.specs.Format.{packed_page}
+use Rattle.stow_tree_model.specs.Version.{Version}
+use Rattle.stow_node.specs.declared.child.Child.{Child}
+use Rattle.stow_node.specs.declared.child.Child.TheVariants as in_child
+use Rattle.stow_node.specs.Nodes.{parts_of}
+use Rattle.stow_node.specs.Parts.{leaves_in}
+
+-- the page is below a quarter of the target
+abbrev pub IsSmall : ℕ → List Version → Type 0
+IsSmall target rows = 4 * length (packed_page rows) < target
+
+-- of two neighbours' rows one page is small, and one page of both fits the target
+abbrev pub AreToJoin : ℕ → List Version → List Version → Type 0
+AreToJoin target lower upper = (IsSmall target lower ⊎ IsSmall target upper)
+    × (length (packed_page (lower ++ upper)) ≤ target)
+
+-- two neighbours that are to join became one leaf, from the lower one's fence on
+pub record Joins (target : ℕ) (old new : List LeafRows) : Type 0 where
+  pub before : List LeafRows
+  pub lower : LeafRows
+  pub upper : LeafRows
+  pub after : List LeafRows
+  pub are_to_join : AreToJoin target lower.1 upper.1
+  pub were : old ≡ before ++ (lower ∷ upper ∷ after)
+  pub are : new ≡ before ++ ((lower.0, lower.1 ++ upper.1) ∷ after)
+
+-- so many joins, one after another
+abbrev pub JoinTimes : ℕ → ℕ → List LeafRows → List LeafRows → Type 0
+JoinTimes zero target old new = new ≡ old
+JoinTimes (suc n) target old new = (middle : List LeafRows) × JoinTimes n target old middle
+    × Joins target middle new
+
+-- some joins, or none
+abbrev pub AreJoined : ℕ → List LeafRows → List LeafRows → Type 0
+AreJoined target old new = (n : ℕ) × JoinTimes n target old new
+
+-- no neighbours are left that are to join
+abbrev pub NoneToJoin : ℕ → List LeafRows → Type 0
+NoneToJoin target leaves = (new : List LeafRows) → Joins target leaves new → ⊥
+
+-- ---- children that are leaves
+
+abbrev pub leaves_of : {A : Type 0} → List (Child A) → List LeafRows
+leaves_of children = leaves_in (parts_of children)
+
+-- the children are leaves, which share out the keys
+pub record AreLeaves {A : Type 0} (children : List (Child A)) : Type 0 where
+  pub leaves : List (Leaf A)
+  pub are : children ≡ map in_child.Leaf leaves
+  pub tiled : LeavesTo top_key (map leaf_rows leaves)
+
+-- the child is a leaf
+pub record IsLeafAt {A : Type 0} (children : List (Child A)) (i : ℕ) : Type 0 where
+  pub leaf : Leaf A
+  pub at : slice_get children i ≡ Some (in_child.Leaf leaf)
+
+-- a leaf at this place, and the one above it
+pub record Pair {A : Type 0} (children : List (Child A)) (i : ℕ) : Type 0 where
+  pub before : List (Leaf A)
+  pub lower : Leaf A
+  pub upper : Leaf A
+  pub after : List (Leaf A)
+  pub place : length before ≡ i
+  pub are : children ≡ map in_child.Leaf (before ++ (lower ∷ upper ∷ after))
+  pub tiled : LeavesTo top_key (map leaf_rows (before ++ (lower ∷ upper ∷ after)))
+
+-- one leaf with these rows in the place of the pair
+abbrev pub with_joined : {A : Type 0} {children : List (Child A)} {i : ℕ} → Pair children i
+    → List Version → List (Child A)
+with_joined pair rows =
+    map in_child.Leaf (pair.before ++ ((record pair.lower { rows = rows }) ∷ pair.after))
+
+-- the rows of both, if they are to join
+abbrev pub IsJoinOf : ℕ → List Version → List Version → Option (List Version) → Type 0
+IsJoinOf target lower upper (Some rows) = AreToJoin target lower upper × (rows ≡ lower ++ upper)
+IsJoinOf target lower upper None = AreToJoin target lower upper → ⊥
+
+-- the pair is joined, or is not to join
+abbrev pub JoinsPair : {A : Type 0} (target : ℕ) {children : List (Child A)} {i : ℕ}
+    → Pair children i → List (Child A) → Bool → Type 0
+JoinsPair target pair children' true = AreToJoin target pair.lower.rows pair.upper.rows
+    × (children' ≡ with_joined pair (pair.lower.rows ++ pair.upper.rows))
+JoinsPair target {children} pair children' false = (children' ≡ children)
+    × (AreToJoin target pair.lower.rows pair.upper.rows → ⊥)

@@ -1,0 +1,10 @@
+pub mod Counted
+pub mod Sets
+pub mod Lowest
+pub mod Put
+pub mod Putting
+pub mod Totalled
+pub mod Held
+pub mod Made
+pub mod Read
+pub mod Numbering

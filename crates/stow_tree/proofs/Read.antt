@@ -1,0 +1,21 @@
+-- What reads of the root tell of the tree.
+use Rattle.std.proofs.Common.{◌≡◌, ℕ, List, map, Option, Result, Ok, Err, IfOk, refl, ap, ◌∙◌, sym, subst}
+use Rattle.stow_node.specs.Subtree.{Subtree, messages_of}
+use Rattle.stow_tree_model.specs.Messages.{ops_of, ops_in, value}
+use Rattle.stow_tree_model.specs.Operations.{Operations, NumberedValue, latest}
+use Rattle.stow_tree_model.specs.Version.{Version}
+use Rattle.stow_read.specs.Range.{KeyValue, IsRange}
+use Rattle.stow_read.specs.Versions.{AreVersionsOf}
+use Rattle.stow_tree.specs.TreeState.{TreeState, tree_messages, IsRead}
+use Rattle.stow_tree.proofs.Sets.{ops_messages, all_ops}
+
+-- what the root's messages tell of a key
+pub root_ops : (t : TreeState) (root : Subtree) (key : List ℕ) → root ≡ t.root → ops_in (messages_of root) key ≡ ops_of (tree_messages t) key
+root_ops t root key is = ap (λ r. ops_in (messages_of r) key) is ∙ sym (ops_messages t key)
+
+-- and of all keys
+pub all_root_ops : (t : TreeState) (root : Subtree) → root ≡ t.root → ops_in (messages_of root) ≡ ops_of (tree_messages t)
+all_root_ops t root is = ap (λ r. ops_in (messages_of r)) is ∙ sym (all_ops t)
+
+pub read_then : (s t u : TreeState) → IsRead s t → IsRead t u → IsRead s u
+read_then s t u a b = record { root = b.root ∙ a.root; limit = b.limit ∙ a.limit }

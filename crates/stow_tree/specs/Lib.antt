@@ -1,0 +1,4 @@
+pub mod Shapes
+pub mod TreeState
+pub mod Putting
+pub mod Reports

@@ -1,0 +1,19 @@
+//! The buffered tree (Brodal and Fagerberg 2003; Bender and others 2015), which holds the rows of all tenants.
+//!
+//! A `Tree` is seen as a root with all that stands below it, and the leaves that are held unpacked. What it means is one set
+//! of messages (`specs/TreeState.antt`): all changes in its buffers, and those that the rows of its leaves stand for. A call's
+//! messages are put in two steps: `reserve` makes room for them, which may move others towards the leaves and changes nothing
+//! that the tree means under the pins that it is given; `put_all` then takes no memory and cannot fail. Reads (`versions`,
+//! `get`, `range`) tell what the set of messages tells, and move none.
+//!
+//! A body of `reserve` or of a read that always answers `AllocError` meets its contract, and so does a cache that holds
+//! nothing: tests call each with ample memory, and with each request refused, and look at what the cache holds.
+#![tactic(auto)]
+
+mod counting;
+pub mod shape_report;
+#[cfg(test)]
+mod tests;
+pub mod tree;
+pub mod tree_fault;
+pub mod tree_shape;

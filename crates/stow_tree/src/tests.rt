@@ -1,0 +1,9 @@
+//! What no clause says: that the calls succeed where there is memory, withstand each refusal, and hold leaves; and that a
+//! tree which grows through all its shapes tells what a plain list of its messages tells.
+mod calls;
+mod changes;
+mod grown;
+mod numbered;
+mod random;
+mod refusals;
+mod run;

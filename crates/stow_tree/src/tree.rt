@@ -1,0 +1,215 @@
+//! The tree.
+ghost use Rattle.std.specs.Prelude.{◌≡◌, ◌<◌, ◌^◌, map, option_map, IfOk, OnOk, OnErr, Err};
+ghost use Rattle.std.specs.FinMap as finite;
+ghost use Rattle.stow_flush.specs.Rooms.{FitsSqueezed};
+ghost use Rattle.stow_leaf_cache.specs.Cache.{cache_resized};
+ghost use Rattle.stow_merge.specs.Pins.{pins_in};
+ghost use Rattle.stow_node.specs.Moves.{IsSqueezed};
+ghost use Rattle.stow_read.specs.Found.{found_value};
+ghost use Rattle.stow_read.specs.Range.{IsRange, key_value};
+ghost use Rattle.stow_read.specs.Versions.{AreVersionsOf};
+ghost use Rattle.stow_tree_model.specs.Messages.{ops_of, value};
+ghost use Rattle.stow_tree_model.specs.TreeMessage.{message_of};
+ghost use Rattle.stow_tree_model.specs.VersionBuf.{version_of_buf};
+ghost use Rattle.stow_tree.specs.declared.tree_fault.TreeFault.TheVariants as fault;
+ghost use Rattle.stow_tree.specs.Putting.{bytes_of, CanReserve, IsReserved, Puts};
+ghost use Rattle.stow_tree.specs.Reports.{IsReport};
+ghost use Rattle.stow_tree.specs.Shapes.{IsInRange};
+ghost use Rattle.stow_tree.specs.TreeState.{tree_messages, new_tree, AgreeUnder, IsRead};
+
+use crate::counting::counts_of;
+use crate::shape_report::ShapeReport;
+use crate::tree_fault::TreeFault;
+use crate::tree_shape::TreeShape;
+use std::alloc::{AllocError, Allocator, Global};
+use std::marker::Model;
+use stow_flush::room::make_room;
+use stow_leaf_cache::leaf_cache::LeafCache;
+use stow_merge::pins::Pins;
+use stow_message::head::size;
+use stow_node::node::Node;
+use stow_raw::raw_buf::RawBuf;
+use stow_read::found::Found;
+use stow_read::getting::get;
+use stow_read::leaf_for::leaf_for;
+use stow_read::range::range;
+use stow_read::row::Row;
+use stow_read::versions::versions;
+use stow_tree_model::message::Message;
+use stow_tree_model::tenant_key::TenantKey;
+use stow_tree_model::version_buf::VersionBuf;
+
+/// The changes and rows of all tenants, in nodes and leaves.
+#[derive(Drop)]
+pub struct Tree<A: Allocator + Copy = Global> {
+    root: Node<A>,
+    /// A block of the node size, into which a buffer is copied where its dead bytes are dropped.
+    spare: RawBuf<A>,
+    cache: LeafCache<A>,
+}
+
+impl<A: Allocator + Copy> Model for Tree<A> {
+    ghost use Rattle.stow_tree.specs.TreeState.{TreeState, IsTree};
+
+    ghost Value = { TreeState };
+
+    ghost view = { λ t. record { root = t.root; cache = t.cache } };
+
+    ghost invariant = { IsTree };
+}
+
+/// The bytes that messages take in a buffer.
+fn total(messages: &[Message<'_>]) -> usize
+    requires { bytes_of (map message_of messages.now) < 2 ^ 32 }
+    ensures { result ≡ bytes_of (map message_of messages.now) }
+{
+    let mut total = 0;
+    for i in 0..messages.len() {
+        total += size(messages[i]);
+    }
+    total
+}
+
+impl<A: Allocator + Copy> Tree<A> {
+    /// A tree of no messages: one empty leaf below a root. It is refused where a size is out of its range, and where
+    /// memory is.
+    pub fn new(alloc: A, shape: TreeShape) -> Result<Tree<A>, TreeFault>
+        ensures made { IfOk result (λ tree. tree ≡ new_tree shape) }
+        ensures empty { IfOk result (λ tree. tree_messages tree ≡ finite.empty) }
+        ensures in_range { IsInRange shape → OnErr result (result ≡ Err fault.Memory) }
+        ensures out_of_range { ¬ (IsInRange shape) → result ≡ Err fault.Shape }
+    {
+        if !shape.is_in_range() {
+            return Err(TreeFault::Shape);
+        }
+        Ok(Tree {
+            root: Node::first(alloc, shape.nodes())?,
+            spare: RawBuf::with_capacity(alloc, shape.buffer as usize)?,
+            cache: LeafCache::new(alloc, shape.cache as usize)?,
+        })
+    }
+
+    /// Makes the room that `put_all` of these messages needs. Where they fit beside the root's, dead bytes dropped, no
+    /// message moves; else some move towards the leaves. Where memory is refused the tree means what it did.
+    pub fn reserve(
+        &mut self,
+        alloc: A,
+        messages: &[Message<'_>],
+        pins: &Pins<A>,
+    ) -> Result<(), AllocError>
+        requires can { CanReserve self.old (map message_of messages.now) }
+        ensures reserved { OnOk result (IsReserved self.new (map message_of messages.now)) }
+        ensures agrees { AgreeUnder (pins_in pins.now) (tree_messages self.old) (tree_messages self.new) }
+        ensures unmoved { FitsSqueezed (bytes_of (map message_of messages.now)) self.old.root
+            → IsSqueezed self.old.root self.new.root }
+        ensures shape { self.new.root.shape ≡ self.old.root.shape }
+        ensures limit { self.new.cache.limit ≡ self.old.cache.limit }
+    {
+        make_room(
+            alloc,
+            &mut self.root,
+            total(messages),
+            pins,
+            &mut self.spare,
+            &mut self.cache,
+        )
+    }
+
+    /// Puts messages into the tree, for which there is room. It takes no memory and cannot fail.
+    pub fn put_all(&mut self, messages: &[Message<'_>])
+        requires { IsReserved self.old (map message_of messages.now) }
+        ensures { Puts (map message_of messages.now) self.old self.new }
+    {
+        for i in 0..messages.len() {
+            self.root.push(messages[i]);
+        }
+    }
+
+    /// All versions of the key, from the oldest: at each number the newest one up to it has what the key has there. A
+    /// removal's version has no value.
+    pub fn versions(
+        &mut self,
+        alloc: A,
+        key: TenantKey<'_>,
+    ) -> Result<Vec<VersionBuf<A>, A>, AllocError>
+        ensures versions { IfOk result (λ versions. AreVersionsOf
+            (ops_of (tree_messages self.old) key.entry.bytes.now) key.entry.bytes.now
+            (map version_of_buf versions.items)) }
+        ensures same { IsRead self.old self.new }
+    {
+        self.offer(key);
+        versions(alloc, &self.root, key)
+    }
+
+    /// What the key has at a number. It is copied once where appends make it, and lent else. The rows of the leaf that
+    /// was looked into are offered to the cache by `offer`.
+    pub fn get(
+        &self,
+        alloc: A,
+        key: TenantKey<'_>,
+        at: u64,
+    ) -> Result<Option<Found<'_, A>>, AllocError>
+        ensures { IfOk result (λ found. option_map found_value found
+            ≡ value (tree_messages self.now) key.entry.bytes.now at) }
+    {
+        Ok(get(alloc, &self.root, key, at)?.found)
+    }
+
+    /// The first `count` keys from `from` on and below `to` that have a value at a number, in order, with it.
+    pub fn range(
+        &mut self,
+        alloc: A,
+        from: TenantKey<'_>,
+        to: TenantKey<'_>,
+        at: u64,
+        count: usize,
+    ) -> Result<Vec<Row<A>, A>, AllocError>
+        ensures rows { IfOk result (λ rows. IsRange (ops_of (tree_messages self.old)) from.entry.bytes.now
+            to.entry.bytes.now at count (map key_value rows.items)) }
+        ensures same { IsRead self.old self.new }
+    {
+        let rows = range(alloc, &self.root, from, to, at, count)?;
+        for i in 0..rows.len() {
+            self.offer(rows[i].key.as_key());
+        }
+        Ok(rows)
+    }
+
+    /// Holds the rows of the key's leaf, in front of all, where there is memory.
+    pub fn offer(&mut self, key: TenantKey<'_>)
+        ensures { IsRead self.old self.new }
+    {
+        let Some(leaf) = leaf_for(&self.root, key) else {
+            return;
+        };
+        let low = leaf.low.as_key();
+        if self.cache.find(low.bytes).is_some() {
+            return;
+        }
+        if let Ok(rows) = leaf.rows.share() {
+            self.cache.keep(low.bytes, rows);
+        }
+    }
+
+    /// Holds at most so many leaves from now on; the last used stay. Where memory is refused nothing changes.
+    pub fn resize(&mut self, leaves: usize) -> Result<(), AllocError>
+        ensures root { self.new.root ≡ self.old.root }
+        ensures ok { OnOk result (self.new.cache ≡ cache_resized leaves self.old.cache) }
+        ensures err { OnErr result (self.new.cache ≡ self.old.cache) }
+    {
+        self.cache.resize(leaves)
+    }
+
+    /// How large it is.
+    pub fn shape(&self) -> ShapeReport
+        ensures { IsReport self.now result }
+    {
+        let counts = counts_of(&self.root);
+        ShapeReport {
+            height: self.root.height(),
+            leaves: counts.leaves,
+            buffered: counts.buffered,
+            cached: self.cache.len() as u64,
+        }
+    }
+}

@@ -1,0 +1,59 @@
+//! How large the parts of a tree may grow, and its cache.
+ghost use Rattle.std.specs.Prelude.{◌≡◌, ◌↔◌, IsTrue};
+ghost use Rattle.stow_tree.specs.Shapes.{IsInRange, nodes_of};
+
+use stow_node::shape::Shape;
+
+/// The fewest bytes of a node's buffer.
+pub const LEAST_BUFFER: u32 = 131_072;
+/// The most bytes of a node's buffer.
+pub const MOST_BUFFER: u32 = 4_194_304;
+/// The fewest bytes of a page that a leaf is cut by.
+pub const LEAST_LEAF: u32 = 4_096;
+/// The most bytes of a page that a leaf is cut by.
+pub const MOST_LEAF: u32 = 1_048_576;
+/// The fewest children that a node may be let have.
+pub const LEAST_FAN_OUT: u32 = 4;
+/// The most children that a node may be let have.
+pub const MOST_FAN_OUT: u32 = 256;
+/// The most leaves that may be held unpacked.
+pub const MOST_CACHE: u32 = 65_536;
+
+/// How large the parts of a tree may grow, and its cache.
+#[derive(Clone, Copy)]
+pub struct TreeShape {
+    /// The bytes of a node's buffer.
+    pub buffer: u32,
+    /// The bytes of a page that a leaf is cut by.
+    pub leaf: u32,
+    /// The most children that a node may have.
+    pub fan_out: u32,
+    /// The most leaves that are held unpacked.
+    pub cache: u32,
+}
+
+impl TreeShape {
+    /// Whether each size is within its limits.
+    pub fn is_in_range(self) -> bool
+        ensures { IsTrue result ↔ IsInRange self }
+    {
+        LEAST_BUFFER <= self.buffer
+            && self.buffer <= MOST_BUFFER
+            && LEAST_LEAF <= self.leaf
+            && self.leaf <= MOST_LEAF
+            && LEAST_FAN_OUT <= self.fan_out
+            && self.fan_out <= MOST_FAN_OUT
+            && self.cache <= MOST_CACHE
+    }
+
+    /// The sizes of its nodes and leaves.
+    pub(crate) fn nodes(self) -> Shape
+        ensures { result ≡ nodes_of self }
+    {
+        Shape {
+            buffer: self.buffer,
+            leaf: self.leaf,
+            fan_out: self.fan_out,
+        }
+    }
+}
