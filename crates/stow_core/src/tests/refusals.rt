@@ -145,7 +145,10 @@ fn prepares_withstand_each_refusal(rt: HostRuntime) -> Result<(), Fail> {
     ] {
         let needed = refusals(&heap, global, Case { line, told, a, b })?;
         let called = asked_by_call(&heap, global, line)?;
-        assert!(rt; needed == Some(asked) && called == asked, "{line}");
+        assert!(rt;
+            needed == Some(asked) && called == asked,
+            "{line} {called} {needed:?}"
+        );
     }
     Ok(())
 }
