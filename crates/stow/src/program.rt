@@ -21,6 +21,7 @@ use stow_house::house::House;
 use stow_login::explaining::explain;
 use stow_login::tenants::Tenants;
 use stow_login::tenants_fault::TenantsFault;
+use stow_tree::tree_shape::TreeShape;
 
 /// Does what the words ask for, the first being the program's own name, and gives the exit status: 0; 2
 /// where the arguments or the script are refused; 3 where the tenant file is; 4 where input or output failed;
@@ -105,7 +106,9 @@ pub fn serve<'a, A: Allocator + Copy, R: Read, W: Write>(
         (W.contents output.new) result }
 {
     let tenants = Arc::new(alloc, tenants).map_err(AllocError::from)?;
-    let mut core = Core::new(alloc, tenants.clone()?)?;
+    let Ok(mut core) = Core::new(alloc, tenants.clone()?, TreeShape::USUAL) else {
+        return Err(Failure::Memory);
+    };
     match task {
         Task::Pipe => pipe(alloc, &tenants, &mut core, input, output),
         Task::Script => script(alloc, &mut House::new(alloc, core), input, output),
