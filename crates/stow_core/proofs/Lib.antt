@@ -8,3 +8,4 @@ pub mod Told
 pub mod Taking
 pub mod Legality
 pub mod Answered
+pub mod Sends
