@@ -94,8 +94,8 @@ fn put_removal<A: Allocator + Copy>(tree: &mut Tree<A>, number: u64, key: &[u8])
     requires room { IsReserved tree.old (removal_of number key.now ∷ []) }
     ensures { Puts (removal_of number key.now ∷ []) tree.old tree.new }
 {
-    let messages = [removal_message(number, key)];
-    tree.put_all(&messages);
+    let removal = [removal_message(number, key)];
+    tree.put_all(&removal);
 }
 
 /// Takes the values of these keys out of the tree. It takes no memory and cannot fail.

@@ -149,3 +149,58 @@ fn prepares_withstand_each_refusal(rt: HostRuntime) -> Result<(), Fail> {
     }
     Ok(())
 }
+
+/// A core in which tenant 1 has also so many long values.
+fn filled<A: Allocator + Copy>(alloc: A, global: Global, keys: u32) -> Result<Core<A>, AllocError> {
+    let mut core = started(alloc, global)?;
+    for key in 0..keys {
+        let line = format!(in alloc; "SET {key} LONG")?;
+        let _done = is_told(&mut core, alloc, 1, line.as_str(), "OK")?;
+    }
+    Ok(core)
+}
+
+/// Whether one more long value withstands the refusal of this request for memory, or `None` if it asks for fewer.
+fn long_withstands<B: Allocator>(
+    heap: &Refusing<B>,
+    global: Global,
+    keys: u32,
+    at: u64,
+) -> Result<Option<bool>, AllocError> {
+    let mut core = filled(heap, global, keys)?;
+    let words = words_of(heap, "SET c LONG")?;
+    if !is_refused(heap, &mut core, &words, at) {
+        return Ok(None);
+    }
+    let stood = stands(&mut core, heap, "$old", "nil")?;
+    let kept = is_told(&mut core, heap, 1, "STRLEN 5", ":20000")?;
+    let done = commits(heap, &mut core, &words, "OK")?;
+    let now = is_told(&mut core, heap, 1, "STRLEN c", ":20000")?;
+    Ok(Some(stood && kept && done && now))
+}
+
+/// How many requests for memory one more long value makes, if it withstands the refusal of each.
+fn long_refusals<B: Allocator>(
+    heap: &Refusing<B>,
+    global: Global,
+    keys: u32,
+) -> Result<Option<u64>, AllocError> {
+    for at in 0..1_000u64 {
+        match long_withstands(heap, global, keys, at)? {
+            None => return Ok(Some(at)),
+            Some(true) => {}
+            Some(false) => return Ok(None),
+        }
+    }
+    Ok(None)
+}
+
+// A root's buffer holds six of these values, so the seventh takes a flush, which asks for much more.
+#[test]
+fn flushes_withstand_each_refusal(rt: HostRuntime) -> Result<(), Fail> {
+    let global = rt.alloc();
+    let heap = Refusing::new(global);
+    let asked = long_refusals(&heap, global, 6)?;
+    assert!(rt; asked.is_some_and(|asked| asked > 10), "{asked:?}");
+    Ok(())
+}
