@@ -50,14 +50,22 @@ fn reports<A: Allocator + Copy>(
 
 #[test]
 fn leaves_become_few_again(rt: HostRuntime) -> Result<(), Fail> {
-    let Some([grown, less, few]) = reports(rt.alloc(), 4)? else {
+    let Some([grown, less, few]) = reports(rt.alloc(), 8)? else {
         panic!(rt; "they differ");
     };
-    assert!(rt; grown.height >= 3, "{grown:?}");
-    assert!(rt; less.leaves < grown.leaves, "{less:?}");
-    assert!(rt;
-        few.height >= 3 && few.leaves * 2 <= grown.leaves,
-        "{few:?}"
-    );
+    assert_eq!(rt; (grown.height, less.height, few.height), (3, 3, 3));
+    assert!(rt; grown.leaves >= 60, "{grown:?}");
+    assert!(rt; few.leaves <= 30, "{few:?}");
+    Ok(())
+}
+
+// Of four places a node right above leaves fills two or three, and nodes are not joined: so the leaves stay many there.
+#[test]
+fn leaves_become_fewer_in_the_smallest_shape(rt: HostRuntime) -> Result<(), Fail> {
+    let Some([grown, more, fewer]) = reports(rt.alloc(), 4)? else {
+        panic!(rt; "they differ");
+    };
+    assert_eq!(rt; (grown.height, more.height, fewer.height), (6, 6, 6));
+    assert!(rt; fewer.leaves < more.leaves, "{more:?}, {fewer:?}");
     Ok(())
 }

@@ -21,7 +21,7 @@ const TENANTS: u32 = 3;
 const PLACES: u32 = 1_000;
 
 /// How long a short value is.
-const SHORT: u32 = 300;
+const SHORT: u32 = 1_000;
 
 /// What a run is of.
 #[derive(Clone, Copy)]
