@@ -19,12 +19,16 @@ fn shrink<A: Allocator + Copy>(
     run.agrees(alloc)
 }
 
-/// How large the tree is after 3,000 random changes, and after 40 and 80 rounds of writes and removals, if it tells what the
-/// plain list does.
-fn reports<A: Allocator + Copy>(
-    alloc: A,
-    fan_out: u32,
-) -> Result<Option<[ShapeReport; 3]>, AllocError> {
+/// How large a tree is after 3,000 random changes, and after 40 and 80 rounds of writes and removals.
+#[derive(Clone, Copy, Debug)]
+struct Reports {
+    grown: ShapeReport,
+    middle: ShapeReport,
+    last: ShapeReport,
+}
+
+/// How large it is, if it tells what the plain list does.
+fn reports_of<A: Allocator + Copy>(alloc: A, fan_out: u32) -> Result<Option<Reports>, AllocError> {
     let course = Course {
         shape: TreeShape {
             fan_out,
@@ -37,12 +41,16 @@ fn reports<A: Allocator + Copy>(
     let mut run = Run::new(alloc, course)?;
     let is_grown = run.go_on(alloc, 3_000)?;
     let grown = run.tree.tree.shape();
-    let is_less = shrink(alloc, &mut run, 40)?;
-    let less = run.tree.tree.shape();
-    let is_few = shrink(alloc, &mut run, 40)?;
-    let few = run.tree.tree.shape();
-    Ok(if is_grown && is_less && is_few {
-        Some([grown, less, few])
+    let is_middle = shrink(alloc, &mut run, 40)?;
+    let middle = run.tree.tree.shape();
+    let is_last = shrink(alloc, &mut run, 40)?;
+    let last = run.tree.tree.shape();
+    Ok(if is_grown && is_middle && is_last {
+        Some(Reports {
+            grown,
+            middle,
+            last,
+        })
     } else {
         None
     })
@@ -50,22 +58,30 @@ fn reports<A: Allocator + Copy>(
 
 #[test]
 fn leaves_become_few_again(rt: HostRuntime) -> Result<(), Fail> {
-    let Some([grown, less, few]) = reports(rt.alloc(), 8)? else {
+    let Some(reports) = reports_of(rt.alloc(), 8)? else {
         panic!(rt; "they differ");
     };
-    assert_eq!(rt; (grown.height, less.height, few.height), (3, 3, 3));
-    assert!(rt; grown.leaves >= 60, "{grown:?}");
-    assert!(rt; few.leaves <= 30, "{few:?}");
+    assert!(rt;
+        reports.grown.height == 3 && reports.last.height == 3,
+        "{reports:?}"
+    );
+    assert!(rt;
+        reports.grown.leaves >= 60 && reports.last.leaves <= 30,
+        "{reports:?}"
+    );
     Ok(())
 }
 
 // Of four places a node right above leaves fills two or three, and nodes are not joined: so the leaves stay many there.
 #[test]
 fn leaves_become_fewer_in_the_smallest_shape(rt: HostRuntime) -> Result<(), Fail> {
-    let Some([grown, more, fewer]) = reports(rt.alloc(), 4)? else {
+    let Some(reports) = reports_of(rt.alloc(), 4)? else {
         panic!(rt; "they differ");
     };
-    assert_eq!(rt; (grown.height, more.height, fewer.height), (6, 6, 6));
-    assert!(rt; fewer.leaves < more.leaves, "{more:?}, {fewer:?}");
+    assert!(rt;
+        reports.grown.height == 6 && reports.last.height == 6,
+        "{reports:?}"
+    );
+    assert!(rt; reports.last.leaves < reports.middle.leaves, "{reports:?}");
     Ok(())
 }
