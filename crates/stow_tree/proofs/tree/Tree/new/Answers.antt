@@ -1,6 +1,5 @@
 use Rattle.std.proofs.Common.{refl, arith}
 use Rattle.stow_tree.proofs.Made.{new_is_tree, new_is_empty}
-use Rattle.stow_tree.proofs.Putting.{state_of}
 use Rattle.stow_tree.proofs.tree.Tree.new.Goals as goal
 
 pub overflow_cast-shape-2 : goal.overflow_cast-shape-2
