@@ -12,8 +12,9 @@
 //!   beginning where the writer fails or memory is refused. After a write that failed the messages of its piece are
 //!   still served.
 //! - The reader or the writer is said to have failed only where one of its calls did (`source::Source`,
-//!   `sink::Sink`). `counted::Counted` makes these of any reader or writer, tries interrupted calls again, and keeps
-//!   why the last call that failed did.
+//!   `sink::Sink`). `counted::Counted` makes these of any reader or writer that is lent, tries interrupted calls again,
+//!   and keeps why the last call that failed did. The reader and the writer stay those that were lent, so the lender
+//!   knows what is left of the one and what the other holds.
 //! - Through a core with empty stores it is the history of one connection, of which the isolation theorem speaks
 //!   (`laws`, whose body is empty, so no wrong body can be tried on it).
 //!
@@ -25,7 +26,7 @@
 //! which breaks off, faults or reads nothing leaves its worker to the next one, which fault it tells, and that it
 //! ends. Nothing is said of a socket's bytes, of the channel that hands connections over, or of when a thread runs;
 //! a pool that serves nobody meets its contract. That a refused thread, or refused memory, gives the seats back is
-//! proved, and no test refuses the pool either.
+//! proved; tests refuse each request for memory, and no thread, since a test can lend nothing that starts threads.
 //!
 //! Only tested of a connection: that want of memory is told only where it was refused, so a body that gives up with it is right by
 //! the contracts; that replies are written before the next piece is read, and once much of them waits; that

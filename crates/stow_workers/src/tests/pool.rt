@@ -1,19 +1,20 @@
 //! A pool over loopback: workers side by side, a journal of what they served, and clients that break off.
-ghost use Rattle.std.specs.Prelude.{◌≡◌, IfOk, vec_len};
+ghost use Rattle.std.specs.Prelude.{◌≡◌, ◌<◌, IfOk, vec_len};
 
 use crate::open_gate::OpenGate;
 use crate::pool::Pool;
 use crate::pool_fault::PoolFault;
 use crate::tests::hold::Hold;
+use crate::tests::{HELLO, REPLIES, may_be_told};
 use std::alloc::{AllocError, Allocator, Global};
 use std::collections::BTreeMap;
 use std::io;
 use std::io::{ErrorKind, Read, Write};
-use std::net::{Net, SocketAddr, TcpListener, TcpStream};
+use std::net::{Net, Shutdown, SocketAddr, TcpListener, TcpStream};
 use std::process::Abort;
 use std::sync::{Arc, Wait};
 use std::test::Fail;
-use std::thread::{join, map_indices};
+use std::thread::{Threads, join, map_indices};
 use std::time::Clock;
 use stow_core::Core;
 use stow_login::tenants::Tenants;
@@ -22,6 +23,7 @@ use stow_model::items::Items;
 use stow_model::reply::Reply;
 use stow_model::simple_string::SimpleString;
 use stow_model::words::Words;
+use stow_refusing::{Plan, Refusing};
 use stow_shared::entry::Entry;
 use stow_shared::journal::Journal;
 use stow_shared::kept::Kept;
@@ -365,5 +367,91 @@ fn seats_come_back_at_a_fault(rt: HostRuntime) -> Result<(), Fail> {
     for (before, seat) in seats.iter().enumerate() {
         assert!(rt; seat.number() as usize == before + 1);
     }
+    Ok(())
+}
+
+/// Has a pool serve one client, which sends all its requests first. What the client is told, where the pool served it.
+fn serve_one<R, A>(
+    rt: &R,
+    alloc: A,
+    global: Global,
+    shared: &Shared<Kept, A>,
+    seats: Vec<Seat<Kept, A>, A>,
+) -> io::Result<(Vec<Seat<Kept, A>, A>, Option<Vec<u8>>)>
+where
+    R: Net<Listener = TcpListener, Stream = TcpStream> + Threads + Wait + Sync,
+    A: Allocator + Copy + Send + Sync,
+    requires { 0 < vec_len seats }
+{
+    let listener = TcpListener::bind(rt, "127.0.0.1:0")?;
+    let mut stream = connected(rt, listener.local_addr()?)?;
+    stream.write_all(HELLO)?;
+    stream.shutdown(Shutdown::Write)?;
+    let (seats, fault) = Pool::run(rt, alloc, &listener, shared, seats, 0, 1, &OpenGate);
+    if let Some(PoolFault::Refused) = fault {
+        return Ok((seats, None));
+    }
+    let mut told = Vec::new(global);
+    // A connection that is closed before it is read is reset, and so is at its end.
+    let _ = stream.read_to_end(&mut told);
+    Ok((seats, Some(told)))
+}
+
+/// Whether the seats are those from 1 on, each in its place.
+fn are_in_place<J: Journal, A: Allocator>(seats: &[Seat<J, A>]) -> bool {
+    let mut number: u32 = 0;
+    for seat in seats {
+        number = number.saturating_add(1);
+        if seat.number() != number {
+            return false;
+        }
+    }
+    true
+}
+
+// What is refused memory is the pool itself, the connection, or a request. The pool's next client is served.
+#[test]
+fn a_pool_withstands_each_refusal(rt: HostRuntime) -> Result<(), Fail> {
+    let global = rt.alloc();
+    let heap = Refusing::new(global);
+    let mut refused_pools = 0;
+    let mut is_whole = false;
+    for at in 0..1_000 {
+        heap.set(Plan::Grant);
+        let (shared, seats) = opened::<Kept, &Refusing<Global>>(&heap, global, 2)?;
+        heap.set(Plan::RefuseAt(at));
+        let (seats, told) = serve_one(&rt, &heap, global, &shared, seats)?;
+        is_whole = heap.asked() <= at;
+        heap.set(Plan::Grant);
+        assert!(rt;
+            seats.len() == 2 && are_in_place(seats.as_slice()),
+            "request {at}"
+        );
+        let is_refused = told.is_none();
+        if let Some(told) = told {
+            assert!(rt; may_be_told(told.as_slice(), false), "request {at}");
+            assert!(rt; !is_whole || told.as_slice() == REPLIES, "request {at}");
+        } else {
+            assert!(rt; !is_whole, "request {at}");
+            refused_pools += 1;
+        }
+        let (seats, told) = serve_one(&rt, &heap, global, &shared, seats)?;
+        assert!(rt;
+            matches!(told, Some(told) if told.as_slice() == REPLIES),
+            "after request {at}"
+        );
+        let Ok(closed) = shared.close(seats) else {
+            panic!(rt; "after request {at} the receipts aren't the journal");
+        };
+        let count = closed.entries().len();
+        assert!(rt;
+            if is_refused { count == 2 } else { count <= 4 },
+            "after request {at}"
+        );
+        if is_whole {
+            break;
+        }
+    }
+    assert!(rt; is_whole && refused_pools > 0);
     Ok(())
 }
