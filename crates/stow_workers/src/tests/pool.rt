@@ -409,49 +409,71 @@ fn are_in_place<J: Journal, A: Allocator>(seats: &[Seat<J, A>]) -> bool {
     true
 }
 
-// What is refused memory is the pool itself, the connection, or a request. The pool's next client is served.
+/// Whether this may be told to a client where memory was refused once, or is all that is told where none was.
+fn is_told_so(told: &Option<Vec<u8>>, is_whole: bool) -> bool {
+    match told {
+        Some(told) if is_whole => told.as_slice() == REPLIES,
+        Some(told) => may_be_told(told.as_slice(), false),
+        None => !is_whole,
+    }
+}
+
+/// What came of a pool of which one request for memory was to be refused.
+#[derive(Clone, Copy)]
+struct Tried {
+    /// Its client was told what it may be, its seats came back, and the next client was served.
+    is_right: bool,
+    /// No request was refused.
+    is_whole: bool,
+    /// The pool itself was refused.
+    is_refused: bool,
+}
+
+/// Has a pool over two seats serve a client while its request of this number is refused, and then one more.
+fn try_pool<R>(rt: &R, heap: &Refusing<Global>, global: Global, at: u64) -> io::Result<Tried>
+where
+    R: Net<Listener = TcpListener, Stream = TcpStream> + Threads + Wait + Sync,
+{
+    heap.set(Plan::Grant);
+    let (shared, seats) = opened::<Kept, &Refusing<Global>>(heap, global, 2)?;
+    heap.set(Plan::RefuseAt(at));
+    let (returned, told) = serve_one(rt, heap, global, &shared, seats)?;
+    let mut tried = Tried {
+        is_right: false,
+        is_whole: heap.asked() <= at,
+        is_refused: told.is_none(),
+    };
+    heap.set(Plan::Grant);
+    if returned.len() != 2 || !are_in_place(returned.as_slice()) {
+        return Ok(tried);
+    }
+    let (last, next) = serve_one(rt, heap, global, &shared, returned)?;
+    let count = match shared.close(last) {
+        Ok(closed) => closed.entries().len(),
+        Err(_) => 0,
+    };
+    let most = if tried.is_refused { 2 } else { 4 };
+    tried.is_right = is_told_so(&told, tried.is_whole) && is_told_so(&next, true);
+    tried.is_right = tried.is_right && 2 <= count && count <= most;
+    Ok(tried)
+}
+
+// What is refused memory is the pool itself, its connection, or a request.
 #[test]
 fn a_pool_withstands_each_refusal(rt: HostRuntime) -> Result<(), Fail> {
     let global = rt.alloc();
     let heap = Refusing::new(global);
-    let mut refused_pools = 0;
     let mut is_whole = false;
+    let mut was_refused = false;
     for at in 0..1_000 {
-        heap.set(Plan::Grant);
-        let (shared, seats) = opened::<Kept, &Refusing<Global>>(&heap, global, 2)?;
-        heap.set(Plan::RefuseAt(at));
-        let (seats, told) = serve_one(&rt, &heap, global, &shared, seats)?;
-        is_whole = heap.asked() <= at;
-        heap.set(Plan::Grant);
-        assert!(rt;
-            seats.len() == 2 && are_in_place(seats.as_slice()),
-            "request {at}"
-        );
-        let is_refused = told.is_none();
-        if let Some(told) = told {
-            assert!(rt; may_be_told(told.as_slice(), false), "request {at}");
-            assert!(rt; !is_whole || told.as_slice() == REPLIES, "request {at}");
-        } else {
-            assert!(rt; !is_whole, "request {at}");
-            refused_pools += 1;
-        }
-        let (seats, told) = serve_one(&rt, &heap, global, &shared, seats)?;
-        assert!(rt;
-            matches!(told, Some(told) if told.as_slice() == REPLIES),
-            "after request {at}"
-        );
-        let Ok(closed) = shared.close(seats) else {
-            panic!(rt; "after request {at} the receipts aren't the journal");
-        };
-        let count = closed.entries().len();
-        assert!(rt;
-            if is_refused { count == 2 } else { count <= 4 },
-            "after request {at}"
-        );
+        let tried = try_pool(&rt, &heap, global, at)?;
+        assert!(rt; tried.is_right, "request {at}");
+        was_refused = was_refused || tried.is_refused;
+        is_whole = tried.is_whole;
         if is_whole {
             break;
         }
     }
-    assert!(rt; is_whole && refused_pools > 0);
+    assert!(rt; is_whole && was_refused);
     Ok(())
 }
