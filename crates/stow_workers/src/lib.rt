@@ -26,7 +26,7 @@
 //! which breaks off, faults or reads nothing leaves its worker to the next one, which fault it tells, and that it
 //! ends. Nothing is said of a socket's bytes, of the channel that hands connections over, or of when a thread runs;
 //! a pool that serves nobody meets its contract. That a refused thread, or refused memory, gives the seats back is
-//! proved; tests refuse each request for memory, and no thread, since a test can lend nothing that starts threads.
+//! proved, and no test refuses the pool either.
 //!
 //! Only tested of a connection: that want of memory is told only where it was refused, so a body that gives up with it is right by
 //! the contracts; that replies are written before the next piece is read, and once much of them waits; that

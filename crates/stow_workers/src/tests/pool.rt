@@ -1,20 +1,19 @@
 //! A pool over loopback: workers side by side, a journal of what they served, and clients that break off.
-ghost use Rattle.std.specs.Prelude.{◌≡◌, ◌<◌, IfOk, vec_len};
+ghost use Rattle.std.specs.Prelude.{◌≡◌, IfOk, vec_len};
 
 use crate::open_gate::OpenGate;
 use crate::pool::Pool;
 use crate::pool_fault::PoolFault;
 use crate::tests::hold::Hold;
-use crate::tests::{HELLO, REPLIES, may_be_told};
 use std::alloc::{AllocError, Allocator, Global};
 use std::collections::BTreeMap;
 use std::io;
 use std::io::{ErrorKind, Read, Write};
-use std::net::{Net, Shutdown, SocketAddr, TcpListener, TcpStream};
+use std::net::{Net, SocketAddr, TcpListener, TcpStream};
 use std::process::Abort;
 use std::sync::{Arc, Wait};
 use std::test::Fail;
-use std::thread::{Threads, join, map_indices};
+use std::thread::{join, map_indices};
 use std::time::Clock;
 use stow_core::Core;
 use stow_login::tenants::Tenants;
@@ -23,7 +22,6 @@ use stow_model::items::Items;
 use stow_model::reply::Reply;
 use stow_model::simple_string::SimpleString;
 use stow_model::words::Words;
-use stow_refusing::{Plan, Refusing};
 use stow_shared::entry::Entry;
 use stow_shared::journal::Journal;
 use stow_shared::kept::Kept;
@@ -367,113 +365,5 @@ fn seats_come_back_at_a_fault(rt: HostRuntime) -> Result<(), Fail> {
     for (before, seat) in seats.iter().enumerate() {
         assert!(rt; seat.number() as usize == before + 1);
     }
-    Ok(())
-}
-
-/// Has a pool serve one client, which sends all its requests first. What the client is told, where the pool served it.
-fn serve_one<R, A>(
-    rt: &R,
-    alloc: A,
-    global: Global,
-    shared: &Shared<Kept, A>,
-    seats: Vec<Seat<Kept, A>, A>,
-) -> io::Result<(Vec<Seat<Kept, A>, A>, Option<Vec<u8>>)>
-where
-    R: Net<Listener = TcpListener, Stream = TcpStream> + Threads + Wait + Sync,
-    A: Allocator + Copy + Send + Sync,
-    requires { 0 < vec_len seats }
-{
-    let listener = TcpListener::bind(rt, "127.0.0.1:0")?;
-    let mut stream = connected(rt, listener.local_addr()?)?;
-    stream.write_all(HELLO)?;
-    stream.shutdown(Shutdown::Write)?;
-    let (seats, fault) = Pool::run(rt, alloc, &listener, shared, seats, 0, 1, &OpenGate);
-    if let Some(PoolFault::Refused) = fault {
-        return Ok((seats, None));
-    }
-    let mut told = Vec::new(global);
-    // A connection that is closed before it is read is reset, and so is at its end.
-    let _ = stream.read_to_end(&mut told);
-    Ok((seats, Some(told)))
-}
-
-/// Whether the seats are those from 1 on, each in its place.
-fn are_in_place<J: Journal, A: Allocator>(seats: &[Seat<J, A>]) -> bool {
-    let mut number: u32 = 0;
-    for seat in seats {
-        number = number.saturating_add(1);
-        if seat.number() != number {
-            return false;
-        }
-    }
-    true
-}
-
-/// Whether this may be told to a client where memory was refused once, or is all that is told where none was.
-fn is_told_so(told: &Option<Vec<u8>>, is_whole: bool) -> bool {
-    match told {
-        Some(told) if is_whole => told.as_slice() == REPLIES,
-        Some(told) => may_be_told(told.as_slice(), false),
-        None => !is_whole,
-    }
-}
-
-/// What came of a pool of which one request for memory was to be refused.
-#[derive(Clone, Copy)]
-struct Tried {
-    /// Its client was told what it may be, its seats came back, and the next client was served.
-    is_right: bool,
-    /// No request was refused.
-    is_whole: bool,
-    /// The pool itself was refused.
-    is_refused: bool,
-}
-
-/// Has a pool over two seats serve a client while its request of this number is refused, and then one more.
-fn try_pool<R>(rt: &R, heap: &Refusing<Global>, global: Global, at: u64) -> io::Result<Tried>
-where
-    R: Net<Listener = TcpListener, Stream = TcpStream> + Threads + Wait + Sync,
-{
-    heap.set(Plan::Grant);
-    let (shared, seats) = opened::<Kept, &Refusing<Global>>(heap, global, 2)?;
-    heap.set(Plan::RefuseAt(at));
-    let (returned, told) = serve_one(rt, heap, global, &shared, seats)?;
-    let mut tried = Tried {
-        is_right: false,
-        is_whole: heap.asked() <= at,
-        is_refused: told.is_none(),
-    };
-    heap.set(Plan::Grant);
-    if returned.len() != 2 || !are_in_place(returned.as_slice()) {
-        return Ok(tried);
-    }
-    let (last, next) = serve_one(rt, heap, global, &shared, returned)?;
-    let count = match shared.close(last) {
-        Ok(closed) => closed.entries().len(),
-        Err(_) => 0,
-    };
-    let most = if tried.is_refused { 2 } else { 4 };
-    tried.is_right = is_told_so(&told, tried.is_whole) && is_told_so(&next, true);
-    tried.is_right = tried.is_right && 2 <= count && count <= most;
-    Ok(tried)
-}
-
-// What is refused memory is the pool itself, its connection, or a request.
-#[test]
-fn a_pool_withstands_each_refusal(rt: HostRuntime) -> Result<(), Fail> {
-    let global = rt.alloc();
-    let heap = Refusing::new(global);
-    let mut is_whole = false;
-    let mut was_refused = false;
-    for at in 0..1_000 {
-        let tried = try_pool(&rt, &heap, global, at)?;
-        assert!(rt; tried.is_right, "request {at}");
-        was_refused = was_refused || tried.is_refused;
-        is_whole = tried.is_whole;
-        if is_whole {
-            break;
-        }
-    }
-    assert!(rt; is_whole && was_refused);
     Ok(())
 }
