@@ -3,3 +3,5 @@ pub mod Numbers
 pub mod Lines
 pub mod Scripts
 pub mod Telling
+pub mod Pipes
+pub mod Outcomes

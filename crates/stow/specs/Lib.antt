@@ -4,4 +4,6 @@ pub mod Read
 pub mod Lines
 pub mod Written
 pub mod Statuses
+pub mod Pipes
 pub mod Told
+pub mod Outcomes

@@ -5,6 +5,7 @@ use Rattle.stow_model.specs.Event.{Event}
 use Rattle.stow_house.specs.declared.house.House.{House}
 use Rattle.stow_house.specs.StepResult.{StepResult}
 use Rattle.stow_house.specs.Steps.{HouseState, IsStepOf, Stands, state_of}
+use Rattle.stow_core.specs.State.{CoreState, IsNewCore}
 use Rattle.stow_workers.specs.Sent.{Begins}
 use Rattle.stow.specs.declared.failure.Failure.{Failure}
 use Rattle.stow.specs.declared.failure.Failure.TheVariants.{BadLine, InputOutput, Memory}
@@ -13,6 +14,7 @@ use Rattle.stow_model.specs.Login.{Entry}
 use Rattle.stow.specs.declared.arguments.Task.{Task}
 use Rattle.stow.specs.declared.arguments.Task.TheVariants as task
 use Rattle.stow.specs.Lines.{IsText}
+use Rattle.stow.specs.Pipes.{IsPiped}
 use Rattle.stow.specs.Script.{AskFor, IsFirstBad, lines_of}
 
 -- the events took place one after another, each by a step of the house, and these are their lines
@@ -85,6 +87,13 @@ IsScripted known old new (Err (InputOutput place.Input error)) = IsIdle old new
 IsScripted known old new (Err failure) = EndsTelling failure × (IsIdle old new
     ⊎ ((events : List Event) × IsScript known events × CarriesOutPart events old new))
 
+-- a connection through a new core of these tenants, which memory may be wanting for
+abbrev pub IsPipeServed : List Entry → Option (List ℕ) → Option (List ℕ) → Option (List ℕ)
+    → Option (List ℕ) → Result (Unit {0}) Failure → Type 0
+IsPipeServed entries unread left old new r = ((r ≡ Err Memory) × (left ≡ unread) × (new ≡ old))
+    ⊎ ((start : CoreState) × (end : CoreState) × IsNewCore start × (start.entries ≡ entries)
+    × IsPiped entries unread left start end old new r)
+
 -- a script over a new house of these tenants, which memory may be wanting for
 abbrev pub IsScriptServed : List Entry → Option (List ℕ) → Option (List ℕ) → Option (List ℕ)
     → Result (Unit {0}) Failure → Type 0
@@ -93,7 +102,8 @@ IsScriptServed entries known old new r = ((r ≡ Err Memory) × Keeps old new)
     × IsScripted known (record { house = start; written = old })
     (record { house = end; written = new }) r)
 
+-- what was read, from what there was to what is left, was served as the task says
 abbrev pub IsServed : Task → List Entry → Option (List ℕ) → Option (List ℕ) → Option (List ℕ)
-    → Result (Unit {0}) Failure → Type 0
-IsServed task.Script entries known old new r = IsScriptServed entries known old new r
-IsServed task.Pipe entries known old new r = Unit {0}
+    → Option (List ℕ) → Result (Unit {0}) Failure → Type 0
+IsServed task.Script entries unread left old new r = IsScriptServed entries unread old new r
+IsServed task.Pipe entries unread left old new r = IsPipeServed entries unread left old new r

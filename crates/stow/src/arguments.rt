@@ -1,4 +1,7 @@
 //! The command line.
+ghost use Rattle.std.specs.Prelude.{IfErr, IfSome};
+ghost use Rattle.stow.specs.Outcomes.{RefusesWords};
+
 use crate::failure::Failure;
 use crate::serving::Serving;
 use clap::error::ErrorKind;
@@ -33,11 +36,22 @@ pub struct Arguments<'a> {
     pub explain: bool,
 }
 
-/// What the words say, of which the first is the program's own name.
-pub fn read_arguments(alloc: Global, words: &[String]) -> Result<Arguments<'_>, Failure<'static>> {
+/// What the words of the command line ask for.
+#[derive(Debug, Drop)]
+pub enum Wish<'a> {
+    /// The text of the help.
+    Help(String),
+    /// What these say.
+    Work(Arguments<'a>),
+}
+
+/// What the words ask for, of which the first is the program's own name.
+pub fn read_arguments(alloc: Global, words: &[String]) -> Result<Wish<'_>, Failure<'static>>
+    ensures { IfErr result RefusesWords }
+{
     match matched(alloc, words) {
         Ok(matches) => arguments_of(alloc, &matches),
-        Err(error) => Err(refused(alloc, &error)),
+        Err(error) => refused(alloc, &error),
     }
 }
 
@@ -113,10 +127,9 @@ fn explain<'a>(alloc: Global) -> Arg<'a> {
 }
 
 /// What was matched; each command that is matched has its file and its numbers.
-fn arguments_of<'a>(
-    alloc: Global,
-    matches: &ArgMatches<'a>,
-) -> Result<Arguments<'a>, Failure<'static>> {
+fn arguments_of<'a>(alloc: Global, matches: &ArgMatches<'a>) -> Result<Wish<'a>, Failure<'static>>
+    ensures { IfErr result RefusesWords }
+{
     let nothing = Failure::Arguments(String::new(alloc));
     let Some((name, matches)) = matches.subcommand() else {
         return Err(nothing);
@@ -129,15 +142,17 @@ fn arguments_of<'a>(
         "script" => Job::Input(Task::Script),
         _ => Job::Input(Task::Pipe),
     };
-    Ok(Arguments {
+    Ok(Wish::Work(Arguments {
         job,
         tenants,
         explain: matches.get_flag("explain"),
-    })
+    }))
 }
 
 /// How connections are to be served; an `Err` where the address is none.
-fn serving_of(matches: &ArgMatches<'_>) -> Option<Result<Serving, Failure<'static>>> {
+fn serving_of(matches: &ArgMatches<'_>) -> Option<Result<Serving, Failure<'static>>>
+    ensures { IfSome result (λ served. IfErr served RefusesWords) }
+{
     let listen = matches.get_str("listen")?;
     let workers = matches.get_one::<u32>("workers")?;
     let connections = matches.get_one::<u64>("connections")?;
@@ -153,13 +168,15 @@ fn serving_of(matches: &ArgMatches<'_>) -> Option<Result<Serving, Failure<'stati
 }
 
 /// What is told where the parser gives no command.
-fn refused(alloc: Global, error: &Error) -> Failure<'static> {
+fn refused<'a>(alloc: Global, error: &Error) -> Result<Wish<'a>, Failure<'static>>
+    ensures { IfErr result RefusesWords }
+{
     if error.kind() == ErrorKind::OutOfMemory {
-        return Failure::Memory;
+        return Err(Failure::Memory);
     }
     match error.to_string(alloc) {
-        Ok(text) if error.use_stderr() => Failure::Arguments(text),
-        Ok(text) => Failure::Help(text),
-        Err(_) => Failure::Memory,
+        Ok(text) if error.use_stderr() => Err(Failure::Arguments(text)),
+        Ok(text) => Ok(Wish::Help(text)),
+        Err(_) => Err(Failure::Memory),
     }
 }

@@ -30,8 +30,6 @@ pub enum Place<'a> {
 /// Why the program ends early.
 #[derive(Debug, Drop)]
 pub enum Failure<'a> {
-    /// Help was asked for: the text for standard output.
-    Help(String),
     /// The arguments are refused: the parser's text for standard error.
     Arguments(String),
     /// The address to listen at is no IP address with a port.
@@ -73,7 +71,6 @@ impl<'a> Failure<'a> {
         ensures { result ≡ status_of self.now }
     {
         match self {
-            Failure::Help(_) => 0,
             Failure::Arguments(_) | Failure::BadAddress | Failure::BadLine(_, _) => REFUSED,
             Failure::Tenants(_, _) => TENANTS,
             Failure::InputOutput(_, _) => INPUT_OUTPUT,
@@ -81,15 +78,12 @@ impl<'a> Failure<'a> {
         }
     }
 
-    /// What is told of it: the help, the argument parser's text, or one line.
+    /// What is told of it: the argument parser's text, or one line.
     pub fn text(&self, alloc: Global) -> Result<String, AllocError>
         ensures { IfOk result (λ text. string_bytes text ≡ text_of_failure self.now) }
     {
         match self {
-            Failure::Help(text) | Failure::Arguments(text) => String::from_str(
-                alloc,
-                text.as_str(),
-            ),
+            Failure::Arguments(text) => String::from_str(alloc, text.as_str()),
             Failure::BadAddress => String::from_str(alloc, "stow: bad address\n"),
             Failure::Tenants(fault, _) => {
                 format!(in alloc; "stow: tenant file refused: fault {}\n", fault.number())

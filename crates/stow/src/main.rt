@@ -4,10 +4,11 @@
 //! connection (`pipe`), carries a script's events out (`script`) or serves connections over TCP (`serve`). Proved of
 //! it: it is safe; what `pipe` and `script` do (`program::serve`) returns; a script is read as `specs/Script.antt`
 //! says; of a reader and a writer that tell their bytes, what is written are the lines of its events' results
-//! (`specs/Told.antt`), all of them where it ends well; and each failure has its status and its line
-//! (`specs/Statuses.antt`). Not proved of it: which words of the command line ask for what, and, of a pipe, that
-//! what `serve_connection` says of its reader and its writer holds of the program's own. What the service answers
-//! is proved in the crates below.
+//! (`specs/Told.antt`), all of them where it ends well; of a pipe over these, the bytes are served and answered as
+//! `serve_connection` says (`specs/Pipes.antt`); each failure has its status and its line (`specs/Statuses.antt`), and
+//! status 0 stands for no failure, each with what had been read and written by then (`specs/Outcomes.antt`). Not
+//! proved of it: which words of the command line ask for what, what the file of the tenants holds, and that help is
+//! the argument parser's text. What the service answers is proved in the crates below.
 #![tactic(auto)]
 
 mod arguments;

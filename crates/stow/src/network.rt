@@ -1,4 +1,7 @@
 //! Where connections come from.
+ghost use Rattle.std.specs.Prelude.{IfErr};
+ghost use Rattle.stow.specs.Outcomes.{EndsServing};
+
 use crate::failure::{Failure, Place};
 use crate::serve::serve_connections;
 use crate::serving::Serving;
@@ -20,6 +23,7 @@ pub fn listen<H, W: Write, E: Write>(
 ) -> Result<(), Failure<'static>>
 where
     H: Net<Listener = TcpListener, Stream = TcpStream> + Threads + Wait + Sync,
+    ensures { IfErr result EndsServing }
 {
     let listener = Place::Network.check(TcpListener::bind(rt, serving.listen))?;
     serve_connections(rt, alloc, &listener, tenants, serving, output, errors)

@@ -1,6 +1,9 @@
 //! One connection over a reader and a writer.
-ghost use Rattle.std.specs.Prelude.{◌<◌};
+ghost use Rattle.std.specs.Prelude.{◌≡◌, ◌<◌};
+ghost use Rattle.std.specs.declared.io.Error.{Error};
 ghost use Rattle.stow_workers.specs.Counted.{failures_of};
+ghost use Rattle.stow.specs.Statuses.{failure_at};
+ghost use Rattle.stow.specs.Pipes.{IsPiped};
 
 use crate::failure::{Failure, Place};
 use std::alloc::Allocator;
@@ -20,22 +23,14 @@ pub fn pipe<'a, A: Allocator + Copy, R: Read, W: Write>(
     core: &mut Core<A>,
     input: &mut R,
     output: &mut W,
-) -> Result<(), Failure<'a>> {
-    serve(alloc, tenants, core, input, output)?;
-    Place::Output.check(output.flush())
-}
-
-fn serve<'a, A: Allocator + Copy, R: Read, W: Write>(
-    alloc: A,
-    tenants: &Tenants<A>,
-    core: &mut Core<A>,
-    input: &mut R,
-    output: &mut W,
-) -> Result<(), Failure<'a>> {
+) -> Result<(), Failure<'a>>
+    ensures { IsPiped tenants.now (R.remaining input.old) (R.remaining input.new) core.old core.new
+        (W.contents output.old) (W.contents output.new) result }
+{
     let mut reader = Counted::new(input);
     let mut writer = Counted::new(output);
     match serve_connection(alloc, &mut reader, &mut writer, tenants, core, &OpenGate) {
-        Served::Quit | Served::Ended | Served::Faulted(_) => Ok(()),
+        Served::Quit | Served::Ended | Served::Faulted(_) => Place::Output.check(output.flush()),
         Served::ReadFailed => Err(failure(Place::Input, &reader)),
         Served::WriteFailed => Err(failure(Place::Output, &writer)),
         Served::NoMemory => Err(Failure::Memory),
@@ -43,8 +38,9 @@ fn serve<'a, A: Allocator + Copy, R: Read, W: Write>(
 }
 
 /// Why reading or writing failed there.
-fn failure<'a, T>(place: Place<'a>, end: &Counted<T>) -> Failure<'a>
+fn failure<'a, T>(place: Place<'a>, end: &Counted<'_, T>) -> Failure<'a>
     requires { 0 < failures_of end.now }
+    ensures { (error : Error) × (result ≡ failure_at place.entry error) }
 {
     match end.last_failure() {
         Some(error) => Failure::at(place, error),

@@ -1,15 +1,15 @@
 //! What the program does, over any reader and writers.
-ghost use Rattle.std.specs.Prelude.{◌≡◌, string_bytes};
-ghost use Rattle.std.specs.Io.KnownBytes.{Appends};
-ghost use Rattle.stow.specs.Statuses.{IsStatus, status_of};
+ghost use Rattle.std.specs.Prelude.{◌≡◌, IfErr};
+ghost use Rattle.stow.specs.Statuses.{status_of};
 ghost use Rattle.stow.specs.Told.{IsServed};
+ghost use Rattle.stow.specs.Outcomes.{EndsWith, IsRun, RefusesTenants, status_after, streams_of};
 
-use crate::arguments::{Arguments, Job, Task, read_arguments};
-use crate::failure::{Failure, INPUT_OUTPUT, Place};
+use crate::arguments::{Arguments, Job, Task, Wish, read_arguments};
+use crate::failure::{Failure, Place};
 use crate::folder::Folder;
 use crate::network::listen;
 use crate::pipe::pipe;
-use crate::script::script;
+use crate::script::{finish, script};
 use std::alloc::{AllocError, Allocator, Global};
 use std::io;
 use std::io::{Read, Write};
@@ -38,19 +38,23 @@ pub fn program<H, D: Folder, R: Read, W: Write, E: Write>(
 ) -> u8
 where
     H: Net<Listener = TcpListener, Stream = TcpStream> + Threads + Wait + Sync,
-    ensures { IsStatus result }
+    ensures { EndsWith (streams_of (R.remaining input.old) (R.remaining input.new)
+        (W.contents output.old) (W.contents output.new)) result }
 {
-    let arguments = match read_arguments(alloc, words) {
-        Ok(arguments) => arguments,
-        Err(Failure::Help(text)) => return help(&text, output),
-        Err(failure) => return tell(alloc, &failure, false, errors),
-    };
-    match run(rt, alloc, folder, &arguments, input, output, errors) {
-        Ok(()) => 0,
-        Err(failure) => tell(alloc, &failure, arguments.explain, errors),
+    match read_arguments(alloc, words) {
+        Ok(Wish::Work(arguments)) => {
+            let outcome = run(rt, alloc, folder, &arguments, input, output, errors);
+            conclude(alloc, outcome, arguments.explain, errors)
+        }
+        Ok(Wish::Help(text)) => {
+            let outcome = finish(text.as_bytes(), output);
+            conclude(alloc, outcome, false, errors)
+        }
+        Err(failure) => conclude(alloc, Err(failure), false, errors),
     }
 }
 
+/// Does what the arguments ask for.
 fn run<'a, H, D: Folder, R: Read, W: Write, E: Write>(
     rt: &H,
     alloc: Global,
@@ -62,6 +66,8 @@ fn run<'a, H, D: Folder, R: Read, W: Write, E: Write>(
 ) -> Result<(), Failure<'a>>
 where
     H: Net<Listener = TcpListener, Stream = TcpStream> + Threads + Wait + Sync,
+    ensures { IsRun arguments.now.job (streams_of (R.remaining input.old) (R.remaining input.new)
+        (W.contents output.old) (W.contents output.new)) result }
 {
     let tenants = read_tenants(alloc, folder, arguments.tenants)?;
     match arguments.job {
@@ -75,7 +81,9 @@ fn read_tenants<'a, D: Folder>(
     alloc: Global,
     folder: &D,
     path: &'a str,
-) -> Result<Tenants<Global>, Failure<'a>> {
+) -> Result<Tenants<Global>, Failure<'a>>
+    ensures { IfErr result RefusesTenants }
+{
     let bytes = Place::File(path).check(read_file(alloc, folder, path))?;
     let Ok(text) = std::str::from_utf8(bytes.as_slice()) else {
         let reason = String::from_str(alloc, "the file is no UTF-8 text")?;
@@ -102,8 +110,8 @@ pub fn serve<'a, A: Allocator + Copy, R: Read, W: Write>(
     input: &mut R,
     output: &mut W,
 ) -> Result<(), Failure<'a>>
-    ensures { IsServed task tenants (R.remaining input.old) (W.contents output.old)
-        (W.contents output.new) result }
+    ensures { IsServed task tenants (R.remaining input.old) (R.remaining input.new)
+        (W.contents output.old) (W.contents output.new) result }
 {
     let tenants = Arc::new(alloc, tenants).map_err(AllocError::from)?;
     let Ok(mut core) = Core::new(alloc, tenants.clone()?, TreeShape::USUAL) else {
@@ -115,15 +123,18 @@ pub fn serve<'a, A: Allocator + Copy, R: Read, W: Write>(
     }
 }
 
-/// Writes the help.
-fn help<W: Write>(text: &String, output: &mut W) -> u8
-    ensures status { IsStatus result }
-    ensures written { result ≡ 0
-        → Appends (W.contents output.old) (W.contents output.new) (string_bytes text.now) }
+/// The status of what the program came to, which is told where it is a failure.
+fn conclude<E: Write>(
+    alloc: Global,
+    outcome: Result<(), Failure<'_>>,
+    explain: bool,
+    errors: &mut E,
+) -> u8
+    ensures { result ≡ status_after outcome.entry }
 {
-    match output.write_all(text.as_bytes()) {
+    match outcome {
         Ok(()) => 0,
-        Err(_) => INPUT_OUTPUT,
+        Err(failure) => tell(alloc, &failure, explain, errors),
     }
 }
 

@@ -83,8 +83,8 @@ fn tell<A: Allocator + Copy>(
     told
 }
 
-/// Writes the last lines.
-fn finish<'a, W: Write>(bytes: &[u8], output: &mut W) -> Result<(), Failure<'a>>
+/// Writes the last bytes of the output.
+pub fn finish<'a, W: Write>(bytes: &[u8], output: &mut W) -> Result<(), Failure<'a>>
     ensures written { IsWritten bytes.now (W.contents output.old) (W.contents output.new) result }
     ensures err { IfErr result EndsTelling }
 {

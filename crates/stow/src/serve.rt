@@ -1,4 +1,7 @@
 //! Connections over TCP, each served by a thread.
+ghost use Rattle.std.specs.Prelude.{IfErr};
+ghost use Rattle.stow.specs.Outcomes.{EndsServing};
+
 use crate::failure::{Failure, Place};
 use crate::serving::Serving;
 use log::info;
@@ -34,6 +37,7 @@ pub fn serve_connections<R, A, W: Write, E: Write>(
 where
     R: Threads + Wait + Sync,
     A: Allocator + Copy + Send + Sync,
+    ensures { IfErr result EndsServing }
 {
     let tenants = Arc::new(alloc, tenants).map_err(AllocError::from)?;
     let Ok(core) = Core::new(alloc, tenants, TreeShape::USUAL) else {

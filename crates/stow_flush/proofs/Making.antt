@@ -1,6 +1,6 @@
 -- A root as room is made in it.
 use Rattle.std.proofs.Common.{◌≡◌, ℕ, ◌+◌, ◌<◌, ◌≤◌, ◌⊎◌, List, length, refl, sym, ap, ◌∙◌, subst, arith, ⊎_elim, inl, inr}
-use Rattle.std.specs.Prelude.{Contains, Result, Ok, Err, OnOk, OnErr}
+use Rattle.std.specs.Prelude.{Result, Ok, Err, OnOk, OnErr}
 use Rattle.std.specs.List.{sum_by}
 use Rattle.stow_leaf.specs.LeafRows.{LeafRows}
 use Rattle.stow_leaf_cache.specs.Cache.{Cache}

@@ -3,7 +3,6 @@ use Rattle.std.specs.Prelude.{◌≡◌, ℕ, ◌+◌, ◌≤◌, List}
 use Rattle.std.specs.List.{sum_by}
 use Rattle.stow_message.specs.Packed.{message_size}
 use Rattle.stow_node.specs.Flushes.{MeanTheSame}
-use Rattle.stow_node.specs.Moves.{IsSqueezed}
 use Rattle.stow_node.specs.Subtree.{Subtree, messages_of}
 use Rattle.stow_tree_model.specs.Agreement.{TenantPins}
 use Rattle.stow_tree_model.specs.Keys.{tenant_of}

@@ -34,7 +34,7 @@ pub fn make_room<A: Allocator + Copy>(
     ensures spare { spare.new.capacity ≡ spare.old.capacity }
 {
     while !root.makes_room(bytes, spare) {
-        if root.shape().fan_out as usize - root.width() < 2 {
+        if root.shape().fan_out as usize - root.width() < root.places() {
             return root.raise(alloc);
         }
         root.step(alloc, pins, spare, cache)?;

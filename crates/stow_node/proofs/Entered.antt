@@ -23,13 +23,13 @@ use Rattle.stow_node.specs.declared.child.Child.{Child}
 use Rattle.stow_node.specs.declared.child.Child.TheVariants as in_child
 use Rattle.stow_node.specs.declared.node.Node.TheInside.{Inside}
 use Rattle.stow_node.specs.declared.shape.Shape.{Shape}
-use Rattle.stow_node.specs.Entering.{width_of, IsEntered, IsHalfEntered, Enters}
+use Rattle.stow_node.specs.Entering.{width_of, places_of, IsEntered, IsHalfEntered, Enters}
 use Rattle.stow_node.specs.Flushes.{Keeps}
 use Rattle.stow_node.specs.Halves.{AreHalves, IsWide, SplitsAt}
 use Rattle.stow_node.specs.Moves.{bytes_for, IsHeaviest}
 use Rattle.stow_node.specs.Nodes.{part_of, node_part, parts_of, AreLeafSizes, IsBelow, subtree_of, IsNode}
 use Rattle.stow_node.specs.Parts.{Part, end_of, high_of, leaves_in}
-use Rattle.stow_node.specs.Subtree.{Subtree}
+use Rattle.stow_node.specs.Subtree.{Subtree, places_at}
 use Rattle.stow_node.proofs.Cut.{all_cut}
 use Rattle.stow_node.proofs.Down.{node_at, same_children}
 use Rattle.stow_node.proofs.Filled.{heaviest_has_bytes}
@@ -116,6 +116,25 @@ range_in_two low mid high (m ∷ ms) = step (is_between low high m) (is_between 
       both : {t : Bool} → false ≡ t → t ≡ true → ⊥
       both a b = cc
 
+-- ---- places for a step
+
+pub two_places : (height : ℕ) → places_at height ≤ 2
+two_places zero = omega arith
+two_places (suc zero) = omega arith
+two_places (suc (suc height)) = omega arith
+
+pub one_place : (height : ℕ) → 1 ≤ places_at height
+one_place zero = omega arith
+one_place (suc zero) = omega arith
+one_place (suc (suc height)) = omega arith
+
+pub has_place : (t : Subtree) → t.width + places_at t.height ≤ t.shape.fan_out → t.width + 1 ≤ t.shape.fan_out
+has_place t few = let p = one_place t.height in omega (arith, few, p)
+
+pub two_places_of : {A : Type 0} (c : Child A) → places_of c ≤ 2
+two_places_of (in_child.Leaf leaf) = omega arith
+two_places_of (in_child.Node node) = two_places node.height
+
 -- ---- the code's choice
 
 same_child : {A : Type 0} (cs : List (Child A)) (i : ℕ) (c d : Child A) → c ≡ get_or cs i c → slice_get cs i ≡ Some d → c ≡ d
@@ -124,12 +143,12 @@ same_child cs i c d here at = here ∙ get_or_from_slice_get cs i d c at
 pub inside_lent : {A : Type 0} (cs lent : List (Child A)) (b : MessageList) (i : ℕ) → lent ≡ cs → IsHeaviest (parts_of lent) b i → i < length cs
 inside_lent cs lent b i e h = let l = h.inside in let n = length-map lent part_of in let m = ap length e in omega (arith, l, n, m)
 
-pub enters_whole : {A : Type 0} (cs lent : List (Child A)) (b : MessageList) (fan_out i width : ℕ) (c : Child A) → lent ≡ cs → IsHeaviest (parts_of lent) b i → c ≡ get_or cs i c → width ≡ width_of c → width + 2 ≤ fan_out → Enters cs b fan_out cs i
+pub enters_whole : {A : Type 0} (cs lent : List (Child A)) (b : MessageList) (fan_out i width : ℕ) (c : Child A) → lent ≡ cs → IsHeaviest (parts_of lent) b i → c ≡ get_or cs i c → width ≡ width_of c → width + places_of c ≤ fan_out → Enters cs b fan_out cs i
 enters_whole {A} cs lent b fan_out i width c e h here w few = inl (
   refl,
   record {
     heaviest = subst (λ (l : List (Child A)). IsHeaviest (parts_of l) b i) e h;
-    places = λ d at. let s = ap width_of (same_child cs i c d here at) in omega (arith, w, few, s);
+    places = λ d at. let s = same_child cs i c d here at in omega (arith, w, few, ap width_of s, ap places_of s);
   },
 )
 
@@ -191,7 +210,7 @@ pub record Entered {A : Type 0} (a : Inside A) (v : Vec (Child A) A) (i : ℕ) (
   pub leaves : leaves_in (parts_of v.items) ≡ leaves_in (parts_of a.children.items)
   pub node : Subtree
   pub at : slice_get v.items i ≡ Some (in_child.Node node)
-  pub places : node.width + 2 ≤ a.shape.fan_out
+  pub places : node.width + places_at node.height ≤ a.shape.fan_out
   pub some : 0 < bytes_for (parts_of v.items) a.buffer i (node_part node)
 
 -- a node's leaf sizes are its children's
@@ -233,7 +252,7 @@ module _ {A : Type 0} (a : Inside A) (v : Vec (Child A) A) (i : ℕ) (pins : Ten
       }
 
   -- a half of the heaviest child
-  entered_half : length a.children.items + 2 ≤ a.shape.fan_out → IsHalfEntered a.children.items a.buffer v.items i → Entered a v i pins
+  entered_half : length a.children.items + 1 ≤ a.shape.fan_out → IsHalfEntered a.children.items a.buffer v.items i → Entered a v i pins
   entered_half room h = ⊎_elim
       (λ (e : i ≡ j). half lower (ap (λ k. slice_get v.items k) e ∙ ap (λ l. slice_get l j) s.into ∙ first_at a.children.items j (in_child.Node lower) (in_child.Node upper) inside) lower_places)
       (λ (e : i ≡ j + 1). half upper (ap (λ k. slice_get v.items k) e ∙ ap (λ l. slice_get l (j + 1)) s.into ∙ second_at a.children.items j (in_child.Node lower) (in_child.Node upper) inside) upper_places)
@@ -266,11 +285,11 @@ module _ {A : Type 0} (a : Inside A) (v : Vec (Child A) A) (i : ℕ) (pins : Ten
       shape : x.shape.fan_out ≡ a.shape.fan_out
       shape = ap (λ (t : Shape). t.fan_out) level.same.0
 
-      lower_places : lower.width + 2 ≤ a.shape.fan_out
-      lower_places = let w = s.halves.half in let f = s.few in omega (arith, w, f, shape, places)
+      lower_places : lower.width + places_at lower.height ≤ a.shape.fan_out
+      lower_places = let w = s.halves.half in let f = s.few in let p = two_places lower.height in omega (arith, w, f, shape, places, p)
 
-      upper_places : upper.width + 2 ≤ a.shape.fan_out
-      upper_places = let w = s.halves.half in let b = s.halves.widths in let f = s.few in omega (arith, w, b, f, shape, places)
+      upper_places : upper.width + places_at upper.height ≤ a.shape.fan_out
+      upper_places = let w = s.halves.half in let b = s.halves.widths in let f = s.few in let p = two_places upper.height in omega (arith, w, b, f, shape, places, p)
 
       ps : List Part
       ps = parts_of a.children.items
@@ -305,7 +324,7 @@ module _ {A : Type 0} (a : Inside A) (v : Vec (Child A) A) (i : ℕ) (pins : Ten
           let two = range_in_two x.low upper.low (high_of ps j) a.buffer.messages in
           omega (arith, total, two, old_bytes d, lower_bytes d, upper_bytes d, h.lower d, h.upper d)
 
-      half : (t : Subtree) → slice_get v.items i ≡ Some (in_child.Node t) → t.width + 2 ≤ a.shape.fan_out → Entered a v i pins
+      half : (t : Subtree) → slice_get v.items i ≡ Some (in_child.Node t) → t.width + places_at t.height ≤ a.shape.fan_out → Entered a v i pins
       half t at few = record {
         is_node = whole.is_node;
         keeps = whole.keeps;
@@ -320,7 +339,7 @@ module _ {A : Type 0} (a : Inside A) (v : Vec (Child A) A) (i : ℕ) (pins : Ten
         some = filled (node_part t);
       }
 
-  pub entered : length a.children.items + 2 ≤ a.shape.fan_out → Enters a.children.items a.buffer a.shape.fan_out v.items i → Entered a v i pins
+  pub entered : length a.children.items + 1 ≤ a.shape.fan_out → Enters a.children.items a.buffer a.shape.fan_out v.items i → Entered a v i pins
   entered room h = ⊎_elim
       (λ (w : (v.items ≡ a.children.items) × IsEntered a.children.items a.buffer a.shape.fan_out i). entered_whole w.0 w.1)
       (λ (w : IsHalfEntered a.children.items a.buffer v.items i). entered_half room w)

@@ -24,7 +24,7 @@ use Rattle.stow_node.specs.Forgets.{Forgets}
 use Rattle.stow_node.specs.Moves.{IsSqueezed, Stays, bytes_for}
 use Rattle.stow_node.specs.Nodes.{node_part, parts_of, AreLeafSizes, IsBelow, subtree_of, IsNode}
 use Rattle.stow_node.specs.Parts.{Part, high_of, leaves_in}
-use Rattle.stow_node.specs.Subtree.{Subtree, messages_of}
+use Rattle.stow_node.specs.Subtree.{Subtree, messages_of, places_at}
 use Rattle.stow_node.proofs.Down.{IsNext, node_at, squeezed_same, full_has_messages, WentInto}
 use Rattle.stow_node.proofs.Entered.{Entered, child_sizes}
 use Rattle.stow_node.proofs.Filled.{some_bytes}
@@ -65,7 +65,7 @@ stays_keeps pins x y s sizes = record {
 pub record Stepping {A : Type 0} (a : Inside A) (v : Vec (Child A) A) (i bytes : ℕ) (x : Subtree) (pins : TenantPins) : Type 0 where
   pub entered : Entered a v i pins
   pub next : IsNext (record a { children = v }) i bytes x
-  pub places : x.width + 2 ≤ a.shape.fan_out
+  pub places : x.width + places_at x.height ≤ a.shape.fan_out
 
 pub stepping : {A : Type 0} (a : Inside A) (v : Vec (Child A) A) (i bytes : ℕ) (x : Subtree) (pins : TenantPins) (c : Child A) (lent : List (Child A)) → Entered a v i pins → c ≡ get_or v.items i c → c ≡ in_child.Node x → lent ≡ v.items → ((d : Part) → bytes ≡ bytes_for (parts_of lent) a.buffer i d)
     → sum_by message_size a.buffer.messages ≤ a.buffer.capacity → Stepping a v i bytes x pins
@@ -79,7 +79,7 @@ stepping {A} a v i bytes x pins c lent h here is e given live = record {
     capacity = level.same.1 ∙ sym h.is_node.fits;
     lower = let up : x.height + 1 ≡ a.height = level.level in omega arith;
   };
-  places = let p = h.places in let w = ap (λ (t : Subtree). t.width) same in omega (arith, p, w);
+  places = subst (λ (t : Subtree). t.width + places_at t.height ≤ a.shape.fan_out) (sym same) h.places;
 }
   where
     at : slice_get v.items i ≡ Some (in_child.Node x)
@@ -99,7 +99,7 @@ stepping {A} a v i bytes x pins c lent h here is e given live = record {
 pub record CanStep (y : Subtree) (height capacity : ℕ) : Type 0 where
   pub filled : 0 < length y.buffer.messages
   pub shape : 4 ≤ y.shape.fan_out
-  pub places : y.width + 2 ≤ y.shape.fan_out
+  pub places : y.width + places_at y.height ≤ y.shape.fan_out
   pub short : AreShort (messages_of y)
   pub same : y.buffer.capacity ≡ capacity
   pub lower : y.height < height
@@ -108,7 +108,7 @@ pub can_step : {A : Type 0} (a : Inside A) (v : Vec (Child A) A) (i bytes : ℕ)
 can_step {A} a v i bytes x y pins s q full wide short = record {
   filled = full_has_messages y bytes full (let f = s.next.few in let k = squeezed.capacity in let n = s.next.capacity in omega (arith, f, k, n));
   shape = let e = fan_out in omega (arith, e, wide);
-  places = let e = fan_out in let p = s.places in let w = squeezed.width in omega (arith, e, p, w);
+  places = let e = fan_out in let p = s.places in let w = squeezed.width in let h = ap places_at squeezed.height in omega (arith, e, p, w, h);
   short = rw q.is (child_short (record a { children = v }) i x s.entered.is_node s.next.at (λ key. (s.entered.keeps.means key).short (short key)));
   same = squeezed.capacity ∙ s.next.capacity;
   lower = let h = squeezed.height in let l = s.next.lower in omega (arith, h, l);

@@ -7,18 +7,24 @@ use Rattle.stow_node.specs.Halves.{SplitsAt}
 use Rattle.stow_node.specs.Moves.{bytes_for, IsHeaviest}
 use Rattle.stow_node.specs.Nodes.{parts_of}
 use Rattle.stow_node.specs.Parts.{Part}
+use Rattle.stow_node.specs.Subtree.{places_at}
 
 -- how many children a child has, a leaf none
 abbrev pub width_of : {A : Type 0} → Child A → ℕ
 width_of (in_child.Leaf leaf) = 0
 width_of (in_child.Node node) = node.width
 
--- the child for which most bytes are buffered has two places free
+-- how many more children a step into it may bring, a leaf none
+abbrev pub places_of : {A : Type 0} → Child A → ℕ
+places_of (in_child.Leaf leaf) = 0
+places_of (in_child.Node node) = places_at node.height
+
+-- the child for which most bytes are buffered has places free for what a step may bring
 pub record IsEntered {A : Type 0} (children : List (Child A)) (b : MessageList) (fan_out : ℕ)
     (i : ℕ) : Type 0 where
   pub heaviest : IsHeaviest (parts_of children) b i
   pub places : (child : Child A) → slice_get children i ≡ Some child
-      → width_of child + 2 ≤ fan_out
+      → width_of child + places_of child ≤ fan_out
 
 -- it was cut in two, and of its halves this is the one for which more bytes are buffered
 pub record IsHalfEntered {A : Type 0} (children : List (Child A)) (b : MessageList)

@@ -1,5 +1,5 @@
 -- What a contract sees of a node: all that stands in it and below it.
-use Rattle.std.specs.Prelude.{ℕ, List, [], ◌∷◌, ◌++◌}
+use Rattle.std.specs.Prelude.{ℕ, zero, suc, List, [], ◌∷◌, ◌++◌}
 use Rattle.stow_message.specs.MessageBuf.{MessageList, message_list}
 use Rattle.stow_tree_model.specs.Keys.{packed}
 use Rattle.stow_tree_model.specs.TreeMessage.{TreeMessage}
@@ -22,6 +22,12 @@ pub record Subtree : Type 0 where
   pub leaves : List LeafRows
   -- over all its messages, how many levels above the leaves each stands, added up
   pub weight : ℕ
+
+-- how many more children a step may bring to a node of this height: right above leaves two, and else one
+abbrev pub places_at : ℕ → ℕ
+places_at zero = 1
+places_at (suc zero) = 2
+places_at (suc (suc height)) = 1
 
 -- the messages in its buffers
 abbrev pub buffered : Subtree → List TreeMessage

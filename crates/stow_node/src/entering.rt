@@ -28,8 +28,8 @@ pub(crate) fn split_at<A: Allocator + Copy>(
     Ok(())
 }
 
-/// The place of the child that gets messages next, in which two places are free: the one for which most bytes are
-/// buffered, or else, cut in two, the half for which more are. Where memory is refused nothing has changed.
+/// The place of the child that gets messages next, which has places free for what a step into it may bring: the one for
+/// which most bytes are buffered, or else, cut in two, the half for which more are. Where memory is refused nothing has changed.
 pub(crate) fn next_child<A: Allocator + Copy>(
     alloc: A,
     children: &mut Vec<Child<A>, A>,
@@ -42,7 +42,8 @@ pub(crate) fn next_child<A: Allocator + Copy>(
     ensures err { OnErr result (children.new.items ≡ children.old.items) }
 {
     let index = heaviest(children.as_slice(), buffer);
-    if children[index].width() <= fan_out - 2 {
+    let child = &children[index];
+    if child.width() <= fan_out - child.places() {
         return Ok(index);
     }
     split_at(alloc, children, index)?;

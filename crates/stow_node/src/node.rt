@@ -12,7 +12,7 @@ ghost use Rattle.stow_node.specs.Halves.{AreHalves};
 ghost use Rattle.stow_node.specs.Joins.{NoneToJoin};
 ghost use Rattle.stow_node.specs.Moves.{accepted, CanAccept, IsSqueezed, Stays, raised};
 ghost use Rattle.stow_node.specs.Nodes.{AreChildren};
-ghost use Rattle.stow_node.specs.Subtree.{first_subtree, messages_of};
+ghost use Rattle.stow_node.specs.Subtree.{first_subtree, messages_of, places_at};
 
 use crate::absorbing::absorb;
 use crate::child::{Child, top_key};
@@ -177,7 +177,7 @@ impl<A: Allocator + Copy> Node<A> {
 impl<A: Allocator + Copy> Node<A> {
     /// One step of its messages towards the leaves: those for the child for which most bytes are buffered move into that
     /// child's buffer. Where they don't fit there, dead bytes dropped, the step is that child's own; right above leaves
-    /// messages are merged into one. A child that has fewer than two free places is cut in two first. Where memory is
+    /// messages are merged into one. A child that lacks places for its own step is cut in two first. Where memory is
     /// refused it means what it did.
     pub fn step(
         &mut self,
@@ -188,7 +188,7 @@ impl<A: Allocator + Copy> Node<A> {
     ) -> Result<(), AllocError>
         requires some { 0 < length self.old.buffer.messages }
         requires shape { 4 ≤ self.old.shape.fan_out }
-        requires places { self.old.width + 2 ≤ self.old.shape.fan_out }
+        requires places { self.old.width + places_at self.old.height ≤ self.old.shape.fan_out }
         requires short { AreShort (messages_of self.old) }
         requires spare { self.old.buffer.capacity ≤ spare.old.capacity }
         ensures ok { OnOk result (Flushes (pins_in pins.now) self.old self.new) }
@@ -238,6 +238,13 @@ impl<A: Allocator> Node<A> {
         ensures few { result ≤ self.now.shape.fan_out }
     {
         self.children.len()
+    }
+
+    /// How many more children a step may bring: leaves in a leaf's place, or a half of a child.
+    pub fn places(&self) -> usize
+        ensures { result ≡ places_at self.now.height }
+    {
+        if self.height == 1 { 2 } else { 1 }
     }
 
     /// How large it may grow. Its buffer's block has the node size.

@@ -3,7 +3,7 @@ ghost use Rattle.std.specs.Prelude.{◌≡◌, ℕ, ◌+◌, ◌<◌, ◌≤◌,
 ghost use Rattle.stow_tree_model.specs.Keys.{packed};
 ghost use Rattle.stow_node.specs.Flushes.{AreShort};
 ghost use Rattle.stow_node.specs.Ready.{IsReadyAbove};
-ghost use Rattle.stow_node.specs.Subtree.{messages_of};
+ghost use Rattle.stow_node.specs.Subtree.{messages_of, places_at};
 
 use crate::child::Child;
 use crate::node::Node;
@@ -54,7 +54,7 @@ fn two_levels<A: Allocator + Copy>(alloc: A) -> Result<Node<A>, AllocError>
     ensures none { IfOk result (λ n. messages_of n ≡ []) }
     ensures low { IfOk result (λ n. n.low ≡ packed 0 []) }
     ensures room { IfOk result (λ n. (n.buffer.used ≡ 0) × (n.buffer.capacity ≡ 131072)) }
-    ensures places { IfOk result (λ n. n.width + 2 ≤ n.shape.fan_out) }
+    ensures places { IfOk result (λ n. n.width + places_at n.height ≤ n.shape.fan_out) }
     ensures shape { IfOk result (λ n. 4 ≤ n.shape.fan_out) }
 {
     let mut node = Node::first(alloc, smallest())?;
@@ -73,7 +73,7 @@ fn put_and_step<A: Allocator + Copy>(
     requires none { messages_of node.old ≡ [] }
     requires low { node.old.low ≡ packed 0 [] }
     requires room { node.old.buffer.used + 23 ≤ node.old.buffer.capacity }
-    requires places { node.old.width + 2 ≤ node.old.shape.fan_out }
+    requires places { node.old.width + places_at node.old.height ≤ node.old.shape.fan_out }
     requires shape { 4 ≤ node.old.shape.fan_out }
     requires spare { node.old.buffer.capacity ≤ spare.old.capacity }
 {
@@ -213,8 +213,8 @@ fn flush<A: Allocator + Copy>(alloc: A, node: &mut Node<A>) -> Result<(), AllocE
     ensures ready { (last : ℕ) → IsReadyAbove last node.old → IsReadyAbove last node.new }
 {
     let shape = node.shape();
-    let width = node.width();
-    if node.buffer().len() == 0 || shape.fan_out < 4 || (shape.fan_out as usize) - width < 2 {
+    let free = shape.fan_out as usize - node.width();
+    if node.buffer().len() == 0 || shape.fan_out < 4 || free < node.places() {
         return Ok(());
     }
     let mut spare = RawBuf::with_capacity(alloc, shape.buffer as usize)?;

@@ -6,7 +6,9 @@
 //! way and in the leaves from there on, and reads that one.
 //!
 //! A body that always answers `AllocError` meets each contract here: tests call each with ample memory, and with each
-//! request refused. How much of a node a read looks at stands in no contract.
+//! request refused. How much of a node a read looks at stands in no contract. `leaf_for` may answer none, or another leaf of
+//! the node: it is asked only for what to hold, and whatever leaf of the tree is held, and none, is right. That leaves are
+//! held is seen by tests of the tree.
 #![tactic(auto)]
 
 mod descent;

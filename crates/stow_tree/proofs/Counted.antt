@@ -1,5 +1,5 @@
 -- Leaves and messages that are counted child by child.
-use Rattle.std.proofs.Common.{◌≡◌, ℕ, zero, suc, ◌+◌, ◌<◌, ◌≤◌, min, ◌⊎◌, inl, inr, List, [], ◌∷◌, ◌++◌, length, take, get_or, map, refl, ap, ◌∙◌, sym, subst, arith, ⊎_elim}
+use Rattle.std.proofs.Common.{◌≡◌, ℕ, zero, suc, ◌+◌, ◌<◌, ◌≤◌, ◌⊎◌, List, [], ◌∷◌, length, take, get_or, ap, ◌∙◌, sym, subst, arith, ⊎_elim}
 use Rattle.std.proofs.Math.Nat.{min-eq_left, min_comm}
 use Rattle.std.proofs.lemmas.Bool.{cases_order}
 use Rattle.std.proofs.lemmas.List.{length-append, length-map, get_or-map, take_all}
@@ -8,7 +8,7 @@ use Rattle.stow_node.specs.declared.child.Child.{Child}
 use Rattle.stow_node.specs.declared.child.Child.TheVariants as in_child
 use Rattle.stow_node.specs.Nodes.{part_of, parts_of, AreChildren}
 use Rattle.stow_node.specs.Parts.{Part, leaves_in, messages_in}
-use Rattle.stow_node.specs.Subtree.{Subtree, buffered}
+use Rattle.stow_node.specs.Subtree.{Subtree}
 use Rattle.stow_tree.specs.declared.counting.Counts.{Counts}
 use Rattle.stow_tree.specs.Reports.{told, counts_both, CountsAre}
 

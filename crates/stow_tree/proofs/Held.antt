@@ -1,5 +1,5 @@
 -- A cache whose leaves are the tree's.
-use Rattle.std.proofs.Common.{◌≡◌, ℕ, zero, suc, ◌<◌, Bool, true, false, cond, List, [], ◌∷◌, take, length, Option, Some, None, refl, ap, ◌∙◌, sym, subst, arith, ⊎_elim, ◌⊎◌}
+use Rattle.std.proofs.Common.{◌≡◌, ℕ, zero, suc, Bool, true, false, cond, List, [], ◌∷◌, take, Option, Some, None, refl, sym, subst, ⊎_elim}
 use Rattle.std.specs.Prelude.{Contains}
 use Rattle.std.proofs.lemmas.Map.Views.{Contains-from_lookup}
 use Rattle.std.specs.Cmp.Lexicographic.{bytes_decides}
@@ -7,7 +7,7 @@ use Rattle.std.specs.Option.{option_map_or}
 use Rattle.std.specs.Str.{bytes_eq}
 use Rattle.stow_leaf.specs.LeafRows.{LeafRows, leaf_rows}
 use Rattle.stow_leaf.specs.declared.leaf.Leaf.{Leaf}
-use Rattle.stow_leaf_cache.specs.Cache.{Cache, rows_under, leaves_without, leaves_used, leaves_kept, IsOffered, cache_used, cache_resized}
+use Rattle.stow_leaf_cache.specs.Cache.{Cache, rows_under, leaves_without, leaves_kept, IsOffered, cache_used, cache_resized}
 use Rattle.stow_node.specs.Forgets.{Forgets}
 use Rattle.stow_tree_model.proofs.Latest.{contains_cases}
 use Rattle.stow_tree_model.proofs.Pruning.{contains_here, contains_there, none_in_nothing}

@@ -1,10 +1,9 @@
 -- A tree as it is made, and as room is made in it.
-use Rattle.std.proofs.Common.{◌≡◌, ℕ, ◌≤◌, List, [], refl, ap, ◌∙◌, sym, subst, arith, Result, Ok, Err, OnOk}
+use Rattle.std.proofs.Common.{◌≡◌, ℕ, List, [], refl, ap, ◌∙◌, sym, subst, arith, Result, Ok, Err, OnOk}
 use Rattle.std.specs.Prelude.{Contains}
 use Rattle.std.specs.FinMap as finite
 use Rattle.stow_leaf.specs.Replacements.{HasShortValues}
 use Rattle.stow_leaf_cache.specs.Cache.{Cache}
-use Rattle.stow_message.specs.MessageBuf.{MessageList}
 use Rattle.stow_node.specs.Forgets.{Forgets}
 use Rattle.stow_node.specs.Subtree.{Subtree, messages_of, first_subtree}
 use Rattle.stow_node.specs.declared.shape.Shape.{Shape}
@@ -12,7 +11,6 @@ use Rattle.stow_node.proofs.Over.{nothing_short}
 use Rattle.stow_flush.specs.Rooms.{HasRoom, Stands}
 use Rattle.stow_raw.specs.RawBuf.{RawLists, raw_lists}
 use Rattle.stow_tree_model.specs.Agreement.{TenantPins}
-use Rattle.stow_tree_model.specs.Keys.{tenant_of}
 use Rattle.stow_tree_model.specs.Messages.{ops_in, set_of}
 use Rattle.stow_tree_model.specs.TreeMessage.{TreeMessage}
 use Rattle.stow_tree_model.proofs.Pruning.{none_in_nothing}
@@ -20,7 +18,7 @@ use Rattle.stow_tree.specs.declared.tree.Tree.TheInside.{Inside}
 use Rattle.stow_tree.specs.declared.tree_shape.TreeShape.{TreeShape}
 use Rattle.stow_tree.specs.Putting.{CanReserve, IsReserved, bytes_of}
 use Rattle.stow_tree.specs.Shapes.{AreInRange, IsInRange, nodes_of}
-use Rattle.stow_tree.specs.TreeState.{TreeState, IsTree, HoldsLeaves, tree_messages, AgreeUnder}
+use Rattle.stow_tree.specs.TreeState.{TreeState, IsTree, tree_messages, AgreeUnder}
 use Rattle.stow_tree.proofs.Held.{forgets_held}
 use Rattle.stow_tree.proofs.Putting.{state_of}
 use Rattle.stow_tree.proofs.Sets.{agree_under, reserved}

@@ -1,13 +1,13 @@
 -- The numbers of a tree's messages, as room is made and messages are put.
-use Rattle.std.proofs.Common.{◌≡◌, ◌≢◌, ℕ, ◌+◌, ◌<◌, ◌≤◌, Bool, true, false, List, [], ◌∷◌, length, Option, Some, None, refl, ap, ◌∙◌, sym, subst, arith, ⊎_elim}
+use Rattle.std.proofs.Common.{◌≡◌, ◌≢◌, ℕ, ◌<◌, ◌≤◌, true, false, List, [], ◌∷◌, length, Some, None, ap, ◌∙◌, sym, subst, arith, ⊎_elim}
 use Rattle.std.specs.FinMap as finite
-use Rattle.std.specs.List.{AllByRecursion, sum_by}
+use Rattle.std.specs.List.{AllByRecursion}
 use Rattle.std.proofs.lemmas.List.Sums.{sum_by-cons}
 use Rattle.stow_message.specs.Packed.{message_size}
 use Rattle.stow_node.specs.Subtree.{Subtree}
 use Rattle.stow_tree_model.specs.Agreement.{TenantPins}
 use Rattle.stow_tree_model.specs.Merged.{same_key}
-use Rattle.stow_tree_model.specs.Messages.{Messages, ops_of, ops_in, value}
+use Rattle.stow_tree_model.specs.Messages.{Messages, ops_of, value}
 use Rattle.stow_tree_model.specs.Op.{Op, Gone, bytes_in}
 use Rattle.stow_tree_model.specs.Operations.{or_else, outcome, value_in}
 use Rattle.stow_tree_model.specs.Order.{Place, place_cmp, place_of}

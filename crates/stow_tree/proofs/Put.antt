@@ -1,7 +1,7 @@
 -- A message more in the root's own buffer.
-use Rattle.std.proofs.Common.{◌≡◌, ◌≢◌, ℕ, zero, suc, ◌+◌, ◌<◌, ◌≤◌, ◌⊎◌, Bool, true, false, cond, List, [], ◌∷◌, ◌++◌, length, Option, Some, None, refl, ap, ◌∙◌, sym, subst, arith, ⊎_elim, append_assoc}
+use Rattle.std.proofs.Common.{◌≡◌, ◌≢◌, ℕ, zero, suc, ◌+◌, ◌<◌, ◌≤◌, ◌⊎◌, Bool, true, false, List, [], ◌∷◌, ◌++◌, length, Option, Some, None, refl, ap, ◌∙◌, sym, subst, arith, ⊎_elim, append_assoc}
 use Rattle.std.specs.Prelude.{IsSome}
-use Rattle.std.specs.List.{AllByRecursion, sum_by}
+use Rattle.std.specs.List.{AllByRecursion}
 use Rattle.std.specs.Ordering.{eq_by_cmp}
 use Rattle.std.proofs.lemmas.Bool.{cases_order, cond-true, cond-false}
 use Rattle.std.proofs.lemmas.List.{length-append}
@@ -10,19 +10,17 @@ use Rattle.stow_leaf.specs.Intervals.{top_key, spans}
 use Rattle.stow_leaf.specs.LeafRows.{row_messages}
 use Rattle.stow_leaf.proofs.Found.{none_some, some_left}
 use Rattle.stow_leaf.proofs.Ops.{Other, ops-append, ops-placed}
-use Rattle.stow_message.specs.MessageBuf.{with_messages}
 use Rattle.stow_message.specs.Packed.{message_size}
 use Rattle.stow_message.specs.Rising.{placed, all_placed}
 use Rattle.stow_node.specs.Flushes.{AreShort}
 use Rattle.stow_node.specs.Moves.{accepted, CanAccept}
-use Rattle.stow_node.specs.Subtree.{Subtree, buffered, messages_of}
+use Rattle.stow_node.specs.Subtree.{buffered, messages_of}
 use Rattle.stow_node.proofs.Accepted.{length-all_placed}
 use Rattle.stow_node.proofs.Newer.{new_to}
 use Rattle.stow_leaf.specs.Replacements.{HasShortValues}
-use Rattle.stow_tree_model.specs.Keys.{packed, IsTenantKey, IsOfTenant}
-use Rattle.stow_tree_model.specs.Messages.{Messages, ops_of, ops_in, with_all, value}
+use Rattle.stow_tree_model.specs.Messages.{ops_of, ops_in, with_all}
 use Rattle.stow_tree_model.specs.Op.{Op}
-use Rattle.stow_tree_model.specs.Operations.{Operations, NumberedValue, latest, applied, numbered, outcome, value_in, or_else, over}
+use Rattle.stow_tree_model.specs.Operations.{Operations, latest, applied, outcome, value_in, or_else}
 use Rattle.stow_tree_model.specs.Order.{Place, place_cmp, place_of}
 use Rattle.stow_tree_model.specs.TreeMessage.{TreeMessage}
 use Rattle.stow_tree_model.specs.Value.{IsValue}
@@ -31,10 +29,9 @@ use Rattle.stow_tree_model.proofs.Latest.{latest_same, latest_stays}
 use Rattle.stow_tree_model.proofs.Orders.{place_cases, key_cases}
 use Rattle.stow_tree_model.specs.Merged.{same_key}
 use Rattle.stow_tree_model.proofs.SetLemmas.{set_by_ops_law, ops-with_all, ops_in-other_place}
-use Rattle.stow_flush.specs.Rooms.{HasRoom}
 use Rattle.stow_tree.specs.TreeState.{TreeState, tree_messages}
-use Rattle.stow_tree.specs.Putting.{CanAdd, CanPut, IsReserved, AreApart, Puts, bytes_of}
-use Rattle.stow_tree.proofs.Sets.{ops_messages, same_messages}
+use Rattle.stow_tree.specs.Putting.{CanAdd, IsReserved, Puts}
+use Rattle.stow_tree.proofs.Sets.{ops_messages}
 
 -- the tree with the message in the root's own buffer
 abbrev pub put : TreeMessage → TreeState → TreeState

@@ -2,17 +2,14 @@
 use Rattle.std.proofs.Common.{◌≡◌, ℕ, zero, suc, ◌+◌, ◌<◌, ◌≤◌, List, [], ◌∷◌, length, drop, get_or, map, refl, ap, ◌∙◌, sym, subst, arith}
 use Rattle.std.proofs.Math.Seq.{drop-cons}
 use Rattle.std.proofs.lemmas.List.{length-map, get_or-map}
-use Rattle.stow_leaf.specs.Intervals.{top_key, spans}
-use Rattle.stow_message.specs.Packed.{message_size}
 use Rattle.stow_node.specs.Moves.{accepted, CanAccept}
-use Rattle.stow_node.specs.Subtree.{Subtree}
 use Rattle.stow_tree_model.specs.TreeMessage.{TreeMessage, message_of}
 use Rattle.stow_tree_model.specs.declared.message.Message as lent
 use Rattle.stow_tree.specs.declared.tree.Tree.TheInside.{Inside}
 use Rattle.stow_tree.specs.Putting.{IsReserved, Puts}
 use Rattle.stow_tree.specs.TreeState.{TreeState, IsTree}
 use Rattle.stow_tree.proofs.Lowest.{in_tree}
-use Rattle.stow_tree.proofs.Put.{put, can_accept, reserved_after, puts_after, puts_nothing, short_after}
+use Rattle.stow_tree.proofs.Put.{can_accept, reserved_after, puts_after, puts_nothing, short_after}
 
 -- what the code's type stands for
 abbrev pub state_of : {A : Type 0} → Inside A → TreeState

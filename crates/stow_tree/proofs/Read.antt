@@ -1,11 +1,7 @@
 -- What reads of the root tell of the tree.
-use Rattle.std.proofs.Common.{◌≡◌, ℕ, List, map, Option, Result, Ok, Err, IfOk, refl, ap, ◌∙◌, sym, subst}
+use Rattle.std.proofs.Common.{◌≡◌, ℕ, List, ap, ◌∙◌, sym}
 use Rattle.stow_node.specs.Subtree.{Subtree, messages_of}
-use Rattle.stow_tree_model.specs.Messages.{ops_of, ops_in, value}
-use Rattle.stow_tree_model.specs.Operations.{Operations, NumberedValue, latest}
-use Rattle.stow_tree_model.specs.Version.{Version}
-use Rattle.stow_read.specs.Range.{KeyValue, IsRange}
-use Rattle.stow_read.specs.Versions.{AreVersionsOf}
+use Rattle.stow_tree_model.specs.Messages.{ops_of, ops_in}
 use Rattle.stow_tree.specs.TreeState.{TreeState, tree_messages, IsRead}
 use Rattle.stow_tree.proofs.Sets.{ops_messages, all_ops}
 

@@ -1,5 +1,5 @@
 -- What a tree means, by its root.
-use Rattle.std.proofs.Common.{◌≡◌, ℕ, zero, suc, ◌≤◌, List, [], ◌∷◌, Option, None, refl, ap, ◌∙◌, sym, subst, arith}
+use Rattle.std.proofs.Common.{◌≡◌, ℕ, zero, suc, ◌≤◌, List, [], ◌∷◌, None, refl, ap, ◌∙◌, sym, subst, arith}
 use Rattle.std.specs.List.{AllByRecursion}
 use Rattle.stow_leaf.proofs.Found.{ops-set_of}
 use Rattle.stow_node.specs.Flushes.{MeanTheSame}
@@ -9,13 +9,13 @@ use Rattle.stow_flush.specs.Rooms.{HasRoom, Stands}
 use Rattle.stow_tree_model.specs.Agreement.{TenantPins, AgreeAt}
 use Rattle.stow_tree_model.specs.Keys.{tenant_of}
 use Rattle.stow_tree_model.specs.Messages.{ops_of, ops_in, set_of, value}
-use Rattle.stow_tree_model.specs.Operations.{Operations, NumberedValue, latest, outcome, value_in, NoneAbove}
+use Rattle.stow_tree_model.specs.Operations.{Operations, latest, outcome, value_in, NoneAbove}
 use Rattle.stow_tree_model.specs.TreeMessage.{TreeMessage}
 use Rattle.stow_tree_model.specs.Value.{IsValue}
 use Rattle.stow_tree_model.proofs.Latest.{latest_same}
 use Rattle.stow_tree_model.proofs.SetLemmas.{same_agreement}
 use Rattle.stow_tree.specs.TreeState.{TreeState, tree_messages, AgreeUnder}
-use Rattle.stow_tree.specs.Putting.{CanAdd, CanPut, CanReserve, IsReserved, bytes_of}
+use Rattle.stow_tree.specs.Putting.{CanAdd, CanReserve, IsReserved, bytes_of}
 
 pub ops_messages : (t : TreeState) (key : List ℕ) → ops_of (tree_messages t) key ≡ ops_in (messages_of t.root) key
 unfolding tree_messages

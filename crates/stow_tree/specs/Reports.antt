@@ -1,8 +1,5 @@
 -- How large a tree is.
 use Rattle.std.specs.Prelude.{◌≡◌, ℕ, ◌+◌, length, min}
-use Rattle.stow_node.specs.declared.child.Child.{Child}
-use Rattle.stow_node.specs.Nodes.{part_of}
-use Rattle.stow_node.specs.Parts.{Part}
 use Rattle.stow_node.specs.Subtree.{Subtree, buffered}
 use Rattle.stow_tree.specs.declared.counting.Counts.{Counts}
 use Rattle.stow_tree.specs.declared.shape_report.ShapeReport.{ShapeReport}

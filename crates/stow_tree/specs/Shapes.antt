@@ -1,5 +1,5 @@
 -- How large the parts of a tree may grow.
-use Rattle.std.specs.Prelude.{ℕ, ◌≤◌}
+use Rattle.std.specs.Prelude.{◌≤◌}
 use Rattle.stow_node.specs.declared.shape.Shape.{Shape}
 use Rattle.stow_tree.specs.declared.tree_shape.TreeShape.{TreeShape}
 

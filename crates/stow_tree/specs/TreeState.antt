@@ -4,7 +4,6 @@ use Rattle.stow_leaf.specs.LeafRows.{LeafRows}
 use Rattle.stow_leaf_cache.specs.Cache.{Cache}
 use Rattle.stow_node.specs.Flushes.{AreShort}
 use Rattle.stow_node.specs.Subtree.{Subtree, messages_of, first_subtree}
-use Rattle.stow_raw.specs.RawBuf.{RawLists}
 use Rattle.stow_tree_model.specs.Agreement.{TenantPins, TenantBounds, Agree}
 use Rattle.stow_tree_model.specs.Keys.{packed, tenant_of}
 use Rattle.stow_tree_model.specs.Messages.{Messages, set_of, ops_of}

@@ -7,7 +7,9 @@
 //! `get`, `range`) tell what the set of messages tells, and move none.
 //!
 //! A body of `reserve` or of a read that always answers `AllocError` meets its contract, and so does a cache that holds
-//! nothing: tests call each with ample memory, and with each request refused, and look at what the cache holds.
+//! nothing, as where `offer` does nothing: tests call each with ample memory, and with each request refused, and look at what
+//! the cache holds. How much work a call does stands in no contract, so a body of `versions` or of `range` that reads twice
+//! and answers what it read last meets it too: it answers the same.
 #![tactic(auto)]
 
 mod counting;

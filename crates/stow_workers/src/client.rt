@@ -61,6 +61,7 @@ impl<A: Allocator + Copy> Client<A> {
         ensures serves { ServesPiece D.answers tenants.now piece.now result
             (state_of door.old (W.contents writer.old) (W.failures writer.old) self.old)
             (state_of door.new (W.contents writer.new) (W.failures writer.new) self.new) }
+        ensures same_borrow { W.borrow writer.new ≡ W.borrow writer.old }
     {
         if self.input.feed(piece).is_err() {
             return Some(Served::NoMemory);
@@ -78,9 +79,10 @@ impl<A: Allocator + Copy> Client<A> {
         door: &mut D,
         gate: &G,
     ) -> Option<Stop>
-        ensures { ServesAll D.answers tenants.now result
+        ensures serves { ServesAll D.answers tenants.now result
             (state_of door.old (W.contents writer.old) (W.failures writer.old) self.old)
             (state_of door.new (W.contents writer.new) (W.failures writer.new) self.new) }
+        ensures same_borrow { W.borrow writer.new ≡ W.borrow writer.old }
     {
         loop {
             match self.serve_next(writer, tenants, door, gate) {
@@ -103,6 +105,7 @@ impl<A: Allocator + Copy> Client<A> {
         ensures turns { Turns D.answers tenants.now result
             (state_of door.old (W.contents writer.old) (W.failures writer.old) self.old)
             (state_of door.new (W.contents writer.new) (W.failures writer.new) self.new) }
+        ensures same_borrow { W.borrow writer.new ≡ W.borrow writer.old }
     {
         match self.input.next(self.alloc) {
             Next::More => Turn::Waits,
@@ -125,9 +128,10 @@ impl<A: Allocator + Copy> Client<A> {
         next: Next<A>,
         stop: Stop,
     ) -> Turn
-        ensures { IsAnswered D.answers tenants.now next stop result
+        ensures answered { IsAnswered D.answers tenants.now next stop result
             (state_of door.old (W.contents writer.old) (W.failures writer.old) self.old)
             (state_of door.new (W.contents writer.new) (W.failures writer.new) self.new) }
+        ensures same_borrow { W.borrow writer.new ≡ W.borrow writer.old }
     {
         let (reply, ends) = self.hear(tenants, door, gate, next);
         if self.replies.add(writer, &reply).is_err() {

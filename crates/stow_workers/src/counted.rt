@@ -1,4 +1,4 @@
-//! A reader or a writer whose failures are counted.
+//! A reader or a writer that is lent, and whose failures are counted.
 ghost use Rattle.std.specs.Prelude.{◌≡◌, ◌<◌, IsSome, Some, None};
 ghost use Rattle.std.specs.Io.{ReadsAtMost, WritesAtMost};
 ghost use Rattle.std.specs.Io.KnownBytes.{ReadConsumes, WriteAppends};
@@ -12,22 +12,23 @@ use std::io::{Error, ErrorKind, Read, Write};
 /// The most failures that are counted.
 const LIMIT: u64 = 9_223_372_036_854_775_807;
 
-/// A reader or a writer, how many of its calls have failed, and why the last of these did. A call that was
+/// A reader or a writer that is lent, how many of its calls have failed, and why the last of these did. A call that was
 /// interrupted is made again, and is no failure.
 #[derive(Drop)]
-pub struct Counted<T> {
-    inner: T,
+pub struct Counted<'a, T> {
+    inner: &'a mut T,
     failures: u64,
     last: Option<Error>,
     ghost known: { 0 < failures → IsSome last },
 }
 
-impl<T> Counted<T> {
-    ghost use Rattle.stow_workers.specs.Counted.{inner_of, failures_of, last_of};
+impl<'a, T> Counted<'a, T> {
+    ghost use Rattle.stow_workers.specs.Counted.{inner_of, failures_of, last_of, borrow_of};
 
     /// None of its calls has failed yet.
-    pub fn new(inner: T) -> Counted<T>
-        ensures inner { inner_of result ≡ inner }
+    pub fn new(inner: &'a mut T) -> Counted<'a, T>
+        ensures inner { inner_of result ≡ inner.old }
+        ensures same_borrow { borrow_of result ≡ inner.entry.ghost_name }
         ensures failures { failures_of result ≡ 0 }
         ensures reason { last_of result ≡ None }
     {
@@ -49,6 +50,7 @@ impl<T> Counted<T> {
     /// One more call has failed.
     fn fail(&mut self, error: Error) -> Error
         ensures inner { inner_of self.new ≡ inner_of self.old }
+        ensures same_borrow { borrow_of self.new ≡ borrow_of self.old }
         ensures failed { HasFailed (failures_of self.old) (failures_of self.new) }
         ensures reason { last_of self.new ≡ Some result }
         ensures same { result ≡ error }
@@ -59,12 +61,14 @@ impl<T> Counted<T> {
     }
 }
 
-impl<T: Read> Source for Counted<T> {
-    ghost use Rattle.stow_workers.specs.Counted.{inner_of, failures_of, last_of, KeepsReason};
+impl<T: Read> Source for Counted<'_, T> {
+    ghost use Rattle.stow_workers.specs.Counted.{inner_of, failures_of, last_of, borrow_of, KeepsReason};
 
     ghost remaining = { λ c. T.remaining (inner_of c) };
 
     ghost failures = { λ c. failures_of c };
+
+    ghost borrow = { λ c. Some (borrow_of c) };
 
     fn read(&mut self, room: &mut [u8]) -> io::Result<usize>
         ensures bound { ReadsAtMost result room.new }
@@ -72,6 +76,7 @@ impl<T: Read> Source for Counted<T> {
             (T.remaining (inner_of self.new)) result room.new }
         ensures failures { CountsRead result (failures_of self.old) (failures_of self.new) }
         ensures reason { KeepsReason result (last_of self.old) (last_of self.new) }
+        ensures same_borrow { Some (borrow_of self.new) ≡ Some (borrow_of self.old) }
     {
         for _ in 0..u64::MAX {
             match self.inner.read(room) {
@@ -84,12 +89,14 @@ impl<T: Read> Source for Counted<T> {
     }
 }
 
-impl<T: Write> Sink for Counted<T> {
-    ghost use Rattle.stow_workers.specs.Counted.{inner_of, failures_of, last_of, KeepsReason};
+impl<T: Write> Sink for Counted<'_, T> {
+    ghost use Rattle.stow_workers.specs.Counted.{inner_of, failures_of, last_of, borrow_of, KeepsReason};
 
     ghost contents = { λ c. T.contents (inner_of c) };
 
     ghost failures = { λ c. failures_of c };
+
+    ghost borrow = { λ c. Some (borrow_of c) };
 
     fn write(&mut self, bytes: &[u8]) -> io::Result<usize>
         ensures bound { WritesAtMost result bytes.now }
@@ -98,6 +105,7 @@ impl<T: Write> Sink for Counted<T> {
         ensures failures { CountsWrite result bytes.now (failures_of self.old)
             (failures_of self.new) }
         ensures reason { KeepsReason result (last_of self.old) (last_of self.new) }
+        ensures same_borrow { Some (borrow_of self.new) ≡ Some (borrow_of self.old) }
     {
         for _ in 0..u64::MAX {
             match self.inner.write(bytes) {

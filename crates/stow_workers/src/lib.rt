@@ -12,8 +12,9 @@
 //!   beginning where the writer fails or memory is refused. After a write that failed the messages of its piece are
 //!   still served.
 //! - The reader or the writer is said to have failed only where one of its calls did (`source::Source`,
-//!   `sink::Sink`). `counted::Counted` makes these of any reader or writer, tries interrupted calls again, and keeps
-//!   why the last call that failed did.
+//!   `sink::Sink`). `counted::Counted` makes these of any reader or writer that is lent, tries interrupted calls again,
+//!   and keeps why the last call that failed did. The reader and the writer stay those that were lent, so the lender
+//!   knows what is left of the one and what the other holds.
 //! - Through a core with empty stores it is the history of one connection, of which the isolation theorem speaks
 //!   (`laws`, whose body is empty, so no wrong body can be tried on it).
 //!

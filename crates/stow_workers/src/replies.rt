@@ -52,6 +52,7 @@ impl<A: Allocator + Copy> Replies<A> {
         ensures err { OnErr result
             (StaysSent (sent_of (W.contents writer.old) (W.failures writer.old) self.old)
             (sent_of (W.contents writer.new) (W.failures writer.new) self.new)) }
+        ensures same_borrow { W.borrow writer.new ≡ W.borrow writer.old }
     {
         let Some(reply) = reply else {
             return Ok(());
@@ -71,6 +72,7 @@ impl<A: Allocator + Copy> Replies<A> {
         ensures sent { StaysSent (sent_of (W.contents writer.old) (W.failures writer.old) self.old)
             (sent_of (W.contents writer.new) (W.failures writer.new) self.new) }
         ensures written { IsWritten self.new.has_failed self.new.bytes.items }
+        ensures same_borrow { W.borrow writer.new ≡ W.borrow writer.old }
     {
         if self.has_failed {
             return;
@@ -86,9 +88,10 @@ impl<A: Allocator + Copy> Replies<A> {
 
 /// Writes all bytes, unless a write fails.
 fn write_all<W: Sink>(writer: &mut W, bytes: &[u8]) -> bool
-    ensures { WritesAll result bytes.now
+    ensures written { WritesAll result bytes.now
         (written_of (W.contents writer.old) (W.failures writer.old))
         (written_of (W.contents writer.new) (W.failures writer.new)) }
+    ensures same_borrow { W.borrow writer.new ≡ W.borrow writer.old }
 {
     let mut rest = bytes;
     while !rest.is_empty() {

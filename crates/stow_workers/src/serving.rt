@@ -1,4 +1,5 @@
 //! One connection served from its reader to its writer.
+ghost use Rattle.std.specs.Prelude.{◌≡◌};
 ghost use Rattle.stow_workers.specs.Sent.{written_of};
 ghost use Rattle.stow_workers.specs.Talks.{ServesConnection, ReaderFails};
 
@@ -32,6 +33,8 @@ pub fn serve_connection<R: Source, W: Sink, D: Door<A>, G: Gate, A: Allocator + 
         (written_of (W.contents writer.old) (W.failures writer.old))
         (written_of (W.contents writer.new) (W.failures writer.new)) }
     ensures reader { ReaderFails result (R.failures reader.old) (R.failures reader.new) }
+    ensures same_reader { R.borrow reader.new ≡ R.borrow reader.old }
+    ensures same_writer { W.borrow writer.new ≡ W.borrow writer.old }
 {
     let mut client = Client::new(alloc);
     let mut piece = [0u8; PIECE];

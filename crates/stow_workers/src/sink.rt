@@ -1,5 +1,6 @@
 //! What bytes are written to.
-ghost use Rattle.std.specs.Prelude.{ℕ, List, Option, None};
+ghost use Rattle.std.specs.Prelude.{◌≡◌, ℕ, List, Option, None};
+ghost use Rattle.std.specs.Borrow.{GName};
 ghost use Rattle.std.specs.Io.{WritesAtMost};
 ghost use Rattle.std.specs.Io.KnownBytes.{WriteAppends};
 ghost use Rattle.stow_workers.specs.Failures.{CountsWrite};
@@ -14,9 +15,13 @@ pub trait Sink {
     // How many writes have failed, up to the limit.
     ghost failures: { Self → ℕ };
 
+    // The borrow that it writes through, where that is known: each call leaves it.
+    ghost borrow: { Self → Option GName } = { λ _. None };
+
     /// Writes as many of the bytes as it likes. Where it takes none of some, it has failed.
     fn write(&mut self, bytes: &[u8]) -> io::Result<usize>
         ensures bound { WritesAtMost result bytes.now }
         ensures bytes { WriteAppends (contents self.old) (contents self.new) result bytes.now }
-        ensures failures { CountsWrite result bytes.now (failures self.old) (failures self.new) };
+        ensures failures { CountsWrite result bytes.now (failures self.old) (failures self.new) }
+        ensures same_borrow { borrow self.new ≡ borrow self.old };
 }

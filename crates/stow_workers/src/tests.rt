@@ -260,11 +260,13 @@ impl Read for Shaky<'_> {
 fn failures_are_kept(rt: HostRuntime) -> Result<(), Fail> {
     let alloc = rt.alloc();
     let mut service = Service::new(alloc, alloc)?;
-    let mut reader = Counted::new(Shaky {
+    let mut shaky = Shaky {
         left: HELLO,
         is_interrupted: false,
-    });
-    let mut writer = Counted::new(Vec::new(alloc));
+    };
+    let mut held = Vec::new(alloc);
+    let mut reader = Counted::new(&mut shaky);
+    let mut writer = Counted::new(&mut held);
     let served = serve_connection(
         alloc,
         &mut reader,

@@ -39,8 +39,9 @@ impl<'a, R: Wait, J: Journal, G: Gate, A: Allocator + Copy> Workplace<'a, R, J, 
     fn serve(&self, stream: &TcpStream, seat: &mut Seat<J, A>) -> Served
         ensures { HasCalled J.keeps seat.old seat.new }
     {
-        let mut reader = Counted::new(stream);
-        let mut writer = Counted::new(stream);
+        let (mut input, mut output) = (stream, stream);
+        let mut reader = Counted::new(&mut input);
+        let mut writer = Counted::new(&mut output);
         let tenants = self.shared.tenants();
         let mut desk = Desk {
             rt: self.rt,

@@ -34,6 +34,8 @@ fn making_withstands_each_refusal(rt: HostRuntime) -> Result<(), Fail> {
             "request {n}"
         );
     }
+    heap.set(Plan::Grant);
+    assert_eq!(rt; fault_of(&heap, SMALLEST), None);
     Ok(())
 }
 

@@ -20,6 +20,9 @@ const TENANTS: u32 = 3;
 /// How many places there are at which what a change carries may begin.
 const PLACES: u32 = 1_000;
 
+/// How long a short value is.
+const SHORT: u32 = 1_000;
+
 /// What a run is of.
 #[derive(Clone, Copy)]
 pub(crate) struct Course {
@@ -171,6 +174,31 @@ impl<A: Allocator + Copy> Run<A> {
             &self.pins,
         )?;
         self.changes.push(change)?;
+        Ok(())
+    }
+
+    /// Gives the key at a place a short value, and then removes it.
+    fn put_and_remove(&mut self, alloc: A, key: usize) -> Result<(), AllocError> {
+        for kind in [Kind::Put, Kind::Gone] {
+            let change = Change {
+                key,
+                number: self.tree.last.saturating_add(1),
+                kind,
+                from: self.random.below(PLACES),
+                len: SHORT,
+            };
+            self.put(alloc, change)?;
+        }
+        Ok(())
+    }
+
+    /// Gives each key but every twentieth a short value, and then removes it.
+    pub(crate) fn remove_most(&mut self, alloc: A) -> Result<(), AllocError> {
+        for place in 0..self.keys.len() {
+            if place % 20 != 0 {
+                self.put_and_remove(alloc, place)?;
+            }
+        }
         Ok(())
     }
 

@@ -1,12 +1,8 @@
-use Rattle.std.proofs.Common.{◌≡◌, ℕ, ◌+◌, ◌<◌, ◌≤◌, List, length, sym, ap, ◌∙◌, subst, refl, arith}
-use Rattle.std.specs.Prelude.{Result, Ok, Err, OnOk, OnErr}
+use Rattle.std.proofs.Common.{ap, arith}
 use Rattle.stow_merge.specs.Pins.{pins_in}
 use Rattle.stow_node.specs.Forgets.{Forgets}
-use Rattle.stow_node.specs.Moves.{raised}
 use Rattle.stow_node.specs.Subtree.{Subtree}
-use Rattle.stow_node.specs.declared.shape.Shape.{Shape}
-use Rattle.stow_node.specs.Flushes.{Keeps}
-use Rattle.stow_flush.specs.Rooms.{HasRoom, Stands}
+use Rattle.stow_flush.specs.Rooms.{Stands}
 use Rattle.stow_flush.proofs.Making.{making_first, squeezed_then, not_enough, stepped_then, raised_then, can_step, by_answer, has_room_raised}
 use Rattle.stow_flush.proofs.room.make_room.Goals as goal
 
@@ -21,23 +17,23 @@ makes_room-requires g c =
     let r = c.requires.spare in
     omega (arith, cap, s, r)
 
-pub returns-then-shape-width-lt2-clause-room : goal.returns-then-shape-width-lt2-clause-room
-returns-then-shape-width-lt2-clause-room g c =
+pub returns-then-shape-width-clause-room : goal.returns-then-shape-width-clause-room
+returns-then-shape-width-clause-room g c =
     has_room_raised c.args.bytes c.args.root.now c.makes_room.new.self c.raise.new.self c.raise.result (squeezed_then (pins_in c.args.pins.now) c.args.bytes c.args.root.now c.loop-alloc.root c.makes_room.new.self c.args.cache.now c.loop-alloc.cache c.args.spare.now.capacity c.loop-alloc.spare.capacity c.makes_room.new.spare.capacity c.loop-alloc.invariant c.makes_room.ensures.same c.makes_room.ensures.spare).0.shape c.requires.bytes c.raise.ensures.raised
 
-pub returns-then-shape-width-lt2-clause-stands : goal.returns-then-shape-width-lt2-clause-stands
-returns-then-shape-width-lt2-clause-stands g c =
+pub returns-then-shape-width-clause-stands : goal.returns-then-shape-width-clause-stands
+returns-then-shape-width-clause-stands g c =
     by_answer c.raise.result (Stands (pins_in c.args.pins.now) c.args.root.now) c.raise.ensures.raised c.raise.ensures.same (raised_then (pins_in c.args.pins.now) c.args.bytes c.args.root.now c.loop-alloc.root c.makes_room.new.self c.args.cache.now c.loop-alloc.cache c.args.spare.now.capacity c.loop-alloc.spare.capacity c.loop-alloc.invariant c.makes_room.ensures.same c.shape.ensures.block).0 (squeezed_then (pins_in c.args.pins.now) c.args.bytes c.args.root.now c.loop-alloc.root c.makes_room.new.self c.args.cache.now c.loop-alloc.cache c.args.spare.now.capacity c.loop-alloc.spare.capacity c.makes_room.new.spare.capacity c.loop-alloc.invariant c.makes_room.ensures.same c.makes_room.ensures.spare).0
 
-pub returns-then-shape-width-lt2-clause-unmoved : goal.returns-then-shape-width-lt2-clause-unmoved
-returns-then-shape-width-lt2-clause-unmoved g c fits = absurd ((not_enough (pins_in c.args.pins.now) c.args.bytes c.args.root.now c.loop-alloc.root c.makes_room.new.self c.args.cache.now c.loop-alloc.cache c.args.spare.now.capacity c.loop-alloc.spare.capacity c.loop-alloc.invariant c.makes_room.ensures.same (c.makes_room.ensures.full c.loop-alloc-test.true)) fits)
+pub returns-then-shape-width-clause-unmoved : goal.returns-then-shape-width-clause-unmoved
+returns-then-shape-width-clause-unmoved g c fits = absurd ((not_enough (pins_in c.args.pins.now) c.args.bytes c.args.root.now c.loop-alloc.root c.makes_room.new.self c.args.cache.now c.loop-alloc.cache c.args.spare.now.capacity c.loop-alloc.spare.capacity c.loop-alloc.invariant c.makes_room.ensures.same (c.makes_room.ensures.full c.loop-alloc-test.true)) fits)
 
-pub returns-then-shape-width-lt2-clause-cache : goal.returns-then-shape-width-lt2-clause-cache
-returns-then-shape-width-lt2-clause-cache g c =
+pub returns-then-shape-width-clause-cache : goal.returns-then-shape-width-clause-cache
+returns-then-shape-width-clause-cache g c =
     by_answer c.raise.result (λ (t : Subtree). Forgets c.args.root.now.leaves t.leaves c.args.cache.now c.loop-alloc.cache) c.raise.ensures.raised c.raise.ensures.same (raised_then (pins_in c.args.pins.now) c.args.bytes c.args.root.now c.loop-alloc.root c.makes_room.new.self c.args.cache.now c.loop-alloc.cache c.args.spare.now.capacity c.loop-alloc.spare.capacity c.loop-alloc.invariant c.makes_room.ensures.same c.shape.ensures.block).1 (squeezed_then (pins_in c.args.pins.now) c.args.bytes c.args.root.now c.loop-alloc.root c.makes_room.new.self c.args.cache.now c.loop-alloc.cache c.args.spare.now.capacity c.loop-alloc.spare.capacity c.makes_room.new.spare.capacity c.loop-alloc.invariant c.makes_room.ensures.same c.makes_room.ensures.spare).1
 
-pub returns-then-shape-width-lt2-clause-spare : goal.returns-then-shape-width-lt2-clause-spare
-returns-then-shape-width-lt2-clause-spare g c = (squeezed_then (pins_in c.args.pins.now) c.args.bytes c.args.root.now c.loop-alloc.root c.makes_room.new.self c.args.cache.now c.loop-alloc.cache c.args.spare.now.capacity c.loop-alloc.spare.capacity c.makes_room.new.spare.capacity c.loop-alloc.invariant c.makes_room.ensures.same c.makes_room.ensures.spare).2
+pub returns-then-shape-width-clause-spare : goal.returns-then-shape-width-clause-spare
+returns-then-shape-width-clause-spare g c = (squeezed_then (pins_in c.args.pins.now) c.args.bytes c.args.root.now c.loop-alloc.root c.makes_room.new.self c.args.cache.now c.loop-alloc.cache c.args.spare.now.capacity c.loop-alloc.spare.capacity c.makes_room.new.spare.capacity c.loop-alloc.invariant c.makes_room.ensures.same c.makes_room.ensures.spare).2
 
 pub step-requires-clause-some : goal.step-requires-clause-some
 step-requires-clause-some g c = (can_step (pins_in c.args.pins.now) c.args.bytes c.args.root.now c.loop-alloc.root c.makes_room.new.self c.args.cache.now c.loop-alloc.cache c.args.spare.now.capacity c.loop-alloc.spare.capacity c.loop-alloc.invariant c.makes_room.ensures.same (c.makes_room.ensures.full c.loop-alloc-test.true) c.shape.ensures.block c.requires.bytes c.requires.shape c.requires.short).some

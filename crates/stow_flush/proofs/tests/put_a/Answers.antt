@@ -1,8 +1,5 @@
-use Rattle.std.proofs.Common.{◌≡◌, ◌+◌, ◌≤◌, ◌∷◌, [], true, length, refl, sym, ap, ◌∙◌, subst, arith}
+use Rattle.std.proofs.Common.{◌∷◌, [], length, refl, sym, ap, subst, arith}
 use Rattle.stow_tree_model.specs.Keys.{tenant_of, IsOfTenant}
-use Rattle.stow_tree_model.specs.TreeMessage.{message_of}
-use Rattle.stow_message.specs.Packed.{message_size}
-use Rattle.stow_leaf.specs.Intervals.{top_key, spans}
 use Rattle.stow_node.specs.Flushes.{AreShort}
 use Rattle.stow_node.specs.Subtree.{Subtree, messages_of}
 use Rattle.stow_node.proofs.Lone.{lone, short_alone}

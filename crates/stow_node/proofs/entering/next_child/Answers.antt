@@ -1,18 +1,18 @@
 use Rattle.std.proofs.Common.{◌+◌, length, ap, refl, inl, inr, arith}
-use Rattle.stow_node.proofs.Entered.{inside_lent, enters_whole, wide_child, one_more, enters_half}
+use Rattle.stow_node.proofs.Entered.{two_places_of, inside_lent, enters_whole, wide_child, one_more, enters_half}
 use Rattle.stow_node.proofs.entering.next_child.Goals as goal
 
 pub returns-then-width-fan_out-clause-ok : goal.returns-then-width-fan_out-clause-ok
 returns-then-width-fan_out-clause-ok g c =
-    enters_whole c.args.children.now.items c.as_slice.result.now c.args.buffer.now c.args.fan_out c.heaviest-index.result c.width.result c.index.result.now c.as_slice.ensures.value c.heaviest-index.ensures c.index.ensures c.width.ensures
-    (let t = c.if-width-fan_out.true in let p = c.requires.places in omega (arith, t, p))
+    enters_whole c.args.children.now.items c.as_slice.result.now c.args.buffer.now c.args.fan_out c.heaviest-index.result c.width.result c.index-child.result.now c.as_slice.ensures.value c.heaviest-index.ensures c.index-child.ensures c.width.ensures
+    (let t = c.if-width-fan_out.true in let p = c.requires.places in let k = two_places_of c.index-child.result.now in omega (arith, t, p, k))
 
 pub split_at-requires : goal.split_at-requires
 split_at-requires g c = record {
-  wide = wide_child c.args.children.now.items c.heaviest-index.result c.width.result c.index.result.now
+  wide = wide_child c.args.children.now.items c.heaviest-index.result c.width.result c.index-child.result.now
       (inside_lent c.args.children.now.items c.as_slice.result.now c.args.buffer.now c.heaviest-index.result c.as_slice.ensures.value c.heaviest-index.ensures)
-      c.index.ensures c.width.ensures
-      (let t = c.if-width-fan_out.false in let p = c.requires.places in omega (arith, t, p));
+      c.index-child.ensures c.width.ensures
+      (let t = c.if-width-fan_out.false in let p = c.requires.places in let k = two_places_of c.index-child.result.now in omega (arith, t, p, k));
 }
 
 pub bytes_for-lower-requires : goal.bytes_for-lower-requires

@@ -1,6 +1,5 @@
-use Rattle.std.proofs.Common.{◌≡◌, suc, ◌+◌, ap, ◌∙◌, sym, subst, arith, length, refl}
+use Rattle.std.proofs.Common.{◌+◌, ap, ◌∙◌, sym, subst, length}
 use Rattle.stow_message.specs.MessageBuf.{MessageList}
-use Rattle.stow_tree.specs.Reports.{CountsAre}
 use Rattle.stow_tree.proofs.Counted.{IsCounting, ChildCounts, leaf_counts, node_counts, counting_first, counting_on, counted_all}
 use Rattle.stow_tree.proofs.counting.+counts.Goals as goal
 use Rattle.stow_tree.proofs.counting.+counts.Goals.{in-Leaf, in-Node}

@@ -1,4 +1,4 @@
-use Rattle.std.proofs.Common.{◌≡◌, ◌+◌, ap, ◌∙◌, sym, arith, Fits, w64, refl}
+use Rattle.std.proofs.Common.{◌∙◌, arith, refl}
 use Rattle.stow_tree.proofs.Totalled.{total_more, total_fits, total_all}
 use Rattle.stow_tree.proofs.tree.total.Goals as goal
 

@@ -6,11 +6,11 @@ use Rattle.stow_workers.proofs.serving.serve_connection.Goals as goal
 pub loop-init : goal.loop-init
 loop-init g c =
     let e = c.new-client.ensures in
-    ([], Consumes-nil _, omega arith, refl, begins _ _ _ _ _ _ _ _ e.session e.input e.waiting e.failed, (e.failed, e.waiting))
+    ([], Consumes-nil _, omega arith, refl, begins _ _ _ _ _ _ _ _ e.session e.input e.waiting e.failed, (e.failed, e.waiting), refl, refl)
 
 pub returns-in-Some-clause-serves : goal.returns-in-Some-clause-serves
 returns-in-Some-clause-serves g c =
-    let (read, consumed, counted, same, waits, even) = c.loop.invariant in
+    let (read, consumed, counted, same, waits, even, reader, writer) = c.loop.invariant in
     let n = c.in-Ok.count in
     record {
       read = read ++ take n c.read.new.room;
@@ -21,12 +21,12 @@ returns-in-Some-clause-serves g c =
 
 pub returns-in-Some-clause-reader : goal.returns-in-Some-clause-reader
 returns-in-Some-clause-reader g c =
-    let (read, consumed, counted, same, waits, even) = c.loop.invariant in
+    let (read, consumed, counted, same, waits, even, reader, writer) = c.loop.invariant in
     reader_stays c.in-Some.served _ _ c.in-Some.ensures.ends (c.in-Ok.ensures.failures ∙ same)
 
 pub loop-preserved : goal.loop-preserved
 loop-preserved g c =
-    let (read, consumed, counted, same, waits, even) = c.loop.invariant in
+    let (read, consumed, counted, same, waits, even, reader, writer) = c.loop.invariant in
     let n = c.in-Ok.count in
     let after = c.in_default-serve_piece.ensures.serves _ _ read waits.under_way even in
-    (read ++ take n c.read.new.room, Consumes-trans _ _ _ _ _ consumed c.in-Ok.ensures.bytes.0, omega (arith, length-append read (take n c.read.new.room), c.in-Ok.ensures.bound.1), c.in-Ok.ensures.failures ∙ same, after.0, after.1)
+    (read ++ take n c.read.new.room, Consumes-trans _ _ _ _ _ consumed c.in-Ok.ensures.bytes.0, omega (arith, length-append read (take n c.read.new.room), c.in-Ok.ensures.bound.1), c.in-Ok.ensures.failures ∙ same, after.0, after.1, c.in-Ok.ensures.same_borrow ∙ reader, c.in_default-serve_piece.ensures.same_borrow ∙ writer)

@@ -10,3 +10,4 @@ invariant-loop g l = (read : List ℕ) × Consumes (g.R.Source.remaining l.initi
     × (g.R.Source.failures l.reader ≡ g.R.Source.failures l.initial.reader)
     × IsWaiting g.D.Door.answers l.tenants l.initial.door (written_of (g.W.Sink.contents l.initial.writer) (g.W.Sink.failures l.initial.writer)) read (state_of l.door (g.W.Sink.contents l.writer) (g.W.Sink.failures l.writer) l.client)
     × IsEven (state_of l.door (g.W.Sink.contents l.writer) (g.W.Sink.failures l.writer) l.client).sent
+    × (g.R.Source.borrow l.reader ≡ g.R.Source.borrow l.initial.reader) × (g.W.Sink.borrow l.writer ≡ g.W.Sink.borrow l.initial.writer)

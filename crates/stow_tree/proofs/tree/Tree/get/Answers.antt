@@ -1,5 +1,4 @@
-use Rattle.std.proofs.Common.{ap, ◌∙◌, sym, subst}
-use Rattle.stow_node.specs.Subtree.{Subtree}
+use Rattle.std.proofs.Common.{ap, ◌∙◌}
 use Rattle.stow_tree_model.specs.Operations.{Operations, latest}
 use Rattle.stow_tree.specs.TreeState.{TreeState}
 use Rattle.stow_tree.proofs.Read.{root_ops}

@@ -2,7 +2,6 @@ use Rattle.std.proofs.Common.{refl, arith, ap, ◌∙◌, sym, subst}
 use Rattle.stow_node.specs.Subtree.{Subtree}
 use Rattle.stow_tree.specs.Shapes.{AreInRange}
 use Rattle.stow_tree.proofs.Made.{new_is_tree, new_is_empty}
-use Rattle.stow_tree.proofs.Putting.{state_of}
 use Rattle.stow_tree.proofs.tree.Tree.new.Goals as goal
 
 pub overflow_cast-shape-2 : goal.overflow_cast-shape-2

@@ -1,5 +1,3 @@
-use Rattle.std.proofs.Common.{ap, ◌∙◌, sym, subst}
-use Rattle.stow_tree.specs.TreeState.{IsTree}
 use Rattle.stow_tree.proofs.Held.{used_tree, offered_tree}
 use Rattle.stow_tree.proofs.tree.Tree.offer.Goals as goal
 

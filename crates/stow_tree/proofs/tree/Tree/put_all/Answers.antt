@@ -1,4 +1,4 @@
-use Rattle.std.proofs.Common.{suc, map, refl, ap, ◌∙◌, sym, subst}
+use Rattle.std.proofs.Common.{map, ap}
 use Rattle.stow_node.specs.Subtree.{Subtree}
 use Rattle.stow_tree_model.specs.TreeMessage.{message_of}
 use Rattle.stow_tree.proofs.Putting.{putting_first, can_push, putting_on, putting_last}

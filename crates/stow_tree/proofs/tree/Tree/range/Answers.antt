@@ -1,4 +1,4 @@
-use Rattle.std.proofs.Common.{ℕ, List, map, refl, ap, ◌∙◌, sym, subst}
+use Rattle.std.proofs.Common.{ℕ, List, map, refl, ap, subst}
 use Rattle.stow_tree_model.specs.Operations.{Operations}
 use Rattle.stow_read.specs.Range.{IsRange, key_value}
 use Rattle.stow_tree.specs.TreeState.{TreeState}

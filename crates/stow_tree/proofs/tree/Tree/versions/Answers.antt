@@ -1,4 +1,4 @@
-use Rattle.std.proofs.Common.{map, ap, ◌∙◌, sym, subst, IfOk, Vec}
+use Rattle.std.proofs.Common.{map, ap, ◌∙◌, subst, IfOk}
 use Rattle.stow_tree_model.specs.Operations.{Operations}
 use Rattle.stow_tree_model.specs.VersionBuf.{version_of_buf}
 use Rattle.stow_read.specs.Versions.{AreVersionsOf}

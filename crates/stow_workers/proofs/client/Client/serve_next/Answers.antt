@@ -21,19 +21,21 @@ message_next next.NoMemory old new more memory fault is = absurd (memory refl)
 
 pub returns-in-Fault : goal.returns-in-Fault
 returns-in-Fault g c =
-    let e = c.answer.ensures in
+    let e = c.answer.ensures.answered in
     record {
       shorter = ended (stopped.Faulted c.in-Fault.fault) c.answer.result e.ends _ _ e.serves.finishes.1 e.added;
       turns = λ first start read u. faulty _ _ first start read c.in-Fault.fault _ _ _ e.told e.ends u (c.in-Fault.ensures.0, e.unread ∙ c.in-Fault.ensures.1) e.serves e.added;
+      same_borrow = c.answer.ensures.same_borrow;
     }
 
 pub returns-in_default : goal.returns-in_default
 returns-in_default g c =
-    let e = c.answer-in_default.ensures in
+    let e = c.answer-in_default.ensures.answered in
     let old = c.args.self.now.input in
     let next = message_next c.next.result old c.next.new.self c.in_default.not-More c.in_default.not-NoMemory c.in_default.not-Fault c.next.ensures in
     let taken : IsTaken next.0 old c.answer-in_default.new.self.input = subst (IsTaken next.0 old) (sym e.unread) next.2 in
     record {
       shorter = shortened c.answer-in_default.result old c.answer-in_default.new.self.input (shorter next.0 old c.answer-in_default.new.self.input taken);
       turns = λ first start read u. whole _ _ first start read next.0 _ _ _ e.told e.ends u taken (serves_as next.0 next.1 e.serves) e.added;
+      same_borrow = c.answer-in_default.ensures.same_borrow;
     }

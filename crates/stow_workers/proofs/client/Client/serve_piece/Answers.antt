@@ -18,7 +18,7 @@ pub returns-clause-serves : goal.returns-clause-serves
 returns-clause-serves g c = λ first start read u even.
     let fed : c.feed.new.self ≡ c.args.self.now.input ++ c.args.piece.now = search rules in
     let read_on = piece_read _ _ first _ start read c.args.piece.now _ _ _ _ fed u in
-    piece_ended _ _ first start (read ++ c.args.piece.now) _ _ _ c.serve_all-stop.result c.outcome.result c.flush.new.self.has_failed c.has_failed.result c.outcome.ensures c.has_failed.ensures (c.serve_all-stop.ensures first start (read ++ c.args.piece.now) read_on) c.flush.ensures.sent
+    piece_ended _ _ first start (read ++ c.args.piece.now) _ _ _ c.serve_all-stop.result c.outcome.result c.flush.new.self.has_failed c.has_failed.result c.outcome.ensures c.has_failed.ensures (c.serve_all-stop.ensures.serves first start (read ++ c.args.piece.now) read_on) c.flush.ensures.sent
     c.flush.ensures.written
 
 pub returns-clause-ends : goal.returns-clause-ends

@@ -12,8 +12,8 @@ taken old new waiting left asked was is_written not_failed none same w start all
 
 pub returns-then-capacity-gt-KEPT-clause-sent : goal.returns-then-capacity-gt-KEPT-clause-sent
 returns-then-capacity-gt-KEPT-clause-sent g c =
-    taken _ _ _ _ _ _ c.write_all.result c.if-self.false c.new.ensures.items c.as_slice.ensures.value c.write_all.ensures
+    taken _ _ _ _ _ _ c.write_all.result c.if-self.false c.new.ensures.items c.as_slice.ensures.value c.write_all.ensures.written
 
 pub returns-else-capacity-gt-KEPT-clause-sent : goal.returns-else-capacity-gt-KEPT-clause-sent
 returns-else-capacity-gt-KEPT-clause-sent g c =
-    taken _ _ _ _ _ _ c.write_all.result c.if-self.false c.clear.ensures.items c.as_slice.ensures.value c.write_all.ensures
+    taken _ _ _ _ _ _ c.write_all.result c.if-self.false c.clear.ensures.items c.as_slice.ensures.value c.write_all.ensures.written
