@@ -1,5 +1,7 @@
 //! What the program does, over any reader and writers.
-ghost use Rattle.std.specs.Prelude.{◌≡◌, IfErr};
+ghost use Rattle.std.specs.Prelude.{◌≡◌, IfErr, IfOk};
+ghost use Rattle.std.specs.Arc.{arc_value};
+ghost use Rattle.stow_core.specs.State.{IsNewCore};
 ghost use Rattle.stow.specs.Statuses.{status_of};
 ghost use Rattle.stow.specs.Told.{IsServed};
 ghost use Rattle.stow.specs.Outcomes.{EndsWith, IsRun, RefusesTenants, status_after, streams_of};
@@ -114,12 +116,24 @@ pub fn serve<'a, A: Allocator + Copy, R: Read, W: Write>(
         (W.contents output.old) (W.contents output.new) result }
 {
     let tenants = Arc::new(alloc, tenants).map_err(AllocError::from)?;
-    let Ok(mut core) = Core::new(alloc, tenants.clone()?, TreeShape::USUAL) else {
-        return Err(Failure::Memory);
-    };
+    let mut core = usual_core(alloc, tenants.clone()?)?;
     match task {
         Task::Pipe => pipe(alloc, &tenants, &mut core, input, output),
         Task::Script => script(alloc, &mut House::new(alloc, core), input, output),
+    }
+}
+
+/// A core in which each tenant's store is empty, over a tree of the usual shape.
+fn usual_core<A: Allocator + Copy>(
+    alloc: A,
+    tenants: Arc<Tenants<A>, A>,
+) -> Result<Core<A>, AllocError>
+    ensures entries { IfOk result (λ core. core.entries ≡ arc_value tenants) }
+    ensures empty { IfOk result IsNewCore }
+{
+    match Core::new(alloc, tenants, TreeShape::USUAL) {
+        Ok(core) => Ok(core),
+        Err(_) => Err(AllocError),
     }
 }
 

@@ -18,7 +18,7 @@ use Rattle.stow_node.specs.Subtree.{buffered, messages_of}
 use Rattle.stow_node.proofs.Accepted.{length-all_placed}
 use Rattle.stow_node.proofs.Newer.{new_to}
 use Rattle.stow_leaf.specs.Replacements.{HasShortValues}
-use Rattle.stow_tree_model.specs.Messages.{ops_of, ops_in, with_all}
+use Rattle.stow_tree_model.specs.Messages.{Messages, ops_of, ops_in, with_all}
 use Rattle.stow_tree_model.specs.Op.{Op}
 use Rattle.stow_tree_model.specs.Operations.{Operations, latest, applied, outcome, value_in, or_else}
 use Rattle.stow_tree_model.specs.Order.{Place, place_cmp, place_of}
