@@ -8,7 +8,7 @@ use Rattle.stow.specs.declared.failure.Failure.{Failure}
 use Rattle.stow.specs.declared.failure.Failure.TheVariants.{Arguments, BadAddress, Tenants, InputOutput, Memory}
 use Rattle.stow.specs.declared.failure.Place.TheVariants as place
 use Rattle.stow.specs.Statuses.{status_of}
-use Rattle.stow.specs.Told.{EndsTelling, IsServed, IsWritten}
+use Rattle.stow.specs.Told.{EndsTelling, IsTaskServed, IsWritten}
 
 -- 0 stands for an outcome without failure
 abbrev pub status_after : Result (Unit {0}) Failure → ℕ
@@ -56,7 +56,7 @@ FailsBefore Is s (Err failure) = Is failure × (s.left ≡ s.unread) × (s.after
 -- the job was done over the tenants of the file, or ended so
 abbrev pub IsDone : Job → Streams → Result (Unit {0}) Failure → Type 0
 IsDone (job.Input task) s r = (entries : List Entry)
-    × IsServed task entries s.unread s.left s.before s.after r
+    × IsTaskServed task entries s.unread s.left s.before s.after r
 IsDone (job.Serve serving) s r = IfErr r EndsServing × (s.left ≡ s.unread)
 
 abbrev pub IsRun : Job → Streams → Result (Unit {0}) Failure → Type 0

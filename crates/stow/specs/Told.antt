@@ -103,7 +103,7 @@ IsScriptServed entries known old new r = ((r ≡ Err Memory) × Keeps old new)
     (record { house = end; written = new }) r)
 
 -- what was read, from what there was to what is left, was served as the task says
-abbrev pub IsServed : Task → List Entry → Option (List ℕ) → Option (List ℕ) → Option (List ℕ)
+abbrev pub IsTaskServed : Task → List Entry → Option (List ℕ) → Option (List ℕ) → Option (List ℕ)
     → Option (List ℕ) → Result (Unit {0}) Failure → Type 0
-IsServed task.Script entries unread left old new r = IsScriptServed entries unread old new r
-IsServed task.Pipe entries unread left old new r = IsPipeServed entries unread left old new r
+IsTaskServed task.Script entries unread left old new r = IsScriptServed entries unread old new r
+IsTaskServed task.Pipe entries unread left old new r = IsPipeServed entries unread left old new r

@@ -1,7 +1,7 @@
 //! What the program does, over any reader and writers.
 ghost use Rattle.std.specs.Prelude.{◌≡◌, IfErr};
 ghost use Rattle.stow.specs.Statuses.{status_of};
-ghost use Rattle.stow.specs.Told.{IsServed};
+ghost use Rattle.stow.specs.Told.{IsTaskServed};
 ghost use Rattle.stow.specs.Outcomes.{EndsWith, IsRun, RefusesTenants, status_after, streams_of};
 
 use crate::arguments::{Arguments, Job, Task, Wish, read_arguments};
@@ -109,7 +109,7 @@ pub fn serve<'a, A: Allocator + Copy, R: Read, W: Write>(
     input: &mut R,
     output: &mut W,
 ) -> Result<(), Failure<'a>>
-    ensures { IsServed task tenants (R.remaining input.old) (R.remaining input.new)
+    ensures { IsTaskServed task tenants (R.remaining input.old) (R.remaining input.new)
         (W.contents output.old) (W.contents output.new) result }
 {
     let tenants = Arc::new(alloc, tenants).map_err(AllocError::from)?;
