@@ -1,5 +1,7 @@
 //! What the program does, over any reader and writers.
-ghost use Rattle.std.specs.Prelude.{◌≡◌, IfErr};
+ghost use Rattle.std.specs.Prelude.{◌≡◌, IfErr, IfOk};
+ghost use Rattle.std.specs.Arc.{arc_value};
+ghost use Rattle.stow_core.specs.State.{IsNewCore};
 ghost use Rattle.stow.specs.Statuses.{status_of};
 ghost use Rattle.stow.specs.Told.{IsTaskServed};
 ghost use Rattle.stow.specs.Outcomes.{EndsWith, IsRun, RefusesTenants, status_after, streams_of};
@@ -21,6 +23,7 @@ use stow_house::house::House;
 use stow_login::explaining::explain;
 use stow_login::tenants::Tenants;
 use stow_login::tenants_fault::TenantsFault;
+use stow_tree::tree_shape::TreeShape;
 
 /// Does what the words ask for, the first being the program's own name, and gives the exit status: 0; 2
 /// where the arguments or the script are refused; 3 where the tenant file is; 4 where input or output failed;
@@ -113,10 +116,24 @@ pub fn serve<'a, A: Allocator + Copy, R: Read, W: Write>(
         (W.contents output.old) (W.contents output.new) result }
 {
     let tenants = Arc::new(alloc, tenants).map_err(AllocError::from)?;
-    let mut core = Core::new(alloc, tenants.clone()?)?;
+    let mut core = usual_core(alloc, tenants.clone()?)?;
     match task {
         Task::Pipe => pipe(alloc, &tenants, &mut core, input, output),
         Task::Script => script(alloc, &mut House::new(alloc, core), input, output),
+    }
+}
+
+/// A core in which each tenant's store is empty, over a tree of the usual shape.
+fn usual_core<A: Allocator + Copy>(
+    alloc: A,
+    tenants: Arc<Tenants<A>, A>,
+) -> Result<Core<A>, AllocError>
+    ensures entries { IfOk result (λ core. core.entries ≡ arc_value tenants) }
+    ensures empty { IfOk result IsNewCore }
+{
+    match Core::new(alloc, tenants, TreeShape::USUAL) {
+        Ok(core) => Ok(core),
+        Err(_) => Err(AllocError),
     }
 }
 

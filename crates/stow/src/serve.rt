@@ -18,6 +18,7 @@ use stow_shared::open_fault::OpenFault;
 use stow_shared::seat::Seat;
 use stow_shared::shared::Shared;
 use stow_shared::unkept::Unkept;
+use stow_tree::tree_shape::TreeShape;
 use stow_workers::open_gate::OpenGate;
 use stow_workers::pool::Pool;
 use stow_workers::pool_fault::PoolFault;
@@ -39,7 +40,9 @@ where
     ensures { IfErr result EndsServing }
 {
     let tenants = Arc::new(alloc, tenants).map_err(AllocError::from)?;
-    let core = Core::new(alloc, tenants)?;
+    let Ok(core) = Core::new(alloc, tenants, TreeShape::USUAL) else {
+        return Err(Failure::Memory);
+    };
     let Ok((shared, seats)) = Shared::<Unkept, A>::open(alloc, core, serving.workers) else {
         return Err(Failure::Memory);
     };

@@ -1,6 +1,7 @@
 -- What a prepared answer is, as the tenant's own step says it.
 use Rattle.std.proofs.Common.{◌≡◌, ◌≢◌, ℕ, ◌<◌, ◌^◌, true, false, nat_lt, List, map, eqb, ap, sym, ◌∙◌, pos, to_z, w64}
-use Rattle.std.specs.Prelude.{Result, Ok, Err, IfOk}
+use Rattle.std.specs.Prelude.{◌-◌, Result, Ok, Err, IfOk}
+use Rattle.std.specs.FinMap as rows
 use Rattle.std.proofs.lemmas.Bool.{cond-true, cond-false, eq-eqb, ne_eqb}
 use Rattle.std.proofs.lemmas.Int.{to_z_pos}
 use Rattle.stow_bytes.specs.Limits.{number_limit}
@@ -10,15 +11,15 @@ use Rattle.stow_model.specs.Reply.{Reply}
 use Rattle.stow_model.specs.Reply as reply
 use Rattle.stow_model.specs.Command.{Command, Understood, Refused, reading}
 use Rattle.stow_model.specs.Store.{Store, Answer, counted, served, answer, answer_to, answer_with, del_answer, rows_without}
-use Rattle.stow_core.specs.Keys.{packed, own_key}
-use Rattle.stow_core.specs.Prepared.{after_write, after_remove, fewer}
+use Rattle.stow_core.specs.Prepared.{after_write, after_remove}
 use Rattle.stow_core.specs.State.{CoreState, store_of, Answers}
-use Rattle.stow_core.proofs.Keyed.{own_keys}
+use Rattle.stow_tree_model.specs.Keys.{own_key}
 
 -- ---- deletions
 
-pub own_back : (t : ℕ) (keys ks : List (List ℕ)) → keys ≡ map (packed t) ks → map own_key keys ≡ ks
-own_back t keys ks e = ap (map own_key) e ∙ own_keys t ks
+-- how many rows fewer there are without the keys
+abbrev pub fewer : Store → List (List ℕ) → ℕ
+fewer store keys = rows.len store.rows - rows.len (rows_without keys store.rows)
 
 pub del_none : (store : Store) (keys : List (List ℕ)) (n : ℕ) → n ≡ fewer store keys → n ≡ 0 → ◌≡◌ {A = Answer} (counted store, reply.Integer (pos 0)) (del_answer (counted store) keys)
 del_none store keys n e none = sym (cond-true (eqb (fewer store keys) 0) _ _ (eq-eqb (fewer store keys) 0 (sym e ∙ none)))
@@ -28,12 +29,12 @@ pub del_full : (store : Store) (keys : List (List ℕ)) (n : ℕ) → n ≡ fewe
 del_full store keys n e some full =
     sym (cond-false (eqb (fewer store keys) 0) _ _ (ne_eqb (fewer store keys) 0 (λ z. some (e ∙ z))) ∙ cond-false (nat_lt store.last number_limit) _ _ full)
 
-pub del_done : (store : Store) (keys ks : List (List ℕ)) (n : ℕ) → map own_key keys ≡ ks → n ≡ fewer store ks → n ≢ 0 → n < 2 ^ 63 → nat_lt store.last number_limit ≡ true
-    → ◌≡◌ {A = Answer} (after_remove keys store, reply.Integer (to_z w64 n)) (del_answer (counted store) ks)
-del_done store keys ks n own e some fits can =
-    let done : ◌≡◌ {A = Answer} (after_remove keys store, reply.Integer (to_z w64 n)) (after_write (counted store) (rows_without ks store.rows), reply.Integer (pos (fewer store ks))) =
-    λ i. (after_write (counted store) (rows_without (own i) store.rows), reply.Integer ((to_z_pos w64 n fits ∙ ap pos e) i)) in
-    done ∙ sym (cond-false (eqb (fewer store ks) 0) _ _ (ne_eqb (fewer store ks) 0 (λ z. some (e ∙ z))) ∙ cond-true (nat_lt store.last number_limit) _ _ can)
+pub del_done : (store : Store) (taken keys : List (List ℕ)) (n : ℕ) → rows_without (map own_key taken) store.rows ≡ rows_without keys store.rows → n ≡ fewer store keys → n ≢ 0 → n < 2 ^ 63 → nat_lt store.last number_limit ≡ true
+    → ◌≡◌ {A = Answer} (after_remove taken store, reply.Integer (to_z w64 n)) (del_answer (counted store) keys)
+del_done store taken keys n left e some fits can =
+    let done : ◌≡◌ {A = Answer} (after_remove taken store, reply.Integer (to_z w64 n)) (after_write (counted store) (rows_without keys store.rows), reply.Integer (pos (fewer store keys))) =
+    λ i. (after_write (counted store) (left i), reply.Integer ((to_z_pos w64 n fits ∙ ap pos e) i)) in
+    done ∙ sym (cond-false (eqb (fewer store keys) 0) _ _ (ne_eqb (fewer store keys) 0 (λ z. some (e ∙ z))) ∙ cond-true (nat_lt store.last number_limit) _ _ can)
 
 -- ---- answers
 

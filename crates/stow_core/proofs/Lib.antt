@@ -1,6 +1,11 @@
-pub mod Placed
 pub mod Keyed
 pub mod Stores
+pub mod Moves
+pub mod Kept
+pub mod Room
 pub mod Within
-pub mod Removed
+pub mod Told
+pub mod Taking
+pub mod Legality
 pub mod Answered
+pub mod Sends

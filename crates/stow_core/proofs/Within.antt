@@ -1,203 +1,134 @@
--- The rows of an interval of a tenant's keys, in the order of the places.
-use Rattle.std.proofs.Common.{◌≡◌, ◌≢◌, ℕ, zero, suc, ◌-◌, Bool, true, false, cond, List, [], ◌∷◌, ◌++◌, length, take, Option, Some, None, refl, ap, sym, ◌∙◌, subst, arith, eqb, is_some}
-use Rattle.std.specs.Option.{unwrap_or}
+-- The rows of an interval, as the tree tells them.
+use Rattle.std.proofs.Common.{◌≡◌, ◌≢◌, ℕ, zero, suc, ◌+◌, ◌<◌, ◌≤◌, ◌^◌, ◌⊎◌, inl, inr, Bool, true, false, cond, not, List, [], ◌∷◌, ◌++◌, length, take, map, eqb, Option, Some, None, is_some, refl, ap, sym, ◌∙◌, subst, arith, ⊎_elim}
 use Rattle.std.proofs.Math.Bool.{◌&&◌, ◌||◌, false≢true}
+use Rattle.std.specs.Prelude.{filter, Contains, IsSome, T, Result, Ok, Err, IfOk}
+use Rattle.std.specs.FinMap as rows
+use Rattle.std.specs.FinMap.{find, is_sorted}
+use Rattle.std.specs.List.{AllByRecursion, flat_map}
+use Rattle.std.specs.List.Sorted.{IsStrictlySortedBy}
+use Rattle.std.specs.Cmp.{tied_itself}
+use Rattle.std.specs.Cmp.Lexicographic.{nat_list_cmp_total}
 use Rattle.std.specs.declared.cmp.Ordering.{Ordering}
 use Rattle.std.specs.declared.cmp.Ordering.TheVariants.{Less, Equal, Greater}
-use Rattle.std.specs.declared.ops.Bound.TheVariants.{Included, Unbounded}
-use Rattle.std.specs.declared.vec.Vec.{Vec}
-use Rattle.std.specs.Ordering.{is_le, is_lt, is_eq, nat_cmp, eq_by_cmp}
-use Rattle.std.specs.Cmp.Lexicographic.{slice_cmp, nat_list_cmp_total}
-use Rattle.std.specs.FinMap as map_of
-use Rattle.std.specs.FinMap.{put, find}
-use Rattle.std.specs.FinMap.Entries.{by_order}
-use Rattle.std.specs.List.{AllByRecursion, filter, flat_map}
-use Rattle.std.specs.List.Sorted.{IsStrictlySortedBy}
-use Rattle.std.specs.Map.{keys_of}
-use Rattle.std.specs.BTreeMap.Range.{entries_between}
-use Rattle.std.proofs.lemmas.List.{append_assoc, append-nil}
-use Rattle.std.proofs.lemmas.List.Elements.{filter-append}
-use Rattle.std.proofs.lemmas.Map.Keys.{sorted_head, sorted_tail}
+use Rattle.std.specs.Ordering.{is_le, is_lt, ordering_then, ordering_reverse, nat_cmp, eq_by_cmp}
+use Rattle.std.proofs.lemmas.Bool.{cases_order, cond-true, cond-false}
+use Rattle.std.proofs.lemmas.List.{length-map}
 use Rattle.stow_bytes.specs.Bytes.{bytes_cmp}
+use Rattle.stow_leaf.specs.Intervals.{spans}
 use Rattle.stow_model.specs.Item.{Item}
-use Rattle.stow_model.specs.Store.{Version, Rows, Shown, is_below, is_within, rows_within, row_items}
-use Rattle.stow_core.specs.declared.version.Version as coded
-use Rattle.stow_core.specs.Keys.{packed, is_of, own_key}
-use Rattle.stow_core.specs.Places.{Places, places_of, version_at}
-use Rattle.stow_core.specs.State.{with_place, rows_of}
-use Rattle.stow_core.proofs.Keyed.{cmp-packed, cmp-own_key, packed-own_key, is_of_between}
-use Rattle.stow_core.proofs.Stores.{same_rows}
+use Rattle.stow_model.specs.Item as item
+use Rattle.stow_model.specs.Store.{Rows, Shown, Version, is_below, is_within, row_items, rows_within}
+use Rattle.stow_core.specs.Ends.{upper_end, row_bulks, IsWholeKey}
+use Rattle.stow_read.specs.Range.{KeyValue, IsRange, AreUnder}
+use Rattle.stow_state.specs.Rows.{rows_at, version_of}
+use Rattle.stow_state.proofs.Rows.{rows_by_value_law}
+use Rattle.stow_tree_model.specs.Intervals.{AreBytes}
+use Rattle.stow_tree_model.specs.Keys.{packed, own_key, tenant_of, IsTenantKey}
+use Rattle.stow_tree_model.specs.Merged.{same_key}
+use Rattle.stow_tree_model.specs.Messages.{Messages, ops_of, value}
+use Rattle.stow_tree_model.specs.Operations.{NumberedValue, latest, value_in}
+use Rattle.stow_tree_model.proofs.Latest.{contains_cases}
+use Rattle.stow_tree_model.proofs.Orders.{key_cases, less_than, same_number, more_than}
+use Rattle.stow_tree_model.proofs.Packed.{own_key-packed}
+use Rattle.stow_tree_model.proofs.PackedOrder.{packed_in_order_law, packed-parts}
+use Rattle.stow_tree_model.proofs.Rising.{less_from}
 
--- ---- places in order
+-- ---- lists that rise
 
--- the keys rise
-abbrev pub IsRising : Places → Type 0
-IsRising [] = Unit {0}
-IsRising (p ∷ ps) = AllByRecursion (λ q. bytes_cmp p.0 q.0 ≡ Less) ps × IsRising ps
+-- the key is one of these
+Among : List ℕ → List (List ℕ) → Type 0
+Among k [] = ⊥
+Among k (x ∷ xs) = (k ≡ x) ⊎ Among k xs
 
-abbrev pub key_order : {A : Type 0} → Vec ℕ A → Vec ℕ A → Ordering
-key_order a b = slice_cmp nat_cmp a.items b.items
+abbrev Rises : List (List ℕ) → Type 0
+Rises ks = IsStrictlySortedBy bytes_cmp ks
 
-later_places : {A : Type 0} (k : Vec ℕ A) (es : List (Vec ℕ A × Option (coded.Version A))) → AllByRecursion (λ y. key_order k y ≡ Less) (keys_of es) → AllByRecursion (λ q. bytes_cmp k.items q.0 ≡ Less) (places_of es)
-later_places k [] all = tt
-later_places k (e ∷ es) all = (all.0, later_places k es all.1)
+not_itself : (a : List ℕ) → bytes_cmp a a ≡ Less → ⊥
+not_itself a l = let t = tied_itself nat_list_cmp_total a in let e : Equal ≡ Less = sym t ∙ l in cc
 
-pub rising : {A : Type 0} (es : List (Vec ℕ A × Option (coded.Version A))) → IsStrictlySortedBy key_order (keys_of es) → IsRising (places_of es)
-rising [] sorted = tt
-rising (e ∷ es) sorted = (later_places e.0 es (sorted_head key_order e.0 (keys_of es) sorted), rising es (sorted_tail key_order e.0 (keys_of es) sorted))
+not_both : (a b : List ℕ) → bytes_cmp a b ≡ Less → bytes_cmp b a ≡ Less → ⊥
+not_both a b l m = not_itself a (nat_list_cmp_total.trans a b a l m)
 
--- ---- a tenant's rows
+above_all : (x k : List ℕ) (xs : List (List ℕ)) → AllByRecursion (λ y. bytes_cmp x y ≡ Less) xs → Among k xs → bytes_cmp x k ≡ Less
+unfolding Among
+above_all x k [] a h = absurd h
+above_all x k (y ∷ xs) a h = ⊎_elim
+    (λ (e : k ≡ y). subst (λ z. bytes_cmp x z ≡ Less) (sym e) a.0)
+    (λ (m : Among k xs). above_all x k xs a.1 m)
+    h
 
--- the row of a place, where the place passes a test and has a version
-pub row_at : Bool → List ℕ → Option Version → List Shown
-row_at false key version = []
-row_at true key None = []
-row_at true key (Some version) = (key, version) ∷ []
+abbrev AreAllBelow : List (List ℕ) → List ℕ → Type 0
+AreAllBelow ks key = AllByRecursion (λ k. bytes_cmp k key ≡ Less) ks
 
-pub own_rows : ℕ → Places → List Shown
-own_rows t [] = []
-own_rows t (p ∷ ps) = row_at (is_of t p.0) (own_key p.0) p.1 ++ own_rows t ps
+-- of two lists that rise, one is the first keys of the other
+front : (ks ls : List (List ℕ)) (count : ℕ) → Rises ks → Rises ls → length ks ≤ count → ((k : List ℕ) → Among k ks → Among k ls)
+    → ((l : List ℕ) → Among l ls → Among l ks ⊎ ((length ks ≡ count) × AreAllBelow ks l)) → ks ≡ take count ls
+unfolding IsStrictlySortedBy Among
+front [] [] zero rk rl few into all = refl
+front [] [] (suc c) rk rl few into all = refl
+front [] (l ∷ ls) zero rk rl few into all = refl
+front [] (l ∷ ls) (suc c) rk rl few into all = ⊎_elim
+    (λ (m : ⊥). absurd m)
+    (λ (f : (0 ≡ suc c) × Unit {0}). absurd (let e = f.0 in omega (arith, e)))
+    (all l (inl refl))
+front (k ∷ ks) [] count rk rl few into all = absurd (into k (inl refl))
+front (k ∷ ks) (l ∷ ls) zero rk rl few into all = absurd (omega (arith, few))
+front (k ∷ ks) (l ∷ ls) (suc c) rk rl few into all = λ i. same i ∷ front ks ls c rk.1 rl.1 (omega (arith, few)) into' all' i
+  where
+    no : bytes_cmp l k ≡ Less → ⊥
+    no less = ⊎_elim
+        (λ (h : (l ≡ k) ⊎ Among l ks). ⊎_elim
+        (λ (e : l ≡ k). not_itself k (subst (λ z. bytes_cmp z k ≡ Less) e less))
+        (λ (m : Among l ks). not_both k l (above_all k l ks rk.0 m) less)
+        h)
+        (λ (h : (suc (length ks) ≡ suc c) × AreAllBelow (k ∷ ks) l). not_both k l h.1.0 less)
+        (all l (inl refl))
 
--- the tenant's rows after a key of its own are after it in its own order
-later_at : (t : ℕ) (key k : List ℕ) (v : Option Version) (b : Bool) (rest : List Shown) → is_of t k ≡ b → is_of t key ≡ true → bytes_cmp key k ≡ Less → AllByRecursion (λ row. bytes_cmp (own_key key) row.0 ≡ Less) rest
-    → AllByRecursion (λ row. bytes_cmp (own_key key) row.0 ≡ Less) (row_at b (own_key k) v ++ rest)
-unfolding row_at
-later_at t key k v false rest is own lt all = all
-later_at t key k None true rest is own lt all = all
-later_at t key k (Some v) true rest is own lt all = (cmp-own_key t key k own is ∙ lt, all)
+    same : k ≡ l
+    same = ⊎_elim
+        (λ (e : k ≡ l). e)
+        (λ (m : Among k ls). absurd (no (above_all l k ls rl.0 m)))
+        (into k (inl refl))
 
-later_rows : (t : ℕ) (key : List ℕ) (ps : Places) → is_of t key ≡ true → AllByRecursion (λ q. bytes_cmp key q.0 ≡ Less) ps → AllByRecursion (λ row. bytes_cmp (own_key key) row.0 ≡ Less) (own_rows t ps)
-unfolding own_rows
-later_rows t key [] own all = tt
-later_rows t key (p ∷ ps) own all = later_at t key p.0 p.1 (is_of t p.0) (own_rows t ps) refl own all.0 (later_rows t key ps own all.1)
+    into' : (x : List ℕ) → Among x ks → Among x ls
+    into' x m = ⊎_elim
+        (λ (e : x ≡ l). absurd (not_itself k (subst (λ z. bytes_cmp k z ≡ Less) (e ∙ sym same) (above_all k x ks rk.0 m))))
+        (λ (h : Among x ls). h)
+        (into x (inr m))
 
-put_first : (key : List ℕ) (v : Version) (rows : List Shown) → AllByRecursion (λ row. bytes_cmp key row.0 ≡ Less) rows → put bytes_cmp key v rows ≡ (key, v) ∷ rows
-put_first key v [] all = refl
-put_first key v (row ∷ rows) all = ap (λ o. by_order o ((key, v) ∷ row ∷ rows) ((row.0, v) ∷ rows) (row ∷ put bytes_cmp key v rows)) all.0
+    all' : (x : List ℕ) → Among x ls → Among x ks ⊎ ((length ks ≡ c) × AreAllBelow ks x)
+    all' x m = ⊎_elim
+        (λ (h : (x ≡ k) ⊎ Among x ks). ⊎_elim
+        (λ (e : x ≡ k). absurd (not_itself l (subst (λ z. bytes_cmp l z ≡ Less) (e ∙ same) (above_all l x ls rl.0 m))))
+        (λ (h : Among x ks). inl h)
+        h)
+        (λ (h : (suc (length ks) ≡ suc c) × AreAllBelow (k ∷ ks) x). inr ((let e = h.0 in omega (arith, e)), h.1.1))
+        (all x (inr m))
 
-absent : (key : List ℕ) (rows : List Shown) → AllByRecursion (λ row. bytes_cmp key row.0 ≡ Less) rows → find bytes_cmp key rows ≡ None
-absent key [] all = refl
-absent key (row ∷ rows) all = ap (λ o. cond (is_eq o) (Some row.1) (find bytes_cmp key rows)) all.0 ∙ absent key rows all.1
+-- ---- the interval among the keys of all
 
-equal : (o : Ordering) → is_eq o ≡ true → o ≡ Equal
-equal Less e = absurd (false≢true e)
-equal Equal e = refl
-equal Greater e = absurd (false≢true e)
+not_lt : (o : Ordering) → not (is_lt o) ≡ is_le (ordering_reverse o)
+not_lt Less = refl
+not_lt Equal = refl
+not_lt Greater = refl
 
-kept : (b : Bool) (o : Option Version) → (b ≡ true → o ≡ None) → cond b None o ≡ o
-kept true o none = sym (none refl)
-kept false o none = refl
+own_cmp : (t : ℕ) (a b : List ℕ) → t < 2 ^ 32 → bytes_cmp (packed t a) (packed t b) ≡ bytes_cmp a b
+own_cmp t a b l = packed_in_order_law t t a b l l ∙ ap (λ o. ordering_then o (bytes_cmp a b)) (same_number t)
 
-remove_absent : (m : Rows) (key : List ℕ) → map_of.get m key ≡ None → map_of.remove m key ≡ m
-remove_absent m key none = same_rows _ _ (λ q.
-    map_of.get-remove nat_list_cmp_total m key q
-    ∙ kept (eq_by_cmp bytes_cmp q key) (map_of.get m q) (λ e. sym (map_of.get_tied nat_list_cmp_total m q key (equal (bytes_cmp q key) e)) ∙ none))
+lower_test : (t : ℕ) (from k : List ℕ) → t < 2 ^ 32 → not (is_lt (bytes_cmp (packed t k) (packed t from))) ≡ is_le (bytes_cmp from k)
+lower_test t from k l = ap (λ o. not (is_lt o)) (own_cmp t k from l) ∙ not_lt (bytes_cmp k from) ∙ ap is_le (sym (nat_list_cmp_total.antisymm from k))
 
-placed : (key : List ℕ) (v : Option Version) (m : Rows) (rows : List Shown) → map_of.entries m ≡ rows → AllByRecursion (λ row. bytes_cmp key row.0 ≡ Less) rows → map_of.entries (with_place m key v) ≡ row_at true key v ++ rows
-unfolding row_at
-placed key None m rows e all = ap map_of.entries (remove_absent m key (map_of.get-entries m key ∙ ap (find bytes_cmp key) e ∙ absent key rows all)) ∙ e
-placed key (Some v) m rows e all = map_of.entries-insert nat_list_cmp_total m key v ∙ ap (put bytes_cmp key v) e ∙ put_first key v rows all
+upper_test : (t : ℕ) (to k : List ℕ) (b : Bool) → t ≤ 65535 → is_lt (bytes_cmp (packed t k) (cond b (packed (t + 1) []) (packed t to))) ≡ (b || is_lt (bytes_cmp k to))
+upper_test t to k true l = ap is_lt (packed_in_order_law t (t + 1) k [] (omega (arith, l)) (omega (arith, l)) ∙ ap (λ o. ordering_then o (bytes_cmp k [])) (less_than t (t + 1) (omega arith)))
+upper_test t to k false l = ap is_lt (own_cmp t k to (omega (arith, l)))
 
-one_place : (t : ℕ) (key : List ℕ) (v : Option Version) (ps : Places) (b : Bool) → is_of t key ≡ b → AllByRecursion (λ q. bytes_cmp key q.0 ≡ Less) ps → map_of.entries (rows_of t ps) ≡ own_rows t ps
-    → map_of.entries (cond b (with_place (rows_of t ps) (own_key key) v) (rows_of t ps)) ≡ row_at b (own_key key) v ++ own_rows t ps
-unfolding row_at
-one_place t key v ps true own all e = placed (own_key key) v (rows_of t ps) (own_rows t ps) e (later_rows t key ps own all)
-one_place t key v ps false other all e = e
+-- the tenant's key is in the interval where its own key is
+spans_own : (t : ℕ) (from to k : List ℕ) → t ≤ 65535 → spans (packed t from) (upper_end t to) (packed t k) ≡ is_within from to k
+spans_own t from to k l = λ i. lower_test t from k (omega (arith, l)) i && upper_test t to k (eqb (length to) 0) l i
 
-no_entries : (rows : List Shown) → length rows ≡ 0 → rows ≡ []
-no_entries [] e = refl
-no_entries (x ∷ rows) e = absurd (omega arith)
-
--- a tenant's rows are those of its places, in the places' order
-pub entries-rows_of : (t : ℕ) (ps : Places) → IsRising ps → map_of.entries (rows_of t ps) ≡ own_rows t ps
-unfolding rows_of own_rows
-entries-rows_of t [] rises = no_entries (map_of.entries map_of.empty) (sym (map_of.len-entries map_of.empty) ∙ map_of.len-empty bytes_cmp Version)
-entries-rows_of t (p ∷ ps) rises = one_place t p.0 p.1 ps (is_of t p.0) refl rises.0 (entries-rows_of t ps rises.1)
-
--- ---- an interval
-
--- a key of all is the tenant's, and below the upper end
-abbrev pub reach : ℕ → List ℕ → List ℕ → Bool
-reach t to key = is_of t key && is_below to (own_key key)
-
--- the tenant's rows below the upper end
-pub reached : ℕ → List ℕ → Places → List Shown
-reached t to [] = []
-reached t to (p ∷ ps) = row_at (reach t to p.0) (own_key p.0) p.1 ++ reached t to ps
-
-nothing : (a : Bool) → cond {A = List Shown} a [] [] ≡ []
-nothing true = refl
-nothing false = refl
-
-no_row : (b : Bool) (key : List ℕ) → row_at b key None ≡ []
-unfolding row_at
-no_row true key = refl
-no_row false key = refl
-
-two_tests : (a b : Bool) (key : List ℕ) (v : Version) → cond (a && b) ((key, v) ∷ []) [] ≡ cond a (row_at b key (Some v)) []
-unfolding row_at
-two_tests true true key v = refl
-two_tests true false key v = refl
-two_tests false b key v = refl
-
-within_at : (t : ℕ) (from to key : List ℕ) (v : Option Version) (b : Bool) → is_of t key ≡ b
-    → filter (λ row. is_within from to row.0) (row_at b (own_key key) v) ≡ cond (is_le (bytes_cmp (packed t from) key)) (row_at (b && is_below to (own_key key)) (own_key key) v) []
-unfolding row_at
-within_at t from to key v false other = sym (nothing (is_le (bytes_cmp (packed t from) key)))
-within_at t from to key None true own = sym (ap (λ l. cond (is_le (bytes_cmp (packed t from) key)) l []) (no_row (is_below to (own_key key)) (own_key key)) ∙ nothing (is_le (bytes_cmp (packed t from) key)))
-within_at t from to key (Some v) true own =
-    two_tests (is_le (bytes_cmp from (own_key key))) (is_below to (own_key key)) (own_key key) v
-    ∙ ap (λ o. cond (is_le o) (row_at (is_below to (own_key key)) (own_key key) (Some v)) []) (sym (cmp-packed t from (own_key key)) ∙ ap (bytes_cmp (packed t from)) (packed-own_key t key own))
-
-module _ {A : Type 0} (lower : Vec ℕ A) where
-  -- the places from a key on
-  abbrev pub entries_on : List (Vec ℕ A × Option (coded.Version A)) → List (Vec ℕ A × Option (coded.Version A))
-  entries_on es = entries_between key_order (Included lower) Unbounded es
-
-  picked : (t : ℕ) (to : List ℕ) (a : Bool) (e : Vec ℕ A × Option (coded.Version A)) (rest : List (Vec ℕ A × Option (coded.Version A)))
-      → cond a (row_at (reach t to e.0.items) (own_key e.0.items) (version_at e.1)) [] ++ reached t to (places_of rest) ≡ reached t to (places_of (cond (a && true) (e ∷ rest) rest))
-  unfolding reached
-  picked t to true e rest = refl
-  picked t to false e rest = refl
-
-  pub within-own_rows : (t : ℕ) (from to : List ℕ) (es : List (Vec ℕ A × Option (coded.Version A))) → lower.items ≡ packed t from
-      → filter (λ row. is_within from to row.0) (own_rows t (places_of es)) ≡ reached t to (places_of (entries_on es))
-  unfolding own_rows reached
-  within-own_rows t from to [] is = refl
-  within-own_rows t from to (e ∷ es) is =
-      let key = e.0.items in
-      filter-append (λ row. is_within from to row.0) (row_at (is_of t key) (own_key key) (version_at e.1)) (own_rows t (places_of es))
-      ∙ (λ i. within_at t from to key (version_at e.1) (is_of t key) refl i ++ within-own_rows t from to es is i)
-      ∙ ap (λ l. cond (is_le (bytes_cmp l key)) (row_at (reach t to key) (own_key key) (version_at e.1)) [] ++ reached t to (places_of (entries_on es))) (sym is)
-      ∙ picked t to (is_le (bytes_cmp lower.items key)) e (entries_on es)
-
-  one_on : (k : List ℕ) (b : Bool) (e : Vec ℕ A × Option (coded.Version A)) (rest : List (Vec ℕ A × Option (coded.Version A))) → bytes_cmp k e.0.items ≡ Less → AllByRecursion (λ q. bytes_cmp k q.0 ≡ Less) (places_of rest)
-      → AllByRecursion (λ q. bytes_cmp k q.0 ≡ Less) (places_of (cond b (e ∷ rest) rest))
-  one_on k true e rest first all = (first, all)
-  one_on k false e rest first all = all
-
-  all_on : (k : List ℕ) (es : List (Vec ℕ A × Option (coded.Version A))) → AllByRecursion (λ q. bytes_cmp k q.0 ≡ Less) (places_of es) → AllByRecursion (λ q. bytes_cmp k q.0 ≡ Less) (places_of (entries_on es))
-  all_on k [] all = tt
-  all_on k (e ∷ es) all = one_on k (is_le (bytes_cmp lower.items e.0.items) && true) e (entries_on es) all.0 (all_on k es all.1)
-
-  one_rising : (b : Bool) (e : Vec ℕ A × Option (coded.Version A)) (rest : List (Vec ℕ A × Option (coded.Version A))) → AllByRecursion (λ q. bytes_cmp e.0.items q.0 ≡ Less) (places_of rest) → IsRising (places_of rest) → IsRising (places_of (cond b (e ∷ rest) rest))
-  one_rising true e rest all rises = (all, rises)
-  one_rising false e rest all rises = rises
-
-  pub rising_on : (es : List (Vec ℕ A × Option (coded.Version A))) → IsRising (places_of es) → IsRising (places_of (entries_on es))
-  rising_on [] rises = tt
-  rising_on (e ∷ es) rises = one_rising (is_le (bytes_cmp lower.items e.0.items) && true) e (entries_on es) (all_on e.0.items es rises.0) (rising_on es rises.1)
-
-  one_from : (b : Bool) (e : Vec ℕ A × Option (coded.Version A)) (rest : List (Vec ℕ A × Option (coded.Version A))) → is_le (bytes_cmp lower.items e.0.items) ≡ b → AllByRecursion (λ p. is_le (bytes_cmp lower.items p.0) ≡ true) (places_of rest)
-      → AllByRecursion (λ p. is_le (bytes_cmp lower.items p.0) ≡ true) (places_of (cond (b && true) (e ∷ rest) rest))
-  one_from true e rest is all = (is, all)
-  one_from false e rest is all = all
-
-  pub from_on : (es : List (Vec ℕ A × Option (coded.Version A))) → AllByRecursion (λ p. is_le (bytes_cmp lower.items p.0) ≡ true) (places_of (entries_on es))
-  from_on [] = tt
-  from_on (e ∷ es) = one_from (is_le (bytes_cmp lower.items e.0.items)) e (entries_on es) refl (from_on es)
-
--- ---- where the interval ends
+never_below_none : (k : List ℕ) → is_lt (bytes_cmp k []) ≡ true → ⊥
+never_below_none [] e = false≢true e
+never_below_none (x ∷ k) e = false≢true e
 
 first_test : (a b : Bool) → (a && b) ≡ true → a ≡ true
 first_test true b e = refl
@@ -207,123 +138,289 @@ second_test : (a b : Bool) → (a && b) ≡ true → b ≡ true
 second_test true b e = e
 second_test false b e = absurd (false≢true e)
 
-less : (o : Ordering) → is_lt o ≡ true → o ≡ Less
-less Less e = refl
-less Equal e = absurd (false≢true e)
-less Greater e = absurd (false≢true e)
+not_lower : (t u : ℕ) (from k : List ℕ) → t < 2 ^ 32 → u < t → not (is_lt (bytes_cmp (packed u k) (packed t from))) ≡ true → ⊥
+not_lower t u from k l less e =
+    false≢true (sym (ap (λ o. not (is_lt o)) (packed_in_order_law u t k from (omega (arith, l, less)) l ∙ ap (λ o. ordering_then o (bytes_cmp k from)) (less_than u t less))) ∙ e)
 
-below_earlier : (to a b : List ℕ) (none : Bool) → bytes_cmp a b ≡ Less → (none || is_lt (bytes_cmp b to)) ≡ true → (none || is_lt (bytes_cmp a to)) ≡ true
-below_earlier to a b true lt below = refl
-below_earlier to a b false lt below = ap is_lt (nat_list_cmp_total.trans a b to lt (less (bytes_cmp b to) below))
+not_higher : (t u : ℕ) (to k : List ℕ) (b : Bool) → t ≤ 65535 → u < 2 ^ 32 → t < u → is_lt (bytes_cmp (packed u k) (cond b (packed (t + 1) []) (packed t to))) ≡ true → ⊥
+not_higher t u to k true l low more e = ⊎_elim
+    (λ (s : u ≡ t + 1). never_below_none k (sym (ap is_lt (order ∙ ap (λ o. ordering_then o (bytes_cmp k [])) (ap (λ x. nat_cmp x (t + 1)) s ∙ same_number (t + 1)))) ∙ e))
+    (λ (h : (u < t + 1) ⊎ (t + 1 < u)). ⊎_elim
+    (λ (a : u < t + 1). absurd (omega (arith, a, more)))
+    (λ (a : t + 1 < u). false≢true (sym (ap is_lt (order ∙ ap (λ o. ordering_then o (bytes_cmp k [])) (more_than u (t + 1) a))) ∙ e))
+    h)
+    (cases_order u (t + 1))
+  where
+    order : bytes_cmp (packed u k) (packed (t + 1) []) ≡ ordering_then (nat_cmp u (t + 1)) (bytes_cmp k [])
+    order = packed_in_order_law u (t + 1) k [] low (omega (arith, l))
+not_higher t u to k false l low more e =
+    false≢true (sym (ap is_lt (packed_in_order_law u t k to low (omega (arith, l)) ∙ ap (λ o. ordering_then o (bytes_cmp k to)) (more_than u t more))) ∙ e)
 
-reach_earlier : (t : ℕ) (from to key later : List ℕ) → is_le (bytes_cmp (packed t from) key) ≡ true → bytes_cmp key later ≡ Less → reach t to later ≡ true → reach t to key ≡ true
-reach_earlier t from to key later le lt reaches =
-    let own' : is_of t later ≡ true = first_test (is_of t later) (is_below to (own_key later)) reaches in
-    let own : is_of t key ≡ true = is_of_between t from key later le lt own' in
-    let below : is_below to (own_key key) ≡ true =
-    below_earlier to (own_key key) (own_key later) (eqb (length to) 0) (cmp-own_key t key later own own' ∙ lt) (second_test (is_of t later) (is_below to (own_key later)) reaches) in
-    λ i. own i && below i
+-- a key of the interval is the tenant's
+own_of_spans : (t : ℕ) (from to key : List ℕ) → t ≤ 65535 → IsWholeKey key → spans (packed t from) (upper_end t to) key ≡ true → packed t (own_key key) ≡ key
+own_of_spans t from to key l is e = subst (λ u. packed u (own_key key) ≡ key) same parts
+  where
+    parts : packed (tenant_of key) (own_key key) ≡ key
+    parts = packed-parts key is.0 is.1
 
-not_later : (t : ℕ) (from to key later : List ℕ) (b : Bool) → reach t to later ≡ b → is_le (bytes_cmp (packed t from) key) ≡ true → bytes_cmp key later ≡ Less → reach t to key ≡ false → b ≡ false
-not_later t from to key later true is le lt past = absurd (false≢true (sym past ∙ reach_earlier t from to key later le lt is))
-not_later t from to key later false is le lt past = refl
+    low : tenant_of key < 2 ^ 32
+    low = let near = is.0.is_near in omega (arith, near)
 
--- after a place past the end there are no more rows
-pub none-reached : (t : ℕ) (from to key : List ℕ) (ps : Places) → is_le (bytes_cmp (packed t from) key) ≡ true → reach t to key ≡ false → AllByRecursion (λ q. bytes_cmp key q.0 ≡ Less) ps → reached t to ps ≡ []
-unfolding reached row_at
-none-reached t from to key [] le past all = refl
-none-reached t from to key (p ∷ ps) le past all =
-    λ i. row_at (not_later t from to key p.0 (reach t to p.0) refl le all.0 past i) (own_key p.0) p.1 ++ none-reached t from to key ps le past all.1 i
+    inside : spans (packed t from) (upper_end t to) (packed (tenant_of key) (own_key key)) ≡ true
+    inside = ap (spans (packed t from) (upper_end t to)) parts ∙ e
 
--- ---- going over the interval
+    same : tenant_of key ≡ t
+    same = ⊎_elim
+        (λ (s : tenant_of key ≡ t). s)
+        (λ (h : (tenant_of key < t) ⊎ (t < tenant_of key)). ⊎_elim
+        (λ (a : tenant_of key < t). absurd (not_lower t (tenant_of key) from (own_key key) (omega (arith, l)) a (first_test _ _ inside)))
+        (λ (a : t < tenant_of key). absurd (not_higher t (tenant_of key) to (own_key key) (eqb (length to) 0) l low a (second_test (not (is_lt (bytes_cmp (packed (tenant_of key) (own_key key)) (packed t from)))) _ inside)))
+        h)
+        (cases_order (tenant_of key) t)
 
--- What is left to do: `told` holds the items so far, and the rows of the places that are left, `left` at most,
--- make it whole.
-pub record IsLeft (t : ℕ) (from to : List ℕ) (left : ℕ) (whole told : List Item) (rest : Places) : Type 0 where
-  pub rises : IsRising rest
-  pub from_lower : AllByRecursion (λ p. is_le (bytes_cmp (packed t from) p.0) ≡ true) rest
-  pub so_far : told ++ flat_map row_items (take left (reached t to rest)) ≡ whole
+-- ---- entries of rows
 
-pub begins : {A : Type 0} (t : ℕ) (from to : List ℕ) (count : ℕ) (lower : Vec ℕ A) (es rest : List (Vec ℕ A × Option (coded.Version A))) (ps : Places) (told : List Item) → lower.items ≡ packed t from → places_of es ≡ ps → IsStrictlySortedBy key_order (keys_of es)
-    → rest ≡ entries_on lower es → told ≡ [] → IsLeft t from to count (flat_map row_items (rows_within from to count (rows_of t ps))) told (places_of rest)
-begins t from to count lower es rest ps told is view sorted on none =
-    let rises : IsRising (places_of es) = rising es sorted in
-    let same : filter (λ row. is_within from to row.0) (map_of.entries (rows_of t ps)) ≡ reached t to (places_of rest) =
-    ap (λ m. filter (λ row. is_within from to row.0) (map_of.entries (rows_of t m))) (sym view)
-    ∙ ap (filter (λ row. is_within from to row.0)) (entries-rows_of t (places_of es) rises)
-    ∙ within-own_rows lower t from to es is
-    ∙ ap (λ r. reached t to (places_of r)) (sym on) in
+first_part : (a b : Bool) → T (a && b) → T a
+first_part true b p = tt
+first_part false b p = p
+
+second_part : (a b : Bool) → T (a && b) → T b
+second_part true b p = p
+second_part false b p = absurd p
+
+less : (o : Ordering) → T (is_lt o) → o ≡ Less
+less Less p = refl
+less Equal p = absurd p
+less Greater p = absurd p
+
+above : (k : List ℕ) (es : List Shown) → T (rows.Entries.below_all bytes_cmp k es) → AllByRecursion (λ q. bytes_cmp k q ≡ Less) (map (λ (e : Shown). e.0) es)
+above k [] h = tt
+above k (e ∷ es) h = (less (bytes_cmp k e.0) (first_part _ _ h), above k es (second_part (is_lt (bytes_cmp k e.0)) _ h))
+
+rising : (es : List Shown) → T (is_sorted bytes_cmp es) → Rises (map (λ (e : Shown). e.0) es)
+unfolding IsStrictlySortedBy
+rising [] h = tt
+rising (e ∷ es) h = (above e.0 es (first_part _ _ h), rising es (second_part (rows.Entries.below_all bytes_cmp e.0 es) _ h))
+
+still_above : (k : List ℕ) (p : List ℕ → Bool) (es : List Shown) → AllByRecursion (λ q. bytes_cmp k q ≡ Less) (map (λ (e : Shown). e.0) es) → AllByRecursion (λ q. bytes_cmp k q ≡ Less) (map (λ (e : Shown). e.0) (filter (λ e. p e.0) es))
+still_above k p [] h = tt
+still_above k p (e ∷ es) h = one (p e.0) (still_above k p es h.1) where
+  one : (b : Bool) → AllByRecursion (λ q. bytes_cmp k q ≡ Less) (map (λ (e : Shown). e.0) (filter (λ e. p e.0) es)) → AllByRecursion (λ q. bytes_cmp k q ≡ Less) (map (λ (e : Shown). e.0) (cond b (e ∷ filter (λ e. p e.0) es) (filter (λ e. p e.0) es)))
+  one true rest = (h.0, rest)
+  one false rest = rest
+
+still_rising : (p : List ℕ → Bool) (es : List Shown) → Rises (map (λ (e : Shown). e.0) es) → Rises (map (λ (e : Shown). e.0) (filter (λ e. p e.0) es))
+unfolding IsStrictlySortedBy
+still_rising p [] h = tt
+still_rising p (e ∷ es) h = one (p e.0) (still_rising p es h.1) where
+  one : (b : Bool) → Rises (map (λ (e : Shown). e.0) (filter (λ e. p e.0) es)) → Rises (map (λ (e : Shown). e.0) (cond b (e ∷ filter (λ e. p e.0) es) (filter (λ e. p e.0) es)))
+  one true rest = (still_above e.0 p es h.0, rest)
+  one false rest = rest
+
+same_itself : (k : List ℕ) → same_key k k ≡ true
+same_itself k = ⊎_elim
+    (λ (s : (k ≡ k) × (same_key k k ≡ true)). s.1)
+    (λ (ne : (k ≢ k) × (same_key k k ≡ false)). absurd (ne.0 refl))
+    (key_cases k k)
+
+no_some : {X : Type 0} (x : X) → None ≡ Some x → ⊥
+no_some x e = cc
+
+-- a key that passes and has a row is among the rows that pass
+passing : (p : List ℕ → Bool) (k : List ℕ) (v : Version) (es : List Shown) → find bytes_cmp k es ≡ Some v → p k ≡ true → Among k (map (λ (e : Shown). e.0) (filter (λ e. p e.0) es))
+unfolding Among
+passing p k v [] e w = absurd (no_some v e)
+passing p k v (x ∷ es) e w = ⊎_elim
+    (λ (s : (k ≡ x.0) × (same_key k x.0 ≡ true)). subst (λ b. Among k (map (λ (e : Shown). e.0) (cond b (x ∷ filter (λ e. p e.0) es) (filter (λ e. p e.0) es)))) (sym w ∙ ap p s.0) (inl s.0))
+    (λ (ne : (k ≢ x.0) × (same_key k x.0 ≡ false)). later (p x.0) (passing p k v es (sym (cond-false _ _ _ ne.1) ∙ e) w))
+    (key_cases k x.0)
+  where
+    later : (b : Bool) → Among k (map (λ (e : Shown). e.0) (filter (λ e. p e.0) es)) → Among k (map (λ (e : Shown). e.0) (cond b (x ∷ filter (λ e. p e.0) es) (filter (λ e. p e.0) es)))
+    later true m = inr m
+    later false m = m
+
+some_over : (b : Bool) (v : Version) (o : Option Version) → IsSome o → IsSome (cond b (Some v) o)
+some_over true v o s = refl
+some_over false v o s = s
+
+-- .. and the other way round
+passed : (p : List ℕ → Bool) (k : List ℕ) (es : List Shown) → Among k (map (λ (e : Shown). e.0) (filter (λ e. p e.0) es)) → IsSome (find bytes_cmp k es) × (p k ≡ true)
+unfolding Among
+passed p k [] m = absurd m
+passed p k (x ∷ es) m = one (λ h. let rest = passed p k es h in (some_over (same_key k x.0) x.1 (find bytes_cmp k es) rest.0, rest.1)) (p x.0) refl m where
+  one : (Among k (map (λ (e : Shown). e.0) (filter (λ e. p e.0) es)) → IsSome (find bytes_cmp k (x ∷ es)) × (p k ≡ true)) → (b : Bool) → p x.0 ≡ b → Among k (map (λ (e : Shown). e.0) (cond b (x ∷ filter (λ e. p e.0) es) (filter (λ e. p e.0) es))) → IsSome (find bytes_cmp k (x ∷ es)) × (p k ≡ true)
+  one later true e h = ⊎_elim
+      (λ (s : k ≡ x.0). (subst (λ q. IsSome (find bytes_cmp q (x ∷ es))) (sym s) (subst (λ b. IsSome (cond b (Some x.1) (find bytes_cmp x.0 es))) (sym (same_itself x.0)) refl), ap p s ∙ e))
+      (λ (h : Among k (map (λ (e : Shown). e.0) (filter (λ e. p e.0) es))). later h)
+      h
+  one later false e h = later h
+
+-- ---- what is told of a row
+
+bytes_of : Option Version → List ℕ
+bytes_of None = []
+bytes_of (Some v) = v.value
+
+-- what is told of a key's row
+bulks_at : Rows → List ℕ → List Item
+bulks_at r k = item.Bulk k ∷ item.Bulk (bytes_of (rows.get r k)) ∷ []
+
+all_but_first : (x : Shown) (es part : List Shown) → AllByRecursion (λ q. bytes_cmp x.0 q ≡ Less) (map (λ (e : Shown). e.0) part) → AllByRecursion (λ e. find bytes_cmp e.0 es ≡ Some e.1) part → AllByRecursion (λ e. find bytes_cmp e.0 (x ∷ es) ≡ Some e.1) part
+all_but_first x es [] a h = tt
+all_but_first x es (e ∷ part) a h = (cond-false _ _ _ other ∙ h.0, all_but_first x es part a.1 h.1) where
+  other : same_key e.0 x.0 ≡ false
+  other = ⊎_elim
+      (λ (s : (e.0 ≡ x.0) × (same_key e.0 x.0 ≡ true)). absurd (not_itself x.0 (subst (λ z. bytes_cmp x.0 z ≡ Less) s.0 a.0)))
+      (λ (ne : (e.0 ≢ x.0) × (same_key e.0 x.0 ≡ false)). ne.1)
+      (key_cases e.0 x.0)
+
+all_found : (es : List Shown) → Rises (map (λ (e : Shown). e.0) es) → AllByRecursion (λ e. find bytes_cmp e.0 es ≡ Some e.1) es
+unfolding IsStrictlySortedBy
+all_found [] r = tt
+all_found (x ∷ es) r = (cond-true _ _ _ (same_itself x.0), all_but_first x es es r.0 (all_found es r.1))
+
+all_filtered : (P : Shown → Type 0) (p : List ℕ → Bool) (es : List Shown) → AllByRecursion P es → AllByRecursion P (filter (λ e. p e.0) es)
+all_filtered P p [] h = tt
+all_filtered P p (e ∷ es) h = one (p e.0) (all_filtered P p es h.1) where
+  one : (b : Bool) → AllByRecursion P (filter (λ e. p e.0) es) → AllByRecursion P (cond b (e ∷ filter (λ e. p e.0) es) (filter (λ e. p e.0) es))
+  one true rest = (h.0, rest)
+  one false rest = rest
+
+all_got : (r : Rows) (es : List Shown) → AllByRecursion (λ e. find bytes_cmp e.0 (rows.entries r) ≡ Some e.1) es → AllByRecursion (λ e. rows.get r e.0 ≡ Some e.1) es
+all_got r [] h = tt
+all_got r (e ∷ es) h = (rows.get-entries r e.0 ∙ h.0, all_got r es h.1)
+
+shown_bulks : (r : Rows) (es : List Shown) (count : ℕ) → AllByRecursion (λ e. rows.get r e.0 ≡ Some e.1) es → flat_map row_items (take count es) ≡ flat_map (bulks_at r) (take count (map (λ (e : Shown). e.0) es))
+unfolding bulks_at bytes_of
+shown_bulks r [] zero h = refl
+shown_bulks r [] (suc c) h = refl
+shown_bulks r (e ∷ es) zero h = refl
+shown_bulks r (e ∷ es) (suc c) h = λ i. item.Bulk e.0 ∷ item.Bulk (bytes_of (sym h.0 i)) ∷ shown_bulks r es c h.1 i
+
+-- a row that the tree tells is one of the tenant's, in the interval
+record IsToldRow (t : ℕ) (r : Rows) (from to : List ℕ) (row : KeyValue) : Type 0 where
+  own : packed t (own_key row.0) ≡ row.0
+  within : is_within from to (own_key row.0) ≡ true
+  there : IsSome (rows.get r (own_key row.0))
+  bytes : bytes_of (rows.get r (own_key row.0)) ≡ row.1
+
+told_bulks : (t : ℕ) (r : Rows) (from to : List ℕ) (told : List KeyValue) → AllByRecursion (IsToldRow t r from to) told → flat_map row_bulks told ≡ flat_map (bulks_at r) (map (λ (row : KeyValue). own_key row.0) told)
+unfolding bulks_at
+told_bulks t r from to [] h = refl
+told_bulks t r from to (row ∷ told) h = λ i. item.Bulk (own_key row.0) ∷ item.Bulk (sym h.0.bytes i) ∷ told_bulks t r from to told h.1 i
+
+told_there : (t : ℕ) (r : Rows) (from to k : List ℕ) (told : List KeyValue) → AllByRecursion (IsToldRow t r from to) told → Among k (map (λ (row : KeyValue). own_key row.0) told) → IsSome (rows.get r k) × (is_within from to k ≡ true)
+unfolding Among
+told_there t r from to k [] h m = absurd m
+told_there t r from to k (row ∷ told) h m = ⊎_elim
+    (λ (e : k ≡ own_key row.0). subst (λ q. IsSome (rows.get r q) × (is_within from to q ≡ true)) (sym e) (h.0.there, h.0.within))
+    (λ (l : Among k (map (λ (row : KeyValue). own_key row.0) told)). told_there t r from to k told h.1 l)
+    m
+
+told_among : (key : List ℕ) (told : List KeyValue) → Contains (map (λ (row : KeyValue). row.0) told) key → Among (own_key key) (map (λ (row : KeyValue). own_key row.0) told)
+unfolding Among
+told_among key [] c = absurd (let l = c.1 in omega (arith, l))
+told_among key (row ∷ told) c = ⊎_elim
+    (λ (e : row.0 ≡ key). inl (ap own_key (sym e)))
+    (λ (l : Contains (map (λ (row : KeyValue). row.0) told) key). inr (told_among key told l))
+    (contains_cases row.0 key (map (λ (row : KeyValue). row.0) told) c)
+
+own_below : (t : ℕ) (a key l : List ℕ) → t < 2 ^ 32 → packed t (own_key a) ≡ a → key ≡ packed t l → bytes_cmp a key ≡ Less → bytes_cmp (own_key a) l ≡ Less
+own_below t a key l low own is less' = sym (own_cmp t (own_key a) l low) ∙ (λ i. bytes_cmp (own i) (sym is i)) ∙ less'
+
+told_below : (t : ℕ) (r : Rows) (from to l : List ℕ) (told : List KeyValue) → t < 2 ^ 32 → AllByRecursion (IsToldRow t r from to) told → AreUnder told (packed t l) → AreAllBelow (map (λ (row : KeyValue). own_key row.0) told) l
+told_below t r from to l [] low h under = tt
+told_below t r from to l (row ∷ told) low h under = (own_below t row.0 (packed t l) l low h.0.own refl (less_from (bytes_cmp row.0 (packed t l)) under.0), told_below t r from to l told low h.1 under.1)
+
+told_above : (t : ℕ) (r : Rows) (from to a : List ℕ) (told : List KeyValue) → t < 2 ^ 32 → packed t (own_key a) ≡ a → AllByRecursion (IsToldRow t r from to) told → AllByRecursion (λ k. bytes_cmp a k ≡ Less) (map (λ (row : KeyValue). row.0) told)
+    → AllByRecursion (λ k. bytes_cmp (own_key a) k ≡ Less) (map (λ (row : KeyValue). own_key row.0) told)
+told_above t r from to a [] low own h up = tt
+told_above t r from to a (row ∷ told) low own h up = (own_below t a row.0 (own_key row.0) low own (sym h.0.own) up.0, told_above t r from to a told low own h.1 up.1)
+
+told_rising : (t : ℕ) (r : Rows) (from to : List ℕ) (told : List KeyValue) → t < 2 ^ 32 → AllByRecursion (IsToldRow t r from to) told → Rises (map (λ (row : KeyValue). row.0) told) → Rises (map (λ (row : KeyValue). own_key row.0) told)
+unfolding IsStrictlySortedBy
+told_rising t r from to [] low h up = tt
+told_rising t r from to (row ∷ told) low h up = (told_above t r from to row.0 told low h.0.own h.1 up.0, told_rising t r from to told low h.1 up.1)
+
+-- ---- the range
+
+none_some : (o : Option Version) → o ≡ None → IsSome o → ⊥
+none_some None e s = cc
+none_some (Some v) e s = cc
+
+value_told : (x : Option NumberedValue) (bytes : List ℕ) → value_in x ≡ Some bytes → IsSome (version_of x) × (bytes_of (version_of x) ≡ bytes)
+unfolding bytes_of
+value_told None bytes e = absurd (no_some bytes e)
+value_told (Some v) bytes e = (refl, cc)
+
+some_value : (x : Option NumberedValue) → IsSome (version_of x) → IsSome x
+some_value None s = s
+some_value (Some v) s = refl
+
+module _ (m : Messages) (t at count : ℕ) (from to : List ℕ) where
+  are_told : (told : List KeyValue) → t ≤ 65535 → AllByRecursion IsWholeKey (map (λ (row : KeyValue). row.0) told) → AllByRecursion (λ row. spans (packed t from) (upper_end t to) row.0 ≡ true) told
+      → AllByRecursion (λ row. value_in (latest (ops_of m row.0) at) ≡ Some row.1) told → AllByRecursion (IsToldRow t (rows_at m t at) from to) told
+  are_told [] l whole inside values = tt
+  are_told (row ∷ told) l whole inside values = (
     record {
-      rises = subst (λ r. IsRising (places_of r)) (sym on) (rising_on lower es rises);
-      from_lower = subst (λ l. AllByRecursion (λ p. is_le (bytes_cmp l p.0) ≡ true) (places_of rest)) is (subst (λ r. AllByRecursion (λ p. is_le (bytes_cmp lower.items p.0) ≡ true) (places_of r)) (sym on) (from_on lower es));
-      so_far = ap (λ l. l ++ flat_map row_items (take count (reached t to (places_of rest)))) none ∙ ap (λ r. flat_map row_items (take count r)) (sym same);
-    }
+      own = own;
+      within = sym (spans_own t from to (own_key row.0) l) ∙ ap (spans (packed t from) (upper_end t to)) own ∙ inside.0;
+      there = subst IsSome (sym got) seen.0;
+      bytes = ap bytes_of got ∙ seen.1;
+    },
+    are_told told l whole.1 inside.1 values.1,
+  )
+    where
+      own : packed t (own_key row.0) ≡ row.0
+      own = own_of_spans t from to row.0 l whole.0 inside.0
 
-one_less : (left : ℕ) (row : Shown) (rows : List Shown) → left ≢ 0 → flat_map row_items (take left (row ∷ rows)) ≡ row_items row ++ flat_map row_items (take (left - 1) rows)
-one_less zero row rows some = absurd (some refl)
-one_less (suc n) row rows some = let e : suc n - 1 ≡ n = omega arith in ap (λ m. row_items row ++ flat_map row_items (take m rows)) (sym e)
+      got : rows.get (rows_at m t at) (own_key row.0) ≡ version_of (value m row.0 at)
+      got = rows_by_value_law m t at (own_key row.0) ∙ ap (λ k. version_of (value m k at)) own
 
-taken_row : (b : Bool) (key : List ℕ) (v : Version) (rest : List Shown) → b ≡ true → row_at b key (Some v) ++ rest ≡ (key, v) ∷ rest
-unfolding row_at
-taken_row true key v rest e = refl
-taken_row false key v rest e = absurd (false≢true e)
+      seen : IsSome (version_of (value m row.0 at)) × (bytes_of (version_of (value m row.0 at)) ≡ row.1)
+      seen = value_told (value m row.0 at) row.1 values.0
 
--- a row is told
-pub taken : (t : ℕ) (from to : List ℕ) (left : ℕ) (whole told told' : List Item) (key own : List ℕ) (v : Version) (rest : Places) → IsLeft t from to left whole told ((key, Some v) ∷ rest) → left ≢ 0 → reach t to key ≡ true → own ≡ own_key key
-    → told' ≡ told ++ row_items (own, v) → IsLeft t from to (left - 1) whole told' rest
-unfolding reached
-taken t from to left whole told told' key own v rest l some reaches is adds = record {
-  rises = l.rises.1;
-  from_lower = l.from_lower.1;
-  so_far = ap (λ i. i ++ flat_map row_items (take (left - 1) (reached t to rest))) (adds ∙ ap (λ k. told ++ row_items (k, v)) is)
-      ∙ append_assoc told (row_items (own_key key, v)) (flat_map row_items (take (left - 1) (reached t to rest)))
-      ∙ ap (λ i. told ++ i) (sym (one_less left (own_key key, v) (reached t to rest) some))
-      ∙ ap (λ r. told ++ flat_map row_items (take left r)) (sym (taken_row (reach t to key) (own_key key) v (reached t to rest) reaches))
-      ∙ l.so_far;
-}
+  pub range_items : (told : List KeyValue) → t ≤ 65535 → AllByRecursion IsWholeKey (map (λ (row : KeyValue). row.0) told) → IsRange (ops_of m) (packed t from) (upper_end t to) at count told
+      → flat_map row_bulks told ≡ flat_map row_items (rows_within from to count (rows_at m t at))
+  range_items told l whole range =
+      told_bulks t own_rows from to told each
+      ∙ ap (flat_map (bulks_at own_rows)) (front (map (λ (row : KeyValue). own_key row.0) told) (map (λ (e : Shown). e.0) shown) count
+      (told_rising t own_rows from to told low each range.rise) (still_rising (is_within from to) (rows.entries own_rows) (rising (rows.entries own_rows) (rows.entries_sorted own_rows)))
+      (subst (λ n. n ≤ count) (sym (length-map told (λ (row : KeyValue). own_key row.0))) range.few) into all)
+      ∙ sym (shown_bulks own_rows shown count (all_got own_rows shown (all_filtered (λ e. find bytes_cmp e.0 (rows.entries own_rows) ≡ Some e.1) (is_within from to) (rows.entries own_rows) (all_found (rows.entries own_rows) (rising (rows.entries own_rows) (rows.entries_sorted own_rows))))))
+    where
+      own_rows : Rows
+      own_rows = rows_at m t at
 
--- a place that waits for its value is gone over
-pub skipped : (t : ℕ) (from to : List ℕ) (left : ℕ) (whole told : List Item) (key : List ℕ) (rest : Places) → IsLeft t from to left whole told ((key, None) ∷ rest) → IsLeft t from to left whole told rest
-unfolding reached
-skipped t from to left whole told key rest l = record {
-  rises = l.rises.1;
-  from_lower = l.from_lower.1;
-  so_far = ap (λ r. told ++ flat_map row_items (take left (r ++ reached t to rest))) (sym (no_row (reach t to key) (own_key key))) ∙ l.so_far;
-}
+      shown : List Shown
+      shown = filter (λ row. is_within from to row.0) (rows.entries own_rows)
 
-no_more : (left : ℕ) → flat_map row_items (take left []) ≡ []
-no_more zero = refl
-no_more (suc n) = refl
+      low : t < 2 ^ 32
+      low = omega (arith, l)
 
-finished : (t : ℕ) (from to : List ℕ) (left : ℕ) (whole told : List Item) (rest : Places) → IsLeft t from to left whole told rest → flat_map row_items (take left (reached t to rest)) ≡ [] → told ≡ whole
-finished t from to left whole told rest l none = sym (append-nil told) ∙ ap (λ i. told ++ i) (sym none) ∙ l.so_far
+      each : AllByRecursion (IsToldRow t own_rows from to) told
+      each = are_told told l whole range.inside range.values
 
-not_taken : (b : Bool) (key : List ℕ) (v : Option Version) (rest : List Shown) → b ≡ false → rest ≡ [] → row_at b key v ++ rest ≡ []
-unfolding row_at
-not_taken true key v rest e none = absurd (false≢true (sym e))
-not_taken false key v rest e none = none
+      found : (k : List ℕ) (o : Option Version) → rows.get own_rows k ≡ o → IsSome o → is_within from to k ≡ true → Among k (map (λ (e : Shown). e.0) shown)
+      found k None e s w = absurd (none_some None refl s)
+      found k (Some v) e s w = passing (is_within from to) k v (rows.entries own_rows) (sym (rows.get-entries own_rows k) ∙ e) w
 
--- the first place that is left is past the interval
-pub past_end : (t : ℕ) (from to : List ℕ) (left : ℕ) (whole told : List Item) (key : List ℕ) (v : Option Version) (rest : Places) → IsLeft t from to left whole told ((key, v) ∷ rest) → reach t to key ≡ false → told ≡ whole
-unfolding reached
-past_end t from to left whole told key v rest l past = finished t from to left whole told ((key, v) ∷ rest) l
-    (ap (λ r. flat_map row_items (take left r)) (not_taken (reach t to key) (own_key key) v (reached t to rest) past (none-reached t from to key rest l.from_lower.0 past l.rises.0)) ∙ no_more left)
+      into : (k : List ℕ) → Among k (map (λ (row : KeyValue). own_key row.0) told) → Among k (map (λ (e : Shown). e.0) shown)
+      into k h = let is = told_there t own_rows from to k told each h in found k (rows.get own_rows k) refl is.0 is.1
 
--- as many rows as were asked for were told
-pub counted_off : (t : ℕ) (from to : List ℕ) (left : ℕ) (whole told : List Item) (rest : Places) → IsLeft t from to left whole told rest → left ≡ 0 → told ≡ whole
-counted_off t from to left whole told rest l none = finished t from to left whole told rest l (ap (λ n. flat_map row_items (take n (reached t to rest))) none)
+      all : (k : List ℕ) → Among k (map (λ (e : Shown). e.0) shown) → Among k (map (λ (row : KeyValue). own_key row.0) told) ⊎ ((length (map (λ (row : KeyValue). own_key row.0) told) ≡ count) × AreAllBelow (map (λ (row : KeyValue). own_key row.0) told) k)
+      all k h =
+          let is = passed (is_within from to) k (rows.entries own_rows) h in
+          let there : IsSome (version_of (value m (packed t k) at)) = subst IsSome (sym (rows.get-entries own_rows k) ∙ rows_by_value_law m t at k) is.0 in
+          ⊎_elim
+          (λ (c : Contains (map (λ (row : KeyValue). row.0) told) (packed t k)). inl (subst (λ q. Among q (map (λ (row : KeyValue). own_key row.0) told)) (own_key-packed t k) (told_among (packed t k) told c)))
+          (λ (c : (length told ≡ count) × AreUnder told (packed t k)). inr (length-map told (λ (row : KeyValue). own_key row.0) ∙ c.0, told_below t own_rows from to k told low each c.1))
+          (range.all (packed t k) (spans_own t from to k l ∙ is.1) (some_value (value m (packed t k) at) there))
 
--- no place is left
-pub no_place : (t : ℕ) (from to : List ℕ) (left : ℕ) (whole told : List Item) (rest : Places) → IsLeft t from to left whole told rest → rest ≡ [] → told ≡ whole
-unfolding reached
-no_place t from to left whole told rest l none = finished t from to left whole told rest l (ap (λ r. flat_map row_items (take left (reached t to r))) none ∙ no_more left)
-
--- ---- what a test of a key tells
-
-pub none_found : (b : Bool) (key : List ℕ) → None ≡ cond b (Some key) None → b ≡ false
-none_found true key e = absurd (false≢true (ap is_some e))
-none_found false key e = refl
-
-pub some_found : (b : Bool) (key own : List ℕ) → Some own ≡ cond b (Some key) None → (b ≡ true) × (own ≡ key)
-some_found true key own e = (refl, ap (λ o. unwrap_or o own) e)
-some_found false key own e = absurd (false≢true (sym (ap is_some e)))
+  -- what was told of the rows that the tree told
+  pub told_range : {E : Type 0} (r : Result (List Item) E) (first last : List ℕ) (told : List KeyValue) → t ≤ 65535 → first ≡ packed t from → last ≡ upper_end t to → IsRange (ops_of m) first last at count told
+      → IfOk r (λ items. items ≡ flat_map row_bulks told) → IfOk r (λ _. AllByRecursion IsWholeKey (map (λ (row : KeyValue). row.0) told))
+      → IfOk r (λ items. items ≡ flat_map row_items (rows_within from to count (rows_at m t at)))
+  told_range (Ok items) first last told l is_first is_last range is whole =
+      is ∙ range_items told l whole (subst (λ k. IsRange (ops_of m) (packed t from) k at count told) is_last (subst (λ k. IsRange (ops_of m) k last at count told) is_first range))
+  told_range (Err e) first last told l is_first is_last range is whole = is

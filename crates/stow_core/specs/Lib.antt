@@ -1,5 +1,7 @@
 pub mod Keys
-pub mod Places
 pub mod State
-pub mod Interval
+pub mod Writes
+pub mod Taken
+pub mod Legal
+pub mod Ends
 pub mod Prepared

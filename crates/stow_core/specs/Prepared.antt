@@ -1,7 +1,6 @@
 -- What a prepared answer does to its tenant's store, and where it has its room.
-use Rattle.std.specs.Prelude.{◌≡◌, ℕ, ◌+◌, ◌-◌, ◌<◌, Bool, not, ◌&&◌, List, [], ◌∷◌, map, is_some, Result, IfOk, IsOkAnd}
-use Rattle.std.specs.List.{list_any}
-use Rattle.std.specs.Str.{bytes_eq}
+use Rattle.std.specs.Prelude.{◌≡◌, ℕ, ◌+◌, ◌<◌, List, [], ◌∷◌, map, IsSome, Result, IfOk, IsOkAnd}
+use Rattle.std.specs.List.{AllByRecursion}
 use Rattle.std.specs.declared.alloc.AllocError.{AllocError}
 use Rattle.std.specs.FinMap as rows
 use Rattle.stow_bytes.specs.Limits.{number_limit}
@@ -16,8 +15,11 @@ use Rattle.stow_model.specs.Store.{Store, Rows, Answer, Written, counted, served
 use Rattle.stow_core.specs.declared.change.Change as coded
 use Rattle.stow_core.specs.declared.change.Change.TheVariants as change
 use Rattle.stow_core.specs.declared.prepared.Prepared.{Prepared}
-use Rattle.stow_core.specs.Keys.{own_key, AreKeysOf}
-use Rattle.stow_core.specs.Places.{HasPlace}
+use Rattle.stow_core.specs.Keys.{AreKeysOf}
+use Rattle.stow_core.specs.Writes.{put_of, removals_of, AreMessages}
+use Rattle.stow_tree.specs.Putting.{IsReserved}
+use Rattle.stow_tree_model.specs.Keys.{own_key}
+use Rattle.stow_tree_model.specs.TreeMessage.{TreeMessage}
 use Rattle.stow_core.specs.declared.interval.Interval.{Interval}
 use Rattle.stow_core.specs.State.{CoreState, store_of, row_at}
 
@@ -50,21 +52,33 @@ effect prepared store = effect_of prepared.change store
 abbrev pub CanWrite : CoreState → ℕ → Type 0
 CanWrite core tenant = (store_of core tenant).last < number_limit
 
--- a write to the key, among the keys of all, needs no more memory
-abbrev pub CanPut : CoreState → ℕ → List ℕ → Type 0
-CanPut core tenant key = IsTenant core.entries tenant × CanWrite core tenant
-    × AreKeysOf tenant (key ∷ []) × HasPlace core.places key
+-- the number of the tenant's next write
+abbrev pub next_number : CoreState → ℕ → ℕ
+next_number core tenant = (store_of core tenant).last + 1
 
--- these are keys of the tenant's, and a write number is left
-abbrev pub CanRemove : CoreState → ℕ → List (List ℕ) → Type 0
-CanRemove core tenant keys = IsTenant core.entries tenant × CanWrite core tenant
-    × AreKeysOf tenant keys
+-- the messages of the tenant's next write are of its own keys, and need no more memory
+pub record CanCommit (core : CoreState) (tenant : ℕ) (messages : List TreeMessage) : Type 0 where
+  pub is_tenant : IsTenant core.entries tenant
+  pub can_write : CanWrite core tenant
+  pub own : AreKeysOf tenant (map (λ message. message.key) messages)
+  pub are_messages : AreMessages messages
+  pub reserved : IsReserved core.tree messages
+
+-- a write to the key, among the keys of all, needs no more memory
+abbrev pub CanPut : CoreState → ℕ → List ℕ → List ℕ → Type 0
+CanPut core tenant key value =
+    CanCommit core tenant (put_of (next_number core tenant) key value ∷ [])
+
+-- these are keys of rows of the tenant's, and to take them out needs no more memory
+pub record CanRemove (core : CoreState) (tenant : ℕ) (keys : List (List ℕ)) : Type 0 where
+  pub can : CanCommit core tenant (removals_of (next_number core tenant) keys)
+  pub there : AllByRecursion (λ key. IsSome (row_at core tenant (own_key key))) keys
 
 -- the change is one in a tenant's store, and needs no more memory
 abbrev pub HasRoomFor : {A : Type 0} → CoreState → ℕ → coded.Change A → Type 0
 HasRoomFor core tenant change.Nothing = Unit {0}
 HasRoomFor core tenant change.Count = IsTenant core.entries tenant
-HasRoomFor core tenant (change.Put key value) = CanPut core tenant key
+HasRoomFor core tenant (change.Put key value) = CanPut core tenant key value
 HasRoomFor core tenant (change.Remove keys) = CanRemove core tenant keys
 
 -- the prepared answer has all its room in this state
@@ -112,15 +126,6 @@ CarriesOut old new prepared = store_of new prepared.tenant
 -- the reply of the tenant's store to a command that reads
 abbrev pub read_reply : CoreState → ℕ → Command → Reply
 read_reply core tenant command = (served (store_of core tenant) command).1
-
--- how many rows fewer there are without the keys
-abbrev pub fewer : Store → List (List ℕ) → ℕ
-fewer store keys = rows.len store.rows - rows.len (rows_without keys store.rows)
-
--- a key's row is there, and none of the earlier keys is this one
-abbrev pub takes_out : CoreState → ℕ → List ℕ → List (List ℕ) → Bool
-takes_out core tenant key earlier =
-    is_some (row_at core tenant (own_key key)) && not (list_any (bytes_eq key) earlier)
 
 -- the reply of the tenant's store to the command that reads the interval
 abbrev pub range_reply : CoreState → Interval → ℕ → Reply

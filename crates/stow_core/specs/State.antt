@@ -1,5 +1,5 @@
 -- What the core keeps for all tenants together, and one tenant's store in it.
-use Rattle.std.specs.Prelude.{◌≡◌, ◌≢◌, ℕ, zero, suc, ◌+◌, ◌<◌, length, Bool, List, [], ◌∷◌, Option, Some, None, slice_get, if◌then◌else◌}
+use Rattle.std.specs.Prelude.{◌≡◌, ◌≢◌, ℕ, zero, suc, ◌+◌, ◌<◌, length, Bool, List, [], ◌∷◌, Option, Some, None, slice_get}
 use Rattle.std.specs.FinMap as map
 use Rattle.stow_model.specs.declared.refusal.Refusal.TheVariants as refusal
 use Rattle.std.specs.List.{flat_map}
@@ -10,31 +10,17 @@ use Rattle.stow_model.specs.Reply as reply
 use Rattle.stow_model.specs.Login.{Entry, IsTenant, quota_of}
 use Rattle.stow_model.specs.Store.{Store, Rows, Version, Answer, row_items, rows_within, empty_store, one_more, answer_with}
 use Rattle.stow_core.specs.declared.account.Account.{Account}
-use Rattle.stow_core.specs.Keys.{is_of, own_key}
-use Rattle.stow_core.specs.Places.{Places}
+use Rattle.stow_leaf_cache.specs.Cache.{cache_resized}
+use Rattle.stow_state.specs.Rows.{rows_at}
+use Rattle.stow_tree.specs.Shapes.{AreInRange}
+use Rattle.stow_tree.specs.TreeState.{TreeState, tree_messages, HasBound}
+use Rattle.stow_tree_model.specs.Agreement.{TenantBounds}
 
--- the tenants, what is counted for each of them, and the rows of all in the order of their keys
+-- the tenants, what is counted for each of them, and the tree of all tenants' rows
 pub record CoreState : Type 0 where
   pub entries : List Entry
   pub accounts : List Account
-  pub places : Places
-
--- each tenant has an account, and there are few
-pub record AccountsFit (entries : List Entry) (accounts : List Account) : Type 0 where
-  pub each : length accounts ≡ length entries
-  pub few : length accounts < 65536
-
--- the rows with what a place says of a key
-abbrev pub with_place : Rows → List ℕ → Option Version → Rows
-with_place rows key None = map.remove rows key
-with_place rows key (Some version) = map.insert rows key version
-
--- the tenant's rows, by its own keys
-unfoldable pub rows_of : ℕ → Places → Rows
-rows_of tenant [] = map.empty
-rows_of tenant (place ∷ places) =
-    if is_of tenant place.0 then with_place (rows_of tenant places) (own_key place.0) place.1
-    else rows_of tenant places
+  pub tree : TreeState
 
 -- a tenant of this entry for which nothing was counted yet
 abbrev pub new_account : Entry → Account
@@ -53,6 +39,27 @@ abbrev pub account_of : ℕ → List Account → Option Account
 account_of zero accounts = None
 account_of (suc place) accounts = slice_get accounts place
 
+abbrev pub last_of : Option Account → ℕ
+last_of None = 0
+last_of (Some account) = account.last
+
+-- the number of each tenant's last write
+abbrev pub lasts_of : List Account → TenantBounds
+lasts_of accounts tenant = last_of (account_of tenant accounts)
+
+-- what the core's type keeps: each tenant has an account, there are few, no message of a tenant is above
+-- its last write, and the tree's sizes are within their limits
+pub record IsCore (entries : List Entry) (accounts : List Account)
+    (tree : TreeState) : Type 0 where
+  pub each : length accounts ≡ length entries
+  pub few : length accounts < 65536
+  pub below : HasBound (tree_messages tree) (lasts_of accounts)
+  pub sizes : AreInRange tree.root.shape
+
+-- the tenant's rows: what each of its keys has at its last write
+abbrev pub rows_of : CoreState → ℕ → Rows
+rows_of core tenant = rows_at (tree_messages core.tree) tenant (lasts_of core.accounts tenant)
+
 -- the store of these rows and this account; without an account it is empty, and has no quota
 abbrev pub store_with : Rows → Option Account → Store
 store_with rows None = empty_store 0
@@ -69,7 +76,7 @@ store_with rows (Some account) =
 
 -- the tenant's own store
 unfoldable pub store_of : CoreState → ℕ → Store
-store_of core tenant = store_with (rows_of tenant core.places) (account_of tenant core.accounts)
+store_of core tenant = store_with (rows_of core tenant) (account_of tenant core.accounts)
 
 -- nothing has come to any tenant's store, and each has its entry's quota
 abbrev pub IsNewCore : CoreState → Type 0
@@ -101,8 +108,12 @@ pub record Calls (old : CoreState) (tenant : ℕ) (words : List (List ℕ)) (tol
   pub others : OthersStay old new tenant
   pub entries : new.entries ≡ old.entries
 
+-- at most so many leaves are held, the last used ones, and nothing else changed
+abbrev pub Resized : ℕ → CoreState → CoreState → Type 0
+Resized leaves old new =
+    new ≡ record old { tree = record old.tree { cache = cache_resized leaves old.tree.cache } }
+
 -- what is told of the first rows of an interval
-abbrev pub told_rows : Places → Interval → ℕ → List Item
-told_rows places interval count =
-    flat_map row_items
-    (rows_within interval.from.now interval.to.now count (rows_of interval.tenant places))
+abbrev pub told_rows : Rows → Interval → ℕ → List Item
+told_rows rows interval count =
+    flat_map row_items (rows_within interval.from.now interval.to.now count rows)

@@ -1,8 +1,11 @@
 //! What is counted for a tenant.
-ghost use Rattle.std.specs.Prelude.{◌≡◌, ◌<◌};
+ghost use Rattle.std.specs.Prelude.{◌≡◌, ◌<◌, IfOk, length, map};
 ghost use Rattle.stow_model.specs.Store.{one_more};
-ghost use Rattle.stow_core.specs.State.{counted_account, written_account};
+ghost use Rattle.stow_core.specs.State.{counted_account, written_account, new_account};
 ghost use Rattle.stow_bytes.specs.Limits.{number_limit};
+
+use std::alloc::{AllocError, Allocator};
+use stow_login::tenants::Tenants;
 
 /// A tenant's counts.
 #[derive(Clone, Copy)]
@@ -51,6 +54,21 @@ impl Account {
             quota: self.quota,
         }
     }
+}
+
+/// An account for each tenant, for which nothing was counted yet.
+pub(crate) fn new_accounts<A: Allocator + Copy>(
+    alloc: A,
+    tenants: &Tenants<A>,
+) -> Result<Vec<Account, A>, AllocError>
+    ensures each { IfOk result (λ accounts. accounts.items ≡ map new_account tenants.now) }
+    ensures few { IfOk result (λ accounts. length accounts.items < 65536) }
+{
+    let mut accounts = Vec::new(alloc);
+    for before in 0..tenants.count() {
+        accounts.push(Account::new(tenants.quota(before + 1)))?;
+    }
+    Ok(accounts)
 }
 
 fn one_more(count: u64) -> u64

@@ -1,21 +1,25 @@
 //! Changes of one row.
-ghost use Rattle.std.specs.Prelude.{◌≡◌, ℕ, [], ◌∷◌, IfOk, nat_lt, option_map};
-ghost use Rattle.stow_bytes.specs.Limits.{number_limit};
+ghost use Rattle.std.specs.Prelude.{◌≡◌, ◌+◌, ◌≤◌, ℕ, [], ◌∷◌, IfOk, OnOk, nat_lt, length};
+ghost use Rattle.stow_bytes.specs.Limits.{number_limit, key_limit, value_limit};
 ghost use Rattle.stow_model.specs.Reply.{reply_of};
 ghost use Rattle.stow_model.specs.Login.{IsTenant};
 ghost use Rattle.stow_model.specs.Store.{value_in};
-ghost use Rattle.stow_core.specs.Keys.{own_key, AreKeysOf};
-ghost use Rattle.stow_core.specs.Places.{version_of};
-ghost use Rattle.stow_core.specs.State.{store_of};
-ghost use Rattle.stow_core.specs.Prepared.{HasRoom, Prepares, changes, writes_row};
-ghost use Rattle.stow_commands.specs.Outcomes.{value_of};
+ghost use Rattle.stow_model.specs.Store as meant;
+ghost use Rattle.stow_tree_model.specs.Keys.{packed, IsTenantKey};
+ghost use Rattle.stow_core.specs.Keys.{AreKeysOf};
+ghost use Rattle.stow_core.specs.Legal.{IsShortKey};
+ghost use Rattle.stow_core.specs.State.{store_of, row_at};
+ghost use Rattle.stow_core.specs.Prepared.{HasRoom, Prepares, CanWrite, changes, writes_row, next_number};
+ghost use Rattle.stow_core.specs.Writes.{row_of};
+ghost use Rattle.stow_commands.specs.Commands.{update_of};
+ghost use Rattle.stow_commands.specs.Outcomes.{value_of, IsOutcome};
 
 use crate::Core;
 use crate::account::NUMBER_LIMIT;
 use crate::change::Change;
 use crate::prepared::Prepared;
 use crate::preparing::only_counted;
-use crate::version::Version;
+use crate::writes::reserve_row;
 use std::alloc::{AllocError, Allocator};
 use std::mem;
 use stow_bytes::byte_string::ByteString;
@@ -24,6 +28,7 @@ use stow_commands::outcome_fault::OutcomeFault;
 use stow_commands::update::Update;
 use stow_model::refusal::Refusal;
 use stow_model::reply::Reply;
+use stow_read::found::Found;
 
 impl<A: Allocator + Copy> Core<A> {
     /// Finds what a change of a key's row says, by the value that the row has.
@@ -35,15 +40,15 @@ impl<A: Allocator + Copy> Core<A> {
         key: &[u8],
         update: Update<'_>,
     ) -> Result<Prepared<A>, AllocError>
-        requires { IsTenant self.old.entries tenant }
+        requires is_tenant { IsTenant self.old.entries tenant }
+        requires short { IsShortKey key.now }
         ensures stores { (t : ℕ) → store_of self.new t ≡ store_of self.old t }
         ensures entries { self.new.entries ≡ self.old.entries }
         ensures room { IfOk result (λ p. HasRoom self.new p) }
         ensures tenant { IfOk result (λ p. p.tenant ≡ tenant) }
         ensures answer { Prepares self.old tenant result (changes key.now update.entry) }
     {
-        let present = value_in(self.row(buffer, tenant, key)?);
-        match update.outcome(alloc, present) {
+        match self.outcome(buffer, alloc, tenant, key, update) {
             Ok(Outcome::Written(value, reply)) => {
                 self.prepare_write(buffer, alloc, tenant, value, reply)
             }
@@ -51,6 +56,26 @@ impl<A: Allocator + Copy> Core<A> {
             Err(OutcomeFault::Refused(refusal)) => Ok(only_counted(tenant, Reply::Error(refusal))),
             Err(OutcomeFault::OutOfMemory) => Err(AllocError),
         }
+    }
+
+    /// What a change of a key's row leads to. The buffer then has the key among the keys of all.
+    fn outcome(
+        &self,
+        buffer: &mut Vec<u8, A>,
+        alloc: A,
+        tenant: u32,
+        key: &[u8],
+        update: Update<'_>,
+    ) -> Result<Outcome<A>, OutcomeFault>
+        requires is_tenant { IsTenant self.now.entries tenant }
+        requires short { IsShortKey key.now }
+        ensures outcome { IsOutcome result
+            (meant.outcome (update_of update.entry) (value_in (row_at self.now tenant key.now))) }
+        ensures buffer { OnOk result (buffer.new.items ≡ packed tenant key.now) }
+        ensures is_key { OnOk result (IsTenantKey buffer.new.items) }
+    {
+        let found = self.row(buffer, alloc, tenant, key)?;
+        update.outcome(alloc, value_in(&found))
     }
 
     /// Makes room for a row's value. The buffer has the row's key among the keys of all, and the change
@@ -65,6 +90,8 @@ impl<A: Allocator + Copy> Core<A> {
     ) -> Result<Prepared<A>, AllocError>
         requires is_tenant { IsTenant self.old.entries tenant }
         requires own_key { AreKeysOf tenant (buffer.old.items ∷ []) }
+        requires is_key { IsTenantKey buffer.old.items }
+        requires short { length value ≤ value_limit }
         ensures stores { (t : ℕ) → store_of self.new t ≡ store_of self.old t }
         ensures entries { self.new.entries ≡ self.old.entries }
         ensures room { IfOk result (λ p. HasRoom self.new p) }
@@ -75,7 +102,14 @@ impl<A: Allocator + Copy> Core<A> {
         if !self.can_write(tenant) {
             return Ok(only_counted(tenant, Reply::Error(Refusal::WriteNumbersUsedUp)));
         }
-        self.places.make(alloc, buffer.as_slice())?;
+        let number = self.next_number(tenant);
+        reserve_row(
+            &mut self.tree,
+            alloc,
+            number,
+            buffer.as_slice(),
+            value.as_slice(),
+        )?;
         let key = ByteString::from_vec(mem::replace(buffer, Vec::new(alloc)));
         Ok(Prepared {
             tenant,
@@ -91,14 +125,23 @@ impl<A: Allocator + Copy> Core<A> {
     {
         self.accounts[tenant as usize - 1].last < NUMBER_LIMIT
     }
+
+    /// The number of the tenant's next write.
+    pub(crate) fn next_number(&self, tenant: u32) -> u64
+        requires is_tenant { IsTenant self.now.entries tenant }
+        requires can_write { CanWrite self.now tenant }
+        ensures { result ≡ next_number self.now tenant }
+    {
+        self.accounts[tenant as usize - 1].last + 1
+    }
 }
 
 /// The value of a row.
-fn value_in<A: Allocator>(row: Option<&Version<A>>) -> Option<&[u8]>
-    ensures { value_of result ≡ value_in (option_map (λ v. version_of v.now) row.entry) }
+fn value_in<'a, A: Allocator>(row: &'a Option<Found<'_, A>>) -> Option<&'a [u8]>
+    ensures { value_of result ≡ value_in (row_of row.now) }
 {
     match row {
-        Some(version) => Some(version.value.as_slice()),
+        Some(found) => Some(found.bytes()),
         None => None,
     }
 }

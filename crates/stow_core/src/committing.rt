@@ -6,7 +6,7 @@ ghost use Rattle.stow_core.specs.State.{store_of, OthersStay};
 ghost use Rattle.stow_core.specs.Prepared.{after_put, after_remove, CanPut, CanRemove};
 
 use crate::Core;
-use crate::version::Version;
+use crate::writes::{put_removals, put_row};
 use std::alloc::Allocator;
 use stow_bytes::byte_string::ByteString;
 use stow_model::words::Words;
@@ -26,15 +26,19 @@ impl<A: Allocator + Copy> Core<A> {
 
     /// Writes a row of the tenant's.
     pub(crate) fn put(&mut self, tenant: u32, key: ByteString<A>, value: ByteString<A>)
-        requires { CanPut self.old tenant key }
+        requires { CanPut self.old tenant key value }
         ensures own { store_of self.new tenant ≡ after_put key value (store_of self.old tenant) }
         ensures others { OthersStay self.old self.new tenant }
         ensures entries { self.new.entries ≡ self.old.entries }
     {
         let index = tenant as usize - 1;
         let account = self.accounts[index].written();
-        let number = account.last;
-        self.places.fill(key.as_slice(), Version { number, value });
+        put_row(
+            &mut self.tree,
+            account.last,
+            key.as_slice(),
+            value.as_slice(),
+        );
         self.buffer = key.into_vec();
         self.accounts[index] = account;
     }
@@ -48,7 +52,7 @@ impl<A: Allocator + Copy> Core<A> {
     {
         let index = tenant as usize - 1;
         let account = self.accounts[index].written();
-        self.places.remove_all(keys.lent());
+        put_removals(&mut self.tree, account.last, keys.lent());
         self.accounts[index] = account;
     }
 }

@@ -1,77 +1,83 @@
 //! Deletions.
-ghost use Rattle.std.specs.Prelude.{◌≡◌, ◌<◌, ◌^◌, map, IfOk, [], ◌∷◌};
+ghost use Rattle.std.specs.Prelude.{◌≡◌, ◌≤◌, ℕ, IfOk, length};
 ghost use Rattle.std.specs.List.{list_any};
 ghost use Rattle.std.specs.Str.{bytes_eq};
+ghost use Rattle.stow_model.specs.Limits.{deleted_limit};
 ghost use Rattle.stow_model.specs.Login.{IsTenant};
 ghost use Rattle.stow_model.specs.Command.{Del};
 ghost use Rattle.stow_model.specs.LentWords.{words_in};
-ghost use Rattle.stow_core.specs.Keys.{own_key, AreKeysOf};
+ghost use Rattle.stow_core.specs.Legal.{AreShortKeys};
 ghost use Rattle.stow_core.specs.State.{store_of};
-ghost use Rattle.stow_core.specs.Prepared.{HasRoom, Prepares, serves, fewer, takes_out};
+ghost use Rattle.stow_core.specs.Prepared.{HasRoom, Prepares, serves};
+ghost use Rattle.stow_core.specs.Taken.{AreTaken};
 
 use crate::Core;
 use crate::change::Change;
-use crate::keys::packed_keys;
 use crate::prepared::Prepared;
 use crate::preparing::only_counted;
+use crate::writes::reserve_removals;
 use std::alloc::{AllocError, Allocator};
 use stow_model::lent_words::LentWords;
 use stow_model::refusal::Refusal;
 use stow_model::reply::Reply;
+use stow_model::words::Words;
 
 impl<A: Allocator + Copy> Core<A> {
     /// Finds what a deletion of keys says.
     pub(crate) fn prepare_del(
-        &self,
+        &mut self,
         buffer: &mut Vec<u8, A>,
         alloc: A,
         tenant: u32,
         keys: LentWords<'_>,
     ) -> Result<Prepared<A>, AllocError>
-        requires { IsTenant self.now.entries tenant }
-        ensures room { IfOk result (λ p. HasRoom self.now p) }
+        requires is_tenant { IsTenant self.old.entries tenant }
+        requires short { AreShortKeys (words_in keys) }
+        requires few { length (words_in keys) ≤ deleted_limit }
+        ensures stores { (t : ℕ) → store_of self.new t ≡ store_of self.old t }
+        ensures entries { self.new.entries ≡ self.old.entries }
+        ensures room { IfOk result (λ p. HasRoom self.new p) }
         ensures tenant { IfOk result (λ p. p.tenant ≡ tenant) }
-        ensures answer { Prepares self.now tenant result (serves (Del (words_in keys.entry))) }
+        ensures answer { Prepares self.old tenant result (serves (Del (words_in keys.entry))) }
     {
-        let keys = packed_keys(buffer, alloc, tenant, keys)?;
-        let removed = self.count_removed(tenant, keys.lent());
-        if removed == 0 {
+        let taken = self.taken(buffer, alloc, tenant, keys)?;
+        if taken.len() == 0 {
             return Ok(only_counted(tenant, Reply::Integer(0)));
         }
         if !self.can_write(tenant) {
             return Ok(only_counted(tenant, Reply::Error(Refusal::WriteNumbersUsedUp)));
         }
+        let number = self.next_number(tenant);
+        reserve_removals(&mut self.tree, alloc, number, taken.lent())?;
+        let reply = Reply::Integer(taken.len() as i64);
         Ok(Prepared {
             tenant,
-            change: Change::Remove(keys),
-            reply: Reply::Integer(removed as i64),
+            change: Change::Remove(taken),
+            reply,
         })
     }
 
-    /// How many of the tenant's rows have one of these keys.
-    fn count_removed(&self, tenant: u32, keys: LentWords<'_>) -> usize
+    /// Those of the keys that have a row, each once, among the keys of all.
+    fn taken(
+        &self,
+        buffer: &mut Vec<u8, A>,
+        alloc: A,
+        tenant: u32,
+        keys: LentWords<'_>,
+    ) -> Result<Words<A>, AllocError>
         requires is_tenant { IsTenant self.now.entries tenant }
-        requires own_keys { AreKeysOf tenant (words_in keys) }
-        ensures removed { result
-            ≡ fewer (store_of self.now tenant) (map own_key (words_in keys.entry)) }
-        ensures small { result < 2 ^ 63 }
+        requires short { AreShortKeys (words_in keys) }
+        ensures { IfOk result (λ taken. AreTaken tenant (store_of self.now tenant).rows
+            (words_in keys.entry) taken) }
     {
-        let mut removed = 0;
+        let mut taken = Words::new(alloc);
         for index in 0..keys.len() {
-            if self.removes(tenant, keys.get(index), keys.first(index)) {
-                removed += 1;
+            let is_there = self.row(buffer, alloc, tenant, keys.get(index))?.is_some();
+            if is_there && !is_among(buffer.as_slice(), taken.lent()) {
+                taken.push(buffer.as_slice())?;
             }
         }
-        removed
-    }
-
-    /// Whether a key takes a row out, after the keys before it.
-    fn removes(&self, tenant: u32, key: &[u8], earlier: LentWords<'_>) -> bool
-        requires is_tenant { IsTenant self.now.entries tenant }
-        requires own_key { AreKeysOf tenant (key.now ∷ []) }
-        ensures { result ≡ takes_out self.now tenant key.now (words_in earlier.entry) }
-    {
-        self.places.get(key).is_some() && !is_among(key, earlier)
+        Ok(taken)
     }
 }
 

@@ -1,4 +1,4 @@
-//! The rows of all tenants in one container, with each tenant's requests answered as if it were alone.
+//! The rows of all tenants in one tree, with each tenant's requests answered as if it were alone.
 //!
 //! What a tenant has is `store_of` of the core's value. `Core::prepare` asks for all the memory that an
 //! answer takes and changes no tenant's store. `Core::commit` then takes none and cannot fail: it moves the
@@ -7,23 +7,25 @@
 //! of `stow_login`.
 //!
 //! Rows stand in the order of packed keys, each the tenant's index and then its own key, so a tenant's rows
-//! stand together, in the order of its keys. A range begins at its lower end and goes over no other rows
-//! than it answers, but for the one that it stops at, and for places that wait for a value.
+//! stand together, in the order of its keys. A write is a message to the tree, with the tenant's next number: `prepare`
+//! makes the room for it, which may move other messages towards the leaves, and `commit` puts it.
 //!
 //! A body of `prepare`, `prepare_command` or `prepare_change` that prepares the same twice is right too, since
 //! a prepared answer that is never carried out changes nothing.
 #![tactic(auto)]
 
-ghost use Rattle.std.specs.Prelude.{◌≡◌, ℕ, IfOk};
+ghost use Rattle.std.specs.Prelude.{◌≡◌, ℕ, Err, IfOk, OnErr, OnOk};
 ghost use Rattle.std.specs.Arc.{arc_value};
 ghost use Rattle.stow_model.specs.Reply.{reply_of};
 ghost use Rattle.stow_model.specs.Login.{IsTenant};
-ghost use Rattle.stow_core.specs.State.{store_of, IsNewCore, OthersStay, Calls};
+ghost use Rattle.stow_core.specs.State.{store_of, IsNewCore, OthersStay, Calls, Resized};
 ghost use Rattle.stow_core.specs.Prepared.{HasRoom, PreparesOwn, RefusesStranger, CarriesOut};
+ghost use Rattle.stow_tree.specs.declared.tree_fault.TreeFault.TheVariants as fault;
+ghost use Rattle.stow_tree.specs.Reports.{IsReport};
+ghost use Rattle.stow_tree.specs.Shapes.{IsInRange};
 
-use account::Account;
+use account::{Account, new_accounts};
 use change::Change;
-use places::Places;
 use prepared::Prepared;
 use preparing::only_counted;
 use std::alloc::{AllocError, Allocator, Global};
@@ -34,6 +36,10 @@ use stow_login::tenants::Tenants;
 use stow_model::refusal::Refusal;
 use stow_model::reply::Reply;
 use stow_model::words::Words;
+use stow_tree::shape_report::ShapeReport;
+use stow_tree::tree::Tree;
+use stow_tree::tree_fault::TreeFault;
+use stow_tree::tree_shape::TreeShape;
 
 pub mod account;
 pub mod change;
@@ -42,49 +48,54 @@ mod committing;
 mod deleting;
 mod interval;
 mod keys;
-mod places;
 pub mod prepared;
 mod preparing;
+mod ranging;
 mod reading;
 #[cfg(test)]
 mod tests;
-pub mod version;
+mod writes;
 
 /// The stores of all tenants.
 #[derive(Drop)]
-pub struct Core<A: Allocator = Global> {
+pub struct Core<A: Allocator + Copy = Global> {
     tenants: Arc<Tenants<A>, A>,
     accounts: Vec<Account, A>,
-    places: Places<A>,
+    tree: Tree<A>,
     /// Where keys are packed. Its bytes mean nothing between calls, so that its memory serves one after another.
     buffer: Vec<u8, A>,
 }
 
-impl<A: Allocator> Model for Core<A> {
+impl<A: Allocator + Copy> Model for Core<A> {
     ghost use Rattle.std.specs.Arc.{arc_value};
-    ghost use Rattle.stow_core.specs.State.{AccountsFit, CoreState};
+    ghost use Rattle.stow_core.specs.State.{IsCore, CoreState};
 
     ghost Value = { CoreState };
 
-    ghost view = { λ c. record { entries = arc_value c.tenants; accounts = c.accounts.items; places = c.places } };
+    ghost view = { λ c. record { entries = arc_value c.tenants; accounts = c.accounts.items; tree = c.tree } };
 
-    ghost invariant = { λ c. AccountsFit (arc_value c.tenants) c.accounts.items };
+    ghost invariant = { λ c. IsCore (arc_value c.tenants) c.accounts.items c.tree };
 }
 
 impl<A: Allocator + Copy> Core<A> {
-    /// A core in which each tenant's store is empty, and has the quota of the tenant's entry.
-    pub fn new(alloc: A, tenants: Arc<Tenants<A>, A>) -> Result<Core<A>, AllocError>
+    /// A core in which each tenant's store is empty, and has the quota of the tenant's entry. It is refused where a size
+    /// of its tree is out of its range, and where memory is.
+    pub fn new(
+        alloc: A,
+        tenants: Arc<Tenants<A>, A>,
+        shape: TreeShape,
+    ) -> Result<Core<A>, TreeFault>
         ensures entries { IfOk result (λ core. core.entries ≡ arc_value tenants) }
         ensures empty { IfOk result IsNewCore }
+        ensures in_range { IsInRange shape → OnErr result (result ≡ Err fault.Memory) }
+        ensures out_of_range { ¬ (IsInRange shape) → result ≡ Err fault.Shape }
     {
-        let mut accounts = Vec::new(alloc);
-        for before in 0..tenants.count() {
-            accounts.push(Account::new(tenants.quota(before + 1)))?;
-        }
+        let tree = Tree::new(alloc, shape)?;
+        let accounts = new_accounts(alloc, &tenants)?;
         Ok(Core {
             tenants,
             accounts,
-            places: Places::new(alloc),
+            tree,
             buffer: Vec::new(alloc),
         })
     }
@@ -154,5 +165,22 @@ impl<A: Allocator + Copy> Core<A> {
             Change::Remove(keys) => self.remove(tenant, keys),
         }
         reply
+    }
+
+    /// Holds at most so many leaves unpacked from now on; the last used stay. Where memory is refused nothing changes.
+    pub fn resize(&mut self, leaves: usize) -> Result<(), AllocError>
+        ensures ok { OnOk result (Resized leaves self.old self.new) }
+        ensures err { OnErr result (self.new.tree ≡ self.old.tree) }
+        ensures stores { (t : ℕ) → store_of self.new t ≡ store_of self.old t }
+        ensures entries { self.new.entries ≡ self.old.entries }
+    {
+        self.tree.resize(leaves)
+    }
+
+    /// How large the tree of all tenants' rows is.
+    pub fn shape(&self) -> ShapeReport
+        ensures { IsReport self.now.tree result }
+    {
+        self.tree.shape()
     }
 }

@@ -1,6 +1,7 @@
 //! Finding answers, with all the memory that they take.
 ghost use Rattle.std.specs.Prelude.{◌≡◌, ℕ, IfOk, IsTrue, ◌↔◌};
 ghost use Rattle.stow_model.specs.Login.{IsTenant};
+ghost use Rattle.stow_core.specs.Legal.{IsLegal};
 ghost use Rattle.stow_core.specs.State.{store_of};
 ghost use Rattle.stow_core.specs.Prepared.{HasRoom, Prepares, serves};
 ghost use Rattle.stow_commands.specs.Commands.{command_of};
@@ -30,7 +31,8 @@ impl<A: Allocator + Copy> Core<A> {
         tenant: u32,
         command: Command<'_>,
     ) -> Result<Prepared<A>, AllocError>
-        requires { IsTenant self.old.entries tenant }
+        requires is_tenant { IsTenant self.old.entries tenant }
+        requires legal { IsLegal (command_of command) }
         ensures stores { (t : ℕ) → store_of self.new t ≡ store_of self.old t }
         ensures entries { self.new.entries ≡ self.old.entries }
         ensures room { IfOk result (λ p. HasRoom self.new p) }
@@ -54,7 +56,8 @@ impl<A: Allocator + Copy> Core<A> {
         tenant: u32,
         command: Command<'_>,
     ) -> Result<Prepared<A>, AllocError>
-        requires { IsTenant self.old.entries tenant }
+        requires is_tenant { IsTenant self.old.entries tenant }
+        requires legal { IsLegal (command_of command) }
         ensures stores { (t : ℕ) → store_of self.new t ≡ store_of self.old t }
         ensures entries { self.new.entries ≡ self.old.entries }
         ensures room { IfOk result (λ p. HasRoom self.new p) }
@@ -66,8 +69,8 @@ impl<A: Allocator + Copy> Core<A> {
             Command::Echo(text) => Reply::Bulk(ByteString::from_slice(alloc, text)?),
             Command::Get(key) => self.value(buffer, alloc, tenant, key)?,
             Command::GetMany(keys) => self.values(buffer, alloc, tenant, keys)?,
-            Command::Exists(keys) => self.count_rows(buffer, tenant, keys)?,
-            Command::Length(key) => self.value_length(buffer, tenant, key)?,
+            Command::Exists(keys) => self.count_rows(buffer, alloc, tenant, keys)?,
+            Command::Length(key) => self.value_length(buffer, alloc, tenant, key)?,
             Command::Range(from, to, count) => {
                 self.rows_within(buffer, alloc, Interval { tenant, from, to }, count)?
             }

@@ -1,39 +1,47 @@
 //! Replies that are read from a tenant's rows.
-ghost use Rattle.std.specs.Prelude.{◌≡◌, ◌++◌, ◌∷◌, [], IfOk, OnOk};
+ghost use Rattle.std.specs.Prelude.{◌≡◌, ◌++◌, ◌∷◌, ℕ, [], IfOk, OnOk};
 ghost use Rattle.stow_model.specs.LentWords.{words_in};
 ghost use Rattle.stow_model.specs.Reply.{reply_of};
 ghost use Rattle.stow_model.specs.Login.{IsTenant};
 ghost use Rattle.stow_model.specs.Command.{Get, GetMany, Exists, Length};
 ghost use Rattle.stow_model.specs.Store.{item_or_null};
+ghost use Rattle.stow_tree_model.specs.Keys.{packed, IsTenantKey};
+ghost use Rattle.stow_core.specs.Legal.{IsShortKey, AreShortKeys};
 ghost use Rattle.stow_core.specs.Prepared.{read_reply, range_reply};
-ghost use Rattle.stow_core.specs.Keys.{packed};
-ghost use Rattle.stow_core.specs.Places.{row_of};
-ghost use Rattle.stow_core.specs.State.{row_at};
+ghost use Rattle.stow_core.specs.State.{row_at, store_of};
+ghost use Rattle.stow_core.specs.Writes.{row_of};
 
 use crate::Core;
 use crate::interval::Interval;
 use crate::keys::pack_into;
-use crate::version::Version;
+use crate::ranging::first_rows;
 use std::alloc::{AllocError, Allocator};
 use stow_bytes::byte_string::ByteString;
 use stow_model::items::Items;
 use stow_model::lent_words::LentWords;
 use stow_model::reply::Reply;
+use stow_read::found::Found;
+use stow_tree_model::tenant_key::TenantKey;
 
 impl<A: Allocator + Copy> Core<A> {
     /// The tenant's row of a key. The buffer then has the key among the keys of all.
     pub(crate) fn row(
         &self,
         buffer: &mut Vec<u8, A>,
+        alloc: A,
         tenant: u32,
         key: &[u8],
-    ) -> Result<Option<&Version<A>>, AllocError>
-        requires { IsTenant self.now.entries tenant }
+    ) -> Result<Option<Found<'_, A>>, AllocError>
+        requires is_tenant { IsTenant self.now.entries tenant }
+        requires short { IsShortKey key.now }
         ensures row { IfOk result (λ row. row_of row ≡ row_at self.now tenant key.now) }
         ensures buffer { OnOk result (buffer.new.items ≡ packed tenant key.now) }
+        ensures is_key { OnOk result (IsTenantKey buffer.new.items) }
     {
         pack_into(buffer, tenant, key)?;
-        Ok(self.places.get(buffer.as_slice()))
+        let last = self.accounts[tenant as usize - 1].last;
+        self.tree
+            .get(alloc, TenantKey::from_packed(buffer.as_slice()), last)
     }
 
     /// The value of a key, or null.
@@ -44,12 +52,13 @@ impl<A: Allocator + Copy> Core<A> {
         tenant: u32,
         key: &[u8],
     ) -> Result<Reply<A>, AllocError>
-        requires { IsTenant self.now.entries tenant }
+        requires is_tenant { IsTenant self.now.entries tenant }
+        requires short { IsShortKey key.now }
         ensures { IfOk result (λ r. reply_of r ≡ read_reply self.now tenant (Get key.now)) }
     {
-        match self.row(buffer, tenant, key)? {
-            Some(version) => {
-                let value = ByteString::from_slice(alloc, version.value.as_slice())?;
+        match self.row(buffer, alloc, tenant, key)? {
+            Some(found) => {
+                let value = ByteString::from_slice(alloc, found.bytes())?;
                 Ok(Reply::Bulk(value))
             }
             None => Ok(Reply::Null),
@@ -64,14 +73,15 @@ impl<A: Allocator + Copy> Core<A> {
         tenant: u32,
         keys: LentWords<'_>,
     ) -> Result<Reply<A>, AllocError>
-        requires { IsTenant self.now.entries tenant }
+        requires is_tenant { IsTenant self.now.entries tenant }
+        requires short { AreShortKeys (words_in keys) }
         ensures { IfOk result
             (λ r. reply_of r ≡ read_reply self.now tenant (GetMany (words_in keys.entry))) }
     {
         let mut items = Items::with_capacity(alloc, keys.len(), 0)?;
         for index in 0..keys.len() {
-            let row = self.row(buffer, tenant, keys.get(index))?;
-            push_value(&mut items, row)?;
+            let row = self.row(buffer, alloc, tenant, keys.get(index))?;
+            push_value(&mut items, &row)?;
         }
         Ok(Reply::Array(items))
     }
@@ -80,16 +90,18 @@ impl<A: Allocator + Copy> Core<A> {
     pub(crate) fn count_rows(
         &self,
         buffer: &mut Vec<u8, A>,
+        alloc: A,
         tenant: u32,
         keys: LentWords<'_>,
     ) -> Result<Reply<A>, AllocError>
-        requires { IsTenant self.now.entries tenant }
+        requires is_tenant { IsTenant self.now.entries tenant }
+        requires short { AreShortKeys (words_in keys) }
         ensures { IfOk result
             (λ r. reply_of r ≡ read_reply self.now tenant (Exists (words_in keys.entry))) }
     {
         let mut count: usize = 0;
         for index in 0..keys.len() {
-            if self.row(buffer, tenant, keys.get(index))?.is_some() {
+            if self.row(buffer, alloc, tenant, keys.get(index))?.is_some() {
                 count += 1;
             }
         }
@@ -100,30 +112,37 @@ impl<A: Allocator + Copy> Core<A> {
     pub(crate) fn value_length(
         &self,
         buffer: &mut Vec<u8, A>,
+        alloc: A,
         tenant: u32,
         key: &[u8],
     ) -> Result<Reply<A>, AllocError>
-        requires { IsTenant self.now.entries tenant }
+        requires is_tenant { IsTenant self.now.entries tenant }
+        requires short { IsShortKey key.now }
         ensures { IfOk result (λ r. reply_of r ≡ read_reply self.now tenant (Length key.now)) }
     {
-        match self.row(buffer, tenant, key)? {
-            Some(version) => Ok(Reply::Integer(version.value.as_slice().len() as i64)),
+        match self.row(buffer, alloc, tenant, key)? {
+            Some(found) => Ok(Reply::Integer(found.bytes().len() as i64)),
             None => Ok(Reply::Integer(0)),
         }
     }
 
     /// The first rows of an interval, `count` at most: key, value, key, value.
     pub(crate) fn rows_within(
-        &self,
+        &mut self,
         buffer: &mut Vec<u8, A>,
         alloc: A,
         interval: Interval<'_>,
         count: u32,
     ) -> Result<Reply<A>, AllocError>
-        requires { IsTenant self.now.entries interval.tenant }
-        ensures { IfOk result (λ r. reply_of r ≡ range_reply self.now interval.entry count) }
+        requires is_tenant { IsTenant self.old.entries interval.tenant }
+        requires from { IsShortKey interval.from.now }
+        requires to { IsShortKey interval.to.now }
+        ensures reply { IfOk result (λ r. reply_of r ≡ range_reply self.old interval.entry count) }
+        ensures stores { (t : ℕ) → store_of self.new t ≡ store_of self.old t }
+        ensures entries { self.new.entries ≡ self.old.entries }
     {
-        let items = self.places.first_rows(buffer, alloc, interval, count)?;
+        let last = self.accounts[interval.tenant as usize - 1].last;
+        let items = first_rows(&mut self.tree, buffer, alloc, interval, last, count)?;
         Ok(Reply::Array(items))
     }
 }
@@ -131,12 +150,12 @@ impl<A: Allocator + Copy> Core<A> {
 /// Adds the row's value, or null.
 fn push_value<A: Allocator>(
     items: &mut Items<A>,
-    row: Option<&Version<A>>,
+    row: &Option<Found<'_, A>>,
 ) -> Result<(), AllocError>
-    ensures { OnOk result (items.new ≡ items.old ++ item_or_null (row_of row.entry) ∷ []) }
+    ensures { OnOk result (items.new ≡ items.old ++ item_or_null (row_of row.now) ∷ []) }
 {
     match row {
-        Some(version) => items.push_bulk(version.value.as_slice()),
+        Some(found) => items.push_bulk(found.bytes()),
         None => items.push_null(),
     }
 }

@@ -7,6 +7,7 @@ use std::sync::Arc;
 use std::test::Fail;
 use stow_login::tenants::Tenants;
 use stow_testing::tenants::THREE;
+use stow_tree::tree_shape::TreeShape;
 
 mod alone;
 mod held;
@@ -14,10 +15,19 @@ mod refusals;
 mod text;
 mod worked;
 
-/// A core of the three tenants; their file's table is kept in `global` for as long as it is read.
-fn new_core<A: Allocator + Copy>(alloc: A, global: Global) -> Result<Core<A>, AllocError> {
+/// A core of the three tenants, whose tree has this shape; their file's table is kept in `global` for as long as it is read.
+fn core_of<A: Allocator + Copy>(
+    alloc: A,
+    global: Global,
+    shape: TreeShape,
+) -> Result<Core<A>, AllocError> {
     let tenants = Tenants::read(alloc, global, THREE).map_err(|_| AllocError)?;
-    Core::new(alloc, Arc::new(alloc, tenants)?)
+    Core::new(alloc, Arc::new(alloc, tenants)?, shape).map_err(|_| AllocError)
+}
+
+/// The same in the smallest shape.
+fn new_core<A: Allocator + Copy>(alloc: A, global: Global) -> Result<Core<A>, AllocError> {
+    core_of(alloc, global, TreeShape::SMALLEST)
 }
 
 #[test]

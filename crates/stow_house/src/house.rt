@@ -22,7 +22,7 @@ const CACHE_LIMIT: usize = 65_536;
 
 /// The connections and the store that they share.
 #[derive(Drop)]
-pub struct House<A: Allocator = Global> {
+pub struct House<A: Allocator + Copy = Global> {
     connections: BTreeMap<u32, Connection<A>, A>,
     core: Core<A>,
 }

@@ -22,6 +22,7 @@ use stow_refusing::{Plan, Refusing};
 use stow_resp::encode::Encode;
 use stow_testing::random::Random;
 use stow_testing::tenants::{OTHERS, QUOTA, THREE};
+use stow_tree::tree_shape::TreeShape;
 
 mod held;
 mod worked;
@@ -57,7 +58,8 @@ fn house_of<A: Allocator + Copy>(
 {
     let tenants = Tenants::read(alloc, global, text).map_err(|_| AllocError)?;
     let tenants = Arc::new(alloc, tenants).map_err(AllocError::from)?;
-    Ok(House::new(alloc, Core::new(alloc, tenants)?))
+    let core = Core::new(alloc, tenants, TreeShape::SMALLEST).map_err(|_| AllocError)?;
+    Ok(House::new(alloc, core))
 }
 
 /// The request's spelling in array form.

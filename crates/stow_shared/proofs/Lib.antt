@@ -3,3 +3,4 @@ pub mod Steps
 pub mod Receipts
 pub mod Sums
 pub mod Seating
+pub mod Sends

@@ -24,13 +24,13 @@ use stow_model::words::Words;
 
 /// The core, and the journal that leads to it.
 #[derive(Drop)]
-pub struct Book<J: Journal, A: Allocator = Global> {
+pub struct Book<J: Journal, A: Allocator + Copy = Global> {
     core: Core<A>,
     journal: Vec<Entry<A>, A>,
     of: PhantomData<J>,
 }
 
-impl<J: Journal, A: Allocator> Model for Book<J, A> {
+impl<J: Journal, A: Allocator + Copy> Model for Book<J, A> {
     ghost use Rattle.stow_shared.specs.Books.{BookState, IsKept};
     ghost use Rattle.stow_shared.specs.Entries.{entries_of};
 

@@ -11,11 +11,11 @@ use stow_core::Core;
 
 /// The core and the journal after the lock was closed.
 #[derive(Drop)]
-pub struct Closed<J: Journal, A: Allocator = Global> {
+pub struct Closed<J: Journal, A: Allocator + Copy = Global> {
     book: Book<J, A>,
 }
 
-impl<J: Journal, A: Allocator> Model for Closed<J, A> {
+impl<J: Journal, A: Allocator + Copy> Model for Closed<J, A> {
     ghost use Rattle.stow_shared.specs.Books.{BookState};
 
     ghost Value = { BookState };

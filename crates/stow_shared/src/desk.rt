@@ -14,7 +14,7 @@ use stow_model::words::Words;
 
 /// A seat at the lock, as the door of a session. The runtime is the thread's that waits for the lock.
 #[derive(Drop)]
-pub struct Desk<'a, R: Wait, J: Journal, A: Allocator = Global> {
+pub struct Desk<'a, R: Wait, J: Journal, A: Allocator + Copy = Global> {
     pub rt: &'a R,
     pub shared: &'a Shared<J, A>,
     pub seat: &'a mut Seat<J, A>,

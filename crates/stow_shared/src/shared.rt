@@ -27,13 +27,13 @@ const SEAT_LIMIT: u32 = 1024;
 
 /// A core behind a lock, with its journal where one is kept.
 #[derive(Drop)]
-pub struct Shared<J: Journal, A: Allocator = Global> {
+pub struct Shared<J: Journal, A: Allocator + Copy = Global> {
     tenants: Arc<Tenants<A>, A>,
     seats: u32,
     book: Mutex<Book<J, A>>,
 }
 
-impl<J: Journal, A: Allocator> Model for Shared<J, A> {
+impl<J: Journal, A: Allocator + Copy> Model for Shared<J, A> {
     ghost use Rattle.std.specs.Arc.{arc_value};
     ghost use Rattle.stow_shared.specs.Opened.{SharedState};
 

@@ -30,6 +30,7 @@ use stow_plain::plain_request::PlainRequest;
 use stow_plain::plain_store::PlainStore;
 use stow_refusing::{Plan, Refusing};
 use stow_testing::tenants::{QUOTA, THREE};
+use stow_tree::tree_shape::TreeShape;
 
 const OK: Reply = Reply::Simple(SimpleString::Ok);
 
@@ -40,7 +41,7 @@ fn new_core<A: Allocator + Copy>(alloc: A, global: Global) -> Result<Core<A>, Al
     ensures { IfOk result IsNewCore }
 {
     let tenants = Tenants::read(alloc, global, THREE).map_err(|_| AllocError)?;
-    Core::new(alloc, Arc::new(alloc, tenants)?)
+    Core::new(alloc, Arc::new(alloc, tenants)?, TreeShape::SMALLEST).map_err(|_| AllocError)
 }
 
 /// A lock with so many seats.
@@ -339,7 +340,7 @@ fn calls_withstand_each_refusal(rt: HostRuntime) {
         }
         refusals = at + 1;
     }
-    assert!(rt; refusals >= 6, "{refusals} refusals");
+    assert!(rt; refusals >= 5, "{refusals} refusals");
 }
 
 // A lock that keeps no journal asks for no memory beside the core's own, and its seats hold nothing.

@@ -18,7 +18,7 @@ use Rattle.stow_node.specs.Subtree.{buffered, messages_of}
 use Rattle.stow_node.proofs.Accepted.{length-all_placed}
 use Rattle.stow_node.proofs.Newer.{new_to}
 use Rattle.stow_leaf.specs.Replacements.{HasShortValues}
-use Rattle.stow_tree_model.specs.Messages.{ops_of, ops_in, with_all}
+use Rattle.stow_tree_model.specs.Messages.{Messages, ops_of, ops_in, with_all}
 use Rattle.stow_tree_model.specs.Op.{Op}
 use Rattle.stow_tree_model.specs.Operations.{Operations, latest, applied, outcome, value_in, or_else}
 use Rattle.stow_tree_model.specs.Order.{Place, place_cmp, place_of}
@@ -129,15 +129,44 @@ elsewhere : (m : TreeMessage) (ms : List TreeMessage) → AllByRecursion (λ o. 
 elsewhere m [] a = tt
 elsewhere m (o ∷ os) a = (λ e. a.0 (ap (λ (p : Place). p.0) (sym e)), elsewhere m os a.1)
 
+-- a message and then others of other keys are all of them
+pub one_then : (held : Messages) (m : TreeMessage) (ms : List TreeMessage) → AllByRecursion (λ o. o.key ≢ m.key) ms → with_all (with_all held (m ∷ [])) ms ≡ with_all held (m ∷ ms)
+one_then held m ms apart = set_by_ops_law (with_all (with_all held (m ∷ [])) ms) (with_all held (m ∷ ms)) by_ops where
+  swap : (a b c : Option Op) → (IsSome a → b ≡ None) → or_else b (or_else a c) ≡ or_else a (or_else b c)
+  swap None b c h = refl
+  swap (Some op) b c h = ap (λ o. or_else o (Some op)) (h refl)
+
+  alone : (key : List ℕ) (n : ℕ) → IsSome (ops_in (m ∷ []) key n) → ops_in ms key n ≡ None
+  alone key n s = only m key n
+      (λ ek en there. ap (λ k. ops_in ms k n) ek ∙ ap (λ j. ops_in ms m.key j) en ∙ ops_in-other_place ms m.key m.number (elsewhere m ms apart))
+      (λ none. absurd (none_some (ops_in (m ∷ []) key n) none s))
+
+  first : (key : List ℕ) (n : ℕ) → ops_in (m ∷ ms) key n ≡ or_else (ops_in (m ∷ []) key n) (ops_in ms key n)
+  first key n = ops-append (m ∷ []) ms key n
+
+  or_assoc : (a b c : Option Op) → or_else (or_else a b) c ≡ or_else a (or_else b c)
+  or_assoc None b c = refl
+  or_assoc (Some op) b c = refl
+
+  by_ops : (key : List ℕ) (n : ℕ) → ops_of (with_all (with_all held (m ∷ [])) ms) key n ≡ ops_of (with_all held (m ∷ ms)) key n
+  by_ops key n =
+      ops-with_all (with_all held (m ∷ [])) ms key n
+      ∙ ap (or_else (ops_in ms key n)) (ops-with_all held (m ∷ []) key n)
+      ∙ swap (ops_in (m ∷ []) key n) (ops_in ms key n) (ops_of held key n) (alone key n)
+      ∙ sym (or_assoc (ops_in (m ∷ []) key n) (ops_in ms key n) (ops_of held key n))
+      ∙ ap (λ o. or_else o (ops_of held key n)) (sym (first key n))
+      ∙ sym (ops-with_all held (m ∷ ms) key n)
+
 -- the first message and then the others are all of them
 pub puts_after : (t : TreeState) (m : TreeMessage) (ms : List TreeMessage) (new : TreeState) → IsReserved t (m ∷ ms) → Puts ms (put m t) new → Puts (m ∷ ms) t new
 puts_after t m ms new reserved puts = record {
-  messages = puts.messages ∙ set_by_ops_law (with_all (tree_messages (put m t)) ms) (with_all (tree_messages t) (m ∷ ms)) by_ops;
+  messages = puts.messages ∙ ap (λ (set : Messages). with_all set ms) one ∙ one_then (tree_messages t) m ms reserved.can.apart.0;
   buffered = let a = puts.buffered in let b = one_more in omega (arith, a, b);
   height = puts.height;
   shape = puts.shape;
   leaves = puts.leaves;
   cache = puts.cache;
+  rest = λ more room. puts.rest more (reserved_after t m (ms ++ more) room);
 }
   where
     one_more : length (buffered (put m t).root) ≡ length (buffered t.root) + 1
@@ -147,33 +176,15 @@ puts_after t m ms new reserved puts = record {
         let c = length-all_placed (m ∷ []) t.root.buffer.messages in
         omega (arith, a, b, c)
 
-    swap : (a b c : Option Op) → (IsSome a → b ≡ None) → or_else b (or_else a c) ≡ or_else a (or_else b c)
-    swap None b c h = refl
-    swap (Some op) b c h = ap (λ o. or_else o (Some op)) (h refl)
+    one : tree_messages (put m t) ≡ with_all (tree_messages t) (m ∷ [])
+    one = set_by_ops_law (tree_messages (put m t)) (with_all (tree_messages t) (m ∷ [])) (λ key n. put_ops_of t m key n reserved.can.each.0 ∙ sym (ops-with_all (tree_messages t) (m ∷ []) key n))
 
-    alone : (key : List ℕ) (n : ℕ) → IsSome (ops_in (m ∷ []) key n) → ops_in ms key n ≡ None
-    alone key n s = only m key n
-        (λ ek en there. ap (λ k. ops_in ms k n) ek ∙ ap (λ j. ops_in ms m.key j) en ∙ ops_in-other_place ms m.key m.number (elsewhere m ms reserved.can.apart.0))
-        (λ none. absurd (none_some (ops_in (m ∷ []) key n) none s))
-
-    first : (key : List ℕ) (n : ℕ) → ops_in (m ∷ ms) key n ≡ or_else (ops_in (m ∷ []) key n) (ops_in ms key n)
-    first key n = ops-append (m ∷ []) ms key n
-
-    or_assoc : (a b c : Option Op) → or_else (or_else a b) c ≡ or_else a (or_else b c)
-    or_assoc None b c = refl
-    or_assoc (Some op) b c = refl
-
-    by_ops : (key : List ℕ) (n : ℕ) → ops_of (with_all (tree_messages (put m t)) ms) key n ≡ ops_of (with_all (tree_messages t) (m ∷ ms)) key n
-    by_ops key n =
-        ops-with_all (tree_messages (put m t)) ms key n
-        ∙ ap (or_else (ops_in ms key n)) (put_ops_of t m key n reserved.can.each.0)
-        ∙ swap (ops_in (m ∷ []) key n) (ops_in ms key n) (ops_of (tree_messages t) key n) (alone key n)
-        ∙ sym (or_assoc (ops_in (m ∷ []) key n) (ops_in ms key n) (ops_of (tree_messages t) key n))
-        ∙ ap (λ o. or_else o (ops_of (tree_messages t) key n)) (sym (first key n))
-        ∙ sym (ops-with_all (tree_messages t) (m ∷ ms) key n)
+-- a message that was put alone, and then the others, are all of them
+pub puts_then : (t mid : TreeState) (m : TreeMessage) (ms : List TreeMessage) → IsReserved t (m ∷ ms) → Puts (m ∷ []) t mid → with_all (tree_messages mid) ms ≡ with_all (tree_messages t) (m ∷ ms)
+puts_then t mid m ms reserved puts = ap (λ (set : Messages). with_all set ms) puts.messages ∙ one_then (tree_messages t) m ms reserved.can.apart.0
 
 pub puts_nothing : (t : TreeState) → Puts [] t t
-puts_nothing t = record { messages = refl; buffered = omega arith; height = refl; shape = refl; leaves = refl; cache = refl }
+puts_nothing t = record { messages = refl; buffered = omega arith; height = refl; shape = refl; leaves = refl; cache = refl; rest = λ more room. room }
 
 -- ---- no value becomes too long
 

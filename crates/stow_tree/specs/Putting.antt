@@ -1,5 +1,5 @@
 -- Messages that come to the tree.
-use Rattle.std.specs.Prelude.{◌≡◌, ◌≢◌, ℕ, ◌+◌, ◌≤◌, List, [], ◌∷◌, length, None}
+use Rattle.std.specs.Prelude.{◌≡◌, ◌≢◌, ℕ, ◌+◌, ◌≤◌, List, [], ◌∷◌, ◌++◌, length, None}
 use Rattle.std.specs.List.{AllByRecursion, sum_by}
 use Rattle.stow_flush.specs.Rooms.{HasRoom}
 use Rattle.stow_message.specs.Packed.{message_size}
@@ -39,7 +39,8 @@ pub record IsReserved (tree : TreeState) (ms : List TreeMessage) : Type 0 where
   pub can : CanPut (tree_messages tree) ms
   pub room : HasRoom (bytes_of ms) tree.root
 
--- the tree has exactly these messages more, in its buffers, and nothing else changed
+-- the tree has exactly these messages more, in its buffers, and nothing else changed: what else there
+-- was room for can still be put
 pub record Puts (ms : List TreeMessage) (old new : TreeState) : Type 0 where
   pub messages : tree_messages new ≡ with_all (tree_messages old) ms
   pub buffered : length (buffered new.root) ≡ length (buffered old.root) + length ms
@@ -47,3 +48,4 @@ pub record Puts (ms : List TreeMessage) (old new : TreeState) : Type 0 where
   pub shape : new.root.shape ≡ old.root.shape
   pub leaves : new.root.leaves ≡ old.root.leaves
   pub cache : new.cache ≡ old.cache
+  pub rest : (more : List TreeMessage) → IsReserved old (ms ++ more) → IsReserved new more

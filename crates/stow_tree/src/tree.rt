@@ -14,7 +14,7 @@ ghost use Rattle.stow_tree_model.specs.VersionBuf.{version_of_buf};
 ghost use Rattle.stow_tree.specs.declared.tree_fault.TreeFault.TheVariants as fault;
 ghost use Rattle.stow_tree.specs.Putting.{bytes_of, CanReserve, IsReserved, Puts};
 ghost use Rattle.stow_tree.specs.Reports.{IsReport};
-ghost use Rattle.stow_tree.specs.Shapes.{IsInRange};
+ghost use Rattle.stow_tree.specs.Shapes.{AreInRange, IsInRange};
 ghost use Rattle.stow_tree.specs.TreeState.{tree_messages, new_tree, AgreeUnder, IsRead};
 
 use crate::counting::counts_of;
@@ -76,6 +76,7 @@ impl<A: Allocator + Copy> Tree<A> {
     pub fn new(alloc: A, shape: TreeShape) -> Result<Tree<A>, TreeFault>
         ensures made { IfOk result (λ tree. tree ≡ new_tree shape) }
         ensures empty { IfOk result (λ tree. tree_messages tree ≡ finite.empty) }
+        ensures sizes { IfOk result (λ tree. AreInRange tree.root.shape) }
         ensures in_range { IsInRange shape → OnErr result (result ≡ Err fault.Memory) }
         ensures out_of_range { ¬ (IsInRange shape) → result ≡ Err fault.Shape }
     {

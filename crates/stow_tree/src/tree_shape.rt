@@ -33,6 +33,22 @@ pub struct TreeShape {
 }
 
 impl TreeShape {
+    /// The sizes of a tree where none are named.
+    pub const USUAL: TreeShape = TreeShape {
+        buffer: 1_048_576,
+        leaf: 65_536,
+        fan_out: 16,
+        cache: 1024,
+    };
+
+    /// Each size is the least.
+    pub const SMALLEST: TreeShape = TreeShape {
+        buffer: LEAST_BUFFER,
+        leaf: LEAST_LEAF,
+        fan_out: LEAST_FAN_OUT,
+        cache: 0,
+    };
+
     /// Whether each size is within its limits.
     pub fn is_in_range(self) -> bool
         ensures { IsTrue result ↔ IsInRange self }

@@ -4,3 +4,4 @@ pub mod Turning
 pub mod Pieces
 pub mod OneConnection
 pub mod Workers
+pub mod Sends

@@ -16,6 +16,7 @@ use stow_login::tenants::Tenants;
 use stow_model::stream_fault::StreamFault;
 use stow_refusing::{Plan, Refusing};
 use stow_testing::tenants::THREE;
+use stow_tree::tree_shape::TreeShape;
 
 mod ends;
 mod hold;
@@ -31,7 +32,7 @@ const REPLIES: &[u8] = b"+OK\r\n+OK\r\n$2\r\nv1\r\n";
 
 /// Three tenants, and a new core of theirs.
 #[derive(Drop)]
-struct Service<A: Allocator> {
+struct Service<A: Allocator + Copy> {
     alloc: A,
     tenants: Arc<Tenants<A>, A>,
     core: Core<A>,
@@ -41,7 +42,7 @@ impl<A: Allocator + Copy> Service<A> {
     fn new(alloc: A, global: Global) -> Result<Service<A>, AllocError> {
         let tenants = Tenants::read(alloc, global, THREE).map_err(|_| AllocError)?;
         let tenants = Arc::new(alloc, tenants)?;
-        let core = Core::new(alloc, tenants.clone()?)?;
+        let core = Core::new(alloc, tenants.clone()?, TreeShape::SMALLEST).map_err(|_| AllocError)?;
         Ok(Service {
             alloc,
             tenants,

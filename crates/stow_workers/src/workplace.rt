@@ -16,7 +16,7 @@ use stow_shared::shared::Shared;
 
 /// What the workers of a pool have in common: where connections come from, and what serves them.
 #[derive(Drop)]
-pub struct Workplace<'a, R: Wait, J: Journal, G: Gate, A: Allocator> {
+pub struct Workplace<'a, R: Wait, J: Journal, G: Gate, A: Allocator + Copy> {
     pub rt: &'a R,
     pub alloc: A,
     pub streams: &'a Receiver<TcpStream, A>,

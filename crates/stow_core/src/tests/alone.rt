@@ -1,18 +1,27 @@
 //! Random requests of three tenants, each beside the tenant's own plain store.
 use crate::Core;
-use crate::tests::new_core;
+use crate::tests::core_of;
 use crate::tests::text::{reply_text, words_of};
-use std::alloc::{AllocError, Allocator};
+use std::alloc::{AllocError, Allocator, Global};
 use std::string::String;
 use std::test::Fail;
 use stow_plain::plain_request::PlainRequest;
 use stow_plain::plain_store::PlainStore;
 use stow_testing::random::Random;
 use stow_testing::tenants::QUOTA;
+use stow_tree::tree_shape::{MOST_BUFFER, MOST_CACHE, MOST_FAN_OUT, MOST_LEAF, TreeShape};
 
 const KEYS: [&str; 6] = ["''", "a", "ab", "b", "b0", "c"];
 
-const VALUES: [&str; 6] = ["''", "7", "-3", "x", "9223372036854775807", "007"];
+const VALUES: [&str; 7] = ["''", "7", "-3", "x", "9223372036854775807", "007", "LONG"];
+
+/// The largest shape.
+const LARGEST: TreeShape = TreeShape {
+    buffer: MOST_BUFFER,
+    leaf: MOST_LEAF,
+    fan_out: MOST_FAN_OUT,
+    cache: MOST_CACHE,
+};
 
 /// A random request's line.
 fn random_line<A: Allocator + Copy>(
@@ -61,10 +70,13 @@ fn is_alike<A: Allocator + Copy>(
     Ok(reply_text(alloc, &told)? == reply_text(alloc, &want)?)
 }
 
-#[test]
-fn random_requests_are_answered_as_alone(rt: HostRuntime) -> Result<(), Fail> {
-    let alloc = rt.alloc();
-    let mut core = new_core(alloc, alloc)?;
+/// Random requests in a core of this shape; `None` where each is answered as alone, and else the first that isn't.
+fn first_other<A: Allocator + Copy>(
+    alloc: A,
+    global: Global,
+    shape: TreeShape,
+) -> Result<Option<String<A>>, AllocError> {
+    let mut core = core_of(alloc, global, shape)?;
     let mut stores = [
         PlainStore::new(alloc, QUOTA),
         PlainStore::new(alloc, QUOTA),
@@ -75,15 +87,26 @@ fn random_requests_are_answered_as_alone(rt: HostRuntime) -> Result<(), Fail> {
         let place = random.below(3);
         let line = random_line(alloc, &mut random)?;
         let alone = &mut stores[place as usize];
-        assert!(rt;
-            is_alike(&mut core, alone, alloc, place + 1, line.as_str())?,
-            "{line}"
-        );
+        if !is_alike(&mut core, alone, alloc, place + 1, line.as_str())? {
+            return Ok(Some(line));
+        }
     }
     for place in 0..3u32 {
         let alone = &mut stores[place as usize];
-        assert!(rt; alone.last > 100);
-        assert!(rt; is_alike(&mut core, alone, alloc, place + 1, "RANGE '' '' 1024")?);
+        if alone.last <= 100 || !is_alike(&mut core, alone, alloc, place + 1, "RANGE '' '' 1024")? {
+            return Ok(Some(format!(in alloc; "the rows of {place}")?));
+        }
+    }
+    Ok(None)
+}
+
+// Values that are long enough for many flushes are among them.
+#[test]
+fn random_requests_are_answered_as_alone(rt: HostRuntime) -> Result<(), Fail> {
+    let alloc = rt.alloc();
+    for shape in [TreeShape::SMALLEST, LARGEST] {
+        let other = first_other(alloc, alloc, shape)?;
+        assert!(rt; other.is_none(), "{other:?}");
     }
     Ok(())
 }

@@ -116,7 +116,7 @@ fn asked_by_call<B: Allocator>(
 
 // Each request for memory of a prepare is refused in turn: what stood before still stands, and the same call
 // succeeds once memory is there. Its commit, to which every request is refused, asks for none. No prepare asks for
-// more than it takes: a key that is new, a value, and what a reply copies; nor does a call.
+// more than it takes: a value, the keys of a deletion, and what a reply copies; nor does a call.
 #[test]
 fn prepares_withstand_each_refusal(rt: HostRuntime) -> Result<(), Fail> {
     let global = rt.alloc();
@@ -124,22 +124,22 @@ fn prepares_withstand_each_refusal(rt: HostRuntime) -> Result<(), Fail> {
     let used = "ERR value is not an integer or out of range";
     for (line, told, a, b, asked) in [
         ("SET a new", "OK", "$new", "nil", 1),
-        ("SET b new", "OK", "$old", "$new", 2),
-        ("SET b new NX", "OK", "$old", "$new", 2),
+        ("SET b new", "OK", "$old", "$new", 1),
+        ("SET b new NX", "OK", "$old", "$new", 1),
         ("SET a new NX", "nil", "$old", "nil", 0),
         ("SET a new XX", "OK", "$new", "nil", 1),
         ("GET a", "$old", "$old", "nil", 1),
         ("MGET a b a", "[$old nil $old ]", "$old", "nil", 2),
         ("EXISTS a b a", ":2", "$old", "nil", 0),
         ("STRLEN a", ":3", "$old", "nil", 0),
-        ("RANGE '' '' 9", "[$a $old ]", "$old", "nil", 2),
+        ("RANGE '' '' 9", "[$a $old ]", "$old", "nil", 6),
         ("PING hello", "$hello", "$old", "nil", 1),
         ("ECHO hello", "$hello", "$old", "nil", 1),
         ("APPEND a er", ":5", "$older", "nil", 1),
-        ("APPEND b er", ":2", "$old", "$er", 2),
-        ("INCR b", ":1", "$old", "$1", 2),
-        ("DECR b", ":-1", "$old", "$-1", 2),
-        ("INCRBY b 12", ":12", "$old", "$12", 2),
+        ("APPEND b er", ":2", "$old", "$er", 1),
+        ("INCR b", ":1", "$old", "$1", 1),
+        ("DECR b", ":-1", "$old", "$-1", 1),
+        ("INCRBY b 12", ":12", "$old", "$12", 1),
         ("INCR a", used, "$old", "nil", 0),
         ("DEL b a", ":1", "nil", "nil", 3),
     ] {
@@ -147,5 +147,60 @@ fn prepares_withstand_each_refusal(rt: HostRuntime) -> Result<(), Fail> {
         let called = asked_by_call(&heap, global, line)?;
         assert!(rt; needed == Some(asked) && called == asked, "{line}");
     }
+    Ok(())
+}
+
+/// A core in which tenant 1 has also so many long values.
+fn filled<A: Allocator + Copy>(alloc: A, global: Global, keys: u32) -> Result<Core<A>, AllocError> {
+    let mut core = started(alloc, global)?;
+    for key in 0..keys {
+        let line = format!(in alloc; "SET {key} LONG")?;
+        let _done = is_told(&mut core, alloc, 1, line.as_str(), "OK")?;
+    }
+    Ok(core)
+}
+
+/// Whether one more long value withstands the refusal of this request for memory, or `None` if it asks for fewer.
+fn long_withstands<B: Allocator>(
+    heap: &Refusing<B>,
+    global: Global,
+    keys: u32,
+    at: u64,
+) -> Result<Option<bool>, AllocError> {
+    let mut core = filled(heap, global, keys)?;
+    let words = words_of(heap, "SET c LONG")?;
+    if !is_refused(heap, &mut core, &words, at) {
+        return Ok(None);
+    }
+    let stood = stands(&mut core, heap, "$old", "nil")?;
+    let kept = is_told(&mut core, heap, 1, "STRLEN 5", ":20000")?;
+    let done = commits(heap, &mut core, &words, "OK")?;
+    let now = is_told(&mut core, heap, 1, "STRLEN c", ":20000")?;
+    Ok(Some(stood && kept && done && now))
+}
+
+/// How many requests for memory one more long value makes, if it withstands the refusal of each.
+fn long_refusals<B: Allocator>(
+    heap: &Refusing<B>,
+    global: Global,
+    keys: u32,
+) -> Result<Option<u64>, AllocError> {
+    for at in 0..1_000u64 {
+        match long_withstands(heap, global, keys, at)? {
+            None => return Ok(Some(at)),
+            Some(true) => {}
+            Some(false) => return Ok(None),
+        }
+    }
+    Ok(None)
+}
+
+// A root's buffer holds six of these values, so the seventh takes a flush, which asks for much more.
+#[test]
+fn flushes_withstand_each_refusal(rt: HostRuntime) -> Result<(), Fail> {
+    let global = rt.alloc();
+    let heap = Refusing::new(global);
+    let asked = long_refusals(&heap, global, 6)?;
+    assert!(rt; asked.is_some_and(|asked| asked > 10), "{asked:?}");
     Ok(())
 }

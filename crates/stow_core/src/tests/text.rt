@@ -21,12 +21,16 @@ pub fn repeated<A: Allocator>(alloc: A, byte: u8, count: usize) -> Result<Vec<u8
     Ok(bytes)
 }
 
-/// The words of a line, of which `''` is the empty one, and `LAST` the last key that there can be.
+/// Bytes of a value of which few fit the smallest buffer.
+const LONG: usize = 20_000;
+
+/// The words of a line, of which `''` is the empty one, `LAST` the last key that there can be, and `LONG` a long value.
 pub fn words_of<A: Allocator + Copy>(alloc: A, line: &str) -> Result<Words<A>, AllocError> {
     let mut words = Words::new(alloc);
     for word in line.split_whitespace() {
         match word {
             "LAST" => words.push(repeated(alloc, 0xff, KEY_LIMIT)?.as_slice())?,
+            "LONG" => words.push(repeated(alloc, b'y', LONG)?.as_slice())?,
             _ => words.push(spelling::word_of(word).as_bytes())?,
         }
     }

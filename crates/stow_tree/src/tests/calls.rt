@@ -3,10 +3,7 @@ use crate::shape_report::ShapeReport;
 use crate::tests::numbered::{Interval, Numbered};
 use crate::tree::Tree;
 use crate::tree_fault::TreeFault;
-use crate::tree_shape::{
-    LEAST_BUFFER, LEAST_FAN_OUT, LEAST_LEAF, MOST_BUFFER, MOST_CACHE, MOST_FAN_OUT, MOST_LEAF,
-    TreeShape,
-};
+use crate::tree_shape::{MOST_BUFFER, MOST_CACHE, MOST_FAN_OUT, MOST_LEAF, TreeShape};
 use std::alloc::{AllocError, Allocator};
 use std::test::Fail;
 use stow_merge::pins::Pins;
@@ -14,12 +11,7 @@ use stow_tree_model::op::Op;
 use stow_tree_model::tenant_key::TenantKey;
 
 /// Each size is the least.
-pub(crate) const SMALLEST: TreeShape = TreeShape {
-    buffer: LEAST_BUFFER,
-    leaf: LEAST_LEAF,
-    fan_out: LEAST_FAN_OUT,
-    cache: 0,
-};
+pub(crate) const SMALLEST: TreeShape = TreeShape::SMALLEST;
 
 /// Each size is the most.
 pub(crate) const LARGEST: TreeShape = TreeShape {

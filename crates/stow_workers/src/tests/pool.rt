@@ -30,6 +30,7 @@ use stow_shared::shared::Shared;
 use stow_shared::step::Step;
 use stow_shared::unkept::Unkept;
 use stow_testing::tenants::THREE;
+use stow_tree::tree_shape::TreeShape;
 
 /// The logins of the two tenants.
 const ANN: &str = "AUTH ann bc\n";
@@ -51,7 +52,8 @@ fn opened<J: Journal, A: Allocator + Copy>(
     ensures { IfOk result (λ opened. vec_len opened.1 ≡ seats) }
 {
     let tenants = Tenants::read(alloc, global, THREE).map_err(|_| AllocError)?;
-    let core = Core::new(alloc, Arc::new(alloc, tenants)?)?;
+    let tenants = Arc::new(alloc, tenants)?;
+    let core = Core::new(alloc, tenants, TreeShape::SMALLEST).map_err(|_| AllocError)?;
     match Shared::open(alloc, core, seats) {
         Ok(opened) => Ok(opened),
         Err(_) => Err(AllocError),

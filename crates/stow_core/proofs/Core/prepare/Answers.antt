@@ -3,7 +3,11 @@ use Rattle.stow_commands.specs.Commands.{command_of}
 use Rattle.stow_core.specs.State.{store_of}
 use Rattle.stow_core.specs.Prepared.{prepared_answer}
 use Rattle.stow_core.proofs.Answered.{understood, refused_words, if_ok}
+use Rattle.stow_core.proofs.Legality.{understood_legal}
 use Rattle.stow_core.proofs.Core.prepare.Goals as goal
+
+pub prepare_command-requires-clause-legal : goal.prepare_command-requires-clause-legal
+prepare_command-requires-clause-legal g c = understood_legal c.args.words.now (command_of c.in-Ok.command) c.in-Ok.ensures
 
 pub returns-in-Ok-clause-own : goal.returns-in-Ok-clause-own
 returns-in-Ok-clause-own g c = λ _.

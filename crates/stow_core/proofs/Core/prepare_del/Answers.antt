@@ -1,45 +1,91 @@
-use Rattle.std.proofs.Common.{rules, ◌≡◌, true, false, ap, ◌∙◌, refl, sym, subst}
+use Rattle.std.proofs.Common.{rules, ◌≡◌, ◌<◌, ◌≤◌, ◌+◌, length, List, [], ◌∷◌, map, refl, true, ap, sym, ◌∙◌, subst, arith}
+use Rattle.std.specs.Prelude.{IsSome}
+use Rattle.std.specs.FinMap as finite
+use Rattle.std.specs.List.{AllByRecursion}
+use Rattle.stow_message.specs.Packed.{IsMessage}
+use Rattle.stow_bytes.specs.Limits.{number_limit}
 use Rattle.stow_model.specs.LentWords.{words_in}
+use Rattle.stow_model.specs.Store.{Rows}
 use Rattle.stow_core.specs.Keys.{AreKeysOf}
-use Rattle.stow_core.specs.Prepared.{prepared_answer, fewer}
-use Rattle.stow_core.specs.State.{store_of}
-use Rattle.stow_core.proofs.Keyed.{packed_AreKeysOf}
-use Rattle.stow_core.proofs.Answered.{own_back, del_none, del_full, del_done}
-use Rattle.stow_core.proofs.Stores.{can_still_write}
+use Rattle.stow_core.specs.Prepared.{after_put, after_remove, next_number, CanWrite}
+use Rattle.stow_core.specs.State.{CoreState, store_of, lasts_of, row_at}
+use Rattle.stow_core.specs.Writes.{put_of, removals_of, AreMessages}
+use Rattle.stow_core.proofs.Keyed.{put_is_call, removals_are_call, first_key}
+use Rattle.stow_core.proofs.Kept.{core_agrees, stores_agree}
+use Rattle.stow_core.proofs.Moves.{core_moved, number_is, put_own, removed_own, call_others}
+use Rattle.stow_core.proofs.Room.{put_IsMessage, removals_are_messages, can_put_row, can_remove_rows, keys_of_removals}
+use Rattle.stow_core.proofs.Stores.{core_of, can_write, can_still_write, rows-store_of, own_last}
+use Rattle.stow_state.specs.Rows.{rows_at}
+use Rattle.stow_tree.specs.Putting.{IsReserved, CanReserve}
+use Rattle.stow_tree.specs.TreeState.{TreeState, tree_messages}
+use Rattle.stow_tree_model.specs.Keys.{packed, own_key, IsTenantKey}
+use Rattle.stow_tree_model.specs.Messages.{with_all}
+use Rattle.stow_tree_model.specs.TreeMessage.{TreeMessage}
 use Rattle.stow_core.proofs.Core.prepare_del.Goals as goal
 
-pub count_removed-removed-requires-clause-own_keys : goal.count_removed-removed-requires-clause-own_keys
-count_removed-removed-requires-clause-own_keys g c =
-    subst (AreKeysOf c.args.tenant) (sym (c.lent.ensures ∙ c.in_ok-keys.ensures)) (packed_AreKeysOf c.args.tenant (words_in c.args.keys))
+pub reserve_removals-requires-clause-messages : goal.reserve_removals-requires-clause-messages
+reserve_removals-requires-clause-messages g c =
+    let t = c.args.tenant in
+    let taken = c.in_ok-taken.taken in
+    let at = c.in_ok-taken.ensures in
+    let high : t ≤ length c.self.inside.accounts.items = search rules in
+    let few = c.self.invariant.few in
+    let low = c.requires.is_tenant.0 in
+    let can : CanWrite c.args.self.now t = can_still_write c.args.self.now c.args.self.now t c.can_write.result refl c.can_write.ensures (search rules) in
+    let number = c.next_number-number.ensures in
+    subst (λ ks. AreMessages (removals_of c.next_number-number.result ks)) (sym c.lent.ensures)
+    (removals_are_messages t c.next_number-number.result taken low (omega (arith, high, few)) at.own at.short (omega (arith, number)) (omega (arith, number, can)))
 
-pub returns-then-removed-eq0-clause-answer : goal.returns-then-removed-eq0-clause-answer
-returns-then-removed-eq0-clause-answer g c =
-    let store = store_of c.args.self.now c.args.tenant in
-    let own = own_back c.args.tenant (words_in c.lent.result) (words_in c.args.keys) (c.lent.ensures ∙ c.in_ok-keys.ensures) in
-    ap (λ p. prepared_answer p store) c.only_counted.ensures
-    ∙ del_none store (words_in c.args.keys) c.count_removed-removed.result (c.count_removed-removed.ensures.removed ∙ ap (fewer store) own) c.if-removed-eq0.true
+pub reserve_removals-requires-clause-can : goal.reserve_removals-requires-clause-can
+reserve_removals-requires-clause-can g c =
+    let t = c.args.tenant in
+    let taken = c.in_ok-taken.taken in
+    let at = c.in_ok-taken.ensures in
+    let high : t ≤ length c.self.inside.accounts.items = search rules in
+    let few = c.self.invariant.few in
+    let low = c.requires.is_tenant.0 in
+    let number = c.next_number-number.ensures in
+    let last = ap (λ s. (store_of s t).last) (sym c.self.view_is) ∙ own_last (core_of c.self.inside.tenants.value c.self.inside.accounts.items c.self.inside.tree) t low high in
+    let some = at.few in
+    let most = c.requires.few in
+    subst (λ ks. CanReserve c.self.inside.tree (removals_of c.next_number-number.result ks)) (sym c.lent.ensures)
+    (can_remove_rows c.self.inside.tenants.value c.self.inside.accounts.items c.self.inside.tree c.self.invariant t c.next_number-number.result (omega (arith, high, few)) (omega (arith, number, last)) taken at.own at.short at.distinct (omega (arith, some, most)))
 
-pub returns-then-not-can_write-clause-answer : goal.returns-then-not-can_write-clause-answer
-returns-then-not-can_write-clause-answer g c =
-    let store = store_of c.args.self.now c.args.tenant in
-    let own = own_back c.args.tenant (words_in c.lent.result) (words_in c.args.keys) (c.lent.ensures ∙ c.in_ok-keys.ensures) in
-    let full : c.can_write.result ≡ false = search rules in
-    ap (λ p. prepared_answer p store) c.only_counted-then-not-can_write.ensures
-    ∙ del_full store (words_in c.args.keys) c.count_removed-removed.result (c.count_removed-removed.ensures.removed ∙ ap (fewer store) own) c.if-removed-eq0.false (sym c.can_write.ensures ∙ full)
+pub invariant_of-self : goal.invariant_of-self
+invariant_of-self g c = core_agrees c.self.inside.tenants.value c.self.inside.accounts.items c.self.inside.tree c.reserve_removals.new.tree c.self.invariant c.reserve_removals.ensures.agrees c.reserve_removals.ensures.shape
+
+pub returns-in_err-reserve_removals-clause-stores : goal.returns-in_err-reserve_removals-clause-stores
+returns-in_err-reserve_removals-clause-stores g c = λ t.
+    stores_agree c.self.inside.tenants.value c.self.inside.accounts.items c.self.inside.tree c.reserve_removals.new.tree c.self.invariant c.reserve_removals.ensures.agrees t ∙ ap (λ s. store_of s t) c.self.view_is
+
+pub invariant_of-self-2 : goal.invariant_of-self-2
+invariant_of-self-2 g c = core_agrees c.self.inside.tenants.value c.self.inside.accounts.items c.self.inside.tree c.reserve_removals.new.tree c.self.invariant c.reserve_removals.ensures.agrees c.reserve_removals.ensures.shape
+
+pub returns-clause-stores : goal.returns-clause-stores
+returns-clause-stores g c = λ t.
+    stores_agree c.self.inside.tenants.value c.self.inside.accounts.items c.self.inside.tree c.reserve_removals.new.tree c.self.invariant c.reserve_removals.ensures.agrees t ∙ ap (λ s. store_of s t) c.self.view_is
 
 pub returns-clause-room : goal.returns-clause-room
 returns-clause-room g c =
-    let can : c.can_write.result ≡ true = search rules in (
-      c.requires,
-      can_still_write c.args.self.now c.args.self.now c.args.tenant c.can_write.result refl c.can_write.ensures can,
-      subst (AreKeysOf c.args.tenant) (sym c.in_ok-keys.ensures) (packed_AreKeysOf c.args.tenant (words_in c.args.keys)),
-    )
-
-pub returns-clause-answer : goal.returns-clause-answer
-returns-clause-answer g c =
-    let store = store_of c.args.self.now c.args.tenant in
-    let own = own_back c.args.tenant (words_in c.lent.result) (words_in c.args.keys) (c.lent.ensures ∙ c.in_ok-keys.ensures) in
-    let can : c.can_write.result ≡ true = search rules in
-    del_done store c.in_ok-keys.keys (words_in c.args.keys) c.count_removed-removed.result
-    (own_back c.args.tenant c.in_ok-keys.keys (words_in c.args.keys) c.in_ok-keys.ensures)
-    (c.count_removed-removed.ensures.removed ∙ ap (fewer store) own) c.if-removed-eq0.false c.count_removed-removed.ensures.small (sym c.can_write.ensures ∙ can)
+    let t = c.args.tenant in
+    let taken = c.in_ok-taken.taken in
+    let at = c.in_ok-taken.ensures in
+    let high : t ≤ length c.self.inside.accounts.items = search rules in
+    let few = c.self.invariant.few in
+    let low = c.requires.is_tenant.0 in
+    let can : CanWrite c.args.self.now t = can_still_write c.args.self.now c.args.self.now t c.can_write.result refl c.can_write.ensures (search rules) in
+    let number = c.next_number-number.ensures in
+    let there : t ≤ length c.self.inside.tenants.value = search rules in
+    let kept = stores_agree c.self.inside.tenants.value c.self.inside.accounts.items c.self.inside.tree c.reserve_removals.new.tree c.self.invariant c.reserve_removals.ensures.agrees t ∙ ap (λ s. store_of s t) c.self.view_is in
+    let next = ap (λ s. s.last + 1) (sym kept) in
+    record {
+      can = record {
+        is_tenant = (low, there);
+        can_write = can_still_write c.args.self.now _ t c.can_write.result kept c.can_write.ensures (search rules);
+        own = subst (AreKeysOf t) (sym (keys_of_removals _ taken)) at.own;
+        are_messages = subst (λ n. AreMessages (removals_of n taken)) (number ∙ next)
+            (removals_are_messages t c.next_number-number.result taken low (omega (arith, high, few)) at.own at.short (omega (arith, number)) (omega (arith, number, can)));
+        reserved = subst (IsReserved c.reserve_removals.new.tree) (λ i. removals_of ((number ∙ next) i) (c.lent.ensures i)) c.in_ok-reserve_removals.ensures.reserved;
+      };
+      there = subst (λ (r : Rows). AllByRecursion (λ key. IsSome (finite.get r (own_key key))) taken) (ap (λ s. s.rows) (sym kept)) at.there;
+    }

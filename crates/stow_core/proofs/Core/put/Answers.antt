@@ -1,32 +1,78 @@
-use Rattle.std.proofs.Common.{rules, ◌≡◌, ℕ, ◌≤◌, length, Some, List, cond, ap, ◌∙◌}
-use Rattle.std.specs.Str.{bytes_eq}
-use Rattle.stow_core.specs.Places.{look_up}
-use Rattle.stow_core.specs.Prepared.{after_put}
-use Rattle.stow_core.specs.State.{store_of}
-use Rattle.stow_core.proofs.Stores.{can_write, put_own, put_others}
+use Rattle.std.proofs.Common.{rules, ◌≡◌, ◌<◌, ◌≤◌, ◌+◌, length, List, [], ◌∷◌, map, refl, true, ap, sym, ◌∙◌, subst, arith}
+use Rattle.std.specs.Prelude.{IsSome}
+use Rattle.std.specs.FinMap as finite
+use Rattle.std.specs.List.{AllByRecursion}
+use Rattle.stow_message.specs.Packed.{IsMessage}
+use Rattle.stow_bytes.specs.Limits.{number_limit}
+use Rattle.stow_model.specs.LentWords.{words_in}
+use Rattle.stow_model.specs.Store.{Rows}
+use Rattle.stow_core.specs.Keys.{AreKeysOf}
+use Rattle.stow_core.specs.Prepared.{after_put, after_remove, next_number, CanWrite}
+use Rattle.stow_core.specs.State.{CoreState, store_of, lasts_of, row_at}
+use Rattle.stow_core.specs.Writes.{put_of, removals_of, AreMessages}
+use Rattle.stow_core.proofs.Keyed.{put_is_call, removals_are_call, first_key}
+use Rattle.stow_core.proofs.Kept.{core_agrees, stores_agree}
+use Rattle.stow_core.proofs.Moves.{core_moved, number_is, put_own, removed_own, call_others}
+use Rattle.stow_core.proofs.Room.{put_IsMessage, removals_are_messages, can_put_row, can_remove_rows, keys_of_removals}
+use Rattle.stow_core.proofs.Stores.{core_of, can_write, can_still_write, rows-store_of, own_last}
+use Rattle.stow_state.specs.Rows.{rows_at}
+use Rattle.stow_tree.specs.Putting.{IsReserved, CanReserve}
+use Rattle.stow_tree.specs.TreeState.{TreeState, tree_messages}
+use Rattle.stow_tree_model.specs.Keys.{packed, own_key, IsTenantKey}
+use Rattle.stow_tree_model.specs.Messages.{with_all}
+use Rattle.stow_tree_model.specs.TreeMessage.{TreeMessage}
 use Rattle.stow_core.proofs.Core.put.Goals as goal
 
 pub written-account-requires : goal.written-account-requires
 written-account-requires g c =
     let high : c.args.tenant ≤ length c.self.inside.accounts.items = search rules in
-    can_write _ _ c.args.tenant c.index.result.now c.self.view_is c.requires.0.0 high c.index.ensures c.requires.1
+    can_write _ _ c.args.tenant c.index.result.now c.self.view_is c.requires.is_tenant.0 high c.index.ensures c.requires.can_write
+
+pub put_row-requires-clause-message : goal.put_row-requires-clause-message
+put_row-requires-clause-message g c =
+    let t = c.args.tenant in
+    let high : t ≤ length c.self.inside.accounts.items = search rules in
+    let number = number_is _ c.args.self.now t c.index.result.now c.written-account.result c.self.view_is c.requires.is_tenant.0 high c.index.ensures c.written-account.ensures in
+    subst IsMessage (λ i. put_of (number i) (sym c.as_slice.ensures i) (sym c.as_slice-2.ensures i)) c.requires.are_messages.0
+
+pub put_row-requires-clause-room : goal.put_row-requires-clause-room
+put_row-requires-clause-room g c =
+    let t = c.args.tenant in
+    let high : t ≤ length c.self.inside.accounts.items = search rules in
+    let number = number_is _ c.args.self.now t c.index.result.now c.written-account.result c.self.view_is c.requires.is_tenant.0 high c.index.ensures c.written-account.ensures in
+    subst (λ m. IsReserved c.self.inside.tree (m ∷ [])) (λ i. put_of (number i) (sym c.as_slice.ensures i) (sym c.as_slice-2.ensures i))
+    (subst (λ (s : CoreState). IsReserved s.tree (put_of (next_number c.args.self.now t) c.args.key c.args.value ∷ [])) (sym c.self.view_is) c.requires.reserved)
+
+pub invariant_of-self : goal.invariant_of-self
+invariant_of-self g c =
+    let t = c.args.tenant in
+    let key = c.args.key in
+    let value = c.args.value in
+    let high : t ≤ length c.self.inside.accounts.items = search rules in
+    let few = c.self.invariant.few in
+    core_moved c.self.inside.tenants.value c.self.inside.accounts.items c.self.inside.tree c.put_row.new.tree t c.index.result.now c.written-account.result (put_of c.written-account.result.last key value ∷ [])
+    c.requires.is_tenant.0 high c.index.ensures c.written-account.ensures c.self.invariant (put_is_call t c.written-account.result.last key value (omega (arith, high, few)) c.requires.own)
+    (c.put_row.ensures.messages ∙ (λ i. with_all (tree_messages c.self.inside.tree) (put_of c.written-account.result.last (c.as_slice.ensures i) (c.as_slice-2.ensures i) ∷ []))) c.put_row.ensures.shape
 
 pub returns-clause-own : goal.returns-clause-own
 returns-clause-own g c =
     let t = c.args.tenant in
     let key = c.args.key in
+    let value = c.args.value in
     let high : t ≤ length c.self.inside.accounts.items = search rules in
-    let puts : (q : List ℕ) → look_up c.fill.new.self q ≡ cond (bytes_eq key q) (Some (record { number = c.written-account.result.last; value = c.args.value })) (look_up c.self.inside.places q) =
-    λ q. c.fill.ensures q ∙ ap (λ k. cond (bytes_eq k q) (Some (record { number = c.written-account.result.last; value = c.args.value })) (look_up c.self.inside.places q)) c.as_slice.ensures in
-    put_own c.self.inside.tenants.value c.self.inside.accounts.items c.self.inside.places c.fill.new.self t c.index.result.now c.written-account.result key c.args.value c.requires.0.0 high c.index.ensures c.written-account.ensures c.requires.2 puts
-    ∙ ap (λ s. after_put key c.args.value (store_of s t)) c.self.view_is
+    put_own c.self.inside.tenants.value c.self.inside.accounts.items c.self.inside.tree c.put_row.new.tree t c.index.result.now c.written-account.result key value
+    c.requires.is_tenant.0 high c.index.ensures c.written-account.ensures c.self.invariant c.requires.own
+    (c.put_row.ensures.messages ∙ (λ i. with_all (tree_messages c.self.inside.tree) (put_of c.written-account.result.last (c.as_slice.ensures i) (c.as_slice-2.ensures i) ∷ [])))
+    ∙ ap (λ s. after_put key value (store_of s t)) c.self.view_is
 
 pub returns-clause-others : goal.returns-clause-others
 returns-clause-others g c = λ other differ.
     let t = c.args.tenant in
     let key = c.args.key in
+    let value = c.args.value in
     let high : t ≤ length c.self.inside.accounts.items = search rules in
-    let puts : (q : List ℕ) → look_up c.fill.new.self q ≡ cond (bytes_eq key q) (Some (record { number = c.written-account.result.last; value = c.args.value })) (look_up c.self.inside.places q) =
-    λ q. c.fill.ensures q ∙ ap (λ k. cond (bytes_eq k q) (Some (record { number = c.written-account.result.last; value = c.args.value })) (look_up c.self.inside.places q)) c.as_slice.ensures in
-    put_others c.self.inside.tenants.value c.self.inside.accounts.items c.self.inside.places c.fill.new.self t other c.written-account.result key _ c.requires.0.0 high c.self.invariant.few c.requires.2 puts differ
+    let few = c.self.invariant.few in
+    call_others c.self.inside.tenants.value c.self.inside.accounts.items c.self.inside.tree c.put_row.new.tree t other c.written-account.result.last c.written-account.result (put_of c.written-account.result.last key value ∷ [])
+    c.requires.is_tenant.0 few (put_is_call t c.written-account.result.last key value (omega (arith, high, few)) c.requires.own)
+    (c.put_row.ensures.messages ∙ (λ i. with_all (tree_messages c.self.inside.tree) (put_of c.written-account.result.last (c.as_slice.ensures i) (c.as_slice-2.ensures i) ∷ []))) differ
     ∙ ap (λ s. store_of s other) c.self.view_is

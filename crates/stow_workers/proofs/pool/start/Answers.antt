@@ -1,5 +1,15 @@
+use denote.Param.Send.{sendable}
+use denote.Ref.{NamedLft}
+use Rattle.stow_shared.proofs.seat.Seat.TheSendSync as seat
+use Rattle.stow_workers.proofs.Sends.{workplace_syncs}
 use Rattle.stow_workers.proofs.Workers.{no_calls}
 use Rattle.stow_workers.proofs.pool.start.Goals as goal
 
 pub returns-then-not-is_running : goal.returns-then-not-is_running
 returns-then-not-is_running g c = no_calls _ _
+
+pub spawn_with-requires-send-F : goal.spawn_with-requires-send-F
+spawn_with-requires-send-F g c κs within =
+    let sent = c.type_bounds.send-A in let own = c.type_bounds.send-J in let synced = c.type_bounds.sync-A in
+    let w = λ (κ : NamedLft). workplace_syncs κ _ _ _ _ g.J.Journal _ c.type_bounds.sync-R own c.type_bounds.sync-G sent synced c.type_bounds.frees-A-Allocator in
+    search (w, seat.the_send, sendable) depth 12

@@ -1,0 +1,112 @@
+//! Messages of writes, and the room that the tree has for them.
+ghost use Rattle.std.specs.Prelude.{◌≡◌, ◌∷◌, [], OnOk};
+ghost use Rattle.stow_message.specs.Packed.{IsMessage};
+ghost use Rattle.stow_model.specs.LentWords.{words_in};
+ghost use Rattle.stow_tree.specs.Putting.{CanReserve, IsReserved, Puts};
+ghost use Rattle.stow_tree.specs.TreeState.{tree_messages, AgreeUnder};
+ghost use Rattle.stow_tree_model.specs.Messages.{with_all};
+ghost use Rattle.stow_tree_model.specs.TreeMessage.{message_of};
+ghost use Rattle.stow_core.specs.Writes.{put_of, removal_of, removals_of, AreMessages, no_pins};
+
+use std::alloc::{AllocError, Allocator};
+use stow_merge::pins::Pins;
+use stow_model::lent_words::LentWords;
+use stow_tree::tree::Tree;
+use stow_tree_model::message::Message;
+use stow_tree_model::op::Op;
+use stow_tree_model::tenant_key::TenantKey;
+
+/// The message that puts a value under a key.
+fn put_message<'a>(number: u64, key: &'a [u8], value: &'a [u8]) -> Message<'a>
+    requires { IsMessage (put_of number key.now value.now) }
+    ensures { message_of result ≡ put_of number key.now value.now }
+{
+    Message {
+        key: TenantKey::from_packed(key),
+        number,
+        op: Op::Put(value),
+    }
+}
+
+/// The message that takes a key's value away.
+fn removal_message(number: u64, key: &[u8]) -> Message<'_>
+    requires { IsMessage (removal_of number key.now) }
+    ensures { message_of result ≡ removal_of number key.now }
+{
+    Message {
+        key: TenantKey::from_packed(key),
+        number,
+        op: Op::Gone,
+    }
+}
+
+/// Makes the room that `put_row` needs.
+pub fn reserve_row<A: Allocator + Copy>(
+    tree: &mut Tree<A>,
+    alloc: A,
+    number: u64,
+    key: &[u8],
+    value: &[u8],
+) -> Result<(), AllocError>
+    requires message { IsMessage (put_of number key.now value.now) }
+    requires can { CanReserve tree.old (put_of number key.now value.now ∷ []) }
+    ensures reserved { OnOk result (IsReserved tree.new (put_of number key.now value.now ∷ [])) }
+    ensures agrees { AgreeUnder no_pins (tree_messages tree.old) (tree_messages tree.new) }
+    ensures shape { tree.new.root.shape ≡ tree.old.root.shape }
+{
+    let messages = [put_message(number, key, value)];
+    tree.reserve(alloc, &messages, &Pins::new(alloc))
+}
+
+/// Puts a row's value into the tree. It takes no memory and cannot fail.
+pub fn put_row<A: Allocator + Copy>(tree: &mut Tree<A>, number: u64, key: &[u8], value: &[u8])
+    requires message { IsMessage (put_of number key.now value.now) }
+    requires room { IsReserved tree.old (put_of number key.now value.now ∷ []) }
+    ensures { Puts (put_of number key.now value.now ∷ []) tree.old tree.new }
+{
+    let messages = [put_message(number, key, value)];
+    tree.put_all(&messages);
+}
+
+/// Makes the room that `put_removals` needs.
+pub fn reserve_removals<A: Allocator + Copy>(
+    tree: &mut Tree<A>,
+    alloc: A,
+    number: u64,
+    keys: LentWords<'_>,
+) -> Result<(), AllocError>
+    requires messages { AreMessages (removals_of number (words_in keys)) }
+    requires can { CanReserve tree.old (removals_of number (words_in keys)) }
+    ensures reserved { OnOk result (IsReserved tree.new (removals_of number (words_in keys.entry))) }
+    ensures agrees { AgreeUnder no_pins (tree_messages tree.old) (tree_messages tree.new) }
+    ensures shape { tree.new.root.shape ≡ tree.old.root.shape }
+{
+    let mut messages = Vec::new(alloc);
+    for index in 0..keys.len() {
+        messages.push(removal_message(number, keys.get(index)))?;
+    }
+    tree.reserve(alloc, messages.as_slice(), &Pins::new(alloc))
+}
+
+/// Puts the removal of a key into the tree.
+fn put_removal<A: Allocator + Copy>(tree: &mut Tree<A>, number: u64, key: &[u8])
+    requires message { IsMessage (removal_of number key.now) }
+    requires room { IsReserved tree.old (removal_of number key.now ∷ []) }
+    ensures { Puts (removal_of number key.now ∷ []) tree.old tree.new }
+{
+    let removal = [removal_message(number, key)];
+    tree.put_all(&removal);
+}
+
+/// Takes the values of these keys out of the tree. It takes no memory and cannot fail.
+pub fn put_removals<A: Allocator + Copy>(tree: &mut Tree<A>, number: u64, keys: LentWords<'_>)
+    requires messages { AreMessages (removals_of number (words_in keys)) }
+    requires room { IsReserved tree.old (removals_of number (words_in keys)) }
+    ensures messages { tree_messages tree.new
+        ≡ with_all (tree_messages tree.old) (removals_of number (words_in keys.entry)) }
+    ensures shape { tree.new.root.shape ≡ tree.old.root.shape }
+{
+    for index in 0..keys.len() {
+        put_removal(tree, number, keys.get(index));
+    }
+}

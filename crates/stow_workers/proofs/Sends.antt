@@ -1,0 +1,24 @@
+-- What workers share may be reached from several threads.
+use denote.Ref.{NamedLft}
+use denote.RattleType.{RattleType}
+use denote.Param.Send.{IsSend, IsSync, Frees, sendable, struct_sync}
+use denote.Struct.Declared.{shape}
+use Rattle.crossbeam_channel.proofs.channel.Receiver.TheSendSync as receiver
+use Rattle.std.proofs.Crossing as at_heap
+use Rattle.std.proofs.net.tcp.TcpStream.TheSendSync as stream
+use Rattle.std.specs.declared.alloc.Allocator.{Ghosts}
+use Rattle.stow_shared.specs.declared.journal.Journal as journal
+use Rattle.stow_shared.proofs.Sends.{shared_syncs}
+use Rattle.stow_workers.specs.contracts.workplace.Workplace as workplace
+
+module _ (κ : NamedLft) (R K G A : RattleType) (k : journal.Ghosts K.Denot) (g : Ghosts A.Denot) where
+  pub workplace_syncs : IsSync R → IsSend K → IsSync G → IsSend A → IsSync A → Frees g g.dealloc_token → IsSync (workplace.the_field κ R K G A k g).row
+  workplace_syncs run own gate sent synced free =
+      let s = shared_syncs K A k g own sent synced free in
+      struct_sync (shape (workplace.the_type κ R K G A k g)) (
+        search sendable,
+        (
+          search sendable,
+          (search (receiver.the_sync, stream.the_send, sendable) depth 8, (search sendable, (search sendable, tt))),
+        ),
+      )
