@@ -9,5 +9,3 @@
 #![tactic(auto)]
 
 pub mod room;
-#[cfg(test)]
-mod tests;

@@ -11,7 +11,5 @@
 #![tactic(auto)]
 
 pub mod leaf;
-mod making;
+pub mod making;
 pub mod replacement;
-#[cfg(test)]
-mod tests;

@@ -15,7 +15,7 @@ use stow_tree_model::tenant_key::TenantKey;
 use stow_tree_model::tenant_key_buf::TenantKeyBuf;
 
 /// The messages of a run, lent.
-pub(crate) fn lent_run<'b, A: Allocator + Copy>(
+pub fn lent_run<'b, A: Allocator + Copy>(
     alloc: A,
     run: &Run<'b, A>,
 ) -> Result<Vec<Message<'b>, A>, AllocError>

@@ -8,5 +8,3 @@
 #![tactic(auto)]
 
 pub mod leaf_cache;
-#[cfg(test)]
-mod tests;

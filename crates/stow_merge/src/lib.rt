@@ -28,6 +28,4 @@ mod lending;
 pub mod merging;
 pub mod pins;
 pub mod survey;
-#[cfg(test)]
-mod tests;
 mod writing;

@@ -10,8 +10,6 @@ pub mod laws;
 pub mod message_buf;
 pub mod newest;
 pub mod run;
-#[cfg(test)]
-mod tests;
 
 pub use stow_tree_model::message::Message;
 pub use stow_tree_model::op::Op;

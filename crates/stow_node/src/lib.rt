@@ -27,5 +27,3 @@ mod joining;
 mod moving;
 pub mod node;
 pub mod shape;
-#[cfg(test)]
-mod tests;

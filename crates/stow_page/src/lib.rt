@@ -21,5 +21,3 @@ pub mod page;
 pub mod page_fault;
 mod reading;
 pub mod rows;
-#[cfg(test)]
-mod tests;

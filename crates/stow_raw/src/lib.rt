@@ -11,6 +11,4 @@ pub mod block;
 pub mod cells;
 pub mod lease;
 pub mod raw_buf;
-#[cfg(test)]
-mod tests;
 mod words;

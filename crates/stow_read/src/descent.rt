@@ -20,7 +20,7 @@ pub(crate) fn below<'a, A: Allocator>(node: &'a Node<A>, key: TenantKey<'_>) -> 
 }
 
 /// Whether a node may hold messages of the key.
-pub(crate) fn may_hold<A: Allocator>(node: &Node<A>, key: TenantKey<'_>) -> bool
+pub fn may_hold<A: Allocator>(node: &Node<A>, key: TenantKey<'_>) -> bool
     ensures { result ≡ spans node.now.low top_key key.entry.bytes.now }
 {
     let top: &[u8] = &[0, 1, 0, 0];

@@ -11,7 +11,7 @@
 //! held is seen by tests of the tree.
 #![tactic(auto)]
 
-mod descent;
+pub mod descent;
 pub mod found;
 pub mod getting;
 pub mod leaf_for;
@@ -22,6 +22,4 @@ mod path;
 pub mod range;
 pub mod row;
 mod suffixes;
-#[cfg(test)]
-mod tests;
 pub mod versions;

@@ -14,8 +14,6 @@
 
 mod counting;
 pub mod shape_report;
-#[cfg(test)]
-mod tests;
 pub mod tree;
 pub mod tree_fault;
 pub mod tree_shape;

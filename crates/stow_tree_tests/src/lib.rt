@@ -1,0 +1,26 @@
+//! Tests of the buffered tree's crates, from the raw block up to the tree.
+//!
+//! They stand in a crate of their own for the gate's time: it proves a crate again with its tests, and these crates'
+//! proofs are the dearest. A module is named after the crate that it tests.
+#![tactic(auto)]
+
+#[cfg(test)]
+mod flush;
+#[cfg(test)]
+mod leaf;
+#[cfg(test)]
+mod leaf_cache;
+#[cfg(test)]
+mod merge;
+#[cfg(test)]
+mod message;
+#[cfg(test)]
+mod node;
+#[cfg(test)]
+mod page;
+#[cfg(test)]
+mod raw;
+#[cfg(test)]
+mod read;
+#[cfg(test)]
+mod tree;
