@@ -4,4 +4,3 @@ pub mod Found
 pub mod Tiles
 pub mod Fronts
 pub mod Steps
-pub mod Alone

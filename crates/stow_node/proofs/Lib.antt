@@ -10,7 +10,6 @@ pub mod Lowered
 pub mod Filled
 pub mod Down
 pub mod Raised
-pub mod Lone
 pub mod Cut
 pub mod Absorbed
 pub mod Flushed
@@ -23,4 +22,3 @@ pub mod Forgotten
 pub mod Joined
 pub mod Pairs
 pub mod Fewer
-pub mod Readied

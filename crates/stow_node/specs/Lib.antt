@@ -9,4 +9,3 @@ pub mod Absorbs
 pub mod Flushes
 pub mod Forgets
 pub mod Joins
-pub mod Ready

@@ -6,7 +6,6 @@ pub mod Walked
 pub mod Gathered
 pub mod Versioned
 pub mod OwnRows
-pub mod Numbered
 pub mod NextKeys
 pub mod NextRows
 pub mod NextBelow

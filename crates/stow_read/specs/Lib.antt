@@ -4,6 +4,5 @@ pub mod Suffixes
 pub mod Descent
 pub mod Path
 pub mod Versions
-pub mod Numbered
 pub mod NextKey
 pub mod Range

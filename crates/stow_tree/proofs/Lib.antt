@@ -7,5 +7,4 @@ pub mod Totalled
 pub mod Held
 pub mod Made
 pub mod Read
-pub mod Numbering
 pub mod Sends

@@ -1,0 +1,5 @@
+pub mod Alone
+pub mod Lone
+pub mod Readied
+pub mod Numbered
+pub mod Numbering
