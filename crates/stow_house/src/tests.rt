@@ -424,13 +424,19 @@ const HANDED_OVER: [(u32, Request); 14] = [
     (2, &[b"DEL", b"k"]),
 ];
 
+/// The connection of an act.
+fn connection_of(act: Act) -> u32 {
+    match act {
+        Act::Open(connection) | Act::Send(connection, _) | Act::Serve(connection) => connection,
+    }
+}
+
 /// The acts of the first connection alone.
 fn of_first(alloc: Global, acts: &[Act]) -> Result<Vec<Act>, AllocError> {
     let mut own = Vec::new(alloc);
     for act in acts {
-        match act {
-            Act::Open(1) | Act::Send(1, _) | Act::Serve(1) => own.push(*act)?,
-            _ => {}
+        if connection_of(*act) == 1 {
+            own.push(*act)?;
         }
     }
     Ok(own)

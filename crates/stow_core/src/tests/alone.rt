@@ -70,34 +70,79 @@ fn is_alike<A: Allocator + Copy>(
     Ok(reply_text(alloc, &told)? == reply_text(alloc, &want)?)
 }
 
-/// Random requests in a core of this shape; `None` where each is answered as alone, and else the first that isn't.
+/// The own stores of three tenants.
+#[derive(Drop)]
+struct OwnStores<A: Allocator + Copy> {
+    first: PlainStore<A>,
+    second: PlainStore<A>,
+    third: PlainStore<A>,
+}
+
+impl<A: Allocator + Copy> OwnStores<A> {
+    /// Three stores without rows.
+    fn new(alloc: A) -> OwnStores<A> {
+        OwnStores {
+            first: PlainStore::new(alloc, QUOTA),
+            second: PlainStore::new(alloc, QUOTA),
+            third: PlainStore::new(alloc, QUOTA),
+        }
+    }
+
+    /// The store of tenant 1, 2 or 3.
+    fn of(&mut self, tenant: u32) -> &mut PlainStore<A> {
+        match tenant {
+            1 => &mut self.first,
+            2 => &mut self.second,
+            _ => &mut self.third,
+        }
+    }
+}
+
+/// Random requests to a core and to the own stores; `None` where each is answered as alone, and else the first that isn't.
 fn first_other<A: Allocator + Copy>(
+    core: &mut Core<A>,
+    stores: &mut OwnStores<A>,
+    alloc: A,
+) -> Result<Option<String<A>>, AllocError> {
+    let mut random = Random::new(7);
+    for _ in 0..3_000 {
+        let tenant = random.below(3) + 1;
+        let line = random_line(alloc, &mut random)?;
+        if !is_alike(core, stores.of(tenant), alloc, tenant, line.as_str())? {
+            return Ok(Some(line));
+        }
+    }
+    Ok(None)
+}
+
+/// Whether each tenant has written more than a hundred times, and has the rows that its own store has.
+fn are_rows_alike<A: Allocator + Copy>(
+    core: &mut Core<A>,
+    stores: &mut OwnStores<A>,
+    alloc: A,
+) -> Result<bool, AllocError> {
+    for tenant in 1..4u32 {
+        let alone = stores.of(tenant);
+        if alone.last <= 100 || !is_alike(core, alone, alloc, tenant, "RANGE '' '' 1024")? {
+            return Ok(false);
+        }
+    }
+    Ok(true)
+}
+
+/// The first request to a new core of this shape that is not answered as alone, or that the rows are others.
+fn other_of<A: Allocator + Copy>(
     alloc: A,
     global: Global,
     shape: TreeShape,
 ) -> Result<Option<String<A>>, AllocError> {
     let mut core = core_of(alloc, global, shape)?;
-    let mut stores = [
-        PlainStore::new(alloc, QUOTA),
-        PlainStore::new(alloc, QUOTA),
-        PlainStore::new(alloc, QUOTA),
-    ];
-    let mut random = Random::new(7);
-    for _ in 0..3_000 {
-        let place = random.below(3);
-        let line = random_line(alloc, &mut random)?;
-        let alone = &mut stores[place as usize];
-        if !is_alike(&mut core, alone, alloc, place + 1, line.as_str())? {
-            return Ok(Some(line));
-        }
+    let mut stores = OwnStores::new(alloc);
+    let other = first_other(&mut core, &mut stores, alloc)?;
+    if other.is_some() || are_rows_alike(&mut core, &mut stores, alloc)? {
+        return Ok(other);
     }
-    for place in 0..3u32 {
-        let alone = &mut stores[place as usize];
-        if alone.last <= 100 || !is_alike(&mut core, alone, alloc, place + 1, "RANGE '' '' 1024")? {
-            return Ok(Some(format!(in alloc; "the rows of {place}")?));
-        }
-    }
-    Ok(None)
+    Ok(Some(format!(in alloc; "the rows")?))
 }
 
 // Values that are long enough for many flushes are among them.
@@ -105,7 +150,7 @@ fn first_other<A: Allocator + Copy>(
 fn random_requests_are_answered_as_alone(rt: HostRuntime) -> Result<(), Fail> {
     let alloc = rt.alloc();
     for shape in [TreeShape::SMALLEST, LARGEST] {
-        let other = first_other(alloc, alloc, shape)?;
+        let other = other_of(alloc, alloc, shape)?;
         assert!(rt; other.is_none(), "{other:?}");
     }
     Ok(())

@@ -39,49 +39,51 @@ fn stands<A: Allocator + Copy>(
 }
 
 /// Whether the prepare is refused memory. It is, just where it asks for the request that is refused to it.
-fn is_refused<'a, B: Allocator>(
-    heap: &'a Refusing<B>,
-    core: &mut Core<&'a Refusing<B>>,
-    words: &Words<&'a Refusing<B>>,
+fn is_refused<A: Allocator + Copy, B: Allocator>(
+    heap: &Refusing<B>,
+    alloc: A,
+    core: &mut Core<A>,
+    words: &Words<A>,
     at: u64,
 ) -> bool {
     heap.set(Plan::RefuseAt(at));
-    let refused = core.prepare(heap, 1, words).is_err();
+    let refused = core.prepare(alloc, 1, words).is_err();
     heap.set(Plan::Grant);
     refused
 }
 
 /// Whether the words are prepared with memory, and then committed with none, and told this.
-fn commits<'a, B: Allocator>(
-    heap: &'a Refusing<B>,
-    core: &mut Core<&'a Refusing<B>>,
-    words: &Words<&'a Refusing<B>>,
+fn commits<A: Allocator + Copy, B: Allocator>(
+    heap: &Refusing<B>,
+    alloc: A,
+    core: &mut Core<A>,
+    words: &Words<A>,
     told: &str,
 ) -> Result<bool, AllocError> {
-    let prepared = core.prepare(heap, 1, words)?;
-    let foretold = is_text(heap, prepared.reply(), told)?;
+    let prepared = core.prepare(alloc, 1, words)?;
+    let foretold = is_text(alloc, prepared.reply(), told)?;
     heap.set(Plan::RefuseAll);
     let reply = core.commit(prepared);
     let asked = heap.asked();
     heap.set(Plan::Grant);
-    Ok(foretold && asked == 0 && is_text(heap, &reply, told)?)
+    Ok(foretold && asked == 0 && is_text(alloc, &reply, told)?)
 }
 
 /// Whether the case withstands the refusal of this request for memory, or `None` if it asks for fewer.
-fn withstands<B: Allocator>(
+fn withstands<A: Allocator + Copy, B: Allocator>(
     heap: &Refusing<B>,
-    global: Global,
+    (alloc, global): (A, Global),
     case: Case,
     at: u64,
 ) -> Result<Option<bool>, AllocError> {
-    let mut core = started(heap, global)?;
-    let words = words_of(heap, case.line)?;
-    if !is_refused(heap, &mut core, &words, at) {
+    let mut core = started(alloc, global)?;
+    let words = words_of(alloc, case.line)?;
+    if !is_refused(heap, alloc, &mut core, &words, at) {
         return Ok(None);
     }
-    let stood = stands(&mut core, heap, "$old", "nil")?;
-    let done = commits(heap, &mut core, &words, case.told)?;
-    Ok(Some(stood && done && stands(&mut core, heap, case.a, case.b)?))
+    let stood = stands(&mut core, alloc, "$old", "nil")?;
+    let done = commits(heap, alloc, &mut core, &words, case.told)?;
+    Ok(Some(stood && done && stands(&mut core, alloc, case.a, case.b)?))
 }
 
 /// How many requests for memory the case makes, if it withstands the refusal of each.
@@ -91,7 +93,7 @@ fn refusals<B: Allocator>(
     case: Case,
 ) -> Result<Option<u64>, AllocError> {
     for at in 0..100u64 {
-        match withstands(heap, global, case, at)? {
+        match withstands(heap, (heap, global), case, at)? {
             None => return Ok(Some(at)),
             Some(true) => {}
             Some(false) => return Ok(None),
@@ -101,16 +103,16 @@ fn refusals<B: Allocator>(
 }
 
 /// How many requests for memory the line's call makes.
-fn asked_by_call<B: Allocator>(
+fn asked_by_call<A: Allocator + Copy, B: Allocator>(
     heap: &Refusing<B>,
-    global: Global,
+    (alloc, global): (A, Global),
     line: &str,
 ) -> Result<u64, AllocError> {
     heap.set(Plan::Grant);
-    let mut core = started(heap, global)?;
-    let words = words_of(heap, line)?;
+    let mut core = started(alloc, global)?;
+    let words = words_of(alloc, line)?;
     heap.set(Plan::Grant);
-    let _reply = core.call(heap, 1, &words);
+    let _reply = core.call(alloc, 1, &words);
     Ok(heap.asked())
 }
 
@@ -144,7 +146,7 @@ fn prepares_withstand_each_refusal(rt: HostRuntime) -> Result<(), Fail> {
         ("DEL b a", ":1", "nil", "nil", 3),
     ] {
         let needed = refusals(&heap, global, Case { line, told, a, b })?;
-        let called = asked_by_call(&heap, global, line)?;
+        let called = asked_by_call(&heap, (&heap, global), line)?;
         assert!(rt; needed == Some(asked) && called == asked, "{line}");
     }
     Ok(())
@@ -161,21 +163,21 @@ fn filled<A: Allocator + Copy>(alloc: A, global: Global, keys: u32) -> Result<Co
 }
 
 /// Whether one more long value withstands the refusal of this request for memory, or `None` if it asks for fewer.
-fn long_withstands<B: Allocator>(
+fn long_withstands<A: Allocator + Copy, B: Allocator>(
     heap: &Refusing<B>,
-    global: Global,
+    (alloc, global): (A, Global),
     keys: u32,
     at: u64,
 ) -> Result<Option<bool>, AllocError> {
-    let mut core = filled(heap, global, keys)?;
-    let words = words_of(heap, "SET c LONG")?;
-    if !is_refused(heap, &mut core, &words, at) {
+    let mut core = filled(alloc, global, keys)?;
+    let words = words_of(alloc, "SET c LONG")?;
+    if !is_refused(heap, alloc, &mut core, &words, at) {
         return Ok(None);
     }
-    let stood = stands(&mut core, heap, "$old", "nil")?;
-    let kept = is_told(&mut core, heap, 1, "STRLEN 5", ":20000")?;
-    let done = commits(heap, &mut core, &words, "OK")?;
-    let now = is_told(&mut core, heap, 1, "STRLEN c", ":20000")?;
+    let stood = stands(&mut core, alloc, "$old", "nil")?;
+    let kept = is_told(&mut core, alloc, 1, "STRLEN 5", ":20000")?;
+    let done = commits(heap, alloc, &mut core, &words, "OK")?;
+    let now = is_told(&mut core, alloc, 1, "STRLEN c", ":20000")?;
     Ok(Some(stood && kept && done && now))
 }
 
@@ -186,7 +188,7 @@ fn long_refusals<B: Allocator>(
     keys: u32,
 ) -> Result<Option<u64>, AllocError> {
     for at in 0..1_000u64 {
-        match long_withstands(heap, global, keys, at)? {
+        match long_withstands(heap, (heap, global), keys, at)? {
             None => return Ok(Some(at)),
             Some(true) => {}
             Some(false) => return Ok(None),
