@@ -237,10 +237,13 @@ const ACTS: [Act; 22] = [
     Act::Serve(3),
 ];
 
-#[test]
-fn two_tenants_keep_their_own_rows(rt: HostRuntime) -> Result<(), Fail> {
-    let alloc = rt.alloc();
-    let mut house = new_house(alloc, alloc)?;
+/// Wants of a new house what two tenants are told.
+fn keep_own_rows<A: Allocator + Copy>(
+    rt: &impl Abort,
+    alloc: A,
+    global: Global,
+) -> Result<(), AllocError> {
+    let mut house = new_house(alloc, global)?;
     let events = events_of(alloc, &ACTS)?;
     let Ok(outputs) = house.run(alloc, events.as_slice()) else {
         assert!(rt; false, "memory was refused");
@@ -255,14 +258,22 @@ fn two_tenants_keep_their_own_rows(rt: HostRuntime) -> Result<(), Fail> {
     assert!(rt; ben.as_slice() == b"+OK\r\n+OK\r\n:1\r\n$-1\r\n".as_slice());
     assert!(rt; outputs.told().len() == 9 && outputs.marks().len() == 22);
     assert!(rt; house.core().tenants().count() == 3);
-    compare(&rt, alloc, &ACTS, &outputs)?;
+    compare(rt, alloc, &ACTS, &outputs)?;
     Ok(())
 }
 
 #[test]
-fn each_event_is_answered(rt: HostRuntime) -> Result<(), Fail> {
-    let alloc = rt.alloc();
-    let mut house = new_house(alloc, alloc)?;
+fn two_tenants_keep_their_own_rows(rt: HostRuntime) -> Result<(), Fail> {
+    Ok(keep_own_rows(&rt, rt.alloc(), rt.alloc())?)
+}
+
+/// Wants of a new house an answer of each kind.
+fn answers_each_event<A: Allocator + Copy>(
+    rt: &impl Abort,
+    alloc: A,
+    global: Global,
+) -> Result<(), AllocError> {
+    let mut house = new_house(alloc, global)?;
     let opened = matches!(house.step(alloc, &Event::Open(1)), StepResult::Done);
     let again = matches!(house.step(alloc, &Event::Open(1)), StepResult::Refused);
     let more = matches!(house.step(alloc, &Event::Serve(1)), StepResult::More);
@@ -287,6 +298,11 @@ fn each_event_is_answered(rt: HostRuntime) -> Result<(), Fail> {
     let late = matches!(house.step(alloc, &blank), StepResult::Refused);
     assert!(rt; closed && twice && reopened && late);
     Ok(())
+}
+
+#[test]
+fn each_event_is_answered(rt: HostRuntime) -> Result<(), Fail> {
+    Ok(answers_each_event(&rt, rt.alloc(), rt.alloc())?)
 }
 
 const REQUESTS: [Request; 12] = [
@@ -326,19 +342,27 @@ fn random_acts<A: Allocator + Copy>(alloc: A, count: u64) -> Result<Vec<Act, A>,
     Ok(acts)
 }
 
-#[test]
-fn random_requests_are_answered_as_alone(rt: HostRuntime) -> Result<(), Fail> {
-    let alloc = rt.alloc();
+/// Wants of a new house what each tenant's own run tells.
+fn answers_as_alone<A: Allocator + Copy>(
+    rt: &impl Abort,
+    alloc: A,
+    global: Global,
+) -> Result<(), AllocError> {
     let acts = random_acts(alloc, 8_000)?;
     let events = events_of(alloc, acts.as_slice())?;
-    let mut house = new_house(alloc, alloc)?;
+    let mut house = new_house(alloc, global)?;
     let Ok(outputs) = house.run(alloc, events.as_slice()) else {
         assert!(rt; false, "memory was refused");
         return Ok(());
     };
     assert!(rt; outputs.told().len() > 3_600);
-    compare(&rt, alloc, acts.as_slice(), &outputs)?;
+    compare(rt, alloc, acts.as_slice(), &outputs)?;
     Ok(())
+}
+
+#[test]
+fn random_requests_are_answered_as_alone(rt: HostRuntime) -> Result<(), Fail> {
+    Ok(answers_as_alone(&rt, rt.alloc(), rt.alloc())?)
 }
 
 // Each request for memory of the run is refused in turn: the outputs say where, and all else is told as each
@@ -375,12 +399,13 @@ fn a_run_withstands_each_refusal(rt: HostRuntime) -> Result<(), Fail> {
     Ok(())
 }
 
-// One connection changes hands, and one tenant is served on two connections: a login that is accepted changes
-// who is served from the next request on, and one that fails changes nothing.
-#[test]
-fn connections_change_hands(rt: HostRuntime) -> Result<(), Fail> {
-    let alloc = rt.alloc();
-    let mut house = new_house(alloc, alloc)?;
+/// Wants of a new house what two connections are told.
+fn changes_hands<A: Allocator + Copy>(
+    rt: &impl Abort,
+    alloc: A,
+    global: Global,
+) -> Result<(), AllocError> {
+    let mut house = new_house(alloc, global)?;
     let mut acts = Vec::new(alloc);
     acts.push(Act::Open(1))?;
     acts.push(Act::Open(2))?;
@@ -404,6 +429,13 @@ fn connections_change_hands(rt: HostRuntime) -> Result<(), Fail> {
     let second = outputs.bytes(alloc, 2)?;
     assert!(rt; second.as_slice() == b"+OK\r\n$3\r\nann\r\n:1\r\n".as_slice());
     Ok(())
+}
+
+// One connection changes hands, and one tenant is served on two connections: a login that is accepted changes
+// who is served from the next request on, and one that fails changes nothing.
+#[test]
+fn connections_change_hands(rt: HostRuntime) -> Result<(), Fail> {
+    Ok(changes_hands(&rt, rt.alloc(), rt.alloc())?)
 }
 
 /// What each connection asks, in the order of the events.
@@ -432,7 +464,7 @@ fn connection_of(act: Act) -> u32 {
 }
 
 /// The acts of the first connection alone.
-fn of_first(alloc: Global, acts: &[Act]) -> Result<Vec<Act>, AllocError> {
+fn of_first<A: Allocator>(alloc: A, acts: &[Act]) -> Result<Vec<Act, A>, AllocError> {
     let mut own = Vec::new(alloc);
     for act in acts {
         if connection_of(*act) == 1 {
@@ -442,13 +474,14 @@ fn of_first(alloc: Global, acts: &[Act]) -> Result<Vec<Act>, AllocError> {
     Ok(own)
 }
 
-// Ann's requests among another's, and alone in a house of other tenants, in which her index is another: she is
-// told the same.
-#[test]
-fn a_tenant_is_told_the_same_in_another_house(rt: HostRuntime) -> Result<(), Fail> {
-    let alloc: Global = rt.alloc();
-    let mut first = new_house(alloc, alloc)?;
-    let mut second = house_of(alloc, alloc, OTHERS)?;
+/// Wants of two new houses the same for one tenant.
+fn tells_the_same<A: Allocator + Copy>(
+    rt: &impl Abort,
+    alloc: A,
+    global: Global,
+) -> Result<(), AllocError> {
+    let mut first = new_house(alloc, global)?;
+    let mut second = house_of(alloc, global, OTHERS)?;
     assert_eq!(rt; first.core().tenants().find(b"ann"), Some(1));
     assert_eq!(rt; second.core().tenants().find(b"ann"), Some(2));
     let events = events_of(alloc, &ACTS)?;
@@ -463,4 +496,11 @@ fn a_tenant_is_told_the_same_in_another_house(rt: HostRuntime) -> Result<(), Fai
     let told = one.bytes(alloc, 1)?;
     assert!(rt; told.as_slice() == other.bytes(alloc, 1)?.as_slice() && told.len() > 40);
     Ok(())
+}
+
+// Ann's requests among another's, and alone in a house of other tenants, in which her index is another: she is
+// told the same.
+#[test]
+fn a_tenant_is_told_the_same_in_another_house(rt: HostRuntime) -> Result<(), Fail> {
+    Ok(tells_the_same(&rt, rt.alloc(), rt.alloc())?)
 }

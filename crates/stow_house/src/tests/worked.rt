@@ -1,6 +1,7 @@
 //! Worked requests: each list by a run of the house, and by the tenant's own run.
 use crate::tests::new_house;
-use std::alloc::{AllocError, Allocator};
+use std::alloc::{AllocError, Allocator, Global};
+use std::process::Abort;
 use std::test::Fail;
 use stow_bytes::byte_string::ByteString;
 use stow_model::event::Event;
@@ -47,25 +48,35 @@ fn requests_of<A: Allocator + Copy>(
     Ok(requests)
 }
 
+/// Wants of a new house, and of the tenant's own run, what a list is told.
+fn answers_list<A: Allocator + Copy>(
+    rt: &impl Abort,
+    alloc: A,
+    global: Global,
+    row: &[Told],
+) -> Result<(), AllocError> {
+    let wanted = told(alloc, row)?;
+    let mut house = new_house(alloc, global)?;
+    let events = events_of(alloc, row)?;
+    let Ok(outputs) = house.run(alloc, events.as_slice()) else {
+        assert!(rt; false, "memory was refused");
+        return Ok(());
+    };
+    let bytes = outputs.bytes(alloc, CONNECTION)?;
+    assert!(rt; bytes.as_slice().strip_prefix(b"+OK\r\n") == Some(wanted.as_slice()));
+    let requests = requests_of(alloc, row)?;
+    let mut own = Vec::new(alloc);
+    for reply in &own_run(alloc, QUOTA, requests.as_slice())?.replies {
+        reply.write(&mut own)?;
+    }
+    assert!(rt; own.as_slice() == wanted.as_slice());
+    Ok(())
+}
+
 #[test]
 fn worked_requests(rt: HostRuntime) -> Result<(), Fail> {
-    let alloc = rt.alloc();
     for row in ROWS {
-        let wanted = told(alloc, row)?;
-        let mut house = new_house(alloc, alloc)?;
-        let events = events_of(alloc, row)?;
-        let Ok(outputs) = house.run(alloc, events.as_slice()) else {
-            assert!(rt; false, "memory was refused");
-            return Ok(());
-        };
-        let bytes = outputs.bytes(alloc, CONNECTION)?;
-        assert!(rt; bytes.as_slice().strip_prefix(b"+OK\r\n") == Some(wanted.as_slice()));
-        let requests = requests_of(alloc, row)?;
-        let mut own = Vec::new(alloc);
-        for reply in &own_run(alloc, QUOTA, requests.as_slice())?.replies {
-            reply.write(&mut own)?;
-        }
-        assert!(rt; own.as_slice() == wanted.as_slice());
+        answers_list(&rt, rt.alloc(), rt.alloc(), row)?;
     }
     Ok(())
 }
