@@ -18,7 +18,6 @@ use crate::unkept::Unkept;
 use std::alloc::{AllocError, Allocator, Global};
 use std::process::Abort;
 use std::sync::{Arc, Wait};
-use std::thread::join;
 use stow_core::Core;
 use stow_house::door::Door;
 use stow_login::tenants::Tenants;
@@ -132,25 +131,34 @@ fn closed<R: Abort, J: Journal, A: Allocator + Copy>(
 }
 
 /// Whether so many seats are refused, and the core comes back whole.
-fn gives_core_back<R: Abort>(rt: &R, alloc: Global, seats: u32) -> bool {
-    let core = new_core(alloc, alloc).expect(rt, "memory");
-    match Shared::<Kept>::open(alloc, core, seats) {
+fn gives_core_back<R: Abort, A: Allocator + Copy>(
+    rt: &R,
+    alloc: A,
+    global: Global,
+    seats: u32,
+) -> bool {
+    let core = new_core(alloc, global).expect(rt, "memory");
+    match Shared::<Kept, _>::open(alloc, core, seats) {
         Ok(_) => false,
         Err((core, fault)) => fault.number() == 1 && core.tenants().count() == 3,
     }
 }
 
+/// Whether a lock with so many seats opens and closes.
+fn opens<R: Abort, A: Allocator + Copy>(rt: &R, alloc: A, global: Global, seats: u32) -> bool {
+    let (shared, handed) = opened::<_, Kept, A>(rt, alloc, global, seats);
+    let count = handed.len();
+    let tenants = shared.tenants().count();
+    let closed = closed(rt, shared, handed);
+    count == seats as usize && tenants == 3 && closed.entries().is_empty()
+}
+
 #[test]
 fn seats_are_1_to_1024(rt: HostRuntime) {
-    let alloc: Global = rt.alloc();
-    assert!(rt; gives_core_back(&rt, alloc, 0));
-    assert!(rt; gives_core_back(&rt, alloc, 1_025));
-    for seats in [1, 1_024] {
-        let (shared, handed) = opened::<_, Kept, Global>(&rt, alloc, alloc, seats);
-        assert_eq!(rt; handed.len(), seats as usize);
-        assert_eq!(rt; shared.tenants().count(), 3);
-        assert_eq!(rt; closed(&rt, shared, handed).entries().len(), 0);
-    }
+    assert!(rt; gives_core_back(&rt, rt.alloc(), rt.alloc(), 0));
+    assert!(rt; gives_core_back(&rt, rt.alloc(), rt.alloc(), 1_025));
+    assert!(rt; opens(&rt, rt.alloc(), rt.alloc(), 1));
+    assert!(rt; opens(&rt, rt.alloc(), rt.alloc(), 1_024));
 }
 
 #[test]
@@ -216,23 +224,27 @@ const LINES: [&str; 6] = [
 ];
 
 /// Makes a tenant's calls, 20 times over.
-fn calls<R: Wait + Abort>(
+fn calls<A: Allocator + Copy, R: Wait + Abort>(
     rt: &R,
-    alloc: Global,
-    shared: &Shared<Kept>,
-    mut seat: Seat<Kept>,
+    alloc: A,
+    shared: &Shared<Kept, A>,
+    seat: &mut Seat<Kept, A>,
     tenant: u32,
-) -> Seat<Kept> {
+) {
     for _ in 0..20 {
         for line in LINES {
-            told(rt, alloc, shared, &mut seat, tenant, line);
+            told(rt, alloc, shared, seat, tenant, line);
         }
     }
-    seat
 }
 
 /// What a tenant's own store, alone, tells to a call.
-fn told_alone<R: Abort>(rt: &R, alloc: Global, alone: &mut PlainStore, words: &Words) -> Reply {
+fn told_alone<A: Allocator + Copy, R: Abort>(
+    rt: &R,
+    alloc: A,
+    alone: &mut PlainStore<A>,
+    words: &Words<A>,
+) -> Reply<A> {
     let request = PlainRequest {
         words: copied_words(alloc, words).expect(rt, "memory"),
         is_refused: false,
@@ -241,7 +253,12 @@ fn told_alone<R: Abort>(rt: &R, alloc: Global, alone: &mut PlainStore, words: &W
 }
 
 /// How many of the entries are a tenant's; each was told what the tenant's own store, alone, tells.
-fn own_entries<R: Abort>(rt: &R, alloc: Global, entries: &[Entry], tenant: u32) -> usize {
+fn own_entries<A: Allocator + Copy, R: Abort>(
+    rt: &R,
+    alloc: A,
+    entries: &[Entry<A>],
+    tenant: u32,
+) -> usize {
     let mut alone = PlainStore::new(alloc, QUOTA);
     let mut count: usize = 0;
     for entry in entries {
@@ -255,24 +272,24 @@ fn own_entries<R: Abort>(rt: &R, alloc: Global, entries: &[Entry], tenant: u32) 
     count
 }
 
-#[test]
-fn two_threads_leave_a_legal_journal(rt: HostRuntime) {
-    let alloc: Global = rt.alloc();
-    let (shared, mut seats) = opened::<_, Kept, Global>(&rt, alloc, alloc, 2);
-    let second = seats.pop().expect(&rt, "a seat");
-    let first = seats.pop().expect(&rt, "a seat");
-    let lent = &shared;
-    let (one, two) = join(
-        &rt,
-        || calls(&rt, alloc, lent, first, 1),
-        || calls(&rt, alloc, lent, second, 2),
-    );
-    seats.push(two).expect(&rt, "memory");
-    seats.push(one).expect(&rt, "memory");
-    let closed = closed(&rt, shared, seats);
+/// Wants of a lock with two seats, from which two tenants call in turn, a journal of what each is told alone.
+fn leave_a_legal_journal<A: Allocator + Copy, R: Wait + Abort>(rt: &R, alloc: A, global: Global) {
+    let (shared, mut seats) = opened::<_, Kept, A>(rt, alloc, global, 2);
+    let mut second = seats.pop().expect(rt, "a seat");
+    let mut first = seats.pop().expect(rt, "a seat");
+    calls(rt, alloc, &shared, &mut first, 1);
+    calls(rt, alloc, &shared, &mut second, 2);
+    seats.push(second).expect(rt, "memory");
+    seats.push(first).expect(rt, "memory");
+    let closed = closed(rt, shared, seats);
     assert_eq!(rt; closed.entries().len(), 240);
-    assert_eq!(rt; own_entries(&rt, alloc, closed.entries(), 1), 120);
-    assert_eq!(rt; own_entries(&rt, alloc, closed.entries(), 2), 120);
+    assert_eq!(rt; own_entries(rt, alloc, closed.entries(), 1), 120);
+    assert_eq!(rt; own_entries(rt, alloc, closed.entries(), 2), 120);
+}
+
+#[test]
+fn two_seats_leave_a_legal_journal(rt: HostRuntime) {
+    leave_a_legal_journal(&rt, rt.alloc(), rt.alloc());
 }
 
 // Each request for memory of `open` is refused in turn: the core comes back, and opens once memory is there.
@@ -344,38 +361,48 @@ fn calls_withstand_each_refusal(rt: HostRuntime) {
 }
 
 /// Whether a call under the lock is told what the core alone tells, and asks for as much memory.
-fn asks_as_alone<'h, A: Allocator, R: Wait + Abort>(
+fn asks_as_alone<A: Allocator + Copy, B: Allocator, R: Wait + Abort>(
     rt: &R,
-    heap: &'h Refusing<A>,
-    core: &mut Core<&'h Refusing<A>>,
-    (shared, seat): (
-        &Shared<Unkept, &'h Refusing<A>>,
-        &mut Seat<Unkept, &'h Refusing<A>>,
-    ),
+    (heap, alloc): (&Refusing<B>, A),
+    core: &mut Core<A>,
+    (shared, seat): (&Shared<Unkept, A>, &mut Seat<Unkept, A>),
     line: &str,
 ) -> bool {
-    let words = words_of(heap, line).expect(rt, "memory");
+    let words = words_of(alloc, line).expect(rt, "memory");
     heap.set(Plan::Grant);
-    let alone = core.call(heap, 1, &words);
+    let alone = core.call(alloc, 1, &words);
     let needed = heap.asked();
     heap.set(Plan::Grant);
-    let reply = shared.call(rt, heap, seat, 1, &words);
+    let reply = shared.call(rt, alloc, seat, 1, &words);
     heap.asked() == needed && same_reply(&alone, &reply)
+}
+
+/// Wants of a lock without a journal as much memory as of a core.
+fn ask_for_no_more<A: Allocator + Copy, B: Allocator, R: Wait + Abort>(
+    rt: &R,
+    heap: &Refusing<B>,
+    alloc: A,
+    global: Global,
+) {
+    let mut core = new_core(alloc, global).expect(rt, "memory");
+    let (shared, mut seat) = opened_for_one::<_, Unkept, _>(rt, alloc, global);
+    for line in LINES {
+        let lent = (&shared, &mut seat);
+        assert!(rt;
+            asks_as_alone(rt, (heap, alloc), &mut core, lent, line),
+            "{line}"
+        );
+    }
+    heap.set(Plan::RefuseAll);
+    assert!(rt; shared.resize(rt, &mut seat, 65_536).is_ok());
+    assert!(rt; seat.receipts().is_empty());
+    heap.set(Plan::Grant);
+    assert!(rt; closed_by_one(rt, alloc, shared, seat).entries().is_empty());
 }
 
 // A lock that keeps no journal asks for no memory beside the core's own, and its seats hold nothing.
 #[test]
 fn unkept_calls_ask_for_no_more(rt: HostRuntime) {
     let heap = Refusing::new(rt.alloc());
-    let mut core = new_core(&heap, rt.alloc()).expect(&rt, "memory");
-    let (shared, mut seat) = opened_for_one::<_, Unkept, _>(&rt, &heap, rt.alloc());
-    for line in LINES {
-        let lent = (&shared, &mut seat);
-        assert!(rt; asks_as_alone(&rt, &heap, &mut core, lent, line), "{line}");
-    }
-    heap.set(Plan::RefuseAll);
-    assert!(rt; shared.resize(&rt, &mut seat, 65_536).is_ok());
-    assert!(rt; seat.receipts().is_empty());
-    heap.set(Plan::Grant);
-    assert!(rt; closed_by_one(&rt, &heap, shared, seat).entries().is_empty());
+    ask_for_no_more(&rt, &heap, &heap, rt.alloc());
 }
