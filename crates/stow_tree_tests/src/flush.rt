@@ -4,9 +4,9 @@ ghost use Rattle.stow_tree_model.specs.Keys.{packed};
 ghost use Rattle.stow_node.specs.Flushes.{AreShort};
 ghost use Rattle.stow_node.specs.Subtree.{messages_of};
 
-use stow_flush::room::make_room;
 use std::alloc::{AllocError, Allocator};
 use std::test::Fail;
+use stow_flush::room::make_room;
 use stow_leaf_cache::leaf_cache::LeafCache;
 use stow_merge::pins::Pins;
 use stow_node::node::Node;

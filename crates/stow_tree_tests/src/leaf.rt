@@ -1,11 +1,11 @@
 //! What no clause says: that the call succeeds where there is memory, and that each request for it may be refused.
 ghost use Rattle.std.specs.Prelude.{◌≤◌, length};
 
+use std::alloc::{AllocError, Allocator};
+use std::test::Fail;
 use stow_leaf::leaf::Leaf;
 use stow_leaf::making::lent_run;
 use stow_leaf::replacement::Replacement;
-use std::alloc::{AllocError, Allocator};
-use std::test::Fail;
 use stow_merge::fitting::has_short_values;
 use stow_merge::pins::Pins;
 use stow_message::message_buf::MessageBuf;

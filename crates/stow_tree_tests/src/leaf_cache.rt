@@ -2,9 +2,9 @@
 ghost use Rattle.std.specs.Prelude.{◌≡◌, length, is_some};
 ghost use Rattle.stow_leaf_cache.specs.Cache.{leaves_used, rows_under};
 
-use stow_leaf_cache::leaf_cache::LeafCache;
 use std::alloc::{AllocError, Allocator};
 use std::test::Fail;
+use stow_leaf_cache::leaf_cache::LeafCache;
 use stow_page::page::{Page, unpack};
 use stow_page::rows::Rows;
 use stow_refusing::{Plan, Refusing};

@@ -4,13 +4,13 @@ ghost use Rattle.std.specs.Prelude.{◌<◌};
 
 mod jobs;
 
+use std::alloc::{AllocError, Allocator, Global};
+use std::process::Abort;
+use std::test::Fail;
 use stow_merge::cutting::cut;
 use stow_merge::fitting::has_short_values;
 use stow_merge::merging::merge_into_pages;
 use stow_merge::pins::Pins;
-use std::alloc::{AllocError, Allocator, Global};
-use std::process::Abort;
-use std::test::Fail;
 use stow_page::packed_rows::PackedRows;
 use stow_page::rows::Rows;
 use stow_refusing::{Plan, Refusing};

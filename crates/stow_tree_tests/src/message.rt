@@ -1,12 +1,12 @@
 //! Worked rows, random calls beside a sorted vector, and the calls that take no memory with all of it refused.
 ghost use Rattle.std.specs.Prelude.{◌≡◌, ◌<◌};
 
+use std::alloc::{AllocError, Allocator};
+use std::test::Fail;
 use stow_message::head::size;
 use stow_message::message_buf::MessageBuf;
 use stow_message::newest::Newest;
 use stow_message::run::Run;
-use std::alloc::{AllocError, Allocator};
-use std::test::Fail;
 use stow_raw::raw_buf::RawBuf;
 use stow_refusing::{Plan, Refusing};
 use stow_tree_model::message::Message;

@@ -5,13 +5,13 @@ ghost use Rattle.stow_node.specs.Flushes.{AreShort};
 ghost use Rattle.stow_tree_tests.specs.Ready.{IsReadyAbove};
 ghost use Rattle.stow_node.specs.Subtree.{messages_of, places_at};
 
-use stow_node::child::Child;
-use stow_node::node::Node;
-use stow_node::shape::Shape;
 use std::alloc::{AllocError, Allocator};
 use std::test::Fail;
 use stow_leaf_cache::leaf_cache::LeafCache;
 use stow_merge::pins::Pins;
+use stow_node::child::Child;
+use stow_node::node::Node;
+use stow_node::shape::Shape;
 use stow_raw::raw_buf::RawBuf;
 use stow_refusing::{Plan, Refusing};
 use stow_tree_model::message::Message;

@@ -1,11 +1,11 @@
 //! What no clause says: that the format's definition gives the bytes of worked examples, that a plain reader of the
 //! format agrees on bytes that are no page, and that the calls succeed where there is memory, and only there.
+use std::alloc::{AllocError, Allocator};
+use std::test::Fail;
 use stow_page::entry::entry_size;
 use stow_page::packed_rows::PackedRows;
 use stow_page::page::{Page, pack, unpack};
 use stow_page::rows::{Rows, at};
-use std::alloc::{AllocError, Allocator};
-use std::test::Fail;
 use stow_refusing::{Plan, Refusing};
 use stow_tree_model::tenant_key_buf::TenantKeyBuf;
 

@@ -1,9 +1,9 @@
 //! The worked rows, random calls beside two plain vectors, and each request for memory refused in turn.
 ghost use Rattle.std.specs.Prelude.{◌≡◌, ◌≤◌};
 
-use stow_raw::raw_buf::RawBuf;
 use std::alloc::{AllocError, Allocator};
 use std::test::Fail;
+use stow_raw::raw_buf::RawBuf;
 use stow_refusing::{Plan, Refusing};
 
 fn send<T: Send>(x: T) -> T

@@ -3,12 +3,6 @@ ghost use Rattle.std.specs.Prelude.{◌≡◌, ◌+◌, ◌<◌, ◌∷◌, [], 
 ghost use Rattle.stow_tree_model.specs.Keys.{IsOfTenant};
 ghost use Rattle.stow_tree_tests.specs.Numbered.{AreNumberedBelow};
 
-use stow_read::descent::may_hold;
-use stow_read::found::Found;
-use stow_read::getting::get;
-use stow_read::range::range;
-use stow_read::row::Row;
-use stow_read::versions::versions;
 use std::alloc::{AllocError, Allocator};
 use std::test::Fail;
 use stow_leaf_cache::leaf_cache::LeafCache;
@@ -16,6 +10,12 @@ use stow_merge::pins::Pins;
 use stow_node::node::Node;
 use stow_node::shape::Shape;
 use stow_raw::raw_buf::RawBuf;
+use stow_read::descent::may_hold;
+use stow_read::found::Found;
+use stow_read::getting::get;
+use stow_read::range::range;
+use stow_read::row::Row;
+use stow_read::versions::versions;
 use stow_refusing::{Plan, Refusing};
 use stow_tree_model::message::Message;
 use stow_tree_model::numbered_value::NumberedValue;

@@ -1,9 +1,9 @@
 //! Memory is given back: a second equal round of calls leaves no more of it held than the first did.
-use stow_leaf_cache::leaf_cache::LeafCache;
 use crate::leaf_cache::rows_of;
 use linked_list_allocator::LocalHeap;
 use std::alloc::{AllocError, Allocator};
 use std::test::Fail;
+use stow_leaf_cache::leaf_cache::LeafCache;
 
 const FENCES: [&[u8]; 5] = [b"a", b"a_longer_fence", b"b", b"c", b""];
 

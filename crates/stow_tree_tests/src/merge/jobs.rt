@@ -1,13 +1,13 @@
 //! Random merges through jobs, and a job that comes back whole where memory is refused.
 use super::{are_same, packed, pins_of, random_batch, random_pins, random_rows};
+use std::alloc::{AllocError, Allocator, Global};
+use std::process::Abort;
+use std::test::Fail;
 use stow_merge::fitting::is_mergeable;
 use stow_merge::flush_job::FlushJob;
 use stow_merge::flush_result::FlushResult;
 use stow_merge::flush_target::{FlushTarget, GREATEST_LEAF_TARGET, LEAST_LEAF_TARGET};
 use stow_merge::pins::Pins;
-use std::alloc::{AllocError, Allocator, Global};
-use std::process::Abort;
-use std::test::Fail;
 use stow_message::message_buf::MessageBuf;
 use stow_page::rows::Rows;
 use stow_refusing::{Plan, Refusing};

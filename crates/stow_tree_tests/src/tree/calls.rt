@@ -1,12 +1,12 @@
 //! Each call of a small tree.
-use stow_tree::shape_report::ShapeReport;
 use crate::tree::numbered::{Interval, Numbered};
-use stow_tree::tree::Tree;
-use stow_tree::tree_fault::TreeFault;
-use stow_tree::tree_shape::{MOST_BUFFER, MOST_CACHE, MOST_FAN_OUT, MOST_LEAF, TreeShape};
 use std::alloc::{AllocError, Allocator};
 use std::test::Fail;
 use stow_merge::pins::Pins;
+use stow_tree::shape_report::ShapeReport;
+use stow_tree::tree::Tree;
+use stow_tree::tree_fault::TreeFault;
+use stow_tree::tree_shape::{MOST_BUFFER, MOST_CACHE, MOST_FAN_OUT, MOST_LEAF, TreeShape};
 use stow_tree_model::op::Op;
 use stow_tree_model::tenant_key::TenantKey;
 

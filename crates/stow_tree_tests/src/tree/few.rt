@@ -1,10 +1,10 @@
 //! A tree of several levels that loses nearly all of its rows.
-use stow_tree::shape_report::ShapeReport;
 use crate::tree::calls::SMALLEST;
 use crate::tree::run::{Course, Run};
-use stow_tree::tree_shape::TreeShape;
 use std::alloc::{AllocError, Allocator};
 use std::test::Fail;
+use stow_tree::shape_report::ShapeReport;
+use stow_tree::tree_shape::TreeShape;
 
 /// Writes most keys and removes them, so many times, as pins come and go. Answers whether the tree tells what the list does.
 fn shrink<A: Allocator + Copy>(

@@ -1,11 +1,11 @@
 //! A tree of four hundred rows of a thousand bytes, in several shapes: what is read, and how many leaves are held.
 use crate::tree::calls::{LARGEST, SMALLEST};
 use crate::tree::numbered::{Interval, Numbered};
-use stow_tree::tree_shape::TreeShape;
 use std::alloc::{AllocError, Allocator};
 use std::test::Fail;
 use stow_merge::pins::Pins;
 use stow_read::row::Row;
+use stow_tree::tree_shape::TreeShape;
 use stow_tree_model::op::Op;
 use stow_tree_model::tenant_key_buf::TenantKeyBuf;
 

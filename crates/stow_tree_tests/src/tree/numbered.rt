@@ -6,13 +6,13 @@ ghost use Rattle.stow_tree_model.specs.TreeMessage.{message_of};
 ghost use Rattle.stow_tree_model.specs.Value.{IsValue};
 ghost use Rattle.stow_tree.specs.TreeState.{tree_messages, HasBound};
 
-use stow_tree::tree::Tree;
-use stow_tree::tree_shape::{LEAST_BUFFER, TreeShape};
 use std::alloc::{AllocError, Allocator};
 use stow_bytes::limits::VALUE_LIMIT;
 use stow_merge::pins::Pins;
 use stow_read::row::Row;
 use stow_refusing::{Plan, Refusing};
+use stow_tree::tree::Tree;
+use stow_tree::tree_shape::{LEAST_BUFFER, TreeShape};
 use stow_tree_model::message::Message;
 use stow_tree_model::op::Op;
 use stow_tree_model::plain::message;

@@ -1,10 +1,10 @@
 //! Random changes of several tenants, in several shapes, against the plain list of them.
-use stow_tree::shape_report::ShapeReport;
 use crate::tree::calls::{LARGEST, SMALLEST};
 use crate::tree::run::{Course, Run};
-use stow_tree::tree_shape::TreeShape;
 use std::alloc::{AllocError, Allocator};
 use std::test::Fail;
+use stow_tree::shape_report::ShapeReport;
+use stow_tree::tree_shape::TreeShape;
 
 /// How large the tree is after so many changes, if it tells what the plain list does.
 fn grown<A: Allocator + Copy>(

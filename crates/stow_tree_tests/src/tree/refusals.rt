@@ -3,13 +3,13 @@ use crate::tree::calls::{SMALLEST, key_a};
 use crate::tree::changes::Change;
 use crate::tree::numbered::Numbered;
 use crate::tree::run::{Course, Read, Run};
-use stow_tree::tree::Tree;
-use stow_tree::tree_fault::TreeFault;
-use stow_tree::tree_shape::TreeShape;
 use std::alloc::{AllocError, Allocator};
 use std::test::Fail;
 use stow_merge::pins::Pins;
 use stow_refusing::{Plan, Refusing};
+use stow_tree::tree::Tree;
+use stow_tree::tree_fault::TreeFault;
+use stow_tree::tree_shape::TreeShape;
 use stow_tree_model::op::Op;
 
 /// Why no tree can be had, if it can't.

@@ -3,12 +3,12 @@ ghost use Rattle.std.specs.Prelude.{◌≤◌};
 
 use crate::tree::changes::{Change, Kind, messages_of};
 use crate::tree::numbered::{Interval, Numbered};
-use stow_tree::tree_shape::TreeShape;
 use std::alloc::{AllocError, Allocator};
 use stow_bytes::byte_string::ByteString;
 use stow_merge::pins::Pins;
 use stow_read::row::Row;
 use stow_testing::random::Random;
+use stow_tree::tree_shape::TreeShape;
 use stow_tree_model::message::Message;
 use stow_tree_model::plain::value_of_key;
 use stow_tree_model::tenant_key::TenantKey;
