@@ -62,6 +62,17 @@ impl<A: Allocator + Copy> Service<A> {
     }
 }
 
+/// Serves one connection by a new core.
+fn serve_anew<A: Allocator + Copy>(
+    alloc: A,
+    global: Global,
+    reader: &mut Feed<'_>,
+    writer: &mut Narrow<'_>,
+) -> Result<Served, AllocError> {
+    let mut service = Service::new(alloc, global)?;
+    Ok(service.serve(reader, writer))
+}
+
 #[test]
 fn a_reader_may_fail_anywhere(rt: HostRuntime) -> Result<(), Fail> {
     let alloc = rt.alloc();
@@ -75,7 +86,7 @@ fn a_reader_may_fail_anywhere(rt: HostRuntime) -> Result<(), Fail> {
         let written = Cell::new(0);
         let mut reader = Feed::new(&HELLO[..count], 7, true);
         let mut writer = Narrow::new(alloc, &written, 1_000);
-        let served = Service::new(alloc, alloc)?.serve(&mut reader, &mut writer);
+        let served = serve_anew(alloc, alloc, &mut reader, &mut writer)?;
         assert!(rt; served == Served::ReadFailed, "after {count}");
         assert!(rt; writer.bytes() == &REPLIES[..told], "after {count}");
     }
@@ -91,7 +102,7 @@ fn a_writer_may_fail_anywhere(rt: HostRuntime) -> Result<(), Fail> {
             let mut reader = Feed::new(HELLO, 4_096, false);
             let mut writer = Narrow::new(alloc, &written, room);
             writer.takes_none = takes_none;
-            let served = Service::new(alloc, alloc)?.serve(&mut reader, &mut writer);
+            let served = serve_anew(alloc, alloc, &mut reader, &mut writer)?;
             let want = if room < REPLIES.len() {
                 Served::WriteFailed
             } else {
@@ -171,7 +182,7 @@ fn long_replies_do_not_wait(rt: HostRuntime) -> Result<(), Fail> {
     let written = Cell::new(0);
     let mut reader = Feed::new(input.as_slice(), 4_096, false);
     let mut writer = Narrow::new(alloc, &written, 1_000_000);
-    let served = Service::new(alloc, alloc)?.serve(&mut reader, &mut writer);
+    let served = serve_anew(alloc, alloc, &mut reader, &mut writer)?;
     assert!(rt; served == Served::Ended);
     assert!(rt; writer.bytes().len() == 655_460 && writer.most == 65_550);
     Ok(())
@@ -194,39 +205,54 @@ fn may_be_told(told: &[u8], is_whole: bool) -> bool {
     false
 }
 
+/// Whether a login, a write and a read are served, and told right.
+fn serves_all<A: Allocator + Copy>(service: &mut Service<A>, global: Global) -> bool {
+    let written = Cell::new(0);
+    let mut reader = Feed::new(HELLO, 7, false);
+    let mut writer = Narrow::new(global, &written, 1_000);
+    service.serve(&mut reader, &mut writer) == Served::Ended && writer.bytes() == REPLIES
+}
+
+/// Whether serving withstands the refusal of this request for memory, or `None` where it asks for fewer.
+fn withstands<A: Allocator + Copy, B: Allocator>(
+    heap: &Refusing<B>,
+    (alloc, global): (A, Global),
+    at: u64,
+) -> Result<Option<bool>, AllocError> {
+    heap.set(Plan::Grant);
+    let mut service = Service::new(alloc, global)?;
+    let written = Cell::new(0);
+    let mut reader = Feed::new(HELLO, 7, false);
+    let mut writer = Narrow::new(global, &written, 1_000);
+    heap.set(Plan::RefuseAt(at));
+    let served = service.serve(&mut reader, &mut writer);
+    let is_whole = heap.asked() <= at;
+    heap.set(Plan::Grant);
+    let told = writer.bytes();
+    if is_whole && served == Served::Ended && told == REPLIES {
+        return Ok(None);
+    }
+    let is_told = match served {
+        Served::Ended => may_be_told(told, true),
+        Served::NoMemory => may_be_told(told, false),
+        _ => false,
+    };
+    Ok(Some(!is_whole && is_told && serves_all(&mut service, global)))
+}
+
 #[test]
 fn serving_withstands_each_refusal(rt: HostRuntime) -> Result<(), Fail> {
     let global = rt.alloc();
     let heap = Refusing::new(global);
     let mut is_whole = false;
     for at in 0..1_000 {
-        heap.set(Plan::Grant);
-        let mut service = Service::new(&heap, global)?;
-        let written = Cell::new(0);
-        let mut reader = Feed::new(HELLO, 7, false);
-        let mut writer = Narrow::new(global, &written, 1_000);
-        heap.set(Plan::RefuseAt(at));
-        let served = service.serve(&mut reader, &mut writer);
-        is_whole = heap.asked() <= at;
-        let told = writer.bytes();
-        let is_told = match served {
-            Served::Ended => may_be_told(told, true),
-            Served::NoMemory => may_be_told(told, false),
-            _ => false,
-        };
-        assert!(rt; is_told, "request {at}");
-        if is_whole {
-            assert!(rt; served == Served::Ended && told == REPLIES);
-            break;
+        match withstands(&heap, (&heap, global), at)? {
+            Some(is_right) => assert!(rt; is_right, "request {at}"),
+            None => {
+                is_whole = true;
+                break;
+            }
         }
-        heap.set(Plan::Grant);
-        let mut reader = Feed::new(HELLO, 7, false);
-        let mut writer = Narrow::new(global, &written, 1_000);
-        assert!(rt;
-            service.serve(&mut reader, &mut writer) == Served::Ended,
-            "after request {at}"
-        );
-        assert!(rt; writer.bytes() == REPLIES, "after request {at}");
     }
     assert!(rt; is_whole);
     Ok(())
