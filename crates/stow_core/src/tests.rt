@@ -1,6 +1,9 @@
 //! What no clause says: that the calls succeed where there is memory, that a commit asks for none, and worked
 //! and random requests of several tenants.
+ghost use Rattle.std.specs.Prelude.{◌≡◌};
+
 use crate::Core;
+use crate::account::Account;
 use crate::tests::text::is_told;
 use std::alloc::{AllocError, Allocator, Global};
 use std::sync::Arc;
@@ -82,4 +85,20 @@ fn count_of_new<A: Allocator + Copy>(alloc: A, global: Global) -> Result<u32, Al
 fn a_core_has_its_tenants(rt: HostRuntime) -> Result<(), Fail> {
     assert_eq!(rt; count_of_new(rt.alloc(), rt.alloc())?, 3);
     Ok(())
+}
+
+fn sent<T: Send>(x: T) -> T
+    ensures { result ≡ x }
+{
+    x
+}
+
+#[test]
+fn accounts_may_cross_threads(rt: HostRuntime) {
+    let account = Account {
+        last: 1,
+        commands: 2,
+        quota: 3,
+    };
+    assert!(rt; sent(account).quota == 3);
 }

@@ -1,6 +1,6 @@
 //! What no clause says: that the calls succeed where there is memory, what threads leave, and each request for
 //! memory refused in turn.
-ghost use Rattle.std.specs.Prelude.{IfOk};
+ghost use Rattle.std.specs.Prelude.{◌≡◌, IfOk};
 ghost use Rattle.stow_core.specs.State.{IsNewCore};
 
 use crate::closed::Closed;
@@ -377,32 +377,69 @@ fn asks_as_alone<A: Allocator + Copy, B: Allocator, R: Wait + Abort>(
     heap.asked() == needed && same_reply(&alone, &reply)
 }
 
-/// Wants of a lock without a journal as much memory as of a core.
-fn ask_for_no_more<A: Allocator + Copy, B: Allocator, R: Wait + Abort>(
+/// Whether the same holds of each line.
+fn all_ask_as_alone<A: Allocator + Copy, B: Allocator, R: Wait + Abort>(
+    rt: &R,
+    (heap, alloc): (&Refusing<B>, A),
+    core: &mut Core<A>,
+    shared: &Shared<Unkept, A>,
+    seat: &mut Seat<Unkept, A>,
+) -> bool {
+    for line in LINES {
+        if !asks_as_alone(rt, (heap, alloc), core, (shared, seat), line) {
+            return false;
+        }
+    }
+    true
+}
+
+/// Whether a lock without a journal is resized without memory, and no seat of it holds a receipt.
+fn holds_nothing<A: Allocator + Copy, B: Allocator, R: Wait + Abort>(
+    rt: &R,
+    (heap, alloc): (&Refusing<B>, A),
+    shared: Shared<Unkept, A>,
+    mut seat: Seat<Unkept, A>,
+) -> bool {
+    heap.set(Plan::RefuseAll);
+    let resized = shared.resize(rt, &mut seat, 65_536).is_ok();
+    let has_none = seat.receipts().is_empty();
+    heap.set(Plan::Grant);
+    let closed = closed_by_one(rt, alloc, shared, seat);
+    resized && has_none && closed.entries().is_empty()
+}
+
+/// Whether a lock without a journal takes as much memory as a core.
+fn takes_no_more<A: Allocator + Copy, B: Allocator, R: Wait + Abort>(
     rt: &R,
     heap: &Refusing<B>,
     alloc: A,
     global: Global,
-) {
+) -> bool {
     let mut core = new_core(alloc, global).expect(rt, "memory");
     let (shared, mut seat) = opened_for_one::<_, Unkept, _>(rt, alloc, global);
-    for line in LINES {
-        let lent = (&shared, &mut seat);
-        assert!(rt;
-            asks_as_alone(rt, (heap, alloc), &mut core, lent, line),
-            "{line}"
-        );
-    }
-    heap.set(Plan::RefuseAll);
-    assert!(rt; shared.resize(rt, &mut seat, 65_536).is_ok());
-    assert!(rt; seat.receipts().is_empty());
-    heap.set(Plan::Grant);
-    assert!(rt; closed_by_one(rt, alloc, shared, seat).entries().is_empty());
+    let asks = all_ask_as_alone(rt, (heap, alloc), &mut core, &shared, &mut seat);
+    let holds = holds_nothing(rt, (heap, alloc), shared, seat);
+    asks && holds
 }
 
 // A lock that keeps no journal asks for no memory beside the core's own, and its seats hold nothing.
 #[test]
 fn unkept_calls_ask_for_no_more(rt: HostRuntime) {
     let heap = Refusing::new(rt.alloc());
-    ask_for_no_more(&rt, &heap, &heap, rt.alloc());
+    assert!(rt; takes_no_more(&rt, &heap, &heap, rt.alloc()));
+}
+
+fn sent<T: Send>(x: T) -> T
+    ensures { result ≡ x }
+{
+    x
+}
+
+#[test]
+fn entries_may_cross_threads(rt: HostRuntime) {
+    let entry = Entry::<Global> {
+        seat: 1,
+        step: Step::Resize(5),
+    };
+    assert!(rt; sent(entry).seat == 1);
 }
