@@ -6,6 +6,7 @@ ghost use Rattle.stow_house.specs.Runs.{IsNewHouse};
 use crate::house::House;
 use crate::mark::Mark;
 use crate::outputs::Outputs;
+use crate::run_fault::RunFault;
 use crate::step_result::StepResult;
 use std::alloc::{AllocError, Allocator, Global};
 use std::process::Abort;
@@ -365,6 +366,47 @@ fn random_requests_are_answered_as_alone(rt: HostRuntime) -> Result<(), Fail> {
     Ok(answers_as_alone(&rt, rt.alloc(), rt.alloc())?)
 }
 
+/// What a run of the first acts marked and told, if it is what each tenant's own run tells; and whether it went to the end.
+fn is_run_right<A: Allocator + Copy>(
+    rt: &impl Abort,
+    alloc: A,
+    ended: &Result<Outputs<A>, RunFault<A>>,
+    is_whole: bool,
+) -> Result<bool, AllocError> {
+    match ended {
+        Ok(outputs) => {
+            compare(rt, alloc, &ACTS, outputs)?;
+            let kept = outputs.marks().iter().all(|mark| *mark == Mark::Kept);
+            Ok(kept == is_whole)
+        }
+        Err(fault) => {
+            compare(rt, alloc, &ACTS, &fault.outputs)?;
+            Ok(fault.outputs.marks().len() == fault.done)
+        }
+    }
+}
+
+/// Whether a run withstands the refusal of this request for memory, or `None` where it asks for fewer.
+fn withstands<A: Allocator + Copy, B: Allocator>(
+    rt: &impl Abort,
+    heap: &Refusing<B>,
+    (alloc, global): (A, Global),
+    at: u64,
+) -> Result<Option<bool>, AllocError> {
+    heap.set(Plan::Grant);
+    let events = events_of(alloc, &ACTS)?;
+    let mut house = new_house(alloc, global)?;
+    heap.set(Plan::RefuseAt(at));
+    let ended = house.run(alloc, events.as_slice());
+    let is_whole = heap.asked() <= at;
+    heap.set(Plan::Grant);
+    let is_right = is_run_right(rt, alloc, &ended, is_whole)?;
+    if is_whole && is_right {
+        return Ok(None);
+    }
+    Ok(Some(is_right))
+}
+
 // Each request for memory of the run is refused in turn: the outputs say where, and all else is told as each
 // tenant's own run tells it. A refused place in the outputs ends the run after the events that took place.
 #[test]
@@ -372,26 +414,9 @@ fn a_run_withstands_each_refusal(rt: HostRuntime) -> Result<(), Fail> {
     let heap = Refusing::new(rt.alloc());
     let mut refusals = 0u64;
     for at in 0..1_000u64 {
-        heap.set(Plan::Grant);
-        let events = events_of(&heap, &ACTS)?;
-        let mut house = new_house(&heap, rt.alloc())?;
-        heap.set(Plan::RefuseAt(at));
-        let ended = house.run(&heap, events.as_slice());
-        let asked = heap.asked();
-        heap.set(Plan::Grant);
-        match ended {
-            Ok(outputs) => {
-                let kept = outputs.marks().iter().all(|mark| *mark == Mark::Kept);
-                assert!(rt; kept == (asked <= at), "request {at}");
-                compare(&rt, &heap, &ACTS, &outputs)?;
-            }
-            Err(fault) => {
-                assert!(rt; fault.outputs.marks().len() == fault.done, "request {at}");
-                compare(&rt, &heap, &ACTS, &fault.outputs)?;
-            }
-        }
-        if asked <= at {
-            break;
+        match withstands(&rt, &heap, (&heap, rt.alloc()), at)? {
+            Some(is_right) => assert!(rt; is_right, "request {at}"),
+            None => break,
         }
         refusals = at + 1;
     }
