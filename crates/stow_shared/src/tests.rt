@@ -1,4 +1,4 @@
-//! What no clause says: that the calls succeed where there is memory, what threads leave, and each request for
+//! What no clause says: that the calls succeed where there is memory, what two seats leave, and each request for
 //! memory refused in turn.
 ghost use Rattle.std.specs.Prelude.{◌≡◌, IfOk};
 ghost use Rattle.stow_core.specs.State.{IsNewCore};
