@@ -1,5 +1,6 @@
 //! The house over memory: worked examples, random requests beside each tenant's own run, and refused memory.
 ghost use Rattle.std.specs.Prelude.{IfOk};
+ghost use Rattle.stow_core.specs.State.{IsNewCore};
 ghost use Rattle.stow_house.specs.Steps.{state_of};
 ghost use Rattle.stow_house.specs.Runs.{IsNewHouse};
 
@@ -49,6 +50,18 @@ fn new_house<A: Allocator + Copy>(alloc: A, global: Global) -> Result<House<A>, 
     house_of(alloc, global, THREE)
 }
 
+/// A new core of a tenant file's tenants.
+fn new_core<A: Allocator + Copy>(
+    alloc: A,
+    global: Global,
+    text: &str,
+) -> Result<Core<A>, AllocError>
+    ensures { IfOk result IsNewCore }
+{
+    let tenants = Tenants::read(alloc, global, text).map_err(|_| AllocError)?;
+    Core::new(alloc, Arc::new(alloc, tenants)?, TreeShape::SMALLEST).map_err(|_| AllocError)
+}
+
 /// A new house of a tenant file's tenants.
 fn house_of<A: Allocator + Copy>(
     alloc: A,
@@ -57,9 +70,7 @@ fn house_of<A: Allocator + Copy>(
 ) -> Result<House<A>, AllocError>
     ensures { IfOk result (λ house. IsNewHouse (state_of house)) }
 {
-    let tenants = Tenants::read(alloc, global, text).map_err(|_| AllocError)?;
-    let tenants = Arc::new(alloc, tenants).map_err(AllocError::from)?;
-    let core = Core::new(alloc, tenants, TreeShape::SMALLEST).map_err(|_| AllocError)?;
+    let core = new_core(alloc, global, text)?;
     Ok(House::new(alloc, core))
 }
 
