@@ -1,5 +1,5 @@
 -- The steps of the shared state.
-use Rattle.std.proofs.Common.{◌≡◌, ◌≢◌, ℕ, suc, ◌<◌, ◌≤◌, true, List, [], ◌∷◌, Option, None, refl, ap, ◌∙◌, sym, subst, arith, ⊎_elim, inl, inr, cond, eqb}
+use Rattle.std.proofs.Common.{◌≡◌, ◌≢◌, ℕ, suc, ◌<◌, ◌≤◌, true, false, List, [], ◌∷◌, Option, None, refl, ap, ◌∙◌, sym, subst, arith, ⊎_elim, inl, inr, cond, eqb}
 use Rattle.std.specs.Prelude.{map, Contains}
 use Rattle.std.specs.Ordering.{nat_cmp}
 use Rattle.std.specs.FinMap.{FinMap}
@@ -12,14 +12,14 @@ use Rattle.stow_tree_model.specs.TreeMessage.{TreeMessage}
 use Rattle.stow_tree_model.specs.Order.{place_cmp}
 use Rattle.stow_tree_model.specs.Operations.{NoneAbove, or_else}
 use Rattle.stow_tree_model.specs.Messages.{Messages, ops_of, ops_in, with_all, IsCall}
-use Rattle.stow_tree_model.specs.Agreement.{Agree, PinsBelow}
+use Rattle.stow_tree_model.specs.Agreement.{Agree, PinsBelow, with_bound}
 use Rattle.stow_tree_model.proofs.Packed.{tenant_of-packed}
 use Rattle.stow_tree_model.proofs.Histories.{latest_none}
-use Rattle.stow_tree_model.proofs.SetLemmas.{ops-with_all, others_stay_law}
+use Rattle.stow_tree_model.proofs.SetLemmas.{ops-with_all, others_stay_law, call_agrees_law, agreement_chains_law}
 use Rattle.stow_state.specs.Rows.{IsIndex, version_of, rows_at}
 use Rattle.stow_state.specs.Changes.{changed_keys, message_to, changes}
 use Rattle.stow_state.specs.State.{TenantState, SharedState, copies, store_in, view, pins_in, lasts_in, IsSound, new_state}
-use Rattle.stow_state.specs.Steps.{SharedEvent, Call, Maintenance, HasIndex, IsElsewhere, numbers_of, moved_tenant, with_tenant, after_call, moved, reply_to, SharedStep, ToldEvent, SharedRun, line_with, line_of, replies_with, replies_of, KeepsRows, WritesRows, WritesOnce, CallIsOwnStep, OtherViewsStay, StaysSound, StepIsThere, StepsByParts, RunsAlone, TwoSharedRuns}
+use Rattle.stow_state.specs.Steps.{SharedEvent, Call, Maintenance, HasIndex, IsElsewhere, numbers_of, moved_tenant, with_tenant, after_call, moved, reply_to, SharedStep, ToldEvent, SharedRun, line_with, line_of, replies_with, replies_of, KeepsRows, WritesRows, WritesOnce, CallIsOwnStep, OtherViewsStay, StaysSound, StepIsThere, StepsByParts, StepsAfterMaintenance, RunsAlone, TwoSharedRuns}
 use Rattle.stow_state.proofs.Rows.{rows_by_value_law, same_rows, other_rows_stay_law, agreeing_rows_law}
 use Rattle.stow_state.proofs.Changes.{changes-elsewhere, changes-none, earlier_rows_stay_law, own_rows_move_law}
 use Rattle.stow_state.proofs.Snapshots.{copies_same, numbers_stay, entries-empty}
@@ -274,6 +274,82 @@ step_of_maintenance old new tenants agree = record { has_index = tt; reply_is = 
 
 pub steps_by_parts_law : StepsByParts
 steps_by_parts_law = record { of_call = step_of_call; of_maintenance = step_of_maintenance }
+
+-- ---- a call after messages gave way
+
+-- a call's snapshots have the numbers that each tenant's had
+pins_stay : (state : SharedState) (tenant : ℕ) (event : OwnEvent) (t : ℕ) → pins_in (moved state (Call tenant event)) t ≡ pins_in state t
+unfolding moved
+pins_stay state tenant event t =
+    let own : TenantState = moved_tenant (state.tenants tenant) (next_store state tenant event) in
+    ⊎_elim
+    (λ (e : t ≡ tenant).
+    ap (λ (x : TenantState). finite.values x.snapshots) (cond-true (eqb t tenant) _ _ (eq-eqb t tenant e))
+    ∙ ap (λ (ids : FinMap nat_cmp ℕ). finite.values ids) (snapshots_after state tenant event)
+    ∙ ap (pins_in state) (sym e))
+    (λ (ne : t ≢ tenant). ap (λ (x : TenantState). finite.values x.snapshots) (with_other state.tenants tenant t own ne))
+    (cases_eq t tenant)
+
+lasts_after : (state : SharedState) (tenant : ℕ) (event : OwnEvent) (t : ℕ) → lasts_in (moved state (Call tenant event)) t ≡ with_bound (lasts_in state) tenant (next_store state tenant event).last t
+unfolding moved
+lasts_after state tenant event t =
+    let own : TenantState = moved_tenant (state.tenants tenant) (next_store state tenant event) in
+    elim (eqb t tenant) as (λ b. (cond b own (state.tenants t)).last ≡ cond b (next_store state tenant event).last (lasts_in state t)) [
+      | true ↦ refl
+      | false ↦ refl
+    ]
+
+-- the bound stays where it is given again
+bound_stays : (bound : ℕ → ℕ) (tenant t : ℕ) → with_bound bound tenant (bound tenant) t ≡ bound t
+bound_stays bound tenant t = ⊎_elim
+    (λ (e : t ≡ tenant). cond-true (eqb t tenant) _ _ (eq-eqb t tenant e) ∙ ap bound (sym e))
+    (λ (ne : t ≢ tenant). cond-false (eqb t tenant) _ _ (ne_eqb t tenant ne))
+    (cases_eq t tenant)
+
+-- sets that agree do so after the same call
+same_call_agrees : (old : SharedState) (m : Messages) (tenant : ℕ) (event : OwnEvent) → IsSound old → IsIndex tenant → Agree old.messages m (pins_in old) (lasts_in old)
+    → let ms = changes tenant (suc (lasts_in old tenant)) (view old tenant).rows (next_store old tenant event).rows in
+    Agree (with_all old.messages ms) (with_all m ms) (pins_in old) (with_bound (lasts_in old) tenant (next_store old tenant event).last)
+unfolding view
+same_call_agrees old m tenant event sound index agree = ⊎_elim
+    (λ (k : KeepsRows (view old tenant) (next_store old tenant event)).
+    let none : changes tenant (suc (lasts_in old tenant)) (view old tenant).rows (next_store old tenant event).rows ≡ [] =
+    ap (changes tenant (suc (lasts_in old tenant)) (view old tenant).rows) k.1 ∙ changes-none tenant (suc (lasts_in old tenant)) (view old tenant).rows in
+    let bound : (t : ℕ) → lasts_in old t ≡ with_bound (lasts_in old) tenant (next_store old tenant event).last t = λ t.
+    sym (ap (λ n. with_bound (lasts_in old) tenant n t) k.0 ∙ bound_stays (lasts_in old) tenant t) in
+    subst (λ ms. Agree (with_all old.messages ms) (with_all m ms) (pins_in old) (with_bound (lasts_in old) tenant (next_store old tenant event).last)) (sym none)
+    (subst (λ (b : ℕ → ℕ). Agree old.messages m (pins_in old) b) (λ i t. bound t i) agree))
+    (λ (w : WritesRows (view old tenant) (next_store old tenant event)).
+    subst (λ n. Agree (with_all old.messages (changes tenant (suc (lasts_in old tenant)) (view old tenant).rows (next_store old tenant event).rows)) (with_all m (changes tenant (suc (lasts_in old tenant)) (view old tenant).rows (next_store old tenant event).rows)) (pins_in old) (with_bound (lasts_in old) tenant n)) (sym w.0)
+    (call_agrees_law old.messages m (pins_in old) (lasts_in old) tenant (changes tenant (suc (lasts_in old tenant)) (view old tenant).rows (next_store old tenant event).rows)
+    (changes_call tenant (suc (lasts_in old tenant)) (view old tenant).rows (next_store old tenant event).rows index) sound.pins_below agree))
+    (writes old tenant event).rows_move
+
+pub steps_after_maintenance_law : StepsAfterMaintenance
+unfolding moved reply_to
+steps_after_maintenance_law old mid new tenant event told sound gave call =
+    let shown : view mid tenant ≡ view old tenant = other_views_stay_law old mid Maintenance None tenant call.has_index tt gave in
+    let tenants : mid.tenants ≡ old.tenants = gave.tenants_are in
+    let same : (moved mid (Call tenant event)).tenants ≡ (moved old (Call tenant event)).tenants =
+    λ i. with_tenant (tenants i) tenant (moved_tenant (tenants i tenant) (step (shown i) event).0) in
+    let messages : (moved mid (Call tenant event)).messages
+    ≡ with_all mid.messages (changes tenant (suc (lasts_in old tenant)) (view old tenant).rows (next_store old tenant event).rows) =
+    λ i. with_all mid.messages (changes tenant (suc (tenants i tenant).last) (shown i).rows (step (shown i) event).0.rows) in
+    let pins : pins_in old ≡ pins_in (moved old (Call tenant event)) = sym (λ i t. pins_stay old tenant event t i) in
+    let lasts : with_bound (lasts_in old) tenant (next_store old tenant event).last ≡ lasts_in (moved old (Call tenant event)) = sym (λ i t. lasts_after old tenant event t i) in
+    let first : Agree (moved old (Call tenant event)).messages (moved mid (Call tenant event)).messages (pins_in (moved old (Call tenant event))) (lasts_in (moved old (Call tenant event))) =
+    subst (λ (x : Messages). Agree (moved old (Call tenant event)).messages x (pins_in (moved old (Call tenant event))) (lasts_in (moved old (Call tenant event)))) (sym messages)
+    (subst (λ (b : ℕ → ℕ). Agree (moved old (Call tenant event)).messages (with_all mid.messages (changes tenant (suc (lasts_in old tenant)) (view old tenant).rows (next_store old tenant event).rows)) (pins_in (moved old (Call tenant event))) b) lasts
+    (subst (λ (ps : ℕ → List ℕ). Agree (moved old (Call tenant event)).messages (with_all mid.messages (changes tenant (suc (lasts_in old tenant)) (view old tenant).rows (next_store old tenant event).rows)) ps (with_bound (lasts_in old) tenant (next_store old tenant event).last)) pins
+    (same_call_agrees old mid.messages tenant event sound call.has_index gave.messages_agree))) in
+    let second : Agree (moved mid (Call tenant event)).messages new.messages (pins_in (moved old (Call tenant event))) (lasts_in (moved old (Call tenant event))) =
+    subst (λ (ts : ℕ → TenantState). Agree (moved mid (Call tenant event)).messages new.messages (λ t. finite.values (ts t).snapshots) (λ t. (ts t).last)) same call.messages_agree in
+    record {
+      has_index = call.has_index;
+      reply_is = call.reply_is ∙ ap (λ (s : Store). (step s event).1) shown;
+      tenants_are = call.tenants_are ∙ same;
+      messages_agree = agreement_chains_law (moved old (Call tenant event)).messages (moved mid (Call tenant event)).messages new.messages (pins_in (moved old (Call tenant event))) (lasts_in (moved old (Call tenant event))) first second;
+    }
 
 -- ---- runs
 

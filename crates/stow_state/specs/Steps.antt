@@ -193,3 +193,10 @@ pub record StepsByParts : Type 0 where
   pub of_maintenance : (old new : SharedState) → new.tenants ≡ old.tenants
       → Agree old.messages new.messages (pins_in old) (lasts_in old)
       → SharedStep old Maintenance None new
+
+-- messages may give way before a call too: that and the call together are the call's step
+abbrev pub StepsAfterMaintenance : Type 0
+StepsAfterMaintenance =
+    (old mid new : SharedState) (tenant : ℕ) (event : OwnEvent) (told : Option Reply) → IsSound old
+    → SharedStep old Maintenance None mid → SharedStep mid (Call tenant event) told new
+    → SharedStep old (Call tenant event) told new
