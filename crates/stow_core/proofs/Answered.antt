@@ -1,6 +1,6 @@
 -- What a prepared answer is, as the tenant's own step says it.
-use Rattle.std.proofs.Common.{◌≡◌, ◌≢◌, ℕ, ◌<◌, ◌^◌, true, false, nat_lt, List, map, eqb, ap, sym, ◌∙◌, pos, to_z, w64}
-use Rattle.std.specs.Prelude.{◌-◌, Result, Ok, Err, IfOk}
+use Rattle.std.proofs.Common.{◌≡◌, ◌≢◌, ℕ, ◌<◌, ◌^◌, true, false, nat_lt, List, map, eqb, refl, ap, sym, ◌∙◌, pos, to_z, w64}
+use Rattle.std.specs.Prelude.{◌-◌, Option, Some, None, Result, Ok, Err, IfOk}
 use Rattle.std.specs.FinMap as rows
 use Rattle.std.proofs.lemmas.Bool.{cond-true, cond-false, eq-eqb, ne_eqb}
 use Rattle.std.proofs.lemmas.Int.{to_z_pos}
@@ -10,9 +10,12 @@ use Rattle.stow_model.specs.declared.refusal.Refusal.TheVariants as refusal
 use Rattle.stow_model.specs.Reply.{Reply}
 use Rattle.stow_model.specs.Reply as reply
 use Rattle.stow_model.specs.Command.{Command, Understood, Refused, reading}
-use Rattle.stow_model.specs.Store.{Store, Answer, counted, served, answer, answer_to, answer_with, del_answer, rows_without}
+use Rattle.stow_model.specs.Login.{IsTenant}
+use Rattle.stow_model.specs.Store.{Store, Answer, Request, Asked, counted, served, answer, answer_to, answer_with, del_answer, rows_without}
 use Rattle.stow_core.specs.Prepared.{after_write, after_remove}
-use Rattle.stow_core.specs.State.{CoreState, store_of, Answers}
+use Rattle.stow_core.specs.State.{CoreState, store_of, shared_of, Answers, GivesWay, StepsTo}
+use Rattle.stow_state.specs.Steps.{Maintenance}
+use Rattle.stow_state.proofs.Steps.{call_of_nothing, step_sound, steps_after_maintenance_law}
 use Rattle.stow_tree_model.specs.Keys.{own_key}
 
 -- ---- deletions
@@ -50,11 +53,29 @@ pub if_ok : {X E : Type 0} (r : Result X E) (P Q : X → Type 0) → ((x : X) �
 if_ok (Ok x) P Q f h = f x h
 if_ok (Err e) P Q f h = h
 
-pub answered : (old new : CoreState) (t : ℕ) (words : List (List ℕ)) (store : Store) (told : Reply) → store_of new t ≡ store
+-- a prepared answer was carried out
+pub answered : (old mid new : CoreState) (t : ℕ) (words : List (List ℕ)) (store : Store) (told : Reply) → GivesWay old mid → store_of mid t ≡ store_of old t → store_of new t ≡ store → StepsTo mid t store new
     → ◌≡◌ {A = Answer} (store, told) (answer (store_of old t) words) → Answers old new t words told
 unfolding answer_with
-answered old new t words store told e is = (false, ap (λ s. (s, told)) e ∙ is)
+answered old mid new t words store told gave kept moved steps is =
+    let again : ◌≡◌ {A = Answer} (answer (store_of mid t) words) (store, told) = ap (λ s. answer s words) kept ∙ sym is in
+    let request : Request = record { words = words; is_refused = false } in (
+      false,
+      record {
+        alone = ap (λ s. (s, told)) moved ∙ is;
+        step = steps_after_maintenance_law (shared_of old) (shared_of mid) (shared_of new) t (Asked request) (Some told) gave.shared.sound gave.step
+            (steps (Asked request) (Some told) (λ i. ((again i).0, Some (again i).1)));
+      },
+    )
 
-pub out_of_memory : (old new : CoreState) (t : ℕ) (words : List (List ℕ)) → store_of new t ≡ store_of old t → Answers old new t words (reply.Error refusal.OutOfMemory)
+pub out_of_memory : (old new : CoreState) (t : ℕ) (words : List (List ℕ)) → IsTenant old.entries t → GivesWay old new → store_of new t ≡ store_of old t → Answers old new t words (reply.Error refusal.OutOfMemory)
 unfolding answer_with
-out_of_memory old new t words e = (true, ap (λ s. (s, reply.Error refusal.OutOfMemory)) e)
+out_of_memory old new t words is gave e =
+    let request : Request = record { words = words; is_refused = true } in (
+      true,
+      record {
+        alone = ap (λ s. (s, reply.Error refusal.OutOfMemory)) e;
+        step = steps_after_maintenance_law (shared_of old) (shared_of new) (shared_of new) t (Asked request) (Some (reply.Error refusal.OutOfMemory)) gave.shared.sound gave.step
+            (call_of_nothing (shared_of new) t (Asked request) (Some (reply.Error refusal.OutOfMemory)) (step_sound (shared_of old) (shared_of new) Maintenance None gave.shared.sound gave.step) (gave.shared.indexes t is) refl);
+      },
+    )

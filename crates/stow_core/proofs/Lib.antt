@@ -1,6 +1,7 @@
 pub mod Keyed
 pub mod Stores
 pub mod Moves
+pub mod Shared
 pub mod Kept
 pub mod Room
 pub mod Within

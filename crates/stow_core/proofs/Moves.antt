@@ -52,11 +52,11 @@ rows_put m t last number key value next below own =
     (ap (λ k. with_all m (put_of number k value ∷ [])) (sym (first_key t key own))
     ∙ writes_by_messages_law.of_one m t number (rows_at m t last) (own_key key) value (subst (λ n. AreBelow n (rows_at m t last)) next (rows_are_below_law m t last)))
 
-own_removals : (t number : ℕ) (keys : List (List ℕ)) → AreKeysOf t keys → removals_of number keys ≡ map (gone_message t number) (map own_key keys)
+pub own_removals : (t number : ℕ) (keys : List (List ℕ)) → AreKeysOf t keys → removals_of number keys ≡ map (gone_message t number) (map own_key keys)
 own_removals t number [] own = refl
 own_removals t number (key ∷ keys) own = λ i. removal_of number (sym (first_own t key keys own) i) ∷ own_removals t number keys (later_own t key keys own) i
 
-all_own : (rows : Rows) (keys : List (List ℕ)) → AllByRecursion (λ key. IsSome (map.get rows (own_key key))) keys → AllByRecursion (λ key. IsSome (map.get rows key)) (map own_key keys)
+pub all_own : (rows : Rows) (keys : List (List ℕ)) → AllByRecursion (λ key. IsSome (map.get rows (own_key key))) keys → AllByRecursion (λ key. IsSome (map.get rows key)) (map own_key keys)
 all_own rows [] all = tt
 all_own rows (key ∷ keys) all = (all.0, all_own rows keys all.1)
 
@@ -71,7 +71,7 @@ rows_removed m t last number keys next below own there =
 
 -- ---- bounds
 
-agree_itself : (m : Messages) (bound : ℕ → ℕ) → HasBound m bound → Agree m m no_pins bound
+pub agree_itself : (m : Messages) (bound : ℕ → ℕ) → HasBound m bound → Agree m m no_pins bound
 agree_itself m bound has key = record { at_pins = λ p c. refl; from_bound = λ n l. refl; left_below = has key; right_below = has key }
 
 lasts_moved : (accounts : List Account) (t u : ℕ) (a a' : Account) → 1 ≤ t → t ≤ length accounts → a ≡ get_or accounts (t - 1) a → a'.last ≡ a.last + 1

@@ -154,7 +154,7 @@ new_below accounts tree none key n above = ap (λ (m : Messages). ops_of m key n
 
 -- ---- what is read
 
-stored : (core : CoreState) (t : ℕ) (a : Account) → account_of t core.accounts ≡ Some a → store_of core t ≡ store_with (rows_at (tree_messages core.tree) t a.last) (Some a)
+pub stored : (core : CoreState) (t : ℕ) (a : Account) → account_of t core.accounts ≡ Some a → store_of core t ≡ store_with (rows_at (tree_messages core.tree) t a.last) (Some a)
 unfolding store_of
 stored core t a e = ap (λ o. store_with (rows_at (tree_messages core.tree) t (last_of o)) o) e
 

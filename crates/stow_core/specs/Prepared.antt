@@ -74,9 +74,9 @@ pub record CanRemove (core : CoreState) (tenant : ℕ) (keys : List (List ℕ)) 
   pub can : CanCommit core tenant (removals_of (next_number core tenant) keys)
   pub there : AllByRecursion (λ key. IsSome (row_at core tenant (own_key key))) keys
 
--- the change is one in a tenant's store, and needs no more memory
+-- the change is one in a tenant's store, and needs no more memory; whom nothing changes for is no tenant
 abbrev pub HasRoomFor : {A : Type 0} → CoreState → ℕ → coded.Change A → Type 0
-HasRoomFor core tenant change.Nothing = Unit {0}
+HasRoomFor core tenant change.Nothing = ¬ (IsTenant core.entries tenant)
 HasRoomFor core tenant change.Count = IsTenant core.entries tenant
 HasRoomFor core tenant (change.Put key value) = CanPut core tenant key value
 HasRoomFor core tenant (change.Remove keys) = CanRemove core tenant keys

@@ -8,10 +8,13 @@ use Rattle.stow_core.specs.declared.interval.Interval.{Interval}
 use Rattle.stow_model.specs.Reply.{Reply}
 use Rattle.stow_model.specs.Reply as reply
 use Rattle.stow_model.specs.Login.{Entry, IsTenant, quota_of}
-use Rattle.stow_model.specs.Store.{Store, Rows, Version, Answer, row_items, rows_within, empty_store, one_more, answer_with}
+use Rattle.stow_model.specs.Store.{Store, Rows, Version, Answer, Request, OwnEvent, Asked, row_items, rows_within, empty_store, one_more, answer_with}
+use Rattle.stow_model.specs.Store.{step as own_step}
 use Rattle.stow_core.specs.declared.account.Account.{Account}
 use Rattle.stow_leaf_cache.specs.Cache.{cache_resized}
-use Rattle.stow_state.specs.Rows.{rows_at}
+use Rattle.stow_state.specs.Rows.{rows_at, IsIndex}
+use Rattle.stow_state.specs.State.{TenantState, SharedState, IsSound, view, new_tenant, new_state}
+use Rattle.stow_state.specs.Steps.{SharedStep, Call, Maintenance}
 use Rattle.stow_tree.specs.Shapes.{AreInRange}
 use Rattle.stow_tree.specs.TreeState.{TreeState, tree_messages, HasBound}
 use Rattle.stow_tree_model.specs.Agreement.{TenantBounds}
@@ -78,9 +81,49 @@ store_with rows (Some account) =
 unfoldable pub store_of : CoreState → ℕ → Store
 store_of core tenant = store_with (rows_of core tenant) (account_of tenant core.accounts)
 
+-- what a tenant has beside its messages
+abbrev pub own_state : Option Account → TenantState
+own_state None = new_tenant 0
+own_state (Some account) =
+    record {
+      last = account.last;
+      snapshots = map.empty;
+      next = 1;
+      quota = account.quota;
+      commands = account.commands;
+      refusals = 0;
+    }
+
+-- the state of all tenants, in one set of messages
+unfoldable pub shared_of : CoreState → SharedState
+shared_of core =
+    record {
+      messages = tree_messages core.tree;
+      tenants = λ tenant. own_state (account_of tenant core.accounts);
+    }
+
 -- nothing has come to any tenant's store, and each has its entry's quota
-abbrev pub IsNewCore : CoreState → Type 0
-IsNewCore core = (tenant : ℕ) → store_of core tenant ≡ empty_store (quota_of core.entries tenant)
+pub record IsNewCore (core : CoreState) : Type 0 where
+  pub stores : (tenant : ℕ) → store_of core tenant ≡ empty_store (quota_of core.entries tenant)
+  pub shared : shared_of core ≡ new_state (quota_of core.entries)
+
+-- the shared state is sound, and each tenant's store is its view of it
+pub record IsShared (core : CoreState) : Type 0 where
+  pub sound : IsSound (shared_of core)
+  pub indexes : (tenant : ℕ) → IsTenant core.entries tenant → IsIndex tenant
+  pub views : (tenant : ℕ) → IsTenant core.entries tenant
+      → store_of core tenant ≡ view (shared_of core) tenant
+
+-- nothing came to any store: messages may have given way to others that mean the same
+pub record GivesWay (old new : CoreState) : Type 0 where
+  pub shared : IsShared old
+  pub step : SharedStep (shared_of old) Maintenance None (shared_of new)
+
+-- what comes to the tenant and leads its store to this one is a step of the shared state
+abbrev pub StepsTo : CoreState → ℕ → Store → CoreState → Type 0
+StepsTo old tenant store new = (event : OwnEvent) (told : Option Reply)
+    → ◌≡◌ {A = Store × Option Reply} (own_step (store_of old tenant) event) (store, told)
+    → SharedStep (shared_of old) (Call tenant event) told (shared_of new)
 
 -- the tenant's row of its own key, if there is one
 abbrev pub row_at : CoreState → ℕ → List ℕ → Option Version
@@ -90,13 +133,19 @@ row_at core tenant key = map.get (store_of core tenant).rows key
 abbrev pub OthersStay : CoreState → CoreState → ℕ → Type 0
 OthersStay old new tenant = (other : ℕ) → other ≢ tenant → store_of new other ≡ store_of old other
 
--- the words were answered in the tenant's store, as they would be if the tenant had it alone, with memory or
--- without
+-- the request was answered in the tenant's store, as it would be if the tenant had it alone; and that is a step
+-- of the state that all share
+pub record AnswersRequest (old new : CoreState) (tenant : ℕ) (request : Request)
+    (told : Reply) : Type 0 where
+  pub alone : ◌≡◌ {A = Answer} (store_of new tenant, told)
+      (answer_with (store_of old tenant) request)
+  pub step : SharedStep (shared_of old) (Call tenant (Asked request)) (Some told) (shared_of new)
+
+-- the words were answered, with memory or without
 abbrev pub Answers : CoreState → CoreState → ℕ → List (List ℕ) → Reply → Type 0
 Answers old new tenant words told =
     (is_refused : Bool)
-    × ◌≡◌ {A = Answer} (store_of new tenant, told)
-    (answer_with (store_of old tenant) (record { words = words; is_refused = is_refused }))
+    × AnswersRequest old new tenant (record { words = words; is_refused = is_refused }) told
 
 -- a call: a tenant's words are answered in its own store, or as memory was refused; a number that is no
 -- tenant's is refused; no other store moves

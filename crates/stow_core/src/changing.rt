@@ -8,7 +8,7 @@ ghost use Rattle.stow_model.specs.Store as meant;
 ghost use Rattle.stow_tree_model.specs.Keys.{packed, IsTenantKey};
 ghost use Rattle.stow_core.specs.Keys.{AreKeysOf};
 ghost use Rattle.stow_core.specs.Legal.{IsShortKey};
-ghost use Rattle.stow_core.specs.State.{store_of, row_at};
+ghost use Rattle.stow_core.specs.State.{store_of, row_at, GivesWay, IsShared};
 ghost use Rattle.stow_core.specs.Prepared.{HasRoom, Prepares, CanWrite, changes, writes_row, next_number};
 ghost use Rattle.stow_core.specs.Writes.{row_of};
 ghost use Rattle.stow_commands.specs.Commands.{update_of};
@@ -41,9 +41,11 @@ impl<A: Allocator + Copy> Core<A> {
         update: Update<'_>,
     ) -> Result<Prepared<A>, AllocError>
         requires is_tenant { IsTenant self.old.entries tenant }
+        requires shared { IsShared self.old }
         requires short { IsShortKey key.now }
         ensures stores { (t : ℕ) → store_of self.new t ≡ store_of self.old t }
         ensures entries { self.new.entries ≡ self.old.entries }
+        ensures gives_way { GivesWay self.old self.new }
         ensures room { IfOk result (λ p. HasRoom self.new p) }
         ensures tenant { IfOk result (λ p. p.tenant ≡ tenant) }
         ensures answer { Prepares self.old tenant result (changes key.now update.entry) }
@@ -94,6 +96,7 @@ impl<A: Allocator + Copy> Core<A> {
         requires short { length value ≤ value_limit }
         ensures stores { (t : ℕ) → store_of self.new t ≡ store_of self.old t }
         ensures entries { self.new.entries ≡ self.old.entries }
+        ensures gives_way { GivesWay self.old self.new }
         ensures room { IfOk result (λ p. HasRoom self.new p) }
         ensures tenant { IfOk result (λ p. p.tenant ≡ tenant) }
         ensures answer { Prepares self.old tenant result

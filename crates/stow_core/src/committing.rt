@@ -2,7 +2,7 @@
 ghost use Rattle.std.specs.Prelude.{◌≡◌};
 ghost use Rattle.stow_model.specs.Login.{IsTenant};
 ghost use Rattle.stow_model.specs.Store.{counted};
-ghost use Rattle.stow_core.specs.State.{store_of, OthersStay};
+ghost use Rattle.stow_core.specs.State.{store_of, OthersStay, StepsTo};
 ghost use Rattle.stow_core.specs.Prepared.{after_put, after_remove, CanPut, CanRemove};
 
 use crate::Core;
@@ -18,6 +18,7 @@ impl<A: Allocator + Copy> Core<A> {
         ensures own { store_of self.new tenant ≡ counted (store_of self.old tenant) }
         ensures others { OthersStay self.old self.new tenant }
         ensures entries { self.new.entries ≡ self.old.entries }
+        ensures step { StepsTo self.old tenant (counted (store_of self.old tenant)) self.new }
     {
         let index = tenant as usize - 1;
         let account = self.accounts[index];
@@ -30,6 +31,7 @@ impl<A: Allocator + Copy> Core<A> {
         ensures own { store_of self.new tenant ≡ after_put key value (store_of self.old tenant) }
         ensures others { OthersStay self.old self.new tenant }
         ensures entries { self.new.entries ≡ self.old.entries }
+        ensures step { StepsTo self.old tenant (after_put key value (store_of self.old tenant)) self.new }
     {
         let index = tenant as usize - 1;
         let account = self.accounts[index].written();
@@ -49,6 +51,7 @@ impl<A: Allocator + Copy> Core<A> {
         ensures own { store_of self.new tenant ≡ after_remove keys (store_of self.old tenant) }
         ensures others { OthersStay self.old self.new tenant }
         ensures entries { self.new.entries ≡ self.old.entries }
+        ensures step { StepsTo self.old tenant (after_remove keys (store_of self.old tenant)) self.new }
     {
         let index = tenant as usize - 1;
         let account = self.accounts[index].written();

@@ -7,7 +7,7 @@ ghost use Rattle.stow_model.specs.Login.{IsTenant};
 ghost use Rattle.stow_model.specs.Command.{Del};
 ghost use Rattle.stow_model.specs.LentWords.{words_in};
 ghost use Rattle.stow_core.specs.Legal.{AreShortKeys};
-ghost use Rattle.stow_core.specs.State.{store_of};
+ghost use Rattle.stow_core.specs.State.{store_of, GivesWay};
 ghost use Rattle.stow_core.specs.Prepared.{HasRoom, Prepares, serves};
 ghost use Rattle.stow_core.specs.Taken.{AreTaken};
 
@@ -36,6 +36,7 @@ impl<A: Allocator + Copy> Core<A> {
         requires few { length (words_in keys) ≤ deleted_limit }
         ensures stores { (t : ℕ) → store_of self.new t ≡ store_of self.old t }
         ensures entries { self.new.entries ≡ self.old.entries }
+        ensures gives_way { GivesWay self.old self.new }
         ensures room { IfOk result (λ p. HasRoom self.new p) }
         ensures tenant { IfOk result (λ p. p.tenant ≡ tenant) }
         ensures answer { Prepares self.old tenant result (serves (Del (words_in keys.entry))) }

@@ -18,8 +18,8 @@ ghost use Rattle.std.specs.Prelude.{◌≡◌, ℕ, Err, IfOk, OnErr, OnOk};
 ghost use Rattle.std.specs.Arc.{arc_value};
 ghost use Rattle.stow_model.specs.Reply.{reply_of};
 ghost use Rattle.stow_model.specs.Login.{IsTenant};
-ghost use Rattle.stow_core.specs.State.{store_of, IsNewCore, OthersStay, Calls, Resized};
-ghost use Rattle.stow_core.specs.Prepared.{HasRoom, PreparesOwn, RefusesStranger, CarriesOut};
+ghost use Rattle.stow_core.specs.State.{store_of, IsNewCore, OthersStay, Calls, Resized, GivesWay, StepsTo};
+ghost use Rattle.stow_core.specs.Prepared.{HasRoom, PreparesOwn, RefusesStranger, CarriesOut, effect};
 ghost use Rattle.stow_tree.specs.declared.tree_fault.TreeFault.TheVariants as fault;
 ghost use Rattle.stow_tree.specs.Reports.{IsReport};
 ghost use Rattle.stow_tree.specs.Shapes.{IsInRange};
@@ -127,6 +127,7 @@ impl<A: Allocator + Copy> Core<A> {
     ) -> Result<Prepared<A>, AllocError>
         ensures stores { (t : ℕ) → store_of self.new t ≡ store_of self.old t }
         ensures entries { self.new.entries ≡ self.old.entries }
+        ensures gives_way { GivesWay self.old self.new }
         ensures room { IfOk result (λ p. HasRoom self.new p) }
         ensures tenant { IfOk result (λ p. p.tenant ≡ tenant) }
         ensures own { PreparesOwn self.old tenant words.now result }
@@ -152,6 +153,8 @@ impl<A: Allocator + Copy> Core<A> {
         ensures own { CarriesOut self.old self.new prepared }
         ensures others { OthersStay self.old self.new prepared.tenant }
         ensures entries { self.new.entries ≡ self.old.entries }
+        ensures step { IsTenant self.old.entries prepared.tenant
+            → StepsTo self.old prepared.tenant (effect prepared (store_of self.old prepared.tenant)) self.new }
     {
         let Prepared {
             tenant,
@@ -173,6 +176,7 @@ impl<A: Allocator + Copy> Core<A> {
         ensures err { OnErr result (self.new.tree ≡ self.old.tree) }
         ensures stores { (t : ℕ) → store_of self.new t ≡ store_of self.old t }
         ensures entries { self.new.entries ≡ self.old.entries }
+        ensures gives_way { GivesWay self.old self.new }
     {
         self.tree.resize(leaves)
     }

@@ -2,7 +2,7 @@
 ghost use Rattle.std.specs.Prelude.{◌≡◌, ℕ, IfOk, IsTrue, ◌↔◌};
 ghost use Rattle.stow_model.specs.Login.{IsTenant};
 ghost use Rattle.stow_core.specs.Legal.{IsLegal};
-ghost use Rattle.stow_core.specs.State.{store_of};
+ghost use Rattle.stow_core.specs.State.{store_of, GivesWay, IsShared};
 ghost use Rattle.stow_core.specs.Prepared.{HasRoom, Prepares, serves};
 ghost use Rattle.stow_commands.specs.Commands.{command_of};
 
@@ -19,7 +19,8 @@ use stow_model::simple_string::SimpleString;
 
 impl<A: Allocator + Copy> Core<A> {
     pub(crate) fn is_tenant(&self, tenant: u32) -> bool
-        ensures { IsTrue result ↔ IsTenant self.now.entries tenant }
+        ensures is { IsTrue result ↔ IsTenant self.now.entries tenant }
+        ensures shared { IsShared self.now }
     {
         tenant != 0 && tenant as usize <= self.accounts.len()
     }
@@ -32,9 +33,11 @@ impl<A: Allocator + Copy> Core<A> {
         command: Command<'_>,
     ) -> Result<Prepared<A>, AllocError>
         requires is_tenant { IsTenant self.old.entries tenant }
+        requires shared { IsShared self.old }
         requires legal { IsLegal (command_of command) }
         ensures stores { (t : ℕ) → store_of self.new t ≡ store_of self.old t }
         ensures entries { self.new.entries ≡ self.old.entries }
+        ensures gives_way { GivesWay self.old self.new }
         ensures room { IfOk result (λ p. HasRoom self.new p) }
         ensures tenant { IfOk result (λ p. p.tenant ≡ tenant) }
         ensures answer { Prepares self.old tenant result (serves (command_of command.entry)) }
@@ -57,9 +60,11 @@ impl<A: Allocator + Copy> Core<A> {
         command: Command<'_>,
     ) -> Result<Prepared<A>, AllocError>
         requires is_tenant { IsTenant self.old.entries tenant }
+        requires shared { IsShared self.old }
         requires legal { IsLegal (command_of command) }
         ensures stores { (t : ℕ) → store_of self.new t ≡ store_of self.old t }
         ensures entries { self.new.entries ≡ self.old.entries }
+        ensures gives_way { GivesWay self.old self.new }
         ensures room { IfOk result (λ p. HasRoom self.new p) }
         ensures tenant { IfOk result (λ p. p.tenant ≡ tenant) }
         ensures answer { Prepares self.old tenant result (serves (command_of command.entry)) }
@@ -72,7 +77,9 @@ impl<A: Allocator + Copy> Core<A> {
             Command::Exists(keys) => self.count_rows(buffer, alloc, tenant, keys)?,
             Command::Length(key) => self.value_length(buffer, alloc, tenant, key)?,
             Command::Range(from, to, count) => {
-                self.rows_within(buffer, alloc, Interval { tenant, from, to }, count)?
+                let interval = Interval { tenant, from, to };
+                let reply = self.rows_within(buffer, alloc, interval, count)?;
+                return Ok(only_counted(tenant, reply));
             }
             Command::Del(keys) => return self.prepare_del(buffer, alloc, tenant, keys),
             Command::Change(key, update) => {

@@ -8,7 +8,7 @@ ghost use Rattle.stow_model.specs.Store.{item_or_null};
 ghost use Rattle.stow_tree_model.specs.Keys.{packed, IsTenantKey};
 ghost use Rattle.stow_core.specs.Legal.{IsShortKey, AreShortKeys};
 ghost use Rattle.stow_core.specs.Prepared.{read_reply, range_reply};
-ghost use Rattle.stow_core.specs.State.{row_at, store_of};
+ghost use Rattle.stow_core.specs.State.{row_at, store_of, GivesWay};
 ghost use Rattle.stow_core.specs.Writes.{row_of};
 
 use crate::Core;
@@ -140,6 +140,7 @@ impl<A: Allocator + Copy> Core<A> {
         ensures reply { IfOk result (λ r. reply_of r ≡ range_reply self.old interval.entry count) }
         ensures stores { (t : ℕ) → store_of self.new t ≡ store_of self.old t }
         ensures entries { self.new.entries ≡ self.old.entries }
+        ensures gives_way { GivesWay self.old self.new }
     {
         let last = self.accounts[interval.tenant as usize - 1].last;
         let items = first_rows(&mut self.tree, buffer, alloc, interval, last, count)?;

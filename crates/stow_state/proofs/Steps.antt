@@ -192,7 +192,7 @@ step_sound old new event told sound s = same_state new (moved old event).tenants
 nothing_in : (quotas : ℕ → ℕ) (key : List ℕ) (n : ℕ) → ops_of (new_state quotas).messages key n ≡ None
 nothing_in quotas key n = finite.get-empty place_cmp (key, n)
 
-no_values : (p : ℕ) → Contains (finite.values (finite.empty {X = ℕ} {R = nat_cmp})) p → ⊥
+pub no_values : (p : ℕ) → Contains (finite.values (finite.empty {X = ℕ} {R = nat_cmp})) p → ⊥
 no_values p c = none p (subst (λ (es : List (ℕ × ℕ)). Contains (map (λ e. e.1) es) p) entries-empty c)
   where
     none : (n : ℕ) → Contains [] n → ⊥
@@ -274,6 +274,33 @@ step_of_maintenance old new tenants agree = record { has_index = tt; reply_is = 
 
 pub steps_by_parts_law : StepsByParts
 steps_by_parts_law = record { of_call = step_of_call; of_maintenance = step_of_maintenance }
+
+own_stays : (state : SharedState) (tenant : ℕ) → moved_tenant (state.tenants tenant) (view state tenant) ≡ state.tenants tenant
+unfolding view
+own_stays state tenant = let own : TenantState = state.tenants tenant in λ i. record {
+  last = own.last;
+  snapshots = numbers_stay state.messages tenant own i;
+  next = own.next;
+  quota = own.quota;
+  commands = own.commands;
+  refusals = own.refusals;
+}
+
+-- a call that leaves its caller's store is a step that changes nothing
+pub call_of_nothing : (state : SharedState) (tenant : ℕ) (event : OwnEvent) (told : Option Reply) → IsSound state → IsIndex tenant
+    → ◌≡◌ {A = Store × Option Reply} (step (view state tenant) event) (view state tenant, told) → SharedStep state (Call tenant event) told state
+call_of_nothing state tenant event told sound index same =
+    subst (λ r. SharedStep state (Call tenant event) r state) (ap (λ (p : Store × Option Reply). p.1) same)
+    (step_of_call state state tenant event [] sound index
+    (ap (with_all state.messages) (sym (ap (λ (p : Store × Option Reply). changes tenant (suc (lasts_in state tenant)) (view state tenant).rows p.0.rows) same ∙ changes-none tenant (suc (lasts_in state tenant)) (view state tenant).rows)))
+    refl
+    ((λ i u. sym (with_same u) i) ∙ ap (λ (p : Store × Option Reply). with_tenant state.tenants tenant (moved_tenant (state.tenants tenant) p.0)) (sym same)))
+  where
+    with_same : (u : ℕ) → with_tenant state.tenants tenant (moved_tenant (state.tenants tenant) (view state tenant)) u ≡ state.tenants u
+    with_same u = ⊎_elim
+        (λ (e : u ≡ tenant). cond-true (eqb u tenant) _ _ (eq-eqb u tenant e) ∙ own_stays state tenant ∙ ap state.tenants (sym e))
+        (λ (ne : u ≢ tenant). with_other state.tenants tenant u (moved_tenant (state.tenants tenant) (view state tenant)) ne)
+        (cases_eq u tenant)
 
 -- ---- a call after messages gave way
 

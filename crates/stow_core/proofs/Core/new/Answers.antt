@@ -2,11 +2,13 @@ use Rattle.std.proofs.Common.{rules, ◌≡◌, ◌<◌, length, map, ap, ◌∙
 use Rattle.std.proofs.lemmas.List.{length-map}
 use Rattle.stow_core.specs.State.{new_account}
 use Rattle.stow_core.proofs.Stores.{new_stores, new_below}
+use Rattle.stow_core.proofs.Shared.{new_shared}
 use Rattle.stow_core.proofs.Core.new.Goals as goal
 
 pub returns-clause-empty : goal.returns-clause-empty
-returns-clause-empty g c = λ t.
-    new_stores c.args.tenants.value c.in_ok-accounts.accounts.items c.in_ok-tree.tree (c.in_ok-accounts.ensures.each ∙ ap (map new_account) c.deref.ensures) c.in_ok-tree.ensures.empty t
+returns-clause-empty g c =
+    let stores = new_stores c.args.tenants.value c.in_ok-accounts.accounts.items c.in_ok-tree.tree (c.in_ok-accounts.ensures.each ∙ ap (map new_account) c.deref.ensures) c.in_ok-tree.ensures.empty in
+    record { stores = stores; shared = new_shared c.args.tenants.value c.in_ok-accounts.accounts.items c.in_ok-tree.tree c.in_ok-tree.ensures.empty stores }
 
 pub invariant_of-result : goal.invariant_of-result
 invariant_of-result g c = record {

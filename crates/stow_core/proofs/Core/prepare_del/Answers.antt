@@ -21,6 +21,8 @@ use Rattle.stow_tree.specs.TreeState.{TreeState, tree_messages}
 use Rattle.stow_tree_model.specs.Keys.{packed, own_key, IsTenantKey}
 use Rattle.stow_tree_model.specs.Messages.{with_all}
 use Rattle.stow_tree_model.specs.TreeMessage.{TreeMessage}
+use Rattle.stow_core.specs.State.{GivesWay}
+use Rattle.stow_core.proofs.Shared.{is_shared, gives_way, gives_way_same}
 use Rattle.stow_core.proofs.Core.prepare_del.Goals as goal
 
 pub reserve_removals-requires-clause-messages : goal.reserve_removals-requires-clause-messages
@@ -89,3 +91,18 @@ returns-clause-room g c =
       };
       there = subst (λ (r : Rows). AllByRecursion (λ key. IsSome (finite.get r (own_key key))) taken) (ap (λ s. s.rows) (sym kept)) at.there;
     }
+
+pub returns-in_err-taken-clause-gives_way : goal.returns-in_err-taken-clause-gives_way
+returns-in_err-taken-clause-gives_way g c = subst (λ s. GivesWay s s) c.self.view_is (gives_way_same _ (is_shared c.self.inside.tenants.value c.self.inside.accounts.items c.self.inside.tree c.self.invariant))
+
+pub returns-then-len-eq0-clause-gives_way : goal.returns-then-len-eq0-clause-gives_way
+returns-then-len-eq0-clause-gives_way g c = subst (λ s. GivesWay s s) c.self.view_is (gives_way_same _ (is_shared c.self.inside.tenants.value c.self.inside.accounts.items c.self.inside.tree c.self.invariant))
+
+pub returns-then-not-can_write-clause-gives_way : goal.returns-then-not-can_write-clause-gives_way
+returns-then-not-can_write-clause-gives_way g c = subst (λ s. GivesWay s s) c.self.view_is (gives_way_same _ (is_shared c.self.inside.tenants.value c.self.inside.accounts.items c.self.inside.tree c.self.invariant))
+
+pub returns-in_err-reserve_removals-clause-gives_way : goal.returns-in_err-reserve_removals-clause-gives_way
+returns-in_err-reserve_removals-clause-gives_way g c = subst (λ s. GivesWay s (core_of c.self.inside.tenants.value c.self.inside.accounts.items c.reserve_removals.new.tree)) c.self.view_is (gives_way c.self.inside.tenants.value c.self.inside.accounts.items c.self.inside.tree c.reserve_removals.new.tree c.self.invariant c.reserve_removals.ensures.agrees)
+
+pub returns-clause-gives_way : goal.returns-clause-gives_way
+returns-clause-gives_way g c = subst (λ s. GivesWay s (core_of c.self.inside.tenants.value c.self.inside.accounts.items c.reserve_removals.new.tree)) c.self.view_is (gives_way c.self.inside.tenants.value c.self.inside.accounts.items c.self.inside.tree c.reserve_removals.new.tree c.self.invariant c.reserve_removals.ensures.agrees)

@@ -21,6 +21,8 @@ use Rattle.stow_tree.specs.TreeState.{TreeState, tree_messages}
 use Rattle.stow_tree_model.specs.Keys.{packed, own_key, IsTenantKey}
 use Rattle.stow_tree_model.specs.Messages.{with_all}
 use Rattle.stow_tree_model.specs.TreeMessage.{TreeMessage}
+use Rattle.stow_core.specs.State.{GivesWay}
+use Rattle.stow_core.proofs.Shared.{is_shared, gives_way, gives_way_same}
 use Rattle.stow_core.proofs.Core.prepare_write.Goals as goal
 
 pub reserve_row-requires-clause-message : goal.reserve_row-requires-clause-message
@@ -86,3 +88,12 @@ returns-clause-room g c =
       );
       reserved = subst (λ m. IsReserved c.reserve_row.new.tree (m ∷ [])) (λ i. put_of ((number ∙ next) i) ((c.as_slice.ensures.value ∙ sym is) i) (c.as_slice-2.ensures i)) c.in_ok-reserve_row.ensures.reserved;
     }
+
+pub returns-then-not-can_write-clause-gives_way : goal.returns-then-not-can_write-clause-gives_way
+returns-then-not-can_write-clause-gives_way g c = subst (λ s. GivesWay s s) c.self.view_is (gives_way_same _ (is_shared c.self.inside.tenants.value c.self.inside.accounts.items c.self.inside.tree c.self.invariant))
+
+pub returns-in_err-reserve_row-clause-gives_way : goal.returns-in_err-reserve_row-clause-gives_way
+returns-in_err-reserve_row-clause-gives_way g c = subst (λ s. GivesWay s (core_of c.self.inside.tenants.value c.self.inside.accounts.items c.reserve_row.new.tree)) c.self.view_is (gives_way c.self.inside.tenants.value c.self.inside.accounts.items c.self.inside.tree c.reserve_row.new.tree c.self.invariant c.reserve_row.ensures.agrees)
+
+pub returns-clause-gives_way : goal.returns-clause-gives_way
+returns-clause-gives_way g c = subst (λ s. GivesWay s (core_of c.self.inside.tenants.value c.self.inside.accounts.items c.reserve_row.new.tree)) c.self.view_is (gives_way c.self.inside.tenants.value c.self.inside.accounts.items c.self.inside.tree c.reserve_row.new.tree c.self.invariant c.reserve_row.ensures.agrees)

@@ -1,4 +1,4 @@
-use Rattle.std.proofs.Common.{rules, ◌≡◌, ◌<◌, ◌≤◌, ◌+◌, length, List, [], ◌∷◌, map, refl, true, ap, sym, ◌∙◌, subst, arith}
+use Rattle.std.proofs.Common.{rules, ◌-◌, set, ◌≡◌, ◌<◌, ◌≤◌, ◌+◌, length, List, [], ◌∷◌, map, refl, true, ap, sym, ◌∙◌, subst, arith}
 use Rattle.std.specs.Prelude.{IsSome}
 use Rattle.std.specs.FinMap as finite
 use Rattle.std.specs.List.{AllByRecursion}
@@ -21,6 +21,8 @@ use Rattle.stow_tree.specs.TreeState.{TreeState, tree_messages}
 use Rattle.stow_tree_model.specs.Keys.{packed, own_key, IsTenantKey}
 use Rattle.stow_tree_model.specs.Messages.{with_all}
 use Rattle.stow_tree_model.specs.TreeMessage.{TreeMessage}
+use Rattle.stow_core.specs.State.{StepsTo}
+use Rattle.stow_core.proofs.Shared.{put_steps}
 use Rattle.stow_core.proofs.Core.put.Goals as goal
 
 pub written-account-requires : goal.written-account-requires
@@ -76,3 +78,16 @@ returns-clause-others g c = λ other differ.
     c.requires.is_tenant.0 few (put_is_call t c.written-account.result.last key value (omega (arith, high, few)) c.requires.own)
     (c.put_row.ensures.messages ∙ (λ i. with_all (tree_messages c.self.inside.tree) (put_of c.written-account.result.last (c.as_slice.ensures i) (c.as_slice-2.ensures i) ∷ []))) differ
     ∙ ap (λ s. store_of s other) c.self.view_is
+
+pub returns-clause-step : goal.returns-clause-step
+returns-clause-step g c =
+    let t = c.args.tenant in
+    let key = c.args.key in
+    let value = c.args.value in
+    let high : t ≤ length c.self.inside.accounts.items = search rules in
+    let few = c.self.invariant.few in
+    let puts = c.put_row.ensures.messages ∙ (λ i. with_all (tree_messages c.self.inside.tree) (put_of c.written-account.result.last (c.as_slice.ensures i) (c.as_slice-2.ensures i) ∷ [])) in
+    let moved = core_moved c.self.inside.tenants.value c.self.inside.accounts.items c.self.inside.tree c.put_row.new.tree t c.index.result.now c.written-account.result (put_of c.written-account.result.last key value ∷ [])
+    c.requires.is_tenant.0 high c.index.ensures c.written-account.ensures c.self.invariant (put_is_call t c.written-account.result.last key value (omega (arith, high, few)) c.requires.own) puts c.put_row.ensures.shape in
+    subst (λ s. StepsTo s t (after_put key value (store_of s t)) (core_of c.self.inside.tenants.value (set c.self.inside.accounts.items (t - 1) c.written-account.result) c.put_row.new.tree)) c.self.view_is
+    (put_steps c.self.inside.tenants.value c.self.inside.accounts.items c.self.inside.tree c.put_row.new.tree t c.index.result.now c.written-account.result c.requires.is_tenant.0 high c.index.ensures key value few c.written-account.ensures c.requires.own puts moved.below)

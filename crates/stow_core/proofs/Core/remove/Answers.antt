@@ -1,4 +1,4 @@
-use Rattle.std.proofs.Common.{rules, ◌≡◌, ◌<◌, ◌≤◌, ◌+◌, length, List, [], ◌∷◌, map, refl, true, ap, sym, ◌∙◌, subst, arith}
+use Rattle.std.proofs.Common.{rules, ◌-◌, set, ◌≡◌, ◌<◌, ◌≤◌, ◌+◌, length, List, [], ◌∷◌, map, refl, true, ap, sym, ◌∙◌, subst, arith}
 use Rattle.std.specs.Prelude.{IsSome}
 use Rattle.std.specs.FinMap as finite
 use Rattle.std.specs.List.{AllByRecursion}
@@ -21,6 +21,8 @@ use Rattle.stow_tree.specs.TreeState.{TreeState, tree_messages}
 use Rattle.stow_tree_model.specs.Keys.{packed, own_key, IsTenantKey}
 use Rattle.stow_tree_model.specs.Messages.{with_all}
 use Rattle.stow_tree_model.specs.TreeMessage.{TreeMessage}
+use Rattle.stow_core.specs.State.{StepsTo}
+use Rattle.stow_core.proofs.Shared.{remove_steps}
 use Rattle.stow_core.proofs.Core.remove.Goals as goal
 
 pub written-account-requires : goal.written-account-requires
@@ -78,3 +80,18 @@ returns-clause-others g c = λ other differ.
     c.requires.can.is_tenant.0 few (removals_are_call t c.written-account.result.last keys (omega (arith, high, few)) own)
     (c.put_removals.ensures.messages ∙ ap (λ ks. with_all (tree_messages c.self.inside.tree) (removals_of c.written-account.result.last ks)) c.lent.ensures) differ
     ∙ ap (λ s. store_of s other) c.self.view_is
+
+pub returns-clause-step : goal.returns-clause-step
+returns-clause-step g c =
+    let t = c.args.tenant in
+    let keys = c.args.keys in
+    let high : t ≤ length c.self.inside.accounts.items = search rules in
+    let few = c.self.invariant.few in
+    let own : AreKeysOf t keys = subst (AreKeysOf t) (keys_of_removals (next_number c.args.self.now t) keys) c.requires.can.own in
+    let rows = ap (λ s. (store_of s t).rows) (sym c.self.view_is) ∙ rows-store_of _ t c.index.result.now c.requires.can.is_tenant.0 high c.index.ensures in
+    let puts = c.put_removals.ensures.messages ∙ ap (λ ks. with_all (tree_messages c.self.inside.tree) (removals_of c.written-account.result.last ks)) c.lent.ensures in
+    let moved = core_moved c.self.inside.tenants.value c.self.inside.accounts.items c.self.inside.tree c.put_removals.new.tree t c.index.result.now c.written-account.result (removals_of c.written-account.result.last keys)
+    c.requires.can.is_tenant.0 high c.index.ensures c.written-account.ensures c.self.invariant (removals_are_call t c.written-account.result.last keys (omega (arith, high, few)) own) puts c.put_removals.ensures.shape in
+    subst (λ s. StepsTo s t (after_remove keys (store_of s t)) (core_of c.self.inside.tenants.value (set c.self.inside.accounts.items (t - 1) c.written-account.result) c.put_removals.new.tree)) c.self.view_is
+    (remove_steps c.self.inside.tenants.value c.self.inside.accounts.items c.self.inside.tree c.put_removals.new.tree t c.index.result.now c.written-account.result c.requires.can.is_tenant.0 high c.index.ensures keys few c.written-account.ensures own
+    (subst (λ (r : Rows). AllByRecursion (λ key. IsSome (finite.get r (own_key key))) keys) rows c.requires.there) puts moved.below)

@@ -24,6 +24,8 @@ use Rattle.stow_tree_model.specs.TreeMessage.{TreeMessage}
 use Rattle.std.specs.List.{flat_map}
 use Rattle.stow_model.specs.Reply as told
 use Rattle.stow_model.specs.Store.{row_items, rows_within}
+use Rattle.stow_core.specs.State.{GivesWay}
+use Rattle.stow_core.proofs.Shared.{gives_way_rooted}
 use Rattle.stow_core.proofs.Core.rows_within.Goals as goal
 
 pub invariant_of-self : goal.invariant_of-self
@@ -46,3 +48,11 @@ returns-clause-reply g c =
 pub returns-clause-stores : goal.returns-clause-stores
 returns-clause-stores g c = λ t.
     stores_rooted c.self.inside.tenants.value c.self.inside.accounts.items c.self.inside.tree c.first_rows.new.tree c.self.invariant c.first_rows.ensures.same.root t ∙ ap (λ s. store_of s t) c.self.view_is
+
+pub returns-in_err-items-clause-gives_way : goal.returns-in_err-items-clause-gives_way
+returns-in_err-items-clause-gives_way g c = subst (λ s. GivesWay s (core_of c.self.inside.tenants.value c.self.inside.accounts.items c.first_rows.new.tree)) c.self.view_is
+    (gives_way_rooted c.self.inside.tenants.value c.self.inside.accounts.items c.self.inside.tree c.first_rows.new.tree c.self.invariant c.first_rows.ensures.same.root)
+
+pub returns-clause-gives_way : goal.returns-clause-gives_way
+returns-clause-gives_way g c = subst (λ s. GivesWay s (core_of c.self.inside.tenants.value c.self.inside.accounts.items c.first_rows.new.tree)) c.self.view_is
+    (gives_way_rooted c.self.inside.tenants.value c.self.inside.accounts.items c.self.inside.tree c.first_rows.new.tree c.self.invariant c.first_rows.ensures.same.root)
