@@ -1,5 +1,5 @@
 -- A run of events so far.
-use Rattle.std.proofs.Common.{zero, suc, get_or, take, ◌≡◌, ◌≢◌, ℕ, ◌<◌, ◌≤◌, Bool, true, false, List, [], ◌∷◌, ◌++◌, map, reverse, length, filter, Option, Some, None, option_map, refl, ap, ◌∙◌, sym, subst, arith, append-nil, ⊎_elim, is_some}
+use Rattle.std.proofs.Common.{zero, suc, get_or, take, ◌≡◌, ◌≢◌, ℕ, ◌<◌, ◌≤◌, Bool, true, false, List, [], ◌∷◌, ◌++◌, map, reverse, length, filter, Option, Some, None, option_map, refl, ap, ◌∙◌, sym, subst, arith, append-nil, inl, inr, is_some}
 use mathlib.Core.Bool.{false≢true}
 use Rattle.std.specs.Result.{OnOk, is_err}
 use Rattle.std.specs.declared.alloc.AllocError.{AllocError}
@@ -22,9 +22,9 @@ use Rattle.stow_model.proofs.Refused.{want_of_memory_lem}
 use Rattle.stow_core.specs.State.{store_of}
 use Rattle.stow_house.specs.declared.mark.Mark.{Mark}
 use Rattle.stow_house.specs.declared.mark.Mark.TheVariants as mark
-use Rattle.stow_house.specs.StepResult.{StepResult, Done, More, NoJob, Refused, NoMemory, answer_to_event, answer_to_own, answered, when_open, when_unused, MayAnswer, IsAnswer}
+use Rattle.stow_house.specs.StepResult.{StepResult, Done, More, answer_to_event, answer_to_own, answered, when_open, when_unused, MayAnswer, IsAnswer}
 use Rattle.stow_house.specs.Steps.{HouseState, Stands, IsStepOf}
-use Rattle.stow_house.specs.Outputs.{Told, replies_to, to_connection, told_of, mark_of, mark_if, mark_of_step, connection_of, told_in_history}
+use Rattle.stow_house.specs.Outputs.{Told, replies_to, to_connection, told_of, mark_of, mark_if, IsFlusherMark, IsMark, AreMarks, connection_of, told_in_history}
 use Rattle.stow_house.specs.Runs.{Shows, told_in_run, OneRun}
 
 -- ---- what is answered, and what is told
@@ -50,12 +50,18 @@ silent (event.Piece bytes) status = silent_open status Done (record { told = ref
 silent event.Serve status = silent_open status More (record { told = refl; mark = refl })
 silent event.Close status = silent_open status Done (record { told = refl; mark = refl })
 
-silent_flusher : (e : FlusherEvent) (r : StepResult) → MayAnswer e r → Silent r
-silent_flusher (event.Plan f) r may = subst Silent (sym may) (record { told = refl; mark = refl })
-silent_flusher (event.Merge f) r may = subst Silent (sym may) (record { told = refl; mark = refl })
-silent_flusher (event.Install f) r may = subst Silent (sym may) (record { told = refl; mark = refl })
-silent_flusher (event.Resize n) r may =
-    ⊎_elim (λ done. subst Silent (sym done.1) (record { told = refl; mark = refl })) (λ refused. subst Silent (sym refused.1) (record { told = refl; mark = refl })) may
+-- an answer to an event of a flusher
+record Quiet (e : FlusherEvent) (r : StepResult) : Type 0 where
+  pub told : told_of r ≡ None
+  pub mark : IsFlusherMark e (mark_of r)
+
+quiet : (e : FlusherEvent) (r : StepResult) → MayAnswer e r → Quiet e r
+quiet (event.Plan f) r may = subst (Quiet (event.Plan f)) (sym may) (record { told = refl; mark = refl })
+quiet (event.Merge f) r may = subst (Quiet (event.Merge f)) (sym may) (record { told = refl; mark = refl })
+quiet (event.Install f) r may = subst (Quiet (event.Install f)) (sym may) (record { told = refl; mark = refl })
+quiet (event.Resize n) r (inl (few, inl done)) = subst (Quiet (event.Resize n)) (sym done) (record { told = refl; mark = inl refl })
+quiet (event.Resize n) r (inl (few, inr void)) = subst (Quiet (event.Resize n)) (sym void) (record { told = refl; mark = inr refl })
+quiet (event.Resize n) r (inr (many, refused)) = subst (Quiet (event.Resize n)) (sym refused) (record { told = refl; mark = inl refl })
 
 told_of-answered : (told : Option Reply) → told_of (answered told) ≡ told
 told_of-answered None = refl
@@ -100,11 +106,11 @@ mark_of-own entries c (Plain e) earlier f = (silent e (status_of (part_of c earl
 mark_of-own entries c (Took m b) earlier f = mark_of-message entries m b (served_as entries (part_of c earlier)) earlier f.2
 mark_of-own entries c (Broke fault) earlier f = refl
 
-marked : (entries : List Entry) (step : Step) (earlier : List Step) (r : StepResult) → IsStep entries step earlier → IsAnswer entries step earlier r → mark_of_step step ≡ mark_of r
+marked : (entries : List Entry) (step : Step) (earlier : List Step) (r : StepResult) → IsStep entries step earlier → IsAnswer entries step earlier r → IsMark step (mark_of r)
 unfolding IsStep IsAnswer
-marked entries (Void e) earlier r is a = sym (ap mark_of a)
-marked entries (At c own) earlier r is a = sym (ap mark_of a ∙ mark_of-own entries c own earlier is)
-marked entries (Flushed e) earlier r is a = sym (silent_flusher e r a).mark
+marked entries (Void e) earlier r is a = ap mark_of a
+marked entries (At c own) earlier r is a = ap mark_of a ∙ mark_of-own entries c own earlier is
+marked entries (Flushed e) earlier r is a = (quiet e r a).mark
 
 -- ---- one step more
 
@@ -123,7 +129,7 @@ tells entries (Void e) earlier r a = ap (λ x. to_connection (connection_of e) (
 tells entries (At c own) earlier r a =
     told_here c _ (told_at entries c own earlier) (tellings entries earlier)
     ∙ ap (λ t. to_connection c t ++ map told_in_history (tellings entries earlier)) (sym (ap told_of a ∙ told_of-own entries own (status_of (part_of c earlier)) (served_as entries (part_of c earlier)) (reply_in_line entries earlier)))
-tells entries (Flushed e) earlier r a = ap (λ t. to_connection 0 t ++ map told_in_history (tellings entries earlier)) (sym (silent_flusher e r a).told)
+tells entries (Flushed e) earlier r a = ap (λ t. to_connection 0 t ++ map told_in_history (tellings entries earlier)) (sym (quiet e r a).told)
 
 reverse_one : (c : ℕ) (told : Option Reply) → to_connection c told ≡ reverse (to_connection c told)
 reverse_one c None = refl
@@ -131,7 +137,7 @@ reverse_one c (Some r) = refl
 
 pub shown_none : (entries : List Entry) (house : HouseState) (told : List Told) (marks : List Mark) → Stands entries house [] → told ≡ [] → marks ≡ [] → Shows entries [] told marks house
 unfolding tellings
-shown_none entries house told marks stands none none' = record { history = []; stands = stands; in_order = refl; marked = ap reverse (sym none'); output = ap reverse (sym none) }
+shown_none entries house told marks stands none none' = record { history = []; stands = stands; in_order = refl; marked = ap reverse none'; output = ap reverse (sym none) }
 
 pub shown_more : (entries : List Entry) (old new : HouseState) (e : Event) (r : StepResult) (events : List Event) (told : List Told) (marks : List Mark) → Shows entries events told marks old → IsStepOf old e r new
     → Shows entries (events ++ e ∷ []) (told ++ to_connection (connection_of e) (told_of r)) (marks ++ mark_of r ∷ []) new
@@ -143,7 +149,7 @@ shown_more entries old new e r events told marks f s =
       history = s.step ∷ f.history;
       stands = g.stands;
       in_order = (λ i. s.is_event i ∷ f.in_order i) ∙ sym (reverse-append events (e ∷ []));
-      marked = (λ i. marked entries s.step f.history r g.stands.is_history.0 g.answer i ∷ f.marked i) ∙ sym (reverse-append marks (mark_of r ∷ []));
+      marked = subst (AreMarks (s.step ∷ f.history)) (sym (reverse-append marks (mark_of r ∷ []))) (marked entries s.step f.history r g.stands.is_history.0 g.answer, f.marked);
       output = tells entries s.step f.history r g.answer
           ∙ ap (λ x. to_connection (connection_of x) (told_of r) ++ map told_in_history (tellings entries f.history)) s.is_event
           ∙ (λ i. reverse_one (connection_of e) (told_of r) i ++ f.output i)
@@ -184,26 +190,56 @@ refused-if : (b : Bool) → b ≡ says_refused (mark_if b)
 refused-if true = refl
 refused-if false = refl
 
-void-mark : (s : Step) → is_void s ≡ says_void (mark_of_step s)
-void-mark (Void e) = refl
-void-mark (At c own) = void-if (is_refused_own own)
-void-mark (Flushed e) = refl
+-- of two steps of one event with one mark either both are void or none is
+void_once : (entries : List Entry) (s t : Step) (earlier earlier' : List Step) (m : Mark) → IsStep entries s earlier → IsStep entries t earlier' → event_of_step s ≡ event_of_step t → IsMark s m → IsMark t m → is_void s ≡ is_void t
+unfolding IsStep
+void_once entries (Void (event.By e)) t earlier earlier' m p q same a b = absurd p
+void_once entries s (Void (event.By e)) earlier earlier' m p q same a b = absurd q
+void_once entries (Void (event.On c e)) (Void (event.On d e')) earlier earlier' m p q same a b = refl
+void_once entries (Void (event.On c e)) (At d own) earlier earlier' m p q same a b = ap says_void (sym a ∙ b) ∙ sym (void-if (is_refused_own own))
+void_once entries (Void (event.On c e)) (Flushed e') earlier earlier' m p q same a b = cc same
+void_once entries (At c own) (Void (event.On d e')) earlier earlier' m p q same a b = void-if (is_refused_own own) ∙ ap says_void (sym a ∙ b)
+void_once entries (At c own) (At d own') earlier earlier' m p q same a b = refl
+void_once entries (At c own) (Flushed e') earlier earlier' m p q same a b = refl
+void_once entries (Flushed e) (Void (event.On d e')) earlier earlier' m p q same a b = cc same
+void_once entries (Flushed e) (At d own) earlier earlier' m p q same a b = refl
+void_once entries (Flushed e) (Flushed e') earlier earlier' m p q same a b = refl
 
-refused-mark : (s : Step) → is_refused s ≡ says_refused (mark_of_step s)
-refused-mark (Void e) = refl
-refused-mark (At c own) = refused-if (is_refused_own own)
-refused-mark (Flushed e) = refl
+voids_once : (entries : List Entry) (history history' : List Step) (marks : List Mark) → IsHistory entries history → IsHistory entries history' → map event_of_step history ≡ map event_of_step history' → AreMarks history marks → AreMarks history' marks
+    → map is_void history ≡ map is_void history'
+unfolding IsHistory
+voids_once entries [] [] marks p q same a b = refl
+voids_once entries [] (t ∷ later) marks p q same a b = cc same
+voids_once entries (s ∷ earlier) [] marks p q same a b = cc same
+voids_once entries (s ∷ earlier) (t ∷ earlier') [] p q same a b = absurd a
+voids_once entries (s ∷ earlier) (t ∷ earlier') (m ∷ marks) p q same a b =
+    let here : event_of_step s ≡ event_of_step t = cc in
+    let before : map event_of_step earlier ≡ map event_of_step earlier' = cc in
+    λ i. void_once entries s t earlier earlier' m p.0 q.0 here a.0 b.0 i ∷ voids_once entries earlier earlier' marks p.1 q.1 before a.1 b.1 i
 
-by_marks : (f : Step → Bool) (g : Mark → Bool) → ((s : Step) → f s ≡ g (mark_of_step s)) → (history : List Step) → map f history ≡ map g (map mark_of_step history)
-by_marks f g same [] = refl
-by_marks f g same (newest ∷ earlier) = λ i. same newest i ∷ by_marks f g same earlier i
+flusher-unrefused : (e : FlusherEvent) (m : Mark) → IsFlusherMark e m → false ≡ says_refused m
+flusher-unrefused (event.Plan f) m is = ap says_refused (sym is)
+flusher-unrefused (event.Merge f) m is = ap says_refused (sym is)
+flusher-unrefused (event.Install f) m is = ap says_refused (sym is)
+flusher-unrefused (event.Resize n) m (inl kept) = ap says_refused (sym kept)
+flusher-unrefused (event.Resize n) m (inr void) = ap says_refused (sym void)
+
+refused-mark : (s : Step) (m : Mark) → IsMark s m → is_refused s ≡ says_refused m
+refused-mark (Void e) m is = ap says_refused (sym is)
+refused-mark (At c own) m is = refused-if (is_refused_own own) ∙ ap says_refused (sym is)
+refused-mark (Flushed e) m is = flusher-unrefused e m is
+
+refused-marks : (history : List Step) (marks : List Mark) → AreMarks history marks → map is_refused history ≡ map says_refused marks
+refused-marks [] marks are = ap (map says_refused) (sym are)
+refused-marks (s ∷ earlier) [] are = absurd are
+refused-marks (s ∷ earlier) (m ∷ marks) are = λ i. refused-mark s m are.0 i ∷ refused-marks earlier marks are.1 i
 
 pub one_run : OneHistory → OneRun
 one_run one entries events told told' marks house house' s s' =
-    let marked : map mark_of_step s.history ≡ map mark_of_step s'.history = s.marked ∙ sym s'.marked in
-    let same : s.history ≡ s'.history = one entries s.history s'.history s.stands.is_history s'.stands.is_history (s.in_order ∙ sym s'.in_order)
-    (by_marks is_void says_void void-mark s.history ∙ ap (map says_void) marked ∙ sym (by_marks is_void says_void void-mark s'.history))
-    (by_marks is_refused says_refused refused-mark s.history ∙ ap (map says_refused) marked ∙ sym (by_marks is_refused says_refused refused-mark s'.history)) in (
+    let in_order : map event_of_step s.history ≡ map event_of_step s'.history = s.in_order ∙ sym s'.in_order in
+    let same : s.history ≡ s'.history = one entries s.history s'.history s.stands.is_history s'.stands.is_history in_order
+    (voids_once entries s.history s'.history (reverse marks) s.stands.is_history s'.stands.is_history in_order s.marked s'.marked)
+    (refused-marks s.history (reverse marks) s.marked ∙ sym (refused-marks s'.history (reverse marks) s'.marked)) in (
       sym (reverse-reverse told) ∙ ap reverse (sym s.output ∙ ap (λ h. map told_in_history (tellings entries h)) same ∙ s'.output) ∙ reverse-reverse told',
       (λ tenant. s.stands.stores tenant ∙ ap (λ h. store_after (quota_of entries tenant) (line_of entries tenant h)) same ∙ sym (s'.stands.stores tenant)),
     )

@@ -13,7 +13,7 @@ use Rattle.stow_core.specs.State.{CoreState, store_of, IsNewCore}
 use Rattle.stow_house.specs.Seen.{Seen, IsServed, never_opened}
 use Rattle.stow_house.specs.StepResult.{StepResult, NoMemory, answer_to_own, MayAnswer, IsAnswer}
 use Rattle.stow_house.specs.Connections.{moved, reply_in_core, Reads, CanWait, Can, Moves, Leads, AsksMemory, IsVoid, Happens}
-use Rattle.stow_house.specs.Steps.{HouseState, StandsAt, Stands, GoesOn, IsStepOf}
+use Rattle.stow_house.specs.Steps.{HouseState, StandsAt, Stands, GoesOn, TreeBy, IsStepOf}
 use Rattle.stow_house.proofs.Tenants.{served_tenant}
 
 -- ---- what is unread tells what the whole stream tells
@@ -135,14 +135,15 @@ led old new c own r history m others s =
     }
 
 -- nothing changed
-stayed : (entries : List Entry) (old new : HouseState) (step : Step) (history : List Step) → Stands entries old history → ((d : ℕ) → new.seen d ≡ old.seen d) → new.core ≡ old.core
+stayed : (entries : List Entry) (old new : HouseState) (step : Step) (history : List Step) → Stands entries old history → ((d : ℕ) → new.seen d ≡ old.seen d)
+    → new.core.entries ≡ old.core.entries → ((t : ℕ) → store_of new.core t ≡ store_of old.core t)
     → IsStep entries step history → ((d : ℕ) → part_of d (step ∷ history) ≡ part_of d history) → ((t : ℕ) → line_of entries t (step ∷ history) ≡ line_of entries t history) → Stands entries new (step ∷ history)
 unfolding IsHistory
-stayed entries old new step history s seen core is part line = record {
+stayed entries old new step history s seen tenants stores is part line = record {
   is_history = (is, s.is_history);
-  tenants = ap (λ x. x.entries) core ∙ s.tenants;
+  tenants = tenants ∙ s.tenants;
   connections = λ d. subst (λ p. StandsAt entries (new.seen d) p) (sym (part d)) (subst (λ x. StandsAt entries x (part_of d history)) (sym (seen d)) (s.connections d));
-  stores = λ t. ap (λ x. store_of x t) core ∙ s.stores t ∙ ap (store_after (quota_of entries t)) (sym (line t));
+  stores = λ t. stores t ∙ s.stores t ∙ ap (store_after (quota_of entries t)) (sym (line t));
 }
 
 voided : (entries : List Entry) (old new : HouseState) (c : ℕ) (e : ConnectionEvent) (r : StepResult) (history : List Step) → IsVoid e r (old.seen c) (new.seen c) old.core new.core
@@ -151,7 +152,7 @@ unfolding IsStep IsAnswer part_of line_of service_of
 voided entries old new c e r history v others s = record {
   stands = stayed entries old new (Void (event.On c e)) history s
       (λ d. ⊎_elim (λ (same : c ≡ d). subst (λ x. new.seen x ≡ old.seen x) same v.connection) (λ (differ : c ≢ d). others d (λ same. differ (sym same))) (cases_eq c d))
-      v.core (void_follows entries e (old.seen c) (part_of c history) (s.connections c) v.asks) (λ d. refl) (λ t. refl);
+      (ap (λ x. x.entries) v.core) (λ t. ap (λ x. store_of x t) v.core) (void_follows entries e (old.seen c) (part_of c history) (s.connections c) v.asks) (λ d. refl) (λ t. refl);
   answer = v.result;
 }
 
@@ -164,6 +165,7 @@ at_connection old new c e r happens others =
       step = Void (event.On c e);
       is_event = refl;
       goes_on = λ entries history s. voided entries old new c e r history v others s;
+      tree = tt;
     })
     (λ (l : Leads e r (old.seen c) (new.seen c) old.core new.core). record {
       step = At c l.own;
@@ -171,16 +173,19 @@ at_connection old new c e r happens others =
       goes_on = λ entries history s.
           subst (λ es. Stands es old history → GoesOn es (At c l.own) history r new) s.tenants
           (λ own. led old new c l.own r history (l.moves (subst (λ o. IsServed old.core.entries o) (sym (own.connections c).tenant) (served_tenant old.core.entries (part_of c history)))) others own) s;
+      tree = tt;
     })
     happens
 
--- an event of a flusher changes nothing yet
-pub flushed : (house : HouseState) (e : FlusherEvent) (r : StepResult) → MayAnswer e r → IsStepOf house (event.By e) r house
+-- an event of a flusher changes no connection and no store
+pub flushed : (old new : HouseState) (e : FlusherEvent) (r : StepResult) → MayAnswer e r → ((d : ℕ) → new.seen d ≡ old.seen d)
+    → new.core.entries ≡ old.core.entries → ((t : ℕ) → store_of new.core t ≡ store_of old.core t) → TreeBy e r old.core new.core → IsStepOf old (event.By e) r new
 unfolding IsStep IsAnswer part_of line_of service_of
-flushed house e r may = record {
+flushed old new e r may seen tenants stores tree = record {
   step = Flushed e;
   is_event = refl;
-  goes_on = λ entries history s. record { stands = stayed entries house house (Flushed e) history s (λ d. refl) refl tt (λ d. refl) (λ t. refl); answer = may };
+  goes_on = λ entries history s. record { stands = stayed entries old new (Flushed e) history s seen tenants stores tt (λ d. refl) (λ t. refl); answer = may };
+  tree = tree;
 }
 
 -- a new house stands at the empty history

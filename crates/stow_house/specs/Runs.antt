@@ -11,7 +11,7 @@ use Rattle.stow_house.specs.declared.house.House.{House}
 use Rattle.stow_house.specs.declared.outputs.Outputs.{Outputs}
 use Rattle.stow_house.specs.Seen.{never_opened}
 use Rattle.stow_house.specs.Steps.{HouseState, state_of, Stands}
-use Rattle.stow_house.specs.Outputs.{Told, told_in, marks_in, told_in_history, mark_of_step}
+use Rattle.stow_house.specs.Outputs.{Told, told_in, marks_in, told_in_history, AreMarks}
 
 -- nothing has happened in the house yet: no connection was opened, and every store is new
 pub record IsNewHouse (house : HouseState) : Type 0 where
@@ -26,7 +26,7 @@ pub record Shows (entries : List Entry) (events : List Event) (told : List Told)
   pub history : List Step
   pub stands : Stands entries house history
   pub in_order : map event_of_step history ≡ reverse events
-  pub marked : map mark_of_step history ≡ reverse marks
+  pub marked : AreMarks history (reverse marks)
   pub output : map told_in_history (tellings entries history) ≡ reverse told
 
 -- a run of the code's house, over all of the events

@@ -63,12 +63,13 @@ answer_to_own (Plain e) status told = answer_to_event e status
 answer_to_own (Took m is_refused) status told = answered told
 answer_to_own (Broke fault) status told = answered told
 
--- what an event of a flusher may be answered; no leaf is flushed in two steps yet, so there is never a job
+-- what an event of a flusher may be answered; no leaf is flushed in two steps yet, so there is never a job.
+-- A cache's size above the limit is refused, and to any other memory may be
 abbrev pub MayAnswer : FlusherEvent → StepResult → Type 0
 MayAnswer (event.Plan f) r = r ≡ NoJob
 MayAnswer (event.Merge f) r = r ≡ Refused
 MayAnswer (event.Install f) r = r ≡ Refused
-MayAnswer (event.Resize n) r = ((n ≤ cache_limit) × (r ≡ Done))
+MayAnswer (event.Resize n) r = ((n ≤ cache_limit) × ((r ≡ Done) ⊎ (r ≡ NoMemory)))
     ⊎ ((cache_limit < n) × (r ≡ Refused))
 
 -- the answers that an event of a connection can have at all

@@ -1,15 +1,16 @@
 -- The house over its history, and one step of it.
 use Rattle.std.specs.Prelude.{◌≡◌, ℕ, List, ◌∷◌, ◌++◌}
 use Rattle.stow_model.specs.Login.{Entry, quota_of}
-use Rattle.stow_model.specs.Event.{Event}
+use Rattle.stow_model.specs.Event.{Event, FlusherEvent}
+use Rattle.stow_model.specs.Event as event
 use Rattle.stow_model.specs.Wire.{SpellsAll}
 use Rattle.stow_model.specs.Store.{store_after}
 use Rattle.stow_model.specs.History.{Step, ConnectionStep, event_of_step, part_of, status_of, served_as, taken_by, stream_of, line_of, IsHistory}
-use Rattle.stow_core.specs.State.{CoreState, store_of}
+use Rattle.stow_core.specs.State.{CoreState, store_of, Resized}
 use Rattle.stow_house.specs.declared.house.House.{House}
 use Rattle.stow_house.specs.Seen.{Seen, seen_at}
 use Rattle.stow_house.specs.declared.step_result.StepResult as coded
-use Rattle.stow_house.specs.StepResult.{StepResult, step_result_of, IsAnswer}
+use Rattle.stow_house.specs.StepResult.{StepResult, Done, step_result_of, IsAnswer}
 
 -- what is known of each connection, and what the core keeps
 pub record HouseState : Type 0 where
@@ -44,6 +45,16 @@ pub record GoesOn (entries : List Entry) (step : Step) (earlier : List Step) (r 
   pub stands : Stands entries new (step ∷ earlier)
   pub answer : IsAnswer entries step earlier r
 
+-- what becomes of the tree of all rows: another size of the cache is one of the tree's, unless it was refused,
+-- and no other event of a flusher changes the tree
+abbrev pub TreeBy : FlusherEvent → StepResult → CoreState → CoreState → Type 0
+TreeBy (event.Resize n) Done old new = Resized n old new
+TreeBy e r old new = new.tree ≡ old.tree
+
+abbrev pub TreeAfter : Event → StepResult → CoreState → CoreState → Type 0
+TreeAfter (event.On c e) r old new = Unit {0}
+TreeAfter (event.By e) r old new = TreeBy e r old new
+
 -- an event is one step, by which every history of the house goes on
 pub record IsStepOf (old : HouseState) (e : Event) (r : StepResult)
     (new : HouseState) : Type 0 where
@@ -51,6 +62,7 @@ pub record IsStepOf (old : HouseState) (e : Event) (r : StepResult)
   pub is_event : event_of_step step ≡ e
   pub goes_on : (entries : List Entry) (history : List Step) → Stands entries old history
       → GoesOn entries step history r new
+  pub tree : TreeAfter e r old.core new.core
 
 abbrev pub Steps : {A : Type 0} → House A → Event → coded.StepResult A → House A → Type 0
 Steps old e result new = IsStepOf (state_of old) e (step_result_of result) (state_of new)

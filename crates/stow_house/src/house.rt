@@ -82,7 +82,7 @@ impl<A: Allocator + Copy> House<A> {
             Event::Plan(_) => StepResult::NoJob,
             Event::Merge(_) => StepResult::Refused,
             Event::Install(_) => StepResult::Refused,
-            Event::Resize(leaves) => resized(*leaves),
+            Event::Resize(leaves) => self.resize(*leaves),
         }
     }
 
@@ -102,6 +102,20 @@ impl<A: Allocator + Copy> House<A> {
             return StepResult::Refused;
         }
         match open_at(&mut self.connections, alloc, c) {
+            Ok(()) => StepResult::Done,
+            Err(_) => StepResult::NoMemory,
+        }
+    }
+
+    /// Another size of the core's cache, up to the limit.
+    fn resize(&mut self, leaves: usize) -> StepResult<A>
+        ensures possible { MayAnswer (meant.Resize leaves) (step_result_of result) }
+        ensures steps { Steps self.old (meant.By (meant.Resize leaves)) result self.new }
+    {
+        if leaves > CACHE_LIMIT {
+            return StepResult::Refused;
+        }
+        match self.core.resize(leaves) {
             Ok(()) => StepResult::Done,
             Err(_) => StepResult::NoMemory,
         }
@@ -132,17 +146,6 @@ fn open_at<A: Allocator + Copy>(
 {
     connections.insert(c, Connection::new(alloc))?;
     Ok(())
-}
-
-/// The answer to a cache of this size.
-fn resized<A: Allocator>(leaves: usize) -> StepResult<A>
-    ensures { MayAnswer (meant.Resize leaves) (step_result_of result) }
-{
-    if leaves <= CACHE_LIMIT {
-        StepResult::Done
-    } else {
-        StepResult::Refused
-    }
 }
 
 /// The connection that the event is of. An event of a flusher tells nobody anything.

@@ -5,13 +5,10 @@ use Rattle.stow_house.proofs.Stood.{flushed}
 use Rattle.stow_house.proofs.house.House.step.Goals as goal
 
 pub returns-in-Plan-clause-steps : goal.returns-in-Plan-clause-steps
-returns-in-Plan-clause-steps g c = rw c.in-Plan.is (flushed _ (event.Plan _) NoJob refl)
+returns-in-Plan-clause-steps g c = rw c.in-Plan.is (flushed _ _ (event.Plan _) NoJob refl (λ d. refl) refl (λ t. refl) refl)
 
 pub returns-in-Merge-clause-steps : goal.returns-in-Merge-clause-steps
-returns-in-Merge-clause-steps g c = rw c.in-Merge.is (flushed _ (event.Merge _) Refused refl)
+returns-in-Merge-clause-steps g c = rw c.in-Merge.is (flushed _ _ (event.Merge _) Refused refl (λ d. refl) refl (λ t. refl) refl)
 
 pub returns-in-Install-clause-steps : goal.returns-in-Install-clause-steps
-returns-in-Install-clause-steps g c = rw c.in-Install.is (flushed _ (event.Install _) Refused refl)
-
-pub returns-in-Resize-clause-steps : goal.returns-in-Resize-clause-steps
-returns-in-Resize-clause-steps g c = rw c.in-Resize.is (flushed _ (event.Resize _) _ c.resized.ensures)
+returns-in-Install-clause-steps g c = rw c.in-Install.is (flushed _ _ (event.Install _) Refused refl (λ d. refl) refl (λ t. refl) refl)
