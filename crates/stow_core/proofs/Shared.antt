@@ -97,7 +97,8 @@ is_shared entries accounts tree core = record {
 
 -- ---- maintenance
 
-idle : (state : SharedState) → IsSound state → SharedStep state Maintenance None state
+-- where nothing changes
+pub idle : (state : SharedState) → IsSound state → SharedStep state Maintenance None state
 unfolding moved reply_to
 idle state sound = step_is_there_law state Maintenance sound tt
 

@@ -12,13 +12,15 @@ use Rattle.stow_model.specs.Event as event
 use Rattle.stow_model.specs.Reply.{Reply}
 use Rattle.stow_model.specs.Reply as reply
 use Rattle.stow_model.specs.Wire.{IsFaulty}
-use Rattle.stow_model.specs.Store.{Answer, answer_with, is_out_of_memory}
+use Rattle.stow_model.specs.Store.{Answer, Asked, answer_with, is_out_of_memory}
 use Rattle.stow_model.specs.History.{ConnectionStep, Plain, Took, Broke, Status, Unused, IsOpen, Closed, Service, status_after_kind, status_after_message, status_after_event, stream_after_event, request_as, request_of_message, login_reply, quoted_reply, kind_reply, message_reply}
 use Rattle.stow_model.proofs.Refused.{want_of_memory_lem}
 use Rattle.stow_resp.specs.declared.next.Next.{Next}
 use Rattle.stow_resp.specs.declared.next.Next.TheVariants as next
 use Rattle.stow_resp.specs.Next.{IsTaken, IsNext}
-use Rattle.stow_core.specs.State.{CoreState, store_of, Calls, Answers}
+use Rattle.stow_core.specs.State.{CoreState, store_of, shared_of, Calls, Answers, AnswersRequest}
+use Rattle.stow_state.specs.Steps.{SharedStep, Call}
+use Rattle.stow_house.specs.SharedRuns.{IsCalled}
 use Rattle.stow_house.specs.declared.connection.Connection.{Connection}
 use Rattle.stow_house.specs.declared.connection_event.ConnectionEvent as coded
 use Rattle.stow_house.specs.declared.connection_event.ConnectionEvent.TheVariants as in_code
@@ -34,7 +36,7 @@ pub plain : (e : ConnectionEvent) (r : StepResult) (old new : Seen) (core : Core
 plain e r old new core can status tenant unread result = inr (record {
   own = Plain e;
   is_event = refl;
-  moves = λ is. record { can = can; status = status; tenant = tenant; unread = unread; entries = refl; stores = λ t. refl; result = result };
+  moves = λ is. record { can = can; status = status; tenant = tenant; unread = unread; entries = refl; stores = λ t. refl; shared = refl; result = result };
 })
 
 -- the status is not the one that the event needs
@@ -99,6 +101,7 @@ record Serving (after : Status) (request : Option Service) (is_refused : Bool) (
   pub status : status_by (not ends) ≡ after
   pub entries : new.entries ≡ old.entries
   pub stores : (t : ℕ) → store_of new t ≡ moved t request (store_of old t)
+  pub shared : IsCalled request r old new
   pub told : said ≡ r
   pub may : is_refused ≡ true → IsSome request
 
@@ -109,6 +112,7 @@ own_answer status r ended old new told ends plain is f = record {
   status = ap (λ b. status_by (not b)) f.1 ∙ is;
   entries = ap (λ c. c.entries) f.2;
   stores = λ t. ap (λ c. store_of c t) f.2;
+  shared = ap shared_of f.2;
   told = f.0;
   may = λ e. absurd (false≢true (sym (ap lacks_memory f.0 ∙ plain) ∙ e));
 }
@@ -125,10 +129,10 @@ plain_quoted (Some t) = refl
 
 -- where memory was refused is told by the reply
 pub answered_by : (old new : CoreState) (tenant : ℕ) (words : List (List ℕ)) (r : Reply) (b : Bool) → is_out_of_memory r ≡ b → Answers old new tenant words r
-    → ◌≡◌ {A = Answer} (store_of new tenant, r) (answer_with (store_of old tenant) (record { words = words; is_refused = b }))
+    → AnswersRequest old new tenant (record { words = words; is_refused = b }) r
 answered_by old new tenant words r b says (is_refused, is) =
-    let told : is_refused ≡ b = sym (want_of_memory_lem (store_of old tenant) (record { words = words; is_refused = is_refused })) ∙ sym (ap (λ (a : Answer). is_out_of_memory a.1) is) ∙ says in
-    is ∙ ap (λ x. answer_with (store_of old tenant) (record { words = words; is_refused = x })) told
+    let told : is_refused ≡ b = sym (want_of_memory_lem (store_of old tenant) (record { words = words; is_refused = is_refused })) ∙ sym (ap (λ (a : Answer). is_out_of_memory a.1) is.alone) ∙ says in
+    subst (λ x. AnswersRequest old new tenant (record { words = words; is_refused = x }) r) told is
 
 -- the tenant's store moves, and no other
 pub moves_own : (old new : CoreState) (tenant : ℕ) (words : List (List ℕ)) (b : Bool) (r : Reply) → ◌≡◌ {A = Answer} (store_of new tenant, r) (answer_with (store_of old tenant) (record { words = words; is_refused = b }))
@@ -152,8 +156,9 @@ of_kind ForStore words (Some tenant) old new told ends is (r, called, say, ended
     record {
       status = ap (λ b. status_by (not b)) ended;
       entries = called.entries;
-      stores = moves_own old new tenant words (lacks_memory told) r answer called.others;
-      told = say ∙ ap (λ (a : Answer). Some a.1) answer;
+      stores = moves_own old new tenant words (lacks_memory told) r answer.alone called.others;
+      shared = subst (λ o. SharedStep (shared_of old) (Call tenant (Asked (record { words = words; is_refused = lacks_memory told }))) o (shared_of new)) (ap (λ (a : Answer). Some a.1) answer.alone) answer.step;
+      told = say ∙ ap (λ (a : Answer). Some a.1) answer.alone;
       may = λ e. refl;
     }
 
@@ -184,6 +189,7 @@ served (Whole m) old new before after told ends r was_open reads s status result
         unread = reads;
         entries = l.entries;
         stores = l.stores;
+        shared = l.shared;
         result = result ∙ ap answered l.told;
       };
 })
@@ -197,6 +203,7 @@ served (Faulty fault) old new before after told ends r was_open reads s status r
     unread = reads.1;
     entries = ap (λ c. c.entries) s.finishes.2;
     stores = λ t. ap (λ c. store_of c t) s.finishes.2;
+    shared = ap shared_of s.finishes.2;
     result = result ∙ ap answered s.finishes.0;
   };
 })

@@ -4,12 +4,17 @@ use Rattle.std.proofs.lemmas.Bool.{cases_eq, cond-true, cond-false, eq-eqb, ne_e
 use Rattle.std.proofs.lemmas.Bool.Decides.{nat_tests}
 use Rattle.stow_model.specs.Login.{Entry, quota_of}
 use Rattle.stow_model.specs.Message.{Message}
+use Rattle.stow_model.specs.Reply.{Reply}
 use Rattle.stow_model.specs.Event.{Event, ConnectionEvent, FlusherEvent}
 use Rattle.stow_model.specs.Event as event
 use Rattle.stow_model.specs.Wire.{SpellsAll}
 use Rattle.stow_model.specs.Store.{OwnEvent, answer_with, empty_store, store_after}
 use Rattle.stow_model.specs.History.{Step, Void, At, Flushed, ConnectionStep, Plain, Took, Broke, Status, Unused, IsOpen, Closed, with_own, part_of, status_of, status_after, served_as, served_after, taken_by, taken_after, stream_of, stream_after, stream_with, stream_after_event, Service, request_of, with_service, service_of, line_of, told_by, reply_in_line, told_at, CanLead, MayTakeNothing, CanBeVoid, MayBeVoid, Follows, IsStep, IsHistory}
-use Rattle.stow_core.specs.State.{CoreState, store_of, IsNewCore}
+use Rattle.stow_core.specs.State.{CoreState, store_of, shared_of, IsNewCore}
+use Rattle.stow_state.specs.State.{SharedState, IsSound, new_state}
+use Rattle.stow_state.specs.Steps.{SharedStep, SharedRun, ToldEvent, Maintenance}
+use Rattle.stow_state.proofs.Steps.{run_sound}
+use Rattle.stow_house.specs.SharedRuns.{IsCalled, call_of, shared_steps}
 use Rattle.stow_house.specs.Seen.{Seen, IsServed, never_opened}
 use Rattle.stow_house.specs.StepResult.{StepResult, NoMemory, answer_to_own, MayAnswer, IsAnswer}
 use Rattle.stow_house.specs.Connections.{moved, reply_in_core, Reads, CanWait, Can, Moves, Leads, AsksMemory, IsVoid, Happens}
@@ -114,10 +119,17 @@ stands_at entries old new c own history s here others d =
     (subst (λ seen. StandsAt entries seen (part_of d history)) (sym (others d (λ e. differ (sym e)))) (s.connections d)))
     (cases_eq c d)
 
+-- what comes to a tenant's store is the next step of the shared run
+on : (first : SharedState) (service service' : Option Service) (told told' : Option Reply) (steps : List ToldEvent) (old new : CoreState) → service ≡ service' → told ≡ told' → IsCalled service told old new → SharedRun first steps (shared_of old)
+    → SharedRun first (call_of service' told' ++ steps) (shared_of new)
+on first None service' told told' steps old new is same called run = subst (λ s. SharedRun first (call_of s told' ++ steps) (shared_of new)) is (subst (SharedRun first steps) (sym called) run)
+on first (Some service) service' told told' steps old new is same called run =
+    subst (λ s. SharedRun first (call_of s told' ++ steps) (shared_of new)) is (subst (λ t. SharedRun first (call_of (Some service) t ++ steps) (shared_of new)) same (shared_of old, run, called))
+
 -- a connection's step
 led : (old new : HouseState) (c : ℕ) (own : ConnectionStep) (r : StepResult) (history : List Step) → Moves own r (old.seen c) (new.seen c) old.core new.core
     → ((d : ℕ) → d ≢ c → new.seen d ≡ old.seen d) → Stands old.core.entries old history → GoesOn old.core.entries (At c own) history r new
-unfolding IsHistory IsStep IsAnswer line_of service_of told_at reply_in_line
+unfolding IsHistory IsStep IsAnswer line_of service_of told_at reply_in_line shared_steps
 led old new c own r history m others s =
     let entries = old.core.entries in
     let at = s.connections c in
@@ -129,6 +141,8 @@ led old new c own r history m others s =
         tenants = m.entries;
         connections = stands_at entries old new c own history s (stands_here entries own seen (new.seen c) (part_of c history) at m.status m.tenant m.unread) others;
         stores = λ t. m.stores t ∙ (λ i. moved t (request_of own (who i)) (s.stores t i)) ∙ one_more t (quota_of entries t) (request_of own (served_as entries (part_of c history))) (line_of entries t history);
+        shared = on (new_state (quota_of entries)) (request_of own seen.tenant) (request_of own (served_as entries (part_of c history))) _ _ (shared_steps entries history) old.core new.core
+            (ap (request_of own) who) (λ i. told_by entries own (who i) (λ is_refused words t. (answer_with (s.stores t i) (record { words = words; is_refused = is_refused })).1)) m.shared s.shared;
       };
       answer = m.result
           ∙ (λ i. answer_to_own own (at.status i) (told_by entries own (who i) (λ is_refused words t. (answer_with (s.stores t i) (record { words = words; is_refused = is_refused })).1)));
@@ -137,22 +151,25 @@ led old new c own r history m others s =
 -- nothing changed
 stayed : (entries : List Entry) (old new : HouseState) (step : Step) (history : List Step) → Stands entries old history → ((d : ℕ) → new.seen d ≡ old.seen d)
     → new.core.entries ≡ old.core.entries → ((t : ℕ) → store_of new.core t ≡ store_of old.core t)
-    → IsStep entries step history → ((d : ℕ) → part_of d (step ∷ history) ≡ part_of d history) → ((t : ℕ) → line_of entries t (step ∷ history) ≡ line_of entries t history) → Stands entries new (step ∷ history)
+    → IsStep entries step history → ((d : ℕ) → part_of d (step ∷ history) ≡ part_of d history) → ((t : ℕ) → line_of entries t (step ∷ history) ≡ line_of entries t history)
+    → SharedRun (new_state (quota_of entries)) (shared_steps entries (step ∷ history)) (shared_of new.core) → Stands entries new (step ∷ history)
 unfolding IsHistory
-stayed entries old new step history s seen tenants stores is part line = record {
+stayed entries old new step history s seen tenants stores is part line shared = record {
   is_history = (is, s.is_history);
   tenants = tenants ∙ s.tenants;
   connections = λ d. subst (λ p. StandsAt entries (new.seen d) p) (sym (part d)) (subst (λ x. StandsAt entries x (part_of d history)) (sym (seen d)) (s.connections d));
   stores = λ t. stores t ∙ s.stores t ∙ ap (store_after (quota_of entries t)) (sym (line t));
+  shared = shared;
 }
 
 voided : (entries : List Entry) (old new : HouseState) (c : ℕ) (e : ConnectionEvent) (r : StepResult) (history : List Step) → IsVoid e r (old.seen c) (new.seen c) old.core new.core
     → ((d : ℕ) → d ≢ c → new.seen d ≡ old.seen d) → Stands entries old history → GoesOn entries (Void (event.On c e)) history r new
-unfolding IsStep IsAnswer part_of line_of service_of
+unfolding IsStep IsAnswer part_of line_of service_of shared_steps
 voided entries old new c e r history v others s = record {
   stands = stayed entries old new (Void (event.On c e)) history s
       (λ d. ⊎_elim (λ (same : c ≡ d). subst (λ x. new.seen x ≡ old.seen x) same v.connection) (λ (differ : c ≢ d). others d (λ same. differ (sym same))) (cases_eq c d))
-      (ap (λ x. x.entries) v.core) (λ t. ap (λ x. store_of x t) v.core) (void_follows entries e (old.seen c) (part_of c history) (s.connections c) v.asks) (λ d. refl) (λ t. refl);
+      (ap (λ x. x.entries) v.core) (λ t. ap (λ x. store_of x t) v.core) (void_follows entries e (old.seen c) (part_of c history) (s.connections c) v.asks) (λ d. refl) (λ t. refl)
+      (subst (λ core. SharedRun (new_state (quota_of entries)) (shared_steps entries history) (shared_of core)) (sym v.core) s.shared);
   answer = v.result;
 }
 
@@ -179,18 +196,23 @@ at_connection old new c e r happens others =
 
 -- an event of a flusher changes no connection and no store
 pub flushed : (old new : HouseState) (e : FlusherEvent) (r : StepResult) → MayAnswer e r → ((d : ℕ) → new.seen d ≡ old.seen d)
-    → new.core.entries ≡ old.core.entries → ((t : ℕ) → store_of new.core t ≡ store_of old.core t) → TreeBy e r old.core new.core → IsStepOf old (event.By e) r new
-unfolding IsStep IsAnswer part_of line_of service_of
-flushed old new e r may seen tenants stores tree = record {
+    → new.core.entries ≡ old.core.entries → ((t : ℕ) → store_of new.core t ≡ store_of old.core t)
+    → (IsSound (shared_of old.core) → SharedStep (shared_of old.core) Maintenance None (shared_of new.core)) → TreeBy e r old.core new.core → IsStepOf old (event.By e) r new
+unfolding IsStep IsAnswer part_of line_of service_of shared_steps
+flushed old new e r may seen tenants stores way tree = record {
   step = Flushed e;
   is_event = refl;
-  goes_on = λ entries history s. record { stands = stayed entries old new (Flushed e) history s seen tenants stores tt (λ d. refl) (λ t. refl); answer = may };
+  goes_on = λ entries history s. record {
+    stands = stayed entries old new (Flushed e) history s seen tenants stores tt (λ d. refl) (λ t. refl)
+        (shared_of old.core, s.shared, way (run_sound (quota_of entries) (shared_steps entries history) (shared_of old.core) s.shared));
+    answer = may;
+  };
   tree = tree;
 }
 
 -- a new house stands at the empty history
 pub stands_new : (house : HouseState) → ((c : ℕ) → house.seen c ≡ never_opened) → IsNewCore house.core → Stands house.core.entries house []
-unfolding IsHistory part_of status_of served_as taken_by stream_of store_after line_of
+unfolding IsHistory part_of status_of served_as taken_by stream_of store_after line_of shared_steps
 stands_new house none empty = record {
   is_history = tt;
   tenants = refl;
@@ -201,5 +223,6 @@ stands_new house none empty = record {
     taken = refl;
     stream = ap (λ s. s.unread) (sym (none c));
   };
-  stores = empty;
+  stores = empty.stores;
+  shared = empty.shared;
 }

@@ -14,6 +14,7 @@ use Rattle.stow_resp.specs.declared.next.Next.{Next}
 use Rattle.stow_house.specs.declared.connection.Connection.{Connection}
 use Rattle.stow_house.specs.declared.step_result.StepResult as result
 use Rattle.stow_house.specs.Seen.{Seen, seen, IsServed}
+use Rattle.stow_house.specs.SharedRuns.{IsCalled}
 use Rattle.stow_house.specs.Sessions.{arrival_of, Serves}
 use Rattle.stow_house.specs.StepResult.{StepResult, step_result_of, NoMemory, answered, answer_to_own}
 
@@ -58,7 +59,7 @@ Can (Plain e) seen = CanBePlain e seen
 Can (Took m is_refused) seen = (seen.status ≡ IsOpen) × MayBeRefused m is_refused seen.tenant
 Can (Broke fault) seen = (seen.status ≡ IsOpen) × IsFaulty seen.unread fault
 
--- a step: what it does to its connection and to each store, and what is answered
+-- a step: what it does to its connection, to each store and to the state that all share, and what is answered
 pub record Moves (own : ConnectionStep) (r : StepResult) (old new : Seen)
     (before after : CoreState) : Type 0 where
   pub can : Can own old
@@ -67,6 +68,8 @@ pub record Moves (own : ConnectionStep) (r : StepResult) (old new : Seen)
   pub unread : Reads own old.status old.unread new.unread
   pub entries : after.entries ≡ before.entries
   pub stores : (t : ℕ) → store_of after t ≡ moved t (request_of own old.tenant) (store_of before t)
+  pub shared : IsCalled (request_of own old.tenant)
+      (told_by before.entries own old.tenant (reply_in_core before)) before after
   pub result : r
       ≡ answer_to_own own old.status (told_by before.entries own old.tenant (reply_in_core before))
 

@@ -6,9 +6,12 @@ use Rattle.stow_model.specs.Event as event
 use Rattle.stow_model.specs.Wire.{SpellsAll}
 use Rattle.stow_model.specs.Store.{store_after}
 use Rattle.stow_model.specs.History.{Step, ConnectionStep, event_of_step, part_of, status_of, served_as, taken_by, stream_of, line_of, IsHistory}
-use Rattle.stow_core.specs.State.{CoreState, store_of, Resized}
+use Rattle.stow_core.specs.State.{CoreState, store_of, shared_of, Resized}
 use Rattle.stow_house.specs.declared.house.House.{House}
+use Rattle.stow_state.specs.State.{new_state}
+use Rattle.stow_state.specs.Steps.{SharedRun}
 use Rattle.stow_house.specs.Seen.{Seen, seen_at}
+use Rattle.stow_house.specs.SharedRuns.{shared_steps}
 use Rattle.stow_house.specs.declared.step_result.StepResult as coded
 use Rattle.stow_house.specs.StepResult.{StepResult, Done, step_result_of, IsAnswer}
 
@@ -30,7 +33,8 @@ pub record StandsAt (entries : List Entry) (seen : Seen) (part : List Connection
   pub stream : stream_of part ≡ front ++ seen.unread
 
 -- The house is where the history leaves it: its tenants are these, each connection is where its part of the
--- history leaves it, and each tenant's store is the last of its own run.
+-- history leaves it, and each tenant's store is the last of its own run. The history is one run of the state
+-- that all tenants share, in its order, and the calls of that run are told what their connections are.
 pub record Stands (entries : List Entry) (house : HouseState) (history : List Step) : Type 0 where
   pub is_history : IsHistory entries history
   pub tenants : house.core.entries ≡ entries
@@ -38,6 +42,8 @@ pub record Stands (entries : List Entry) (house : HouseState) (history : List St
   pub stores : (tenant : ℕ)
       → store_of house.core tenant
       ≡ store_after (quota_of entries tenant) (line_of entries tenant history)
+  pub shared : SharedRun (new_state (quota_of entries)) (shared_steps entries history)
+      (shared_of house.core)
 
 -- a history goes on by a step, which is answered so
 pub record GoesOn (entries : List Entry) (step : Step) (earlier : List Step) (r : StepResult)

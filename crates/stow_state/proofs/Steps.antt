@@ -398,7 +398,7 @@ new_view quotas tenant = λ i. record {
         ∙ ap version_of (latest_none (ops_of finite.empty (packed tenant q)) 0 (λ k l. nothing_in quotas (packed tenant q) k))
         ∙ sym (finite.get-empty _ q))
 
-run_sound : (quotas : ℕ → ℕ) (steps : List ToldEvent) (last : SharedState) → SharedRun (new_state quotas) steps last → IsSound last
+pub run_sound : (quotas : ℕ → ℕ) (steps : List ToldEvent) (last : SharedState) → SharedRun (new_state quotas) steps last → IsSound last
 run_sound quotas [] last e = subst IsSound (sym e) (new_sound quotas)
 run_sound quotas (newest ∷ earlier) last run = step_sound run.0 last newest.0 newest.1 (run_sound quotas earlier run.0 run.1) run.2
 
