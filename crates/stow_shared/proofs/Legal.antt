@@ -19,7 +19,7 @@ pub legal_new : (core : CoreState) → IsNewCore core → IsLegal [] core
 unfolding line_in told_in store_after replies_after
 legal_new core new = record {
   told = λ tenant is. refl;
-  stores = λ tenant is. new tenant;
+  stores = λ tenant is. new.stores tenant;
   answered = tt;
 }
 

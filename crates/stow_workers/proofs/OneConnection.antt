@@ -92,8 +92,8 @@ kind_done entries ForStore words (Some tenant) r old new is called =
     let answer = answered_by old new tenant words r b refl (called.own (is tenant refl)) in
     record {
       entries = called.entries;
-      stores = moves_own old new tenant words b r answer called.others;
-      says = ap (λ a. Some a.1) answer;
+      stores = moves_own old new tenant words b r answer.alone called.others;
+      says = ap (λ a. Some a.1) answer.alone;
       asks = λ t calls. one_asked t tenant words r calls;
       replies = λ t c calls tellings same. one_replied t tenant c words r calls tellings same;
     }
@@ -133,7 +133,7 @@ goes c entries old is_new same [] new follow leads = (
     calls = λ t. refl;
     replies = λ t. refl;
     output = refl;
-    stores = λ t. ap (λ core. store_of core t) leads ∙ is_new t ∙ ap (λ es. empty_store (quota_of es t)) same;
+    stores = λ t. ap (λ core. store_of core t) leads ∙ is_new.stores t ∙ ap (λ es. empty_store (quota_of es t)) same;
   },
   ap (λ core. core.entries) leads ∙ same,
 )
