@@ -1,5 +1,5 @@
 -- Messages of one write that make the same of their key's value.
-use Rattle.std.proofs.Common.{◌≡◌, ◌≢◌, ℕ, suc, ◌<◌, ◌≤◌, ◌^◌, eqb, List, [], ◌∷◌, Option, Some, None, ap, sym, ◌∙◌, subst, arith, true, false, refl, ⊎_elim}
+use Rattle.std.proofs.Common.{◌≡◌, ◌≢◌, ℕ, suc, ◌<◌, ◌≤◌, ◌^◌, eqb, List, [], ◌∷◌, Some, ap, sym, ◌∙◌, subst, arith, true, false, refl, ⊎_elim}
 use Rattle.std.specs.Prelude.{Contains}
 use Rattle.std.proofs.lemmas.Bool.{cond-true, eq-eqb}
 use Rattle.stow_core.specs.Keys.{AreKeysOf}
@@ -10,7 +10,7 @@ use Rattle.stow_tree_model.specs.Agreement.{TenantBounds, Agree, with_bound}
 use Rattle.stow_tree_model.specs.Keys.{tenant_of}
 use Rattle.stow_tree_model.specs.Messages.{Messages, ops_of, value, with_all, IsCall}
 use Rattle.stow_tree_model.specs.Op.{Op, Put}
-use Rattle.stow_tree_model.specs.Operations.{Operations, applied, latest, numbered, or_else, outcome, value_in, NoneAbove}
+use Rattle.stow_tree_model.specs.Operations.{applied, latest, numbered, or_else, outcome, value_in, NoneAbove}
 use Rattle.stow_tree_model.specs.Order.{Place}
 use Rattle.stow_tree_model.specs.TreeMessage.{TreeMessage}
 use Rattle.stow_tree_model.proofs.Histories.{ops_in-at, ops_in-skip}

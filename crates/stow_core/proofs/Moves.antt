@@ -1,6 +1,6 @@
 -- Messages that are put, as one tenant sees them.
 use Rattle.std.proofs.Common.{◌≡◌, ◌≢◌, ℕ, suc, ◌+◌, ◌-◌, ◌<◌, ◌≤◌, ◌^◌, cond, List, [], ◌∷◌, length, map, get_or, set, eqb, Option, Some, inr, refl, ap, sym, ◌∙◌, subst, arith, ⊎_elim}
-use Rattle.std.specs.Prelude.{IsSome, Contains}
+use Rattle.std.specs.Prelude.{IsSome}
 use Rattle.std.specs.FinMap as map
 use Rattle.std.specs.List.{AllByRecursion}
 use Rattle.std.proofs.Math.ListN.{length-set}
@@ -15,15 +15,15 @@ use Rattle.stow_core.specs.Prepared.{after_content, after_remove, next_number}
 use Rattle.stow_core.specs.State.{CoreState, account_of, last_of, lasts_of, store_with, store_of, IsCore}
 use Rattle.stow_core.specs.Writes.{content_op, write_of, put_of, removal_of, removals_of, no_pins}
 use Rattle.stow_core.proofs.Appended.{call_bound, write_agrees}
-use Rattle.stow_core.proofs.Keyed.{first_key, first_own, later_own, put_is_call, removals_are_call}
-use Rattle.stow_core.proofs.Stores.{core_of, store_moved, store_others, set_own, set_other, account_at, lasts-at, last-store_of, row_value, makes_whole}
+use Rattle.stow_core.proofs.Keyed.{first_key, first_own, later_own}
+use Rattle.stow_core.proofs.Stores.{core_of, store_moved, store_others, set_own, set_other, lasts-at, last-store_of, row_value, makes_whole}
 use Rattle.stow_state.specs.Changes.{AreBelow, AreWritten, changes, put_message, gone_message}
 use Rattle.stow_state.specs.Rows.{rows_at}
 use Rattle.stow_state.proofs.Changes.{own_rows_move_law, writes_are_written_law, rows_are_below_law, writes_by_messages_law}
 use Rattle.stow_state.proofs.Rows.{other_rows_stay_law, agreeing_rows_law}
 use Rattle.stow_tree.specs.Shapes.{AreInRange}
 use Rattle.stow_tree.specs.TreeState.{TreeState, tree_messages, HasBound}
-use Rattle.stow_tree_model.specs.Agreement.{Agree, AgreeAt, with_bound}
+use Rattle.stow_tree_model.specs.Agreement.{with_bound}
 use Rattle.stow_tree_model.specs.Keys.{packed, own_key, tenant_of}
 use Rattle.stow_tree_model.specs.Op.{Op}
 use Rattle.stow_tree_model.specs.Messages.{Messages, ops_of, value, with_all, IsCall}

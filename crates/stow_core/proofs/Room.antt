@@ -20,7 +20,7 @@ use Rattle.stow_tree.specs.TreeState.{TreeState, tree_messages, HasBound}
 use Rattle.stow_tree.proofs.Put.{puts_then}
 use Rattle.stow_tree_model.specs.Keys.{packed, own_key, tenant_of, IsTenantKey}
 use Rattle.stow_tree_model.specs.Messages.{Messages, ops_of, value, with_all}
-use Rattle.stow_tree_model.specs.Op.{Op, Put, Gone, bytes_in}
+use Rattle.stow_tree_model.specs.Op.{bytes_in}
 use Rattle.stow_tree_model.specs.Operations.{outcome, value_in, bytes_or_none, NoneAbove}
 use Rattle.stow_tree_model.specs.TreeMessage.{TreeMessage}
 use Rattle.stow_tree_model.specs.Value.{IsValue}

@@ -24,7 +24,6 @@ use Rattle.stow_state.proofs.Rows.{rows_by_value_law, same_rows}
 use Rattle.stow_tree.specs.TreeState.{TreeState, tree_messages, HasBound}
 use Rattle.stow_tree_model.specs.Keys.{packed, own_key}
 use Rattle.stow_tree_model.specs.Messages.{Messages, ops_of, value}
-use Rattle.stow_tree_model.specs.Op.{Op, Put, Append}
 use Rattle.stow_tree_model.specs.Operations.{NumberedValue, outcome, bytes_or_none, value_in}
 use Rattle.stow_tree_model.specs.Order.{place_cmp}
 use Rattle.stow_tree_model.proofs.Histories.{latest_none}

@@ -35,7 +35,7 @@ after_put key value store =
     after_write (counted store)
     (rows.insert store.rows (own_key key) (record { number = store.last + 1; value = value }))
 
--- the whole value that the key, among the keys of all, has in this store once it is given the content
+-- the whole value that the key, among the keys of all, has in the store once it has the content
 abbrev pub whole_value : {A : Type 0} → Content A → List ℕ → Store → List ℕ
 whole_value content key store =
     bytes_or_none (outcome (content_op content) (value_in (rows.get store.rows (own_key key))))

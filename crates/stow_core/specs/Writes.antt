@@ -1,5 +1,5 @@
 -- Messages of writes. Their keys are among the keys of all tenants.
-use Rattle.std.specs.Prelude.{◌≡◌, ℕ, List, [], map, Option}
+use Rattle.std.specs.Prelude.{ℕ, List, [], map, Option}
 use Rattle.std.specs.Option.{option_map}
 use Rattle.std.specs.List.{AllByRecursion}
 use Rattle.stow_core.specs.declared.content.Content.{Content}
@@ -24,11 +24,11 @@ write_of number key op = record { key = key; number = number; op = op }
 
 -- the message that puts a value under the key
 abbrev pub put_of : ℕ → List ℕ → List ℕ → TreeMessage
-put_of number key value = record { key = key; number = number; op = Put value }
+put_of number key value = write_of number key (Put value)
 
 -- the message that takes the key's value away
 abbrev pub removal_of : ℕ → List ℕ → TreeMessage
-removal_of number key = record { key = key; number = number; op = Gone }
+removal_of number key = write_of number key Gone
 
 -- one for each key
 abbrev pub removals_of : ℕ → List (List ℕ) → List TreeMessage

@@ -17,7 +17,7 @@ use stow_tree_model::message::Message;
 use stow_tree_model::op::Op;
 use stow_tree_model::tenant_key::TenantKey;
 
-/// The message that gives a key this.
+/// The message that gives a key this content.
 fn write_message<'a, A: Allocator>(
     number: u64,
     key: &'a [u8],

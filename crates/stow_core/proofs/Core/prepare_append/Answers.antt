@@ -1,4 +1,4 @@
-use Rattle.std.proofs.Common.{rules, ap, sym, ◌∙◌, subst}
+use Rattle.std.proofs.Common.{ap, ◌∙◌, subst}
 use Rattle.stow_commands.specs.Outcomes.{IsAppendReply}
 use Rattle.stow_model.specs.Store.{value_in}
 use Rattle.stow_core.specs.State.{store_of, row_at}
