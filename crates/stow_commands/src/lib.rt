@@ -4,7 +4,8 @@
 //! first refusal that applies, of the name, the number of arguments, options, numbers among the arguments, and
 //! the length of each key. `kind_of` says what words mean to a connection: a login, a quit, a malformed one of
 //! these, or a request to the store. A command borrows its words: nothing is copied, and no memory is asked for.
-//! `Update::outcome` is what a SET, APPEND, INCR, DECR or INCRBY leads to by the row's present value.
+//! `Update::outcome` is what a SET, APPEND, INCR, DECR or INCRBY leads to by the row's present value, and
+//! `append_reply` what an APPEND is told, without the value that it leads to.
 #![tactic(auto)]
 
 pub mod command;

@@ -1,15 +1,16 @@
 //! Changes of one row.
-ghost use Rattle.std.specs.Prelude.{◌≡◌, Some};
+ghost use Rattle.std.specs.Prelude.{◌≡◌, ◌++◌, [], IfOk};
+ghost use Rattle.std.specs.Option.{unwrap_or};
 ghost use Rattle.stow_model.specs.Store as meant;
 ghost use Rattle.stow_commands.specs.Commands.{condition_of, update_of};
-ghost use Rattle.stow_commands.specs.Outcomes.{value_of, IsOutcome};
+ghost use Rattle.stow_commands.specs.Outcomes.{value_of, IsAppendReply, IsOutcome};
 
 use crate::condition::Condition;
 use crate::number::number;
 use crate::outcome::Outcome;
 use crate::outcome_fault::OutcomeFault;
 use itoa::Buffer;
-use std::alloc::Allocator;
+use std::alloc::{AllocError, Allocator};
 use stow_bytes::byte_string::ByteString;
 use stow_model::refusal::Refusal;
 use stow_model::reply::Reply;
@@ -85,28 +86,46 @@ fn append<A: Allocator + Copy>(
 ) -> Result<Outcome<A>, OutcomeFault>
     ensures { IsOutcome result (meant.append_outcome suffix.now (value_of present.entry)) }
 {
-    match present {
-        Some(front) => joined(alloc, front, suffix),
-        None => joined(alloc, b"".as_slice(), suffix),
+    match append_reply(suffix, present) {
+        Ok(told) => Ok(Outcome::Written(joined(alloc, present, suffix)?, told)),
+        Err(refusal) => Err(OutcomeFault::Refused(refusal)),
     }
 }
 
+/// What an APPEND is told by the row's present value, or why it is refused. The value that it leads to is not joined.
+pub fn append_reply<A: Allocator>(
+    suffix: &[u8],
+    present: Option<&[u8]>,
+) -> Result<Reply<A>, Refusal>
+    ensures { IsAppendReply result suffix.now (value_of present.entry) }
+{
+    let present_len = match present {
+        Some(value) => value.len(),
+        None => 0,
+    };
+    if suffix.len() > VALUE_LIMIT || present_len > VALUE_LIMIT - suffix.len() {
+        return Err(Refusal::ValueTooLong);
+    }
+    Ok(Reply::Integer((present_len + suffix.len()) as i64))
+}
+
+/// The row's present value, followed by the suffix.
 fn joined<A: Allocator + Copy>(
     alloc: A,
-    front: &[u8],
+    present: Option<&[u8]>,
     suffix: &[u8],
-) -> Result<Outcome<A>, OutcomeFault>
-    ensures { IsOutcome result (meant.append_outcome suffix.now (Some front.now)) }
+) -> Result<ByteString<A>, AllocError>
+    ensures { IfOk result
+        (λ value. value ≡ unwrap_or (value_of present.entry) [] ++ suffix.now) }
 {
-    if suffix.len() > VALUE_LIMIT || front.len() > VALUE_LIMIT - suffix.len() {
-        return Err(OutcomeFault::Refused(Refusal::ValueTooLong));
-    }
-    let length = front.len() + suffix.len();
-    let mut value = Vec::with_capacity(alloc, length)?;
+    let front = match present {
+        Some(value) => value,
+        None => &[],
+    };
+    let mut value = Vec::with_capacity(alloc, front.len().saturating_add(suffix.len()))?;
     value.extend_from_slice(front)?;
     value.extend_from_slice(suffix)?;
-    let told = Reply::Integer(length as i64);
-    Ok(Outcome::Written(ByteString::from_vec(value), told))
+    Ok(ByteString::from_vec(value))
 }
 
 fn add<A: Allocator + Copy>(

@@ -1,22 +1,28 @@
 -- What a prepared answer is, as the tenant's own step says it.
-use Rattle.std.proofs.Common.{◌≡◌, ◌≢◌, ℕ, ◌<◌, ◌^◌, true, false, nat_lt, List, map, eqb, refl, ap, sym, ◌∙◌, pos, to_z, w64}
-use Rattle.std.specs.Prelude.{◌-◌, Option, Some, None, Result, Ok, Err, IfOk}
+use Rattle.std.proofs.Common.{◌≡◌, ◌≢◌, ℕ, ◌<◌, ◌^◌, true, false, nat_lt, List, [], ◌++◌, Option, Some, None, map, refl, eqb, ap, sym, ◌∙◌, pos, to_z, w64}
+use Rattle.std.specs.Prelude.{◌-◌, Result, Ok, Err, IfOk}
 use Rattle.std.specs.FinMap as rows
 use Rattle.std.proofs.lemmas.Bool.{cond-true, cond-false, eq-eqb, ne_eqb}
 use Rattle.std.proofs.lemmas.Int.{to_z_pos}
+use Rattle.std.specs.Option.{unwrap_or}
 use Rattle.stow_bytes.specs.Limits.{number_limit}
+use Rattle.stow_commands.specs.Outcomes.{IsAppendReply}
 use Rattle.stow_model.specs.declared.refusal.Refusal.{Refusal}
 use Rattle.stow_model.specs.declared.refusal.Refusal.TheVariants as refusal
-use Rattle.stow_model.specs.Reply.{Reply}
+use Rattle.stow_model.specs.declared.reply.Reply as coded
+use Rattle.stow_model.specs.Reply.{Reply, reply_of}
 use Rattle.stow_model.specs.Reply as reply
-use Rattle.stow_model.specs.Command.{Command, Understood, Refused, reading}
+use Rattle.stow_model.specs.Command.{Command, Change, Append, Understood, Refused, reading}
 use Rattle.stow_model.specs.Login.{IsTenant}
-use Rattle.stow_model.specs.Store.{Store, Answer, Request, Asked, counted, served, answer, answer_to, answer_with, del_answer, rows_without}
-use Rattle.stow_core.specs.Prepared.{after_write, after_remove}
+use Rattle.stow_model.specs.Store.{Store, Answer, Request, Asked, counted, served, answer, answer_to, answer_with, del_answer, change_answer, append_outcome, Written, Failed, outcome, value_in, rows_without}
+use Rattle.stow_core.specs.declared.content.Content.TheVariants as content
+use Rattle.stow_core.specs.Prepared.{after_write, after_remove, writes_row, serves}
 use Rattle.stow_core.specs.State.{CoreState, store_of, shared_of, Answers, GivesWay, StepsTo}
 use Rattle.stow_state.specs.Steps.{Maintenance}
 use Rattle.stow_state.proofs.Steps.{call_of_nothing, step_sound, steps_after_maintenance_law}
-use Rattle.stow_tree_model.specs.Keys.{own_key}
+use Rattle.stow_tree_model.specs.Keys.{packed, own_key}
+use Rattle.stow_tree_model.specs.Operations.{bytes_or_none}
+use Rattle.stow_tree_model.proofs.Packed.{own_key-packed}
 
 -- ---- deletions
 
@@ -48,6 +54,29 @@ understood store words c e = ap (answer_to (counted store)) e
 pub refused_words : (store : Store) (words : List (List ℕ)) (r : Refusal) → Refused r ≡ reading words → ◌≡◌ {A = Answer} (counted store, reply.Error r) (answer store words)
 unfolding answer
 refused_words store words r e = ap (answer_to (counted store)) e
+
+-- ---- appends
+
+bytes_are : (value : Option (List ℕ)) → bytes_or_none value ≡ unwrap_or value []
+bytes_are None = refl
+bytes_are (Some value) = refl
+
+-- an APPEND's answer, where its suffix follows the row's value
+pub appended : {A : Type 0} (store : Store) (t : ℕ) (packed_key key suffix content_bytes : List ℕ) (r : coded.Reply A) → packed_key ≡ packed t key → content_bytes ≡ suffix → IsAppendReply (Ok r) suffix (value_in (rows.get store.rows key))
+    → writes_row {A = A} packed_key (content.Suffix content_bytes) (reply_of r) store ≡ serves (Change key (Append suffix)) store
+unfolding outcome
+appended store t packed_key key suffix content_bytes r is same told =
+    (λ i. change_answer (counted store) (own i) (Written (bytes_or_none (value_in (rows.get store.rows (own i))) ++ same i) (reply_of r)))
+    ∙ ap (λ value. change_answer (counted store) key (Written (value ++ suffix) (reply_of r))) (bytes_are (value_in (rows.get store.rows key)))
+    ∙ ap (change_answer (counted store) key) (sym told)
+  where
+    own : own_key packed_key ≡ key
+    own = ap own_key is ∙ own_key-packed t key
+
+pub append_refused : (store : Store) (key suffix : List ℕ) (r : Refusal) → append_outcome suffix (value_in (rows.get store.rows key)) ≡ Failed r
+    → ◌≡◌ {A = Answer} (counted store, reply.Error r) (serves (Change key (Append suffix)) store)
+unfolding outcome
+append_refused store key suffix r told = ap (change_answer (counted store) key) (sym told)
 
 pub if_ok : {X E : Type 0} (r : Result X E) (P Q : X → Type 0) → ((x : X) → P x → Q x) → IfOk r P → IfOk r Q
 if_ok (Ok x) P Q f h = f x h

@@ -3,9 +3,10 @@ use Rattle.std.proofs.Common.{◌≡◌, ℕ, ◌<◌, ◌^◌, List, [], ◌∷
 use Rattle.std.specs.List.{AllByRecursion}
 use Rattle.stow_bytes.specs.Limits.{key_limit, tenant_limit}
 use Rattle.stow_core.specs.Keys.{AreKeysOf}
-use Rattle.stow_core.specs.Writes.{put_of, removals_of}
+use Rattle.stow_core.specs.Writes.{write_of, removals_of}
 use Rattle.stow_tree_model.specs.Keys.{packed, own_key, tenant_of}
 use Rattle.stow_tree_model.specs.Messages.{IsCall}
+use Rattle.stow_tree_model.specs.Op.{Op}
 use Rattle.stow_tree_model.proofs.Packed.{tenant_of-packed}
 
 pub own_keys : (t : ℕ) (ks : List (List ℕ)) → map own_key (map (packed t) ks) ≡ ks
@@ -48,8 +49,8 @@ one_more_own t (key ∷ keys) k own is = λ i. first_own t key keys own i ∷ on
 pub tenant_of_own : (t : ℕ) (key : List ℕ) → t < 2 ^ 32 → packed t (own_key key) ≡ key → tenant_of key ≡ t
 tenant_of_own t key low is = ap tenant_of (sym is) ∙ tenant_of-packed t (own_key key) low
 
-pub put_is_call : (t number : ℕ) (key value : List ℕ) → t < 2 ^ 32 → AreKeysOf t (key ∷ []) → IsCall t number (put_of number key value ∷ [])
-put_is_call t number key value low own = ((tenant_of_own t key low (first_key t key own), refl), tt)
+pub put_is_call : (t number : ℕ) (key : List ℕ) (op : Op) → t < 2 ^ 32 → AreKeysOf t (key ∷ []) → IsCall t number (write_of number key op ∷ [])
+put_is_call t number key op low own = ((tenant_of_own t key low (first_key t key own), refl), tt)
 
 pub removals_are_call : (t number : ℕ) (keys : List (List ℕ)) → t < 2 ^ 32 → AreKeysOf t keys → IsCall t number (removals_of number keys)
 removals_are_call t number [] low own = tt

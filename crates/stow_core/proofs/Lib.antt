@@ -1,5 +1,6 @@
 pub mod Keyed
 pub mod Stores
+pub mod Appended
 pub mod Moves
 pub mod Shared
 pub mod Kept

@@ -1,34 +1,35 @@
 -- Messages that are put, as one tenant sees them.
-use Rattle.std.proofs.Common.{◌≡◌, ◌≢◌, ℕ, suc, ◌+◌, ◌-◌, ◌<◌, ◌≤◌, ◌^◌, cond, List, [], ◌∷◌, length, map, get_or, set, eqb, Some, refl, ap, sym, ◌∙◌, subst, arith, ⊎_elim}
-use Rattle.std.specs.Prelude.{IsSome, Contains}
+use Rattle.std.proofs.Common.{◌≡◌, ◌≢◌, ℕ, suc, ◌+◌, ◌-◌, ◌<◌, ◌≤◌, ◌^◌, cond, List, [], ◌∷◌, length, map, get_or, set, eqb, Option, Some, inr, refl, ap, sym, ◌∙◌, subst, arith, ⊎_elim}
+use Rattle.std.specs.Prelude.{IsSome}
 use Rattle.std.specs.FinMap as map
 use Rattle.std.specs.List.{AllByRecursion}
 use Rattle.std.proofs.Math.ListN.{length-set}
 use Rattle.std.proofs.lemmas.Bool.{cases_eq, cond-true, cond-false, eq-eqb, ne_eqb}
 use Rattle.stow_model.specs.Login.{Entry}
 use Rattle.stow_model.specs.Store.{Store, Rows, Version, counted, one_more, rows_without}
+use Rattle.stow_model.specs.Store as stored_value
 use Rattle.stow_core.specs.declared.account.Account.{Account}
+use Rattle.stow_core.specs.declared.content.Content.{Content}
 use Rattle.stow_core.specs.Keys.{AreKeysOf}
-use Rattle.stow_core.specs.Prepared.{after_put, after_remove, next_number}
+use Rattle.stow_core.specs.Prepared.{after_content, after_remove, next_number}
 use Rattle.stow_core.specs.State.{CoreState, account_of, last_of, lasts_of, store_with, store_of, IsCore}
-use Rattle.stow_core.specs.Writes.{put_of, removal_of, removals_of}
-use Rattle.stow_core.proofs.Keyed.{first_key, first_own, later_own, put_is_call, removals_are_call}
-use Rattle.stow_core.proofs.Stores.{core_of, store_moved, store_others, set_own, set_other, account_at, lasts-at, last-store_of}
+use Rattle.stow_core.specs.Writes.{content_op, write_of, put_of, removal_of, removals_of, no_pins}
+use Rattle.stow_core.proofs.Appended.{call_bound, write_agrees}
+use Rattle.stow_core.proofs.Keyed.{first_key, first_own, later_own}
+use Rattle.stow_core.proofs.Stores.{core_of, store_moved, store_others, set_own, set_other, lasts-at, last-store_of, row_value, makes_whole}
 use Rattle.stow_state.specs.Changes.{AreBelow, AreWritten, changes, put_message, gone_message}
 use Rattle.stow_state.specs.Rows.{rows_at}
 use Rattle.stow_state.proofs.Changes.{own_rows_move_law, writes_are_written_law, rows_are_below_law, writes_by_messages_law}
-use Rattle.stow_state.proofs.Rows.{other_rows_stay_law}
+use Rattle.stow_state.proofs.Rows.{other_rows_stay_law, agreeing_rows_law}
 use Rattle.stow_tree.specs.Shapes.{AreInRange}
 use Rattle.stow_tree.specs.TreeState.{TreeState, tree_messages, HasBound}
-use Rattle.stow_tree_model.specs.Agreement.{Agree, AgreeAt, with_bound}
+use Rattle.stow_tree_model.specs.Agreement.{with_bound}
 use Rattle.stow_tree_model.specs.Keys.{packed, own_key, tenant_of}
-use Rattle.stow_tree_model.specs.Messages.{Messages, ops_of, with_all, IsCall}
-use Rattle.stow_tree_model.specs.Operations.{NoneAbove}
+use Rattle.stow_tree_model.specs.Op.{Op}
+use Rattle.stow_tree_model.specs.Messages.{Messages, ops_of, value, with_all, IsCall}
+use Rattle.stow_tree_model.specs.Operations.{outcome, value_in, bytes_or_none, NoneAbove}
 use Rattle.stow_tree_model.specs.TreeMessage.{TreeMessage}
 use Rattle.stow_tree_model.proofs.Packed.{tenant_of-packed}
-use Rattle.stow_tree_model.proofs.Pruning.{none_in_nothing}
-use Rattle.stow_tree_model.proofs.SetLemmas.{call_agrees_law}
-use Rattle.stow_core.specs.Writes.{no_pins}
 
 -- ---- rows
 
@@ -52,6 +53,17 @@ rows_put m t last number key value next below own =
     (ap (λ k. with_all m (put_of number k value ∷ [])) (sym (first_key t key own))
     ∙ writes_by_messages_law.of_one m t number (rows_at m t last) (own_key key) value (subst (λ n. AreBelow n (rows_at m t last)) next (rows_are_below_law m t last)))
 
+-- whatever the write's message does, where it makes a value
+pub rows_written : (m : Messages) (bound : ℕ → ℕ) (t last number : ℕ) (key whole : List ℕ) (op : Op) → t < 2 ^ 32 → suc last ≡ number → bound t ≡ last → HasBound m bound → AreKeysOf t (key ∷ [])
+    → outcome op (value_in (value m key last)) ≡ Some whole
+    → rows_at (with_all m (write_of number key op ∷ [])) t number ≡ map.insert (rows_at m t last) (own_key key) (record { number = number; value = whole })
+rows_written m bound t last number key whole op low next at has own makes =
+    sym (agreeing_rows_law (with_all m (put_of number key whole ∷ [])) (with_all m (write_of number key op ∷ [])) no_pins (with_bound bound t number) t number low (write_agrees m bound t last number key whole op low next at has own makes) (inr moved))
+    ∙ rows_put m t last number key whole next (λ q. subst (λ n. NoneAbove n (ops_of m (packed t q))) at (own_below m bound t low has q)) own
+  where
+    moved : with_bound bound t number t ≤ number
+    moved = let e = cond-true (eqb t t) number (bound t) (eq-eqb t t refl) in omega (arith, e)
+
 pub own_removals : (t number : ℕ) (keys : List (List ℕ)) → AreKeysOf t keys → removals_of number keys ≡ map (gone_message t number) (map own_key keys)
 own_removals t number [] own = refl
 own_removals t number (key ∷ keys) own = λ i. removal_of number (sym (first_own t key keys own) i) ∷ own_removals t number keys (later_own t key keys own) i
@@ -71,10 +83,7 @@ rows_removed m t last number keys next below own there =
 
 -- ---- bounds
 
-pub agree_itself : (m : Messages) (bound : ℕ → ℕ) → HasBound m bound → Agree m m no_pins bound
-agree_itself m bound has key = record { at_pins = λ p c. refl; from_bound = λ n l. refl; left_below = has key; right_below = has key }
-
-lasts_moved : (accounts : List Account) (t u : ℕ) (a a' : Account) → 1 ≤ t → t ≤ length accounts → a ≡ get_or accounts (t - 1) a → a'.last ≡ a.last + 1
+pub lasts_moved : (accounts : List Account) (t u : ℕ) (a a' : Account) → 1 ≤ t → t ≤ length accounts → a ≡ get_or accounts (t - 1) a → a'.last ≡ a.last + 1
     → with_bound (lasts_of accounts) t (suc (lasts_of accounts t)) u ≡ lasts_of (set accounts (t - 1) a') u
 lasts_moved accounts t u a a' low high is next = ⊎_elim
     (λ (e : u ≡ t).
@@ -90,13 +99,10 @@ pub bound_moved : (m : Messages) (accounts : List Account) (t : ℕ) (a a' : Acc
     → IsCall t a'.last ms → HasBound m (lasts_of accounts) → HasBound (with_all m ms) (lasts_of (set accounts (t - 1) a'))
 bound_moved m accounts t a a' ms low high is next call has key =
     subst (λ n. NoneAbove n (ops_of (with_all m ms) key)) (lasts_moved accounts t (tenant_of key) a a' low high is next)
-    (call_agrees_law m m no_pins (lasts_of accounts) t ms (subst (λ n. IsCall t n ms) number call) (λ u p c. absurd (none_pinned p c)) (agree_itself m (lasts_of accounts) has) key).left_below
+    (call_bound m (lasts_of accounts) t (suc (lasts_of accounts t)) ms refl (subst (λ n. IsCall t n ms) number call) has key)
   where
     number : a'.last ≡ suc (lasts_of accounts t)
     number = let l = lasts-at accounts t a low high is in omega (arith, l, next)
-
-    none_pinned : (p : ℕ) → Contains [] p → ⊥
-    none_pinned p c = none_in_nothing p c
 
 -- ---- stores
 
@@ -140,14 +146,26 @@ pub number_is : (core core' : CoreState) (t : ℕ) (a a' : Account) → core ≡
 number_is core core' t a a' e low high is writes =
     ap (λ s. (store_of s t).last + 1) (sym e) ∙ ap (λ n. n + 1) (last-store_of core t a low high is) ∙ sym (ap (λ (b : Account). b.last) writes)
 
-pub put_own : (entries : List Entry) (accounts : List Account) (tree tree' : TreeState) (t : ℕ) (a a' : Account) (key value : List ℕ) → 1 ≤ t → t ≤ length accounts → a ≡ get_or accounts (t - 1) a
-    → WritesAccount a a' → IsCore entries accounts tree → AreKeysOf t (key ∷ []) → tree_messages tree' ≡ with_all (tree_messages tree) (put_of a'.last key value ∷ [])
-    → store_of (core_of entries (set accounts (t - 1) a') tree') t ≡ after_put key value (store_of (core_of entries accounts tree) t)
-put_own entries accounts tree tree' t a a' key value low high is writes core own puts =
-    store_moved entries accounts tree tree' t a a' (after_put key value) low high is
-    (ap (λ rows. store_with rows (Some a')) (ap (λ (m : Messages). rows_at m t a'.last) puts ∙ rows_put (tree_messages tree) t a.last a'.last key value next (below_last entries accounts tree t a low high is core) own)
-    ∙ ap (λ b. store_with (map.insert (rows_at (tree_messages tree) t a.last) (own_key key) (record { number = b.last; value = value })) (Some b)) writes)
+pub put_own : {A : Type 0} (entries : List Entry) (accounts : List Account) (tree tree' : TreeState) (t : ℕ) (a a' : Account) (key : List ℕ) (c : Content A) → 1 ≤ t → t ≤ length accounts → a ≡ get_or accounts (t - 1) a
+    → WritesAccount a a' → IsCore entries accounts tree → AreKeysOf t (key ∷ []) → tree_messages tree' ≡ with_all (tree_messages tree) (write_of a'.last key (content_op c) ∷ [])
+    → store_of (core_of entries (set accounts (t - 1) a') tree') t ≡ after_content key c (store_of (core_of entries accounts tree) t)
+put_own entries accounts tree tree' t a a' key c low high is writes core own puts =
+    store_moved entries accounts tree tree' t a a' (after_content key c) low high is
+    (ap (λ rows. store_with rows (Some a')) (ap (λ (m : Messages). rows_at m t a'.last) puts ∙ rows_written (tree_messages tree) (lasts_of accounts) t a.last a'.last key whole (content_op c) index next (lasts-at accounts t a low high is) core.below own makes)
+    ∙ ap (λ b. store_with (map.insert (rows_at (tree_messages tree) t a.last) (own_key key) (record { number = b.last; value = whole })) (Some b)) writes)
   where
+    present : Option (List ℕ)
+    present = stored_value.value_in (map.get (rows_at (tree_messages tree) t a.last) (own_key key))
+
+    whole : List ℕ
+    whole = bytes_or_none (outcome (content_op c) present)
+
+    makes : outcome (content_op c) (value_in (value (tree_messages tree) key a.last)) ≡ Some whole
+    makes = ap (outcome (content_op c)) (sym (row_value (tree_messages tree) t a.last key own)) ∙ makes_whole c present
+
+    index : t < 2 ^ 32
+    index = let few = core.few in omega (arith, few, high)
+
     next : suc a.last ≡ a'.last
     next = let w = ap (λ (b : Account). b.last) writes in omega (arith, w)
 

@@ -1,36 +1,45 @@
 -- What the tree has to be told of messages before there is room for them.
-use Rattle.std.proofs.Common.{◌≡◌, ◌≢◌, ℕ, zero, suc, ◌+◌, ◌*◌, ◌<◌, ◌≤◌, ◌^◌, List, [], ◌∷◌, length, map, drop, take, get_or, Some, None, refl, ap, sym, ◌∙◌, subst, arith}
+use Rattle.std.proofs.Common.{◌≡◌, ◌≢◌, ℕ, zero, suc, ◌+◌, ◌*◌, ◌<◌, ◌≤◌, ◌^◌, List, [], ◌∷◌, length, map, drop, take, get_or, Option, Some, None, refl, ap, sym, ◌∙◌, subst, arith}
 use Rattle.std.specs.List.{AllByRecursion, sum_by}
-use Rattle.std.specs.Option.{unwrap_or}
 use Rattle.std.proofs.Math.Seq.{drop-cons}
+use Rattle.std.proofs.lemmas.List.{length-append}
 use Rattle.std.proofs.lemmas.List.Sums.{sum_by-cons}
 use Rattle.stow_bytes.specs.Limits.{value_limit, number_limit}
 use Rattle.stow_message.specs.Packed.{message_size, IsMessage}
 use Rattle.stow_model.specs.Login.{Entry}
 use Rattle.stow_core.specs.declared.account.Account.{Account}
+use Rattle.stow_core.specs.declared.content.Content.{Content}
+use Rattle.stow_core.specs.declared.content.Content.TheVariants as content
 use Rattle.stow_core.specs.Keys.{AreKeysOf}
 use Rattle.stow_core.specs.State.{lasts_of, IsCore}
 use Rattle.stow_core.specs.Taken.{AreDistinct}
-use Rattle.stow_core.specs.Writes.{put_of, removal_of, removals_of, AreMessages}
+use Rattle.stow_core.specs.Writes.{content_op, write_of, removal_of, removals_of, AreMessages}
 use Rattle.stow_core.proofs.Keyed.{first_own, later_own, tenant_of_own}
 use Rattle.stow_tree.specs.Putting.{CanAdd, CanPut, CanReserve, IsReserved, AreApart, Puts, bytes_of}
 use Rattle.stow_tree.specs.TreeState.{TreeState, tree_messages, HasBound}
 use Rattle.stow_tree.proofs.Put.{puts_then}
 use Rattle.stow_tree_model.specs.Keys.{packed, own_key, tenant_of, IsTenantKey}
 use Rattle.stow_tree_model.specs.Messages.{Messages, ops_of, value, with_all}
-use Rattle.stow_tree_model.specs.Op.{Op, Put, Gone}
-use Rattle.stow_tree_model.specs.Operations.{outcome, value_in}
+use Rattle.stow_tree_model.specs.Op.{bytes_in}
+use Rattle.stow_tree_model.specs.Operations.{outcome, value_in, bytes_or_none, NoneAbove}
 use Rattle.stow_tree_model.specs.TreeMessage.{TreeMessage}
 use Rattle.stow_tree_model.specs.Value.{IsValue}
+use Rattle.stow_tree_model.proofs.Latest.{above_bound}
 
 -- ---- messages of a tenant
 
-pub put_IsMessage : (t number : ℕ) (key value : List ℕ) → 1 ≤ t → t ≤ 65535 → packed t (own_key key) ≡ key → IsTenantKey key → 1 ≤ number → number ≤ number_limit → length value ≤ value_limit → IsMessage (put_of number key value)
-put_IsMessage t number key value low high own is positive limit short = record {
+-- a content carries no more than what it makes
+carried_short : {A : Type 0} (c : Content A) (before : Option (List ℕ)) → length (bytes_or_none (outcome (content_op c) before)) ≤ value_limit → length (bytes_in (content_op c)) ≤ value_limit
+carried_short (content.Whole value) before short = short
+carried_short (content.Suffix suffix) before short = let e = length-append (bytes_or_none before) suffix in omega (arith, e, short)
+
+pub put_IsMessage : {A : Type 0} (t number : ℕ) (key : List ℕ) (c : Content A) (before : Option (List ℕ)) → 1 ≤ t → t ≤ 65535 → packed t (own_key key) ≡ key → IsTenantKey key → 1 ≤ number → number ≤ number_limit
+    → length (bytes_or_none (outcome (content_op c) before)) ≤ value_limit → IsMessage (write_of number key (content_op c))
+put_IsMessage t number key c before low high own is positive limit short = record {
   is_key = is;
   is_of_tenant = subst (λ u. (1 ≤ u) × (u ≤ 65535)) (sym (tenant_of_own t key (omega (arith, high)) own)) (low, high);
   is_numbered = (positive, limit);
-  is_short = short;
+  is_short = carried_short c before short;
 }
 
 pub removals_are_messages : (t number : ℕ) (keys : List (List ℕ)) → 1 ≤ t → t ≤ 65535 → AreKeysOf t keys → AllByRecursion IsTenantKey keys → 1 ≤ number → number ≤ number_limit → AreMessages (removals_of number keys)
@@ -47,8 +56,8 @@ removals_are_messages t number (key ∷ keys) low high own are positive limit = 
 
 -- ---- they can be put
 
-some_value : (value : List ℕ) → length value ≤ value_limit → IsValue (Some value)
-some_value value short = record { is_short = λ bytes e. subst (λ (v : List ℕ). length v ≤ value_limit) (ap (λ o. unwrap_or o value) e) short }
+some_value : (v : Option (List ℕ)) → length (bytes_or_none v) ≤ value_limit → IsValue v
+some_value v short = record { is_short = λ bytes e. subst (λ o. length (bytes_or_none o) ≤ value_limit) e short }
 
 no_value : IsValue None
 no_value = record { is_short = λ bytes e. absurd (apart bytes e) } where
@@ -59,13 +68,27 @@ newer : (m : Messages) (bound : ℕ → ℕ) (t number : ℕ) (key : List ℕ) �
 newer m bound t number key has own above n l = has key n (let e : bound (tenant_of key) ≡ bound t = ap bound own in omega (arith, e, above, l))
 
 module _ (entries : List Entry) (accounts : List Account) (tree : TreeState) (core : IsCore entries accounts tree) (t number : ℕ) (high : t ≤ 65535) (above : lasts_of accounts t < number) where
-  pub can_put_row : (key value : List ℕ) → packed t (own_key key) ≡ key → IsTenantKey key → length value ≤ value_limit → CanReserve tree (put_of number key value ∷ [])
-  can_put_row key value own is short = record {
+  -- what the key has at the next number is what it has at the last
+  value_at : (key : List ℕ) → packed t (own_key key) ≡ key → value (tree_messages tree) key number ≡ value (tree_messages tree) key (lasts_of accounts t)
+  value_at key own =
+      above_bound (ops_of (tree_messages tree) key) (lasts_of accounts t) number (omega (arith, above))
+      (subst (λ u. NoneAbove (lasts_of accounts u) (ops_of (tree_messages tree) key)) (tenant_of_own t key (omega (arith, high)) own) (core.below key))
+
+  pub can_put_row : {A : Type 0} (key : List ℕ) (c : Content A) → packed t (own_key key) ≡ key → IsTenantKey key
+      → length (bytes_or_none (outcome (content_op c) (value_in (value (tree_messages tree) key (lasts_of accounts t))))) ≤ value_limit
+      → CanReserve tree (write_of number key (content_op c) ∷ [])
+  can_put_row key c own is short = record {
     can = record {
       apart = (tt, tt);
-      each = (record { newest = newer (tree_messages tree) (lasts_of accounts) t number key core.below (tenant_of_own t key (omega (arith, high)) own) above; short = some_value value short }, tt);
+      each = (
+        record {
+          newest = newer (tree_messages tree) (lasts_of accounts) t number key core.below (tenant_of_own t key (omega (arith, high)) own) above;
+          short = subst (λ v. IsValue (outcome (content_op c) (value_in v))) (sym (value_at key own)) (some_value (outcome (content_op c) (value_in (value (tree_messages tree) key (lasts_of accounts t)))) short);
+        },
+        tt,
+      );
     };
-    fit = (let a = sum_by-cons message_size (put_of number key value) [] in let room = core.sizes.buffer.0 in let k = is.is_short in omega (arith, a, room, k, short));
+    fit = (let a = sum_by-cons message_size (write_of number key (content_op c)) [] in let room = core.sizes.buffer.0 in let k = is.is_short in let s = carried_short c (value_in (value (tree_messages tree) key (lasts_of accounts t))) short in omega (arith, a, room, k, s));
   }
 
   removals_apart : (keys : List (List ℕ)) → AreDistinct keys → AreApart (removals_of number keys)

@@ -1,5 +1,5 @@
 -- The core as the state that all tenants share.
-use Rattle.std.proofs.Common.{◌≡◌, ◌≢◌, ℕ, zero, suc, ◌+◌, ◌-◌, ◌<◌, ◌≤◌, List, [], ◌∷◌, length, map, get_or, set, eqb, Option, Some, None, refl, ap, sym, ◌∙◌, subst, arith, ⊎_elim}
+use Rattle.std.proofs.Common.{◌≡◌, ◌≢◌, ℕ, zero, suc, ◌+◌, ◌-◌, ◌<◌, ◌≤◌, ◌^◌, List, [], ◌∷◌, length, map, get_or, set, eqb, Option, Some, None, refl, ap, sym, ◌∙◌, subst, arith, ⊎_elim}
 use Rattle.std.specs.Prelude.{slice_get, Contains}
 use Rattle.std.specs.FinMap.{FinMap}
 use Rattle.std.specs.FinMap as finite
@@ -13,12 +13,14 @@ use Rattle.stow_model.specs.Store.{Store, Rows, OwnEvent, counted, one_more, row
 use Rattle.stow_model.specs.Store.{step as own_step}
 use Rattle.stow_core.specs.declared.account.Account.{Account}
 use Rattle.stow_core.specs.Keys.{AreKeysOf}
-use Rattle.stow_core.specs.Prepared.{after_put, after_remove}
+use Rattle.stow_core.specs.declared.content.Content.{Content}
+use Rattle.stow_core.specs.Prepared.{after_put, after_content, after_remove}
 use Rattle.stow_core.specs.State.{CoreState, account_of, last_of, lasts_of, store_with, store_of, own_state, shared_of, rows_of, IsCore, IsShared, GivesWay, StepsTo}
-use Rattle.stow_core.specs.Writes.{put_of, removals_of, no_pins}
+use Rattle.stow_core.specs.Writes.{content_op, write_of, put_of, removals_of, no_pins}
+use Rattle.stow_core.proofs.Appended.{agree_itself, write_agrees}
 use Rattle.stow_core.proofs.Keyed.{first_key}
-use Rattle.stow_core.proofs.Moves.{agree_itself, own_removals, all_own, WritesAccount}
-use Rattle.stow_core.proofs.Stores.{core_of, set_own, set_other, account_at, stored}
+use Rattle.stow_core.proofs.Moves.{own_removals, all_own, lasts_moved, WritesAccount}
+use Rattle.stow_core.proofs.Stores.{core_of, set_own, set_other, account_at, lasts-at, stored, row_value, makes_whole}
 use Rattle.stow_state.specs.Changes.{AreBelow, changes}
 use Rattle.stow_state.specs.Rows.{IsIndex, rows_at}
 use Rattle.stow_state.specs.State.{TenantState, SharedState, IsSound, copies, store_in, view, pins_in, lasts_in, new_tenant, new_state}
@@ -28,9 +30,11 @@ use Rattle.stow_state.proofs.Snapshots.{entries-empty}
 use Rattle.stow_state.proofs.Steps.{no_values, step_is_there_law, steps_by_parts_law}
 use Rattle.stow_tree.proofs.Sets.{same_messages}
 use Rattle.stow_tree.specs.TreeState.{TreeState, tree_messages, AgreeUnder, HasBound}
-use Rattle.stow_tree_model.specs.Agreement.{Agree}
+use Rattle.stow_tree_model.specs.Agreement.{Agree, with_bound}
 use Rattle.stow_tree_model.specs.Keys.{own_key}
-use Rattle.stow_tree_model.specs.Messages.{Messages, with_all}
+use Rattle.stow_tree_model.specs.Messages.{Messages, value, with_all}
+use Rattle.stow_tree_model.specs.Operations.{bytes_or_none, outcome, value_in}
+use Rattle.stow_model.specs.Store as stored_value
 use Rattle.stow_tree_model.specs.TreeMessage.{TreeMessage}
 
 -- ---- what a tenant has
@@ -223,20 +227,41 @@ module _ (entries : List Entry) (accounts : List Account) (tree tree' : TreeStat
       (steps_exactly entries accounts tree tree t a a' low high is (counted (store_with rows (Some a))) [] few (own_counted rows a a' counts)
       (ap (with_all (tree_messages tree)) (sym (writes_by_messages_law.of_none t (suc a.last) rows))) refl below)
 
-  pub put_steps : (key value : List ℕ) → length accounts < 65536 → WritesAccount a a' → AreKeysOf t (key ∷ []) → tree_messages tree' ≡ with_all (tree_messages tree) (put_of a'.last key value ∷ []) → HasBound (tree_messages tree') (lasts_of (set accounts (t - 1) a'))
-      → StepsTo (core_of entries accounts tree) t (after_put key value (store_of (core_of entries accounts tree) t)) (core_of entries (set accounts (t - 1) a') tree')
+  pub put_steps : {A : Type 0} (key : List ℕ) (c : Content A) → IsCore entries accounts tree → WritesAccount a a' → AreKeysOf t (key ∷ []) → tree_messages tree' ≡ with_all (tree_messages tree) (write_of a'.last key (content_op c) ∷ [])
+      → StepsTo (core_of entries accounts tree) t (after_content key c (store_of (core_of entries accounts tree) t)) (core_of entries (set accounts (t - 1) a') tree')
   unfolding rows
-  put_steps key value few writes own puts below = subst (λ s. StepsTo (core_of entries accounts tree) t (after_put key value s) (core_of entries (set accounts (t - 1) a') tree')) (sym store_is)
-      (steps_exactly entries accounts tree tree' t a a' low high is (after_put key value (store_with rows (Some a))) (put_of a'.last key value ∷ []) few (own_put key value rows a a' writes) same puts below)
+  put_steps key c core writes own puts = subst (λ s. StepsTo (core_of entries accounts tree) t (after_content key c s) (core_of entries (set accounts (t - 1) a') tree')) (sym store_is)
+      (steps_to entries accounts tree tree' t a a' low high is (after_content key c (store_with rows (Some a))) core.few (own_put key whole rows a a' writes)
+      (subst (λ (m : Messages). Agree m (tree_messages tree') no_pins (lasts_of (set accounts (t - 1) a'))) same
+      (subst (λ (m : Messages). Agree (with_all (tree_messages tree) (put_of a'.last key whole ∷ [])) m no_pins (lasts_of (set accounts (t - 1) a'))) (sym puts)
+      (subst (λ (b : ℕ → ℕ). Agree (with_all (tree_messages tree) (put_of a'.last key whole ∷ [])) (with_all (tree_messages tree) (write_of a'.last key (content_op c) ∷ [])) no_pins b) bounds
+      (write_agrees (tree_messages tree) (lasts_of accounts) t a.last a'.last key whole (content_op c) index (sym (next writes)) (lasts-at accounts t a low high is) core.below own makes)))))
     where
+      present : Option (List ℕ)
+      present = stored_value.value_in (finite.get rows (own_key key))
+
+      whole : List ℕ
+      whole = bytes_or_none (outcome (content_op c) present)
+
+      makes : outcome (content_op c) (value_in (value (tree_messages tree) key a.last)) ≡ Some whole
+      makes = ap (outcome (content_op c)) (sym (row_value (tree_messages tree) t a.last key own)) ∙ makes_whole c present
+
+      index : t < 2 ^ 32
+      index = let few = core.few in omega (arith, few, high)
+
       step : suc a.last ≡ a.last + 1
       step = omega arith
 
-      same : with_all (tree_messages tree) (put_of a'.last key value ∷ []) ≡ with_all (tree_messages tree) (changes t (suc a.last) rows (after_put key value (store_with rows (Some a))).rows)
+      bounds : with_bound (lasts_of accounts) t a'.last ≡ lasts_of (set accounts (t - 1) a')
+      bounds =
+          ap (with_bound (lasts_of accounts) t) (next writes ∙ ap suc (sym (lasts-at accounts t a low high is)))
+          ∙ (λ i u. lasts_moved accounts t u a a' low high is (ap (λ (b : Account). b.last) writes) i)
+
+      same : with_all (tree_messages tree) (put_of a'.last key whole ∷ []) ≡ with_all (tree_messages tree) (changes t (suc a.last) rows (after_put key whole (store_with rows (Some a))).rows)
       same =
-          (λ i. with_all (tree_messages tree) (put_of (next writes i) (sym (first_key t key own) i) value ∷ []))
-          ∙ writes_by_messages_law.of_one (tree_messages tree) t (suc a.last) rows (own_key key) value (rows_are_below_law (tree_messages tree) t a.last)
-          ∙ ap (λ n. with_all (tree_messages tree) (changes t (suc a.last) rows (finite.insert rows (own_key key) (record { number = n; value = value })))) step
+          (λ i. with_all (tree_messages tree) (put_of (next writes i) (sym (first_key t key own) i) whole ∷ []))
+          ∙ writes_by_messages_law.of_one (tree_messages tree) t (suc a.last) rows (own_key key) whole (rows_are_below_law (tree_messages tree) t a.last)
+          ∙ ap (λ n. with_all (tree_messages tree) (changes t (suc a.last) rows (finite.insert rows (own_key key) (record { number = n; value = whole })))) step
 
   pub remove_steps : (keys : List (List ℕ)) → length accounts < 65536 → WritesAccount a a' → AreKeysOf t keys → AllByRecursion (λ key. IsSome (finite.get (rows_at (tree_messages tree) t a.last) (own_key key))) keys
       → tree_messages tree' ≡ with_all (tree_messages tree) (removals_of a'.last keys) → HasBound (tree_messages tree') (lasts_of (set accounts (t - 1) a'))

@@ -8,17 +8,23 @@ use Rattle.stow_bytes.specs.Bytes.{bytes_cmp}
 use Rattle.stow_bytes.specs.Limits.{number_limit}
 use Rattle.stow_model.specs.Login.{Entry, quota_from, quota_of}
 use Rattle.stow_model.specs.Store.{Store, Rows, Version, empty_store, one_more}
-use Rattle.stow_core.specs.Prepared.{CanWrite, next_number}
+use Rattle.stow_model.specs.Store as stored_value
+use Rattle.stow_core.specs.Keys.{AreKeysOf}
+use Rattle.stow_core.specs.Prepared.{CanWrite, next_number, whole_value}
 use Rattle.stow_core.specs.declared.account.Account.{Account}
 use Rattle.stow_core.specs.State.{CoreState, new_account, account_of, last_of, lasts_of, rows_of, store_with, store_of}
-use Rattle.stow_core.specs.Writes.{row_of}
+use Rattle.stow_core.specs.declared.content.Content.{Content}
+use Rattle.stow_core.specs.declared.content.Content.TheVariants as content
+use Rattle.stow_core.specs.Writes.{content_op, row_of}
+use Rattle.stow_core.proofs.Keyed.{first_key}
 use Rattle.stow_read.specs.declared.found.Found.{Found}
 use Rattle.stow_read.specs.Found.{found_value}
 use Rattle.stow_state.specs.Rows.{rows_at, version_of}
 use Rattle.stow_state.proofs.Rows.{rows_by_value_law, same_rows}
 use Rattle.stow_tree.specs.TreeState.{TreeState, tree_messages, HasBound}
-use Rattle.stow_tree_model.specs.Keys.{packed}
+use Rattle.stow_tree_model.specs.Keys.{packed, own_key}
 use Rattle.stow_tree_model.specs.Messages.{Messages, ops_of, value}
+use Rattle.stow_tree_model.specs.Operations.{NumberedValue, outcome, bytes_or_none, value_in}
 use Rattle.stow_tree_model.specs.Order.{place_cmp}
 use Rattle.stow_tree_model.proofs.Histories.{latest_none}
 
@@ -189,6 +195,31 @@ found_row core core' t a key e low high is =
     sym (rows_by_value_law (tree_messages core.tree) t a.last key)
     ∙ ap (λ (rows : Rows). map.get rows key) (sym (rows-store_of core t a low high is))
     ∙ ap (λ s. map.get (store_of s t).rows key) e
+
+-- a version's value
+version_value : (v : Option NumberedValue) → stored_value.value_in (version_of v) ≡ value_in v
+version_value None = refl
+version_value (Some v) = refl
+
+-- the value of a tenant's row is the one that its key has
+pub row_value : (m : Messages) (t n : ℕ) (key : List ℕ) → AreKeysOf t (key ∷ []) → stored_value.value_in (map.get (rows_at m t n) (own_key key)) ≡ value_in (value m key n)
+row_value m t n key own =
+    ap stored_value.value_in (rows_by_value_law m t n (own_key key))
+    ∙ version_value (value m (packed t (own_key key)) n)
+    ∙ ap (λ k. value_in (value m k n)) (first_key t key own)
+
+-- a content makes a value of whatever is there
+pub makes_whole : {A : Type 0} (c : Content A) (before : Option (List ℕ)) → outcome (content_op c) before ≡ Some (bytes_or_none (outcome (content_op c) before))
+makes_whole (content.Whole value) before = refl
+makes_whole (content.Suffix suffix) before = refl
+
+-- what the content makes of the row is what its message makes of what the key has
+pub whole_by_key : {A : Type 0} (core core' : CoreState) (t : ℕ) (c : Content A) (key : List ℕ) → core ≡ core' → 1 ≤ t → t ≤ length core.accounts → AreKeysOf t (key ∷ [])
+    → whole_value c key (store_of core' t) ≡ bytes_or_none (outcome (content_op c) (value_in (value (tree_messages core.tree) key (lasts_of core.accounts t))))
+whole_by_key core core' t c key e low high own =
+    ap (λ s. whole_value c key (store_of s t)) (sym e)
+    ∙ ap (λ (rows : Rows). bytes_or_none (outcome (content_op c) (stored_value.value_in (map.get rows (own_key key))))) (own_rows core t low high)
+    ∙ ap (λ v. bytes_or_none (outcome (content_op c) v)) (row_value (tree_messages core.tree) t (lasts_of core.accounts t) key own)
 
 -- what holds whatever a call answers holds where it succeeds
 pub on_ok : {X E P : Type 0} (r : Result X E) → P → OnOk r P

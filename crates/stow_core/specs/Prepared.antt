@@ -11,14 +11,16 @@ use Rattle.stow_commands.specs.declared.update.Update.{Update}
 use Rattle.stow_model.specs.Reply.{Reply, reply_of}
 use Rattle.stow_model.specs.Reply as reply
 use Rattle.stow_model.specs.Login.{IsTenant}
-use Rattle.stow_model.specs.Store.{Store, Rows, Answer, Written, counted, served, answer, change_answer, rows_without}
+use Rattle.stow_model.specs.Store.{Store, Rows, Answer, Written, counted, served, answer, change_answer, rows_without, value_in}
 use Rattle.stow_core.specs.declared.change.Change as coded
 use Rattle.stow_core.specs.declared.change.Change.TheVariants as change
+use Rattle.stow_core.specs.declared.content.Content.{Content}
 use Rattle.stow_core.specs.declared.prepared.Prepared.{Prepared}
 use Rattle.stow_core.specs.Keys.{AreKeysOf}
-use Rattle.stow_core.specs.Writes.{put_of, removals_of, AreMessages}
+use Rattle.stow_core.specs.Writes.{content_op, write_of, removals_of, AreMessages}
 use Rattle.stow_tree.specs.Putting.{IsReserved}
 use Rattle.stow_tree_model.specs.Keys.{own_key}
+use Rattle.stow_tree_model.specs.Operations.{outcome, bytes_or_none}
 use Rattle.stow_tree_model.specs.TreeMessage.{TreeMessage}
 use Rattle.stow_core.specs.declared.interval.Interval.{Interval}
 use Rattle.stow_core.specs.State.{CoreState, store_of, row_at}
@@ -33,6 +35,15 @@ after_put key value store =
     after_write (counted store)
     (rows.insert store.rows (own_key key) (record { number = store.last + 1; value = value }))
 
+-- the whole value that the key, among the keys of all, has in the store once it has the content
+abbrev pub whole_value : {A : Type 0} → Content A → List ℕ → Store → List ℕ
+whole_value content key store =
+    bytes_or_none (outcome (content_op content) (value_in (rows.get store.rows (own_key key))))
+
+-- the store after a request that gives the key the content
+abbrev pub after_content : {A : Type 0} → List ℕ → Content A → Store → Store
+after_content key content store = after_put key (whole_value content key store) store
+
 -- the store after a request that takes the keys out
 abbrev pub after_remove : List (List ℕ) → Store → Store
 after_remove keys store = after_write (counted store) (rows_without (map own_key keys) store.rows)
@@ -41,7 +52,7 @@ after_remove keys store = after_write (counted store) (rows_without (map own_key
 abbrev pub effect_of : {A : Type 0} → coded.Change A → Store → Store
 effect_of change.Nothing store = store
 effect_of change.Count store = counted store
-effect_of (change.Put key value) store = after_put key value store
+effect_of (change.Write key content) store = after_content key content store
 effect_of (change.Remove keys) store = after_remove keys store
 
 -- what a prepared answer does to its tenant's store
@@ -65,9 +76,9 @@ pub record CanCommit (core : CoreState) (tenant : ℕ) (messages : List TreeMess
   pub reserved : IsReserved core.tree messages
 
 -- a write to the key, among the keys of all, needs no more memory
-abbrev pub CanPut : CoreState → ℕ → List ℕ → List ℕ → Type 0
-CanPut core tenant key value =
-    CanCommit core tenant (put_of (next_number core tenant) key value ∷ [])
+abbrev pub CanPut : {A : Type 0} → CoreState → ℕ → List ℕ → Content A → Type 0
+CanPut core tenant key content =
+    CanCommit core tenant (write_of (next_number core tenant) key (content_op content) ∷ [])
 
 -- these are keys of rows of the tenant's, and to take them out needs no more memory
 pub record CanRemove (core : CoreState) (tenant : ℕ) (keys : List (List ℕ)) : Type 0 where
@@ -78,7 +89,7 @@ pub record CanRemove (core : CoreState) (tenant : ℕ) (keys : List (List ℕ)) 
 abbrev pub HasRoomFor : {A : Type 0} → CoreState → ℕ → coded.Change A → Type 0
 HasRoomFor core tenant change.Nothing = ¬ (IsTenant core.entries tenant)
 HasRoomFor core tenant change.Count = IsTenant core.entries tenant
-HasRoomFor core tenant (change.Put key value) = CanPut core tenant key value
+HasRoomFor core tenant (change.Write key content) = CanPut core tenant key content
 HasRoomFor core tenant (change.Remove keys) = CanRemove core tenant keys
 
 -- the prepared answer has all its room in this state
@@ -103,9 +114,10 @@ serves command store = served (counted store) command
 abbrev pub changes : List ℕ → Update → Store → Answer
 changes key update store = serves (Change key (update_of update)) store
 
--- the answer to a change that writes this value; the key is one among the keys of all
-abbrev pub writes_row : List ℕ → List ℕ → Reply → Store → Answer
-writes_row key value r store = change_answer (counted store) (own_key key) (Written value r)
+-- the answer to a change that gives the key the content; the key is one among the keys of all
+abbrev pub writes_row : {A : Type 0} → List ℕ → Content A → Reply → Store → Answer
+writes_row key content r store =
+    change_answer (counted store) (own_key key) (Written (whole_value content key store) r)
 
 -- the same of words, where the number is a tenant's
 abbrev pub PreparesOwn : {A : Type 0} → CoreState → ℕ → List (List ℕ)

@@ -1,4 +1,5 @@
 //! Changes that have their memory.
+use crate::content::Content;
 use std::alloc::{Allocator, Global};
 use stow_bytes::byte_string::ByteString;
 use stow_model::words::Words;
@@ -10,8 +11,8 @@ pub enum Change<A: Allocator = Global> {
     Nothing,
     /// The request is counted.
     Count,
-    /// A key, and its new value.
-    Put(ByteString<A>, ByteString<A>),
+    /// A key, and what it is given.
+    Write(ByteString<A>, Content<A>),
     /// The keys whose rows go.
     Remove(Words<A>),
 }

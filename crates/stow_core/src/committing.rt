@@ -3,9 +3,10 @@ ghost use Rattle.std.specs.Prelude.{◌≡◌};
 ghost use Rattle.stow_model.specs.Login.{IsTenant};
 ghost use Rattle.stow_model.specs.Store.{counted};
 ghost use Rattle.stow_core.specs.State.{store_of, OthersStay, StepsTo};
-ghost use Rattle.stow_core.specs.Prepared.{after_put, after_remove, CanPut, CanRemove};
+ghost use Rattle.stow_core.specs.Prepared.{after_content, after_remove, CanPut, CanRemove};
 
 use crate::Core;
+use crate::content::Content;
 use crate::writes::{put_removals, put_row};
 use std::alloc::Allocator;
 use stow_bytes::byte_string::ByteString;
@@ -26,21 +27,18 @@ impl<A: Allocator + Copy> Core<A> {
     }
 
     /// Writes a row of the tenant's.
-    pub(crate) fn put(&mut self, tenant: u32, key: ByteString<A>, value: ByteString<A>)
-        requires { CanPut self.old tenant key value }
-        ensures own { store_of self.new tenant ≡ after_put key value (store_of self.old tenant) }
+    pub(crate) fn put(&mut self, tenant: u32, key: ByteString<A>, content: Content<A>)
+        requires { CanPut self.old tenant key content }
+        ensures own { store_of self.new tenant
+            ≡ after_content key content (store_of self.old tenant) }
         ensures others { OthersStay self.old self.new tenant }
         ensures entries { self.new.entries ≡ self.old.entries }
-        ensures step { StepsTo self.old tenant (after_put key value (store_of self.old tenant)) self.new }
+        ensures step { StepsTo self.old tenant
+            (after_content key content (store_of self.old tenant)) self.new }
     {
         let index = tenant as usize - 1;
         let account = self.accounts[index].written();
-        put_row(
-            &mut self.tree,
-            account.last,
-            key.as_slice(),
-            value.as_slice(),
-        );
+        put_row(&mut self.tree, account.last, key.as_slice(), &content);
         self.buffer = key.into_vec();
         self.accounts[index] = account;
     }
@@ -51,7 +49,8 @@ impl<A: Allocator + Copy> Core<A> {
         ensures own { store_of self.new tenant ≡ after_remove keys (store_of self.old tenant) }
         ensures others { OthersStay self.old self.new tenant }
         ensures entries { self.new.entries ≡ self.old.entries }
-        ensures step { StepsTo self.old tenant (after_remove keys (store_of self.old tenant)) self.new }
+        ensures step { StepsTo self.old tenant
+            (after_remove keys (store_of self.old tenant)) self.new }
     {
         let index = tenant as usize - 1;
         let account = self.accounts[index].written();

@@ -8,7 +8,8 @@
 //!
 //! Rows stand in the order of packed keys, each the tenant's index and then its own key, so a tenant's rows
 //! stand together, in the order of its keys. A write is a message to the tree, with the tenant's next number: `prepare`
-//! makes the room for it, which may move other messages towards the leaves, and `commit` puts it.
+//! makes the room for it, which may move other messages towards the leaves, and `commit` puts it. An APPEND's message
+//! has its suffix alone.
 //!
 //! A body of `prepare`, `prepare_command` or `prepare_change` that prepares the same twice is right too, since
 //! a prepared answer that is never carried out changes nothing.
@@ -45,6 +46,7 @@ pub mod account;
 pub mod change;
 mod changing;
 mod committing;
+pub mod content;
 mod deleting;
 mod interval;
 mod keys;
@@ -164,7 +166,7 @@ impl<A: Allocator + Copy> Core<A> {
         match change {
             Change::Nothing => {}
             Change::Count => self.count(tenant),
-            Change::Put(key, value) => self.put(tenant, key, value),
+            Change::Write(key, content) => self.put(tenant, key, content),
             Change::Remove(keys) => self.remove(tenant, keys),
         }
         reply

@@ -6,8 +6,9 @@ ghost use Rattle.stow_tree.specs.Putting.{CanReserve, IsReserved, Puts};
 ghost use Rattle.stow_tree.specs.TreeState.{tree_messages, AgreeUnder};
 ghost use Rattle.stow_tree_model.specs.Messages.{with_all};
 ghost use Rattle.stow_tree_model.specs.TreeMessage.{message_of};
-ghost use Rattle.stow_core.specs.Writes.{put_of, removal_of, removals_of, AreMessages, no_pins};
+ghost use Rattle.stow_core.specs.Writes.{content_op, write_of, removal_of, removals_of, AreMessages, no_pins};
 
+use crate::content::Content;
 use std::alloc::{AllocError, Allocator};
 use stow_merge::pins::Pins;
 use stow_model::lent_words::LentWords;
@@ -16,15 +17,19 @@ use stow_tree_model::message::Message;
 use stow_tree_model::op::Op;
 use stow_tree_model::tenant_key::TenantKey;
 
-/// The message that puts a value under a key.
-fn put_message<'a>(number: u64, key: &'a [u8], value: &'a [u8]) -> Message<'a>
-    requires { IsMessage (put_of number key.now value.now) }
-    ensures { message_of result ≡ put_of number key.now value.now }
+/// The message that gives a key this content.
+fn write_message<'a, A: Allocator>(
+    number: u64,
+    key: &'a [u8],
+    content: &'a Content<A>,
+) -> Message<'a>
+    requires { IsMessage (write_of number key.now (content_op content.now)) }
+    ensures { message_of result ≡ write_of number key.now (content_op content.now) }
 {
     Message {
         key: TenantKey::from_packed(key),
         number,
-        op: Op::Put(value),
+        op: content.op(),
     }
 }
 
@@ -46,25 +51,31 @@ pub fn reserve_row<A: Allocator + Copy>(
     alloc: A,
     number: u64,
     key: &[u8],
-    value: &[u8],
+    content: &Content<A>,
 ) -> Result<(), AllocError>
-    requires message { IsMessage (put_of number key.now value.now) }
-    requires can { CanReserve tree.old (put_of number key.now value.now ∷ []) }
-    ensures reserved { OnOk result (IsReserved tree.new (put_of number key.now value.now ∷ [])) }
+    requires message { IsMessage (write_of number key.now (content_op content.now)) }
+    requires can { CanReserve tree.old (write_of number key.now (content_op content.now) ∷ []) }
+    ensures reserved { OnOk result
+        (IsReserved tree.new (write_of number key.now (content_op content.now) ∷ [])) }
     ensures agrees { AgreeUnder no_pins (tree_messages tree.old) (tree_messages tree.new) }
     ensures shape { tree.new.root.shape ≡ tree.old.root.shape }
 {
-    let messages = [put_message(number, key, value)];
+    let messages = [write_message(number, key, content)];
     tree.reserve(alloc, &messages, &Pins::new(alloc))
 }
 
-/// Puts a row's value into the tree. It takes no memory and cannot fail.
-pub fn put_row<A: Allocator + Copy>(tree: &mut Tree<A>, number: u64, key: &[u8], value: &[u8])
-    requires message { IsMessage (put_of number key.now value.now) }
-    requires room { IsReserved tree.old (put_of number key.now value.now ∷ []) }
-    ensures { Puts (put_of number key.now value.now ∷ []) tree.old tree.new }
+/// Puts what a key is given into the tree. It takes no memory and cannot fail.
+pub fn put_row<A: Allocator + Copy>(
+    tree: &mut Tree<A>,
+    number: u64,
+    key: &[u8],
+    content: &Content<A>,
+)
+    requires message { IsMessage (write_of number key.now (content_op content.now)) }
+    requires room { IsReserved tree.old (write_of number key.now (content_op content.now) ∷ []) }
+    ensures { Puts (write_of number key.now (content_op content.now) ∷ []) tree.old tree.new }
 {
-    let messages = [put_message(number, key, value)];
+    let messages = [write_message(number, key, content)];
     tree.put_all(&messages);
 }
 

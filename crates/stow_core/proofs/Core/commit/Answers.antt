@@ -9,11 +9,11 @@ returns-in-Count-clause-step g c = λ _.
     let t = c.args.prepared.tenant in
     subst (λ change. StepsTo old t (effect_of change (store_of old t)) c.count.new.self) (sym c.in-Count.is) c.count.ensures.step
 
-pub returns-in-Put-clause-step : goal.returns-in-Put-clause-step
-returns-in-Put-clause-step g c = λ _.
+pub returns-in-Write-clause-step : goal.returns-in-Write-clause-step
+returns-in-Write-clause-step g c = λ _.
     let old = c.args.self.now in
     let t = c.args.prepared.tenant in
-    subst (λ change. StepsTo old t (effect_of change (store_of old t)) c.put.new.self) (sym c.in-Put.is) c.put.ensures.step
+    subst (λ change. StepsTo old t (effect_of change (store_of old t)) c.put.new.self) (sym c.in-Write.is) c.put.ensures.step
 
 pub returns-in-Remove-clause-step : goal.returns-in-Remove-clause-step
 returns-in-Remove-clause-step g c = λ _.

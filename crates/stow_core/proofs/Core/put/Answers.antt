@@ -7,9 +7,9 @@ use Rattle.stow_bytes.specs.Limits.{number_limit}
 use Rattle.stow_model.specs.LentWords.{words_in}
 use Rattle.stow_model.specs.Store.{Rows}
 use Rattle.stow_core.specs.Keys.{AreKeysOf}
-use Rattle.stow_core.specs.Prepared.{after_put, after_remove, next_number, CanWrite}
+use Rattle.stow_core.specs.Prepared.{after_content, next_number}
 use Rattle.stow_core.specs.State.{CoreState, store_of, lasts_of, row_at}
-use Rattle.stow_core.specs.Writes.{put_of, removals_of, AreMessages}
+use Rattle.stow_core.specs.Writes.{content_op, write_of}
 use Rattle.stow_core.proofs.Keyed.{put_is_call, removals_are_call, first_key}
 use Rattle.stow_core.proofs.Kept.{core_agrees, stores_agree}
 use Rattle.stow_core.proofs.Moves.{core_moved, number_is, put_own, removed_own, call_others}
@@ -35,59 +35,56 @@ put_row-requires-clause-message g c =
     let t = c.args.tenant in
     let high : t ≤ length c.self.inside.accounts.items = search rules in
     let number = number_is _ c.args.self.now t c.index.result.now c.written-account.result c.self.view_is c.requires.is_tenant.0 high c.index.ensures c.written-account.ensures in
-    subst IsMessage (λ i. put_of (number i) (sym c.as_slice.ensures i) (sym c.as_slice-2.ensures i)) c.requires.are_messages.0
+    subst IsMessage (λ i. write_of (number i) (sym c.as_slice.ensures i) (content_op c.args.content)) c.requires.are_messages.0
 
 pub put_row-requires-clause-room : goal.put_row-requires-clause-room
 put_row-requires-clause-room g c =
     let t = c.args.tenant in
     let high : t ≤ length c.self.inside.accounts.items = search rules in
     let number = number_is _ c.args.self.now t c.index.result.now c.written-account.result c.self.view_is c.requires.is_tenant.0 high c.index.ensures c.written-account.ensures in
-    subst (λ m. IsReserved c.self.inside.tree (m ∷ [])) (λ i. put_of (number i) (sym c.as_slice.ensures i) (sym c.as_slice-2.ensures i))
-    (subst (λ (s : CoreState). IsReserved s.tree (put_of (next_number c.args.self.now t) c.args.key c.args.value ∷ [])) (sym c.self.view_is) c.requires.reserved)
+    subst (λ m. IsReserved c.self.inside.tree (m ∷ [])) (λ i. write_of (number i) (sym c.as_slice.ensures i) (content_op c.args.content))
+    (subst (λ (s : CoreState). IsReserved s.tree (write_of (next_number c.args.self.now t) c.args.key (content_op c.args.content) ∷ [])) (sym c.self.view_is) c.requires.reserved)
 
 pub invariant_of-self : goal.invariant_of-self
 invariant_of-self g c =
     let t = c.args.tenant in
     let key = c.args.key in
-    let value = c.args.value in
+    let content = c.args.content in
     let high : t ≤ length c.self.inside.accounts.items = search rules in
     let few = c.self.invariant.few in
-    core_moved c.self.inside.tenants.value c.self.inside.accounts.items c.self.inside.tree c.put_row.new.tree t c.index.result.now c.written-account.result (put_of c.written-account.result.last key value ∷ [])
-    c.requires.is_tenant.0 high c.index.ensures c.written-account.ensures c.self.invariant (put_is_call t c.written-account.result.last key value (omega (arith, high, few)) c.requires.own)
-    (c.put_row.ensures.messages ∙ (λ i. with_all (tree_messages c.self.inside.tree) (put_of c.written-account.result.last (c.as_slice.ensures i) (c.as_slice-2.ensures i) ∷ []))) c.put_row.ensures.shape
+    core_moved c.self.inside.tenants.value c.self.inside.accounts.items c.self.inside.tree c.put_row.new.tree t c.index.result.now c.written-account.result (write_of c.written-account.result.last key (content_op content) ∷ [])
+    c.requires.is_tenant.0 high c.index.ensures c.written-account.ensures c.self.invariant (put_is_call t c.written-account.result.last key (content_op content) (omega (arith, high, few)) c.requires.own)
+    (c.put_row.ensures.messages ∙ (λ i. with_all (tree_messages c.self.inside.tree) (write_of c.written-account.result.last (c.as_slice.ensures i) (content_op content) ∷ []))) c.put_row.ensures.shape
 
 pub returns-clause-own : goal.returns-clause-own
 returns-clause-own g c =
     let t = c.args.tenant in
     let key = c.args.key in
-    let value = c.args.value in
+    let content = c.args.content in
     let high : t ≤ length c.self.inside.accounts.items = search rules in
-    put_own c.self.inside.tenants.value c.self.inside.accounts.items c.self.inside.tree c.put_row.new.tree t c.index.result.now c.written-account.result key value
+    put_own c.self.inside.tenants.value c.self.inside.accounts.items c.self.inside.tree c.put_row.new.tree t c.index.result.now c.written-account.result key content
     c.requires.is_tenant.0 high c.index.ensures c.written-account.ensures c.self.invariant c.requires.own
-    (c.put_row.ensures.messages ∙ (λ i. with_all (tree_messages c.self.inside.tree) (put_of c.written-account.result.last (c.as_slice.ensures i) (c.as_slice-2.ensures i) ∷ [])))
-    ∙ ap (λ s. after_put key value (store_of s t)) c.self.view_is
+    (c.put_row.ensures.messages ∙ (λ i. with_all (tree_messages c.self.inside.tree) (write_of c.written-account.result.last (c.as_slice.ensures i) (content_op content) ∷ [])))
+    ∙ ap (λ s. after_content key content (store_of s t)) c.self.view_is
 
 pub returns-clause-others : goal.returns-clause-others
 returns-clause-others g c = λ other differ.
     let t = c.args.tenant in
     let key = c.args.key in
-    let value = c.args.value in
+    let content = c.args.content in
     let high : t ≤ length c.self.inside.accounts.items = search rules in
     let few = c.self.invariant.few in
-    call_others c.self.inside.tenants.value c.self.inside.accounts.items c.self.inside.tree c.put_row.new.tree t other c.written-account.result.last c.written-account.result (put_of c.written-account.result.last key value ∷ [])
-    c.requires.is_tenant.0 few (put_is_call t c.written-account.result.last key value (omega (arith, high, few)) c.requires.own)
-    (c.put_row.ensures.messages ∙ (λ i. with_all (tree_messages c.self.inside.tree) (put_of c.written-account.result.last (c.as_slice.ensures i) (c.as_slice-2.ensures i) ∷ []))) differ
+    call_others c.self.inside.tenants.value c.self.inside.accounts.items c.self.inside.tree c.put_row.new.tree t other c.written-account.result.last c.written-account.result (write_of c.written-account.result.last key (content_op content) ∷ [])
+    c.requires.is_tenant.0 few (put_is_call t c.written-account.result.last key (content_op content) (omega (arith, high, few)) c.requires.own)
+    (c.put_row.ensures.messages ∙ (λ i. with_all (tree_messages c.self.inside.tree) (write_of c.written-account.result.last (c.as_slice.ensures i) (content_op content) ∷ []))) differ
     ∙ ap (λ s. store_of s other) c.self.view_is
 
 pub returns-clause-step : goal.returns-clause-step
 returns-clause-step g c =
     let t = c.args.tenant in
     let key = c.args.key in
-    let value = c.args.value in
+    let content = c.args.content in
     let high : t ≤ length c.self.inside.accounts.items = search rules in
-    let few = c.self.invariant.few in
-    let puts = c.put_row.ensures.messages ∙ (λ i. with_all (tree_messages c.self.inside.tree) (put_of c.written-account.result.last (c.as_slice.ensures i) (c.as_slice-2.ensures i) ∷ [])) in
-    let moved = core_moved c.self.inside.tenants.value c.self.inside.accounts.items c.self.inside.tree c.put_row.new.tree t c.index.result.now c.written-account.result (put_of c.written-account.result.last key value ∷ [])
-    c.requires.is_tenant.0 high c.index.ensures c.written-account.ensures c.self.invariant (put_is_call t c.written-account.result.last key value (omega (arith, high, few)) c.requires.own) puts c.put_row.ensures.shape in
-    subst (λ s. StepsTo s t (after_put key value (store_of s t)) (core_of c.self.inside.tenants.value (set c.self.inside.accounts.items (t - 1) c.written-account.result) c.put_row.new.tree)) c.self.view_is
-    (put_steps c.self.inside.tenants.value c.self.inside.accounts.items c.self.inside.tree c.put_row.new.tree t c.index.result.now c.written-account.result c.requires.is_tenant.0 high c.index.ensures key value few c.written-account.ensures c.requires.own puts moved.below)
+    subst (λ s. StepsTo s t (after_content key content (store_of s t)) (core_of c.self.inside.tenants.value (set c.self.inside.accounts.items (t - 1) c.written-account.result) c.put_row.new.tree)) c.self.view_is
+    (put_steps c.self.inside.tenants.value c.self.inside.accounts.items c.self.inside.tree c.put_row.new.tree t c.index.result.now c.written-account.result c.requires.is_tenant.0 high c.index.ensures key content c.self.invariant c.written-account.ensures c.requires.own
+    (c.put_row.ensures.messages ∙ (λ i. with_all (tree_messages c.self.inside.tree) (write_of c.written-account.result.last (c.as_slice.ensures i) (content_op content) ∷ []))))
