@@ -5,7 +5,7 @@ use Rattle.stow_model.specs.Login.{IsTenant}
 use Rattle.stow_model.specs.Reply.{Reply}
 use Rattle.stow_model.specs.Reply as reply
 use Rattle.stow_model.specs.Store.{Answer, answer}
-use Rattle.stow_core.specs.State.{CoreState, store_of, OthersStay}
+use Rattle.stow_core.specs.State.{CoreState, store_of, OthersStay, Resized}
 use Rattle.stow_shared.specs.Entries.{Entry, call_entry, resize_entry}
 use Rattle.stow_shared.specs.Journals.{with_entry, IsLegal}
 use Rattle.stow_shared.specs.Seats.{SeatState, with_receipt, with_refusal}
@@ -66,8 +66,9 @@ abbrev pub CallStep : Bool → BookState → SeatState → ℕ → List (List �
 CallStep keeps old seat tenant words told new seat' =
     AnswersCall keeps old seat tenant words told new seat' ⊎ RefusesCall old seat told new seat'
 
--- the step of a change of the cache's size, with its one entry and receipt
+-- the step of another size of the cache, with its one entry and receipt
 pub record Resizes (keeps : Bool) (old : BookState) (seat : SeatState) (leaves : ℕ)
     (new : BookState) (seat' : SeatState) : Type 0 where
   pub core : StoresStay old.core new.core
+  pub cache : Resized leaves old.core new.core
   pub adds : Adds keeps (resize_entry seat.number leaves) old.entries seat new.entries seat'

@@ -5,7 +5,7 @@ ghost use Rattle.stow_model.specs.Reply.{reply_of};
 ghost use Rattle.stow_shared.specs.Books.{Adds};
 ghost use Rattle.stow_shared.specs.Closed.{IsWhole};
 ghost use Rattle.stow_shared.specs.Copies.{AreCopies, AreAlike, copied};
-ghost use Rattle.stow_shared.specs.Entries.{call_entry, entry_of, entries_of};
+ghost use Rattle.stow_shared.specs.Entries.{call_entry, entry_of, entries_of, resize_entry};
 
 use crate::closing::{are_of_seats, are_one_each, have_receipts};
 use crate::copies::Copies;
@@ -110,7 +110,7 @@ impl<J: Journal, A: Allocator + Copy> Book<J, A> {
         }
     }
 
-    /// The step of a change of the cache's size. There is no cache yet, so the core stays.
+    /// The step of another size of the cache. Where memory is refused, no store moves and nothing is added.
     pub fn resize(&mut self, seat: &mut Seat<J, A>, leaves: usize) -> Result<(), AllocError>
         requires { leaves ≤ 65536 }
         ensures ok { OnOk result
@@ -118,19 +118,23 @@ impl<J: Journal, A: Allocator + Copy> Book<J, A> {
         ensures err { OnErr result (Leaves self.old self.new × (seat.new ≡ seat.old)) }
     {
         if !J::is_kept() {
-            return Ok(());
+            return self.core.resize(leaves);
         }
         let number = seat.number();
-        let entry = Entry {
-            seat: number,
-            step: Step::Resize(leaves),
-        };
-        let receipt = Entry {
-            seat: number,
-            step: Step::Resize(leaves),
-        };
-        keep(&mut self.journal, seat, entry, receipt)?;
+        self.journal.reserve(1)?;
+        seat.resize(&mut self.core, leaves, resized(number, leaves))?;
+        self.journal.push_reserved(resized(number, leaves));
         Ok(())
+    }
+}
+
+/// The entry of a seat that gave the cache another size.
+fn resized<A: Allocator>(seat: u32, leaves: usize) -> Entry<A>
+    ensures { entry_of result ≡ resize_entry seat leaves }
+{
+    Entry {
+        seat,
+        step: Step::Resize(leaves),
     }
 }
 

@@ -8,6 +8,7 @@ use crate::entry::Entry;
 use crate::journal::Journal;
 use std::alloc::{AllocError, Allocator, Global};
 use std::marker::{Model, PhantomData};
+use stow_core::Core;
 use stow_model::refusal::Refusal;
 use stow_model::reply::Reply;
 
@@ -93,5 +94,30 @@ impl<J: Journal, A: Allocator> Seat<J, A> {
             self.refused += 1;
         }
         Reply::Error(Refusal::OutOfMemory)
+    }
+}
+
+impl<J: Journal, A: Allocator + Copy> Seat<J, A> {
+    ghost use Rattle.stow_core.specs.State.{Resized};
+    ghost use Rattle.stow_shared.specs.Books.{StoresStay};
+    ghost use Rattle.stow_shared.specs.Entries.{entry_of};
+
+    /// Asks the core's cache to hold so many leaves, and adds the receipt of it. An `Err` adds none.
+    pub(crate) fn resize(
+        &mut self,
+        core: &mut Core<A>,
+        leaves: usize,
+        receipt: Entry<A>,
+    ) -> Result<(), AllocError>
+        ensures ok { OnOk result
+            (self.new ≡ record self.old { receipts = entry_of receipt ∷ self.old.receipts }) }
+        ensures err { OnErr result (self.new ≡ self.old) }
+        ensures core { OnOk result (Resized leaves core.old core.new) }
+        ensures stores { StoresStay core.old core.new }
+    {
+        self.receipts.reserve(1)?;
+        core.resize(leaves)?;
+        self.receipts.push_reserved(receipt);
+        Ok(())
     }
 }
