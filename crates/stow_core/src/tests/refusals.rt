@@ -197,12 +197,28 @@ fn long_refusals<B: Allocator>(
     Ok(None)
 }
 
-// A root's buffer holds six of these values, so the seventh takes a flush, which asks for much more.
+/// Whether one more long value, above two levels of nodes, is what brings more leaves.
+fn reaches_leaves<A: Allocator + Copy>(
+    alloc: A,
+    global: Global,
+    keys: u32,
+) -> Result<bool, AllocError> {
+    let mut core = filled(alloc, global, keys)?;
+    let before = core.shape();
+    let done = is_told(&mut core, alloc, 1, "SET c LONG", "OK")?;
+    Ok(done && before.height == 2 && core.shape().leaves > before.leaves)
+}
+
+// A node's buffer holds six of these values, so the seventh takes a flush, which asks for much more. Later one flush goes
+// through two levels: the root's messages are for a child whose own buffer is full.
 #[test]
 fn flushes_withstand_each_refusal(rt: HostRuntime) -> Result<(), Fail> {
     let global = rt.alloc();
     let heap = Refusing::new(global);
     let asked = long_refusals(&heap, global, 6)?;
+    assert!(rt; asked.is_some_and(|asked| asked > 10), "{asked:?}");
+    assert!(rt; reaches_leaves(global, global, 14)?);
+    let asked = long_refusals(&heap, global, 14)?;
     assert!(rt; asked.is_some_and(|asked| asked > 10), "{asked:?}");
     Ok(())
 }
