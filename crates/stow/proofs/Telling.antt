@@ -114,7 +114,8 @@ a_text (On c event.Close) _ can = absurd can
 a_text (By (event.Plan f)) r can = subst (λ s. (text : List ℕ) × IsText (By (event.Plan f)) s text) (sym can) (codes "none", refl)
 a_text (By (event.Merge f)) r can = subst (λ s. (text : List ℕ) × IsText (By (event.Merge f)) s text) (sym can) (codes "refused", refl)
 a_text (By (event.Install f)) r can = subst (λ s. (text : List ℕ) × IsText (By (event.Install f)) s text) (sym can) (codes "refused", refl)
-a_text (By (event.Resize n)) r (inl done) = subst (λ s. (text : List ℕ) × IsText (By (event.Resize n)) s text) (sym done.1) (codes "resized", refl)
+a_text (By (event.Resize n)) r (inl (few, inl done)) = subst (λ s. (text : List ℕ) × IsText (By (event.Resize n)) s text) (sym done) (codes "resized", refl)
+a_text (By (event.Resize n)) r (inl (few, inr void)) = subst (λ s. (text : List ℕ) × IsText (By (event.Resize n)) s text) (sym void) (codes "memory", refl)
 a_text (By (event.Resize n)) r (inr refused) = subst (λ s. (text : List ℕ) × IsText (By (event.Resize n)) s text) (sym refused.1) (codes "refused", refl)
 
 -- the line of the last event was not kept

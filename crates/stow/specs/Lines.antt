@@ -39,6 +39,7 @@ IsFlusherText (event.Install f) Refused text = text ≡ codes "refused"
 IsFlusherText (event.Install f) _ text = ⊥
 IsFlusherText (event.Resize n) Done text = text ≡ codes "resized"
 IsFlusherText (event.Resize n) Refused text = text ≡ codes "refused"
+IsFlusherText (event.Resize n) NoMemory text = text ≡ codes "memory"
 IsFlusherText (event.Resize n) _ text = ⊥
 
 abbrev pub IsText : Event → StepResult → List ℕ → Type 0
