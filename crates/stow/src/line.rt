@@ -1,10 +1,10 @@
-//! What a script's events led to, a line each.
-ghost use Rattle.std.specs.Prelude.{◌≡◌, ◌++◌, OnOk, codes};
+//! What a script's lines led to, a line each.
+ghost use Rattle.std.specs.Prelude.{◌≡◌, ◌++◌, ◌∷◌, [], IfOk, OnErr, OnOk, codes, string_bytes};
 ghost use Rattle.std.specs.Io.{StartsWith};
 ghost use Rattle.stow_model.specs.Event.{event_of};
 ghost use Rattle.stow_model.specs.Reply.{encoding, reply_of};
 ghost use Rattle.stow_house.specs.StepResult.{step_result_of, CanAnswer};
-ghost use Rattle.stow.specs.Lines.{WritesLine};
+ghost use Rattle.stow.specs.Lines.{WritesLine, shape_text};
 ghost use Rattle.stow.specs.Written.{done_text, written};
 ghost use Rattle.stow.specs.Text.{text_of};
 
@@ -14,6 +14,7 @@ use stow_house::step_result::StepResult;
 use stow_model::event::Event;
 use stow_model::reply::Reply;
 use stow_resp::encode::Encode;
+use stow_tree::shape_report::ShapeReport;
 
 /// Adds the line that tells what the event led to, which is something that it can lead to.
 pub fn write_result<A: Allocator + Copy>(
@@ -67,6 +68,34 @@ fn write_reply<A: Allocator + Copy>(
     reply.write(&mut bytes)?;
     out.extend_from_slice(b"reply ")?;
     escape(bytes.as_slice(), out)
+}
+
+/// Adds the line that tells how large a tree is, or nothing where memory is refused.
+pub fn write_shape<A: Allocator + Copy>(
+    alloc: A,
+    report: ShapeReport,
+    out: &mut Vec<u8, A>,
+) -> Result<(), AllocError>
+    ensures ok { OnOk result (out.new.items ≡ out.old.items ++ (shape_text report ++ 10 ∷ [])) }
+    ensures err { OnErr result (out.new.items ≡ out.old.items) }
+{
+    let text = shape_line(alloc, report)?;
+    out.extend_from_slice(text.as_bytes())
+}
+
+fn shape_line<A: Allocator + Copy>(
+    alloc: A,
+    report: ShapeReport,
+) -> Result<String<A>, AllocError>
+    ensures { IfOk result (λ text. string_bytes text ≡ shape_text report ++ 10 ∷ []) }
+{
+    let ShapeReport {
+        height,
+        leaves,
+        buffered,
+        cached,
+    } = report;
+    format!(in alloc; "height {height} leaves {leaves} buffered {buffered} cached {cached}\n")
 }
 
 /// What is told of an event that was carried out and gives nothing.
