@@ -92,9 +92,9 @@ bad_word line word asked other cut = (asked, none_asked) where
   none_asked Shape h = other h
 
 -- what a test that failed says
-pub of_other : {P Q : Type 0} (b : Bool) → b ≡ false → MatchBool b P Q → Q
-of_other true is h = absurd (false≢true (sym is))
-of_other false is h = h
+pub of_other : (P Q : Type 0) (b : Bool) → b ≡ false → MatchBool b P Q → Q
+of_other P Q true is h = absurd (false≢true (sym is))
+of_other P Q false is h = h
 
 -- ---- pieces
 
