@@ -1,5 +1,6 @@
 //! What a script's lines led to, a line each.
-ghost use Rattle.std.specs.Prelude.{◌≡◌, ◌++◌, ◌∷◌, [], IfOk, OnErr, OnOk, codes, string_bytes};
+ghost use Rattle.std.specs.Prelude.{◌≡◌, ◌++◌, ◌∷◌, [], OnErr, OnOk, codes};
+ghost use Rattle.std.specs.Fmt.{decimal};
 ghost use Rattle.std.specs.Io.{StartsWith};
 ghost use Rattle.stow_model.specs.Event.{event_of};
 ghost use Rattle.stow_model.specs.Reply.{encoding, reply_of};
@@ -9,6 +10,7 @@ ghost use Rattle.stow.specs.Written.{done_text, written};
 ghost use Rattle.stow.specs.Text.{text_of};
 
 use crate::text::escape;
+use itoa::Buffer;
 use std::alloc::{AllocError, Allocator};
 use stow_house::step_result::StepResult;
 use stow_model::event::Event;
@@ -71,31 +73,45 @@ fn write_reply<A: Allocator + Copy>(
 }
 
 /// Adds the line that tells how large a tree is, or nothing where memory is refused.
-pub fn write_shape<A: Allocator + Copy>(
-    alloc: A,
+pub fn write_shape<A: Allocator>(
     report: ShapeReport,
     out: &mut Vec<u8, A>,
 ) -> Result<(), AllocError>
     ensures ok { OnOk result (out.new.items ≡ out.old.items ++ (shape_text report ++ 10 ∷ [])) }
     ensures err { OnErr result (out.new.items ≡ out.old.items) }
 {
-    let text = shape_line(alloc, report)?;
-    out.extend_from_slice(text.as_bytes())
+    let whole = out.len();
+    let told = push_shape(report, out);
+    if told.is_err() {
+        out.truncate(whole);
+    }
+    told
 }
 
-fn shape_line<A: Allocator + Copy>(
-    alloc: A,
-    report: ShapeReport,
-) -> Result<String<A>, AllocError>
-    ensures { IfOk result (λ text. string_bytes text ≡ shape_text report ++ 10 ∷ []) }
+fn push_shape<A: Allocator>(report: ShapeReport, out: &mut Vec<u8, A>) -> Result<(), AllocError>
+    ensures ok { OnOk result (out.new.items ≡ out.old.items ++ (shape_text report ++ 10 ∷ [])) }
+    ensures front { StartsWith out.new.items out.old.items }
 {
-    let ShapeReport {
-        height,
-        leaves,
-        buffered,
-        cached,
-    } = report;
-    format!(in alloc; "height {height} leaves {leaves} buffered {buffered} cached {cached}\n")
+    push_count(b"height ", report.height, out)?;
+    push_count(b" leaves ", report.leaves, out)?;
+    push_count(b" buffered ", report.buffered, out)?;
+    push_count(b" cached ", report.cached, out)?;
+    out.push(b'\n')?;
+    Ok(())
+}
+
+/// Adds a name, and a count in decimal.
+fn push_count<A: Allocator>(
+    name: &[u8],
+    count: u64,
+    out: &mut Vec<u8, A>,
+) -> Result<(), AllocError>
+    ensures ok { OnOk result (out.new.items ≡ out.old.items ++ name.now ++ decimal count) }
+    ensures front { StartsWith out.new.items out.old.items }
+{
+    let mut buffer = Buffer::new();
+    out.extend_from_slice(name)?;
+    out.extend_from_slice(buffer.format(count).as_bytes())
 }
 
 /// What is told of an event that was carried out and gives nothing.

@@ -83,7 +83,7 @@ fn carry_out_line<A: Allocator + Copy>(
             let result = house.step(alloc, event);
             tell(alloc, event, &result, answers)
         }
-        ScriptLine::Shape => write_shape(alloc, house.core().shape(), answers),
+        ScriptLine::Shape => write_shape(house.core().shape(), answers),
     }
 }
 
