@@ -1,6 +1,6 @@
 -- A script's lines.
 use Rattle.std.proofs.Common.{◌≡◌, ◌≢◌, ℕ, ◌<◌, ◌≤◌, ◌^◌, true, false, List, [], ◌∷◌, ◌++◌, length, get_or, Option, Some, None, Result, Ok, Err, refl, ap, ◌∙◌, sym, subst, arith}
-use Rattle.std.specs.Prelude.{codes, nat_lt}
+use Rattle.std.specs.Prelude.{Bool, codes, nat_lt, MatchBool}
 use Rattle.std.specs.Borrow.{Bor}
 use Rattle.std.specs.List.{All, list_all}
 use Rattle.std.specs.Fmt.{decimal}
@@ -13,7 +13,8 @@ use Rattle.std.proofs.lemmas.List.Elements.{All-head, All-tail, All-nil, All-con
 use Rattle.std.proofs.lemmas.Slice.Eq.{bytes_eq-Decides}
 use Rattle.stow_model.specs.Event.{Event, On, By, Open, Piece, Serve, Close, Plan, Merge, Install, Resize}
 use Rattle.stow.specs.Text.{StandsFor}
-use Rattle.stow.specs.Script.{AsksFor, IsArgument, IsBad, IsConnection, IsNumber, IsSkipped, word_of}
+use Rattle.stow.specs.declared.script_line.ScriptLine as script_line
+use Rattle.stow.specs.Script.{Line, AsksFor, AsksForEvent, Asks, Shape, IsArgument, IsBad, IsConnection, IsNumber, IsSkipped, word_of}
 use Rattle.stow_model.specs.declared.event.Event as coded
 use Rattle.stow.specs.declared.text.TextFault.{TextFault}
 use Rattle.stow.specs.declared.text.TextFault.TheVariants.{Malformed, Memory}
@@ -73,19 +74,27 @@ pub not_skipped : (line : List ℕ) → 0 < length line → get_or line 0 0 ≢ 
 not_skipped [] some first skipped = absurd (omega arith)
 not_skipped (b ∷ line) some first skipped = first skipped
 
-pub asks : (line word : List ℕ) (rest : Bor (List ℕ)) (e : Event) → IsCut 32 line word (Some rest) → IsEventOf word rest.now e → AsksFor line e
+pub asks : (line word : List ℕ) (rest : Bor (List ℕ)) (e : Event) → IsCut 32 line word (Some rest) → IsEventOf word rest.now e → AsksForEvent line e
 asks line word rest e cut of = (rest.now, cut.0 ∙ ap (λ w. w ++ 32 ∷ rest.now) of.0, of.1)
 
-pub bad_event : (line word : List ℕ) (rest : Bor (List ℕ)) → (IsSkipped line → ⊥) → IsCut 32 line word (Some rest) → IsNoEvent word rest.now → IsBad line
-bad_event line word rest asked cut none = (
-  asked,
-  λ e h.
+pub bad_event : (line word : List ℕ) (rest : Bor (List ℕ)) → (IsSkipped line → ⊥) → line ≢ codes "shape" → IsCut 32 line word (Some rest) → IsNoEvent word rest.now → IsBad line
+bad_event line word rest asked other cut none = (asked, none_asked) where
+  none_asked : (l : Line) → AsksFor line l → ⊥
+  none_asked (Asks e) h =
       let same = same_cut word (word_of e) rest.now h.0 cut.1 (word_has_no_space e) (sym cut.0 ∙ h.1) in
-      none e (same.0, subst (λ t. IsArgument t e) (sym same.1) h.2),
-)
+      none e (same.0, subst (λ t. IsArgument t e) (sym same.1) h.2)
+  none_asked Shape h = other h
 
-pub bad_word : (line word : List ℕ) → (IsSkipped line → ⊥) → IsCut 32 line word None → IsBad line
-bad_word line word asked cut = (asked, λ e h. has_space word (word_of e) h.0 cut.1 (sym cut.0 ∙ h.1))
+pub bad_word : (line word : List ℕ) → (IsSkipped line → ⊥) → line ≢ codes "shape" → IsCut 32 line word None → IsBad line
+bad_word line word asked other cut = (asked, none_asked) where
+  none_asked : (l : Line) → AsksFor line l → ⊥
+  none_asked (Asks e) h = has_space word (word_of e) h.0 cut.1 (sym cut.0 ∙ h.1)
+  none_asked Shape h = other h
+
+-- what a test that failed says
+pub of_other : (P Q : Type 0) (b : Bool) → b ≡ false → MatchBool b P Q → Q
+of_other P Q true is h = absurd (false≢true (sym is))
+of_other P Q false is h = h
 
 -- ---- pieces
 
@@ -133,6 +142,6 @@ pub event_fault : {A : Type 0} (word rest : List ℕ) (r : Result (coded.Event A
 event_fault word rest (Ok e) fault is h = absurd is
 event_fault word rest (Err f) fault is h = subst (IsFault (IsNoEvent word rest)) (sym is) h
 
-pub line_fault : {A : Type 0} (line : List ℕ) (r : Result (Option (coded.Event A)) TextFault) (fault : TextFault) → IsErrAnd r (λ f. f ≡ fault) → IsFault (IsBad line) fault → IsLineRead line r
+pub line_fault : {A : Type 0} (line : List ℕ) (r : Result (Option (script_line.ScriptLine A)) TextFault) (fault : TextFault) → IsErrAnd r (λ f. f ≡ fault) → IsFault (IsBad line) fault → IsLineRead line r
 line_fault line (Ok e) fault is h = absurd is
 line_fault line (Err f) fault is h = subst (IsFault (IsBad line)) (sym is) h

@@ -25,39 +25,41 @@ use Rattle.stow.specs.Lines.{IsText, WritesLine}
 use Rattle.stow.specs.Read.{IsScriptRead}
 use Rattle.stow.specs.Text.{text_of}
 use Rattle.stow.specs.Statuses.{failure_at, failure_of_kind}
-use Rattle.stow.specs.Told.{CarriesOut, CarriesOutPart, EndsTelling, IsCarriedOut, IsIdle, IsScript, IsScripted, IsWritten, Leads, Progress}
+use Rattle.stow.specs.declared.script_line.ScriptLine as script_line
+use Rattle.stow.specs.Script.{Line, line_of}
+use Rattle.stow.specs.Told.{CarriesOut, CarriesOutPart, EndsTelling, IsCarriedOut, IsDone, IsIdle, IsScript, IsScripted, IsToldLine, IsWritten, Leads, LineLeads, Progress}
 
--- ---- one event more
+-- ---- one line more
 
-leads_more : (old : HouseState) (events : List Event) (lines : List ℕ) (mid : HouseState) (e : Event) (r : StepResult) (new : HouseState) (text : List ℕ)
-    → Leads old events lines mid → IsStepOf mid e r new → IsText e r text → Leads old (events ++ e ∷ []) (lines ++ (text ++ 10 ∷ [])) new
-leads_more old [] lines mid e r new text h step is =
-    (r, new, text, [], subst (λ house. IsStepOf house e r new) h.1 step, is, ap (λ ls. ls ++ (text ++ 10 ∷ [])) h.0, (refl, refl))
-leads_more old (first ∷ events) lines mid e r new text h step is =
-    let more = leads_more h.1 events h.3 mid e r new text h.7 step is in
-    (h.0, h.1, h.2, h.3 ++ (text ++ 10 ∷ []), h.4, h.5, ap (λ ls. ls ++ (text ++ 10 ∷ [])) h.6 ∙ append_assoc h.2 (10 ∷ h.3) (text ++ 10 ∷ []), more)
+leads_more : (old : HouseState) (asked : List Line) (lines : List ℕ) (mid : HouseState) (l : Line) (new : HouseState) (text : List ℕ)
+    → Leads old asked lines mid → LineLeads l mid text new → Leads old (asked ++ l ∷ []) (lines ++ (text ++ 10 ∷ [])) new
+leads_more old [] lines mid l new text h leads =
+    (new, text, [], subst (λ house. LineLeads l house text new) h.1 leads, ap (λ ls. ls ++ (text ++ 10 ∷ [])) h.0, (refl, refl))
+leads_more old (first ∷ asked) lines mid l new text h leads =
+    let more = leads_more h.0 asked h.2 mid l new text h.5 leads in
+    (h.0, h.1, h.2 ++ (text ++ 10 ∷ []), h.3, ap (λ ls. ls ++ (text ++ 10 ∷ [])) h.4 ∙ append_assoc h.1 (10 ∷ h.2) (text ++ 10 ∷ []), more)
 
--- these events took place; of their lines some were written, and the rest waits
-pub record IsToldSoFar (done : List Event) (old new : Progress) (waiting : List ℕ) : Type 0 where
+-- this was done; of the lines that tell it some were written, and the rest waits
+pub record IsToldSoFar (done : List Line) (old new : Progress) (waiting : List ℕ) : Type 0 where
   pub lines : List ℕ
   pub leads : Leads old.house done lines new.house
   pub sent : List ℕ
   pub split : lines ≡ sent ++ waiting
   pub written : Appends old.written new.written sent
 
-pub told_more : (done : List Event) (old mid : Progress) (waiting : List ℕ) (e : Event) (r : StepResult) (house : HouseState) (text more : List ℕ)
-    → IsToldSoFar done old mid waiting → IsStepOf mid.house e r house → IsText e r text → more ≡ waiting ++ (text ++ 10 ∷ [])
-    → IsToldSoFar (done ++ e ∷ []) old (record { house = house; written = mid.written }) more
-told_more done old mid waiting e r house text more told step is added = record {
+pub told_more : (done : List Line) (old mid : Progress) (waiting : List ℕ) (l : Line) (house : HouseState) (more : List ℕ)
+    → IsToldSoFar done old mid waiting → IsToldLine l mid.house house waiting more
+    → IsToldSoFar (done ++ l ∷ []) old (record { house = house; written = mid.written }) more
+told_more done old mid waiting l house more told (text, leads, added) = record {
   lines = told.lines ++ (text ++ 10 ∷ []);
-  leads = leads_more old.house done told.lines mid.house e r house text told.leads step is;
+  leads = leads_more old.house done told.lines mid.house l house text told.leads leads;
   sent = told.sent;
   split = ap (λ ls. ls ++ (text ++ 10 ∷ [])) told.split ∙ append_assoc told.sent waiting (text ++ 10 ∷ []) ∙ ap (λ ls. told.sent ++ ls) (sym added);
   written = told.written;
 }
 
 -- what waited was written
-pub told_sent : (done : List Event) (old mid : Progress) (waiting : List ℕ) (written : Option (List ℕ)) (none : List ℕ)
+pub told_sent : (done : List Line) (old mid : Progress) (waiting : List ℕ) (written : Option (List ℕ)) (none : List ℕ)
     → IsToldSoFar done old mid waiting → Appends mid.written written waiting → none ≡ []
     → IsToldSoFar done old (record { house = mid.house; written = written }) none
 told_sent done old mid waiting written none told appended empty = record {
@@ -68,20 +70,20 @@ told_sent done old mid waiting written none told appended empty = record {
   written = Appends-trans old.written mid.written written told.sent waiting told.written appended;
 }
 
-pub told_all : (events : List Event) (old mid : Progress) (waiting : List ℕ) (written : Option (List ℕ))
-    → IsToldSoFar events old mid waiting → Appends mid.written written waiting
-    → CarriesOut events old (record { house = mid.house; written = written })
-told_all events old mid waiting written told appended = record {
+pub told_all : (asked : List Line) (old mid : Progress) (waiting : List ℕ) (written : Option (List ℕ))
+    → IsToldSoFar asked old mid waiting → Appends mid.written written waiting
+    → CarriesOut asked old (record { house = mid.house; written = written })
+told_all asked old mid waiting written told appended = record {
   lines = told.lines;
   leads = told.leads;
   written = subst (Appends old.written written) (sym told.split) (Appends-trans old.written mid.written written told.sent waiting told.written appended);
 }
 
 -- of what waited a beginning was written
-pub told_part : (events done later : List Event) (old mid : Progress) (waiting front : List ℕ) (written : Option (List ℕ))
-    → events ≡ done ++ later → IsToldSoFar done old mid waiting → Begins front waiting → Appends mid.written written front
-    → CarriesOutPart events old (record { house = mid.house; written = written })
-told_part events done later old mid waiting front written split told begins appended = record {
+pub told_part : (asked done later : List Line) (old mid : Progress) (waiting front : List ℕ) (written : Option (List ℕ))
+    → asked ≡ done ++ later → IsToldSoFar done old mid waiting → Begins front waiting → Appends mid.written written front
+    → CarriesOutPart asked old (record { house = mid.house; written = written })
+told_part asked done later old mid waiting front written split told begins appended = record {
   done = done;
   later = later;
   split = split;
@@ -93,7 +95,7 @@ told_part events done later old mid waiting front written split told begins appe
 }
 
 -- each answer that an event can have has a text
-a_text : (e : Event) (r : StepResult) → CanAnswer e r → (text : List ℕ) × IsText e r text
+pub a_text : (e : Event) (r : StepResult) → CanAnswer e r → (text : List ℕ) × IsText e r text
 a_text (On c event.Open) Done can = (codes "open", refl)
 a_text (On c event.Open) Refused can = (codes "refused", refl)
 a_text (On c event.Open) NoMemory can = (codes "memory", refl)
@@ -118,16 +120,15 @@ a_text (By (event.Resize n)) r (inl (few, inl done)) = subst (λ s. (text : List
 a_text (By (event.Resize n)) r (inl (few, inr void)) = subst (λ s. (text : List ℕ) × IsText (By (event.Resize n)) s text) (sym void) (codes "memory", refl)
 a_text (By (event.Resize n)) r (inr refused) = subst (λ s. (text : List ℕ) × IsText (By (event.Resize n)) s text) (sym refused.1) (codes "refused", refl)
 
--- the line of the last event was not kept
-pub told_refused : (events done later : List Event) (old mid : Progress) (waiting front : List ℕ) (e : Event) (r : StepResult) (house : HouseState) (written : Option (List ℕ))
-    → events ≡ (done ++ e ∷ []) ++ later → IsToldSoFar done old mid waiting → IsStepOf mid.house e r house → CanAnswer e r
+-- what tells the last line was not kept
+pub told_refused : (asked done later : List Line) (old mid : Progress) (waiting front : List ℕ) (l : Line) (house : HouseState) (written : Option (List ℕ))
+    → asked ≡ (done ++ l ∷ []) ++ later → IsToldSoFar done old mid waiting → IsDone l mid.house house
     → Begins front waiting → Appends mid.written written front
-    → CarriesOutPart events old (record { house = house; written = written })
-told_refused events done later old mid waiting front e r house written split told step can begins appended =
-    let line = a_text e r can in
-    let more = told_more done old mid waiting e r house line.0 (waiting ++ (line.0 ++ 10 ∷ [])) told step line.1 refl in
-    told_part events (done ++ e ∷ []) later old (record { house = house; written = mid.written }) (waiting ++ (line.0 ++ 10 ∷ [])) front written split more
-    (begins.0 ++ (line.0 ++ 10 ∷ []), ap (λ ls. ls ++ (line.0 ++ 10 ∷ [])) begins.1 ∙ append_assoc front begins.0 (line.0 ++ 10 ∷ []))
+    → CarriesOutPart asked old (record { house = house; written = written })
+told_refused asked done later old mid waiting front l house written split told (text, leads) begins appended =
+    let more = told_more done old mid waiting l house (waiting ++ (text ++ 10 ∷ [])) told (text, leads, refl) in
+    told_part asked (done ++ l ∷ []) later old (record { house = house; written = mid.written }) (waiting ++ (text ++ 10 ∷ [])) front written split more
+    (begins.0 ++ (text ++ 10 ∷ []), ap (λ ls. ls ++ (text ++ 10 ∷ [])) begins.1 ∙ append_assoc front begins.0 (text ++ 10 ∷ []))
     appended
 
 -- ---- writes
@@ -149,9 +150,9 @@ pub ends_at_output : (error : Error) → EndsTelling (failure_at place.Output er
 ends_at_output error = ends_of_kind (error_kind error) error
 
 -- an ending is handed on
-pub ended : (events : List Event) (old new : Progress) (r : Result (Unit {0}) Failure) (f : Failure) → IsErrAnd r (λ e. e ≡ f) → EndsTelling f → CarriesOutPart events old new → IsCarriedOut events old new r
-ended events old new (Ok done) f is ends part = absurd is
-ended events old new (Err e) f is ends part = (subst EndsTelling (sym is) ends, part)
+pub ended : (asked : List Line) (old new : Progress) (r : Result (Unit {0}) Failure) (f : Failure) → IsErrAnd r (λ e. e ≡ f) → EndsTelling f → CarriesOutPart asked old new → IsCarriedOut asked old new r
+ended asked old new (Ok done) f is ends part = absurd is
+ended asked old new (Err e) f is ends part = (subst EndsTelling (sym is) ends, part)
 
 -- what a write that failed is told as
 pub failed_write : (r : Result (Unit {0}) Error) (f : Failure) (is : MatchResult r (λ u. ◌≡◌ {A = Result (Unit {0}) Failure} (Err f) (Ok u)) (λ error. ◌≡◌ {A = Result (Unit {0}) Failure} (Err f) (Err (failure_at place.Output error)))) → EndsTelling f
@@ -166,47 +167,57 @@ pub on_err : {T E P : Type 0} (r : Result T E) → is_err r ≡ true → OnErr r
 on_err (Ok x) bad h = cc bad
 on_err (Err e) bad h = h
 
--- the events up to a place, this one, and those after it
-pub event_at : {A : Type 0} (events : List (coded.Event A)) (i : ℕ) (e : coded.Event A) → i < length events → e ≡ get_or events i e → map event_of (take (i + 1) events) ≡ map event_of (take i events) ++ event_of e ∷ []
-event_at events i e lt is = ap (map event_of) (take_more events i e lt ∙ ap (λ x. take i events ++ x ∷ []) (sym is)) ∙ map-append event_of (take i events) (e ∷ [])
+-- the lines up to a place, this one, and those after it
+pub line_at : {A : Type 0} (lines : List (script_line.ScriptLine A)) (i : ℕ) (l : script_line.ScriptLine A) → i < length lines → l ≡ get_or lines i l → map line_of (take (i + 1) lines) ≡ map line_of (take i lines) ++ line_of l ∷ []
+line_at lines i l lt is = ap (map line_of) (take_more lines i l lt ∙ ap (λ x. take i lines ++ x ∷ []) (sym is)) ∙ map-append line_of (take i lines) (l ∷ [])
 
-pub events_split : {A : Type 0} (events : List (coded.Event A)) (i : ℕ) → map event_of events ≡ map event_of (take i events) ++ map event_of (drop i events)
-events_split events i = ap (map event_of) (sym (take-append-drop i events)) ∙ map-append event_of (take i events) (drop i events)
+pub lines_split : {A : Type 0} (lines : List (script_line.ScriptLine A)) (i : ℕ) → map line_of lines ≡ map line_of (take i lines) ++ map line_of (drop i lines)
+lines_split lines i = ap (map line_of) (sym (take-append-drop i lines)) ∙ map-append line_of (take i lines) (drop i lines)
 
--- ---- as the code carries events out
+-- ---- as the code carries lines out
 
-pub event_told : {A : Type 0} (events : List (coded.Event A)) (i : ℕ) (e : coded.Event A) (r : result.StepResult A) (old mid : Progress) (house : HouseState) (kept more : List ℕ)
-    → i < length events → e ≡ get_or events i e → IsToldSoFar (map event_of (take i events)) old mid kept
-    → IsStepOf mid.house (event_of e) (step_result_of r) house → WritesLine e r kept more
-    → IsToldSoFar (map event_of (take (i + 1) events)) old (record { house = house; written = mid.written }) more
-event_told events i e r old mid house kept more lt is told step line =
-    subst (λ done. IsToldSoFar done old (record { house = house; written = mid.written }) more) (sym (event_at events i e lt is))
-    (told_more (map event_of (take i events)) old mid kept (event_of e) (step_result_of r) house line.0 more told step line.1 line.2)
+pub line_told : {A : Type 0} (lines : List (script_line.ScriptLine A)) (i : ℕ) (l : script_line.ScriptLine A) (old mid : Progress) (house : HouseState) (kept more : List ℕ)
+    → i < length lines → l ≡ get_or lines i l → IsToldSoFar (map line_of (take i lines)) old mid kept
+    → IsToldLine (line_of l) mid.house house kept more
+    → IsToldSoFar (map line_of (take (i + 1) lines)) old (record { house = house; written = mid.written }) more
+line_told lines i l old mid house kept more lt is told tells =
+    subst (λ done. IsToldSoFar done old (record { house = house; written = mid.written }) more) (sym (line_at lines i l lt is))
+    (told_more (map line_of (take i lines)) old mid kept (line_of l) house more told tells)
 
-pub part_told : {A : Type 0} (events : List (coded.Event A)) (i : ℕ) (old mid : Progress) (kept : List ℕ) (written : Option (List ℕ)) (bytes : List ℕ) (r : Result (Unit {0}) Error)
-    → IsToldSoFar (map event_of (take i events)) old mid kept → bytes ≡ kept → IsWritten bytes mid.written written r
-    → CarriesOutPart (map event_of events) old (record { house = mid.house; written = written })
-part_told events i old mid kept written bytes r told same h =
+pub part_told : {A : Type 0} (lines : List (script_line.ScriptLine A)) (i : ℕ) (old mid : Progress) (kept : List ℕ) (written : Option (List ℕ)) (bytes : List ℕ) (r : Result (Unit {0}) Error)
+    → IsToldSoFar (map line_of (take i lines)) old mid kept → bytes ≡ kept → IsWritten bytes mid.written written r
+    → CarriesOutPart (map line_of lines) old (record { house = mid.house; written = written })
+part_told lines i old mid kept written bytes r told same h =
     let some = some_written bytes mid.written written r h in
-    told_part (map event_of events) (map event_of (take i events)) (map event_of (drop i events)) old mid kept some.0 written (events_split events i) told
+    told_part (map line_of lines) (map line_of (take i lines)) (map line_of (drop i lines)) old mid kept some.0 written (lines_split lines i) told
     (subst (Begins some.0) same some.1) some.2
 
-pub refused_part : {A : Type 0} (events : List (coded.Event A)) (i : ℕ) (e : coded.Event A) (r : StepResult) (old mid : Progress) (house : HouseState) (kept bytes front : List ℕ) (written : Option (List ℕ))
-    → i < length events → e ≡ get_or events i e → IsToldSoFar (map event_of (take i events)) old mid kept
-    → IsStepOf mid.house (event_of e) r house → CanAnswer (event_of e) r → bytes ≡ kept → Begins front bytes → Appends mid.written written front
-    → CarriesOutPart (map event_of events) old (record { house = house; written = written })
-refused_part events i e r old mid house kept bytes front written lt is told step can same begins appended =
-    told_refused (map event_of events) (map event_of (take i events)) (map event_of (drop (i + 1) events)) old mid kept front (event_of e) r house written
-    (events_split events (i + 1) ∙ ap (λ done. done ++ map event_of (drop (i + 1) events)) (event_at events i e lt is))
-    told step can (subst (Begins front) same begins) appended
+pub refused_part : {A : Type 0} (lines : List (script_line.ScriptLine A)) (i : ℕ) (l : script_line.ScriptLine A) (old mid : Progress) (house : HouseState) (kept bytes front : List ℕ) (written : Option (List ℕ))
+    → i < length lines → l ≡ get_or lines i l → IsToldSoFar (map line_of (take i lines)) old mid kept
+    → IsDone (line_of l) mid.house house → bytes ≡ kept → Begins front bytes → Appends mid.written written front
+    → CarriesOutPart (map line_of lines) old (record { house = house; written = written })
+refused_part lines i l old mid house kept bytes front written lt is told done same begins appended =
+    told_refused (map line_of lines) (map line_of (take i lines)) (map line_of (drop (i + 1) lines)) old mid kept front (line_of l) house written
+    (lines_split lines (i + 1) ∙ ap (λ d. d ++ map line_of (drop (i + 1) lines)) (line_at lines i l lt is))
+    told done (subst (Begins front) same begins) appended
 
-pub finished_all : {A : Type 0} (events : List (coded.Event A)) (i : ℕ) (old mid : Progress) (kept bytes : List ℕ) (written : Option (List ℕ)) (r : Result (Unit {0}) Failure)
-    → length events ≤ i → IsToldSoFar (map event_of (take i events)) old mid kept → bytes ≡ kept → IsWritten bytes mid.written written r → IfErr r EndsTelling
-    → IsCarriedOut (map event_of events) old (record { house = mid.house; written = written }) r
-finished_all events i old mid kept bytes written (Ok done) all told same h ends =
-    told_all (map event_of events) old mid kept written (subst (λ es. IsToldSoFar (map event_of es) old mid kept) (take_all i events all) told) (subst (Appends mid.written written) same h)
-finished_all events i old mid kept bytes written (Err f) all told same h ends =
-    (ends, told_part (map event_of events) (map event_of (take i events)) (map event_of (drop i events)) old mid kept h.0 written (events_split events i) told (subst (Begins h.0) same h.1) h.2)
+pub finished_all : {A : Type 0} (lines : List (script_line.ScriptLine A)) (i : ℕ) (old mid : Progress) (kept bytes : List ℕ) (written : Option (List ℕ)) (r : Result (Unit {0}) Failure)
+    → length lines ≤ i → IsToldSoFar (map line_of (take i lines)) old mid kept → bytes ≡ kept → IsWritten bytes mid.written written r → IfErr r EndsTelling
+    → IsCarriedOut (map line_of lines) old (record { house = mid.house; written = written }) r
+finished_all lines i old mid kept bytes written (Ok done) all told same h ends =
+    told_all (map line_of lines) old mid kept written (subst (λ ls. IsToldSoFar (map line_of ls) old mid kept) (take_all i lines all) told) (subst (Appends mid.written written) same h)
+finished_all lines i old mid kept bytes written (Err f) all told same h ends =
+    (ends, told_part (map line_of lines) (map line_of (take i lines)) (map line_of (drop i lines)) old mid kept h.0 written (lines_split lines i) told (subst (Begins h.0) same h.1) h.2)
+
+-- ---- one line, as the code carries it out
+
+pub ok_so : {T E P Q : Type 0} (r : Result T E) → (P → Q) → OnOk r P → OnOk r Q
+ok_so (Ok x) so h = so h
+ok_so (Err e) so h = h
+
+pub err_so : {T E P : Type 0} (r : Result T E) → P → OnErr r P
+err_so (Ok x) p = tt
+err_so (Err e) p = p
 
 -- ---- as the code writes
 

@@ -1,11 +1,13 @@
--- What a script's events are told: an output line for each.
+-- What a script's lines are told: an output line for each.
 use Rattle.std.specs.Prelude.{◌≡◌, ℕ, List, [], ◌∷◌, ◌++◌, codes}
+use Rattle.std.specs.Fmt.{decimal}
 use Rattle.stow_model.specs.Event.{Event, event_of, ConnectionEvent, FlusherEvent}
 use Rattle.stow_model.specs.declared.event.Event as coded
 use Rattle.stow_house.specs.declared.step_result.StepResult as result
 use Rattle.stow_model.specs.Event as event
 use Rattle.stow_model.specs.Reply.{encoding}
 use Rattle.stow_house.specs.StepResult.{StepResult, step_result_of, Done, Answered, More, Blank, NoJob, Refused, NoMemory}
+use Rattle.stow_tree.specs.declared.shape_report.ShapeReport.{ShapeReport}
 use Rattle.stow.specs.Text.{text_of}
 
 -- the text of an event of a connection and what it led to, where it can lead to that
@@ -51,3 +53,11 @@ abbrev pub WritesLine : {A : Type 0} → coded.Event A → result.StepResult A �
     → Type 0
 WritesLine e r old new = (text : List ℕ) × IsText (event_of e) (step_result_of r) text
     × (new ≡ old ++ (text ++ 10 ∷ []))
+
+-- how large a tree is, in decimal numbers
+abbrev pub shape_text : ShapeReport → List ℕ
+shape_text report =
+    codes "height " ++ decimal report.height
+    ++ codes " leaves " ++ decimal report.leaves
+    ++ codes " buffered " ++ decimal report.buffered
+    ++ codes " cached " ++ decimal report.cached

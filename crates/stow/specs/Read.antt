@@ -10,7 +10,8 @@ use Rattle.stow.specs.declared.text.TextFault.TheVariants.{Malformed, Memory}
 use Rattle.stow.specs.Text.{StandsFor}
 use Rattle.stow.specs.declared.failure.Failure.{Failure}
 use Rattle.stow.specs.declared.failure.Failure.TheVariants as failure
-use Rattle.stow.specs.Script.{AskFor, AsksFor, IsArgument, IsBad, IsFirstBad, IsNumber, IsSkipped, lines_of, word_of}
+use Rattle.stow.specs.declared.script_line.ScriptLine as script_line
+use Rattle.stow.specs.Script.{AskFor, AsksFor, IsArgument, IsBad, IsFirstBad, IsNumber, IsSkipped, line_of, lines_of, word_of}
 
 -- a front of the text is one of the byte, and the rest comes after it
 abbrev pub HasFront : (List ℕ → ℕ → Type 0) → List ℕ → ℕ → List ℕ → Type 0
@@ -58,15 +59,17 @@ abbrev pub IsEventRead : {A : Type 0} → List ℕ → List ℕ → Result (code
 IsEventRead word rest (Ok e) = IsEventOf word rest (event_of e)
 IsEventRead word rest (Err fault) = IsFault (IsNoEvent word rest) fault
 
--- the event that a line asks for, none for one that is skipped
-abbrev pub IsLineRead : {A : Type 0} → List ℕ → Result (Option (coded.Event A)) TextFault → Type 0
-IsLineRead line (Ok (Some e)) = AsksFor line (event_of e)
+-- what a line asks for, nothing for one that is skipped
+abbrev pub IsLineRead : {A : Type 0} → List ℕ → Result (Option (script_line.ScriptLine A)) TextFault
+    → Type 0
+IsLineRead line (Ok (Some asked)) = AsksFor line (line_of asked)
 IsLineRead line (Ok None) = IsSkipped line
 IsLineRead line (Err fault) = IsFault (IsBad line) fault
 
--- the events of a script, or the number of its first bad line
-abbrev pub IsScriptRead : {A Z : Type 0} → List ℕ → Result (Vec (coded.Event A) Z) Failure → Type 0
-IsScriptRead text (Ok events) = AskFor (lines_of text) (map event_of events.items)
+-- what a script's lines ask for, or the number of its first bad line
+abbrev pub IsScriptRead : {A Z : Type 0} → List ℕ
+    → Result (Vec (script_line.ScriptLine A) Z) Failure → Type 0
+IsScriptRead text (Ok asked) = AskFor (lines_of text) (map line_of asked.items)
 IsScriptRead text (Err (failure.BadLine number stumble)) = IsFirstBad (lines_of text) number
 IsScriptRead text (Err failure.Memory) = Unit {0}
 IsScriptRead text (Err _) = ⊥

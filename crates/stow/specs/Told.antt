@@ -1,7 +1,6 @@
--- What a script's events lead to, and what is written of it.
+-- What a script's lines lead to, and what is written of it.
 use Rattle.std.specs.Prelude.{◌≡◌, ℕ, List, [], ◌∷◌, ◌++◌, Option, Result, Ok, Err, IfSome, ◌⊎◌}
 use Rattle.std.specs.Io.KnownBytes.{Appends, Keeps}
-use Rattle.stow_model.specs.Event.{Event}
 use Rattle.stow_house.specs.declared.house.House.{House}
 use Rattle.stow_house.specs.StepResult.{StepResult}
 use Rattle.stow_house.specs.Steps.{HouseState, IsStepOf, Stands, state_of}
@@ -13,16 +12,33 @@ use Rattle.stow.specs.declared.failure.Place.TheVariants as place
 use Rattle.stow_model.specs.Login.{Entry}
 use Rattle.stow.specs.declared.arguments.Task.{Task}
 use Rattle.stow.specs.declared.arguments.Task.TheVariants as task
-use Rattle.stow.specs.Lines.{IsText}
+use Rattle.stow_tree.specs.declared.shape_report.ShapeReport.{ShapeReport}
+use Rattle.stow_tree.specs.Reports.{IsReport}
+use Rattle.stow.specs.Lines.{IsText, shape_text}
 use Rattle.stow.specs.Pipes.{IsPiped}
-use Rattle.stow.specs.Script.{AskFor, IsFirstBad, lines_of}
+use Rattle.stow.specs.Script.{AskFor, Asks, IsFirstBad, Line, Shape, lines_of}
 
--- the events took place one after another, each by a step of the house, and these are their lines
-abbrev pub Leads : HouseState → List Event → List ℕ → HouseState → Type 0
+-- an event is a step of the house, and its line is that of the answer; the other line tells how large the house's
+-- tree is, which stays as it is
+abbrev pub LineLeads : Line → HouseState → List ℕ → HouseState → Type 0
+LineLeads (Asks e) old text new = (r : StepResult) × IsStepOf old e r new × IsText e r text
+LineLeads Shape old text new = (report : ShapeReport) × IsReport old.core.tree report
+    × (text ≡ shape_text report) × (new ≡ old)
+
+-- what the lines ask for was done one after another, and these are the lines that were told of it
+abbrev pub Leads : HouseState → List Line → List ℕ → HouseState → Type 0
 Leads old [] lines new = (lines ≡ []) × (new ≡ old)
-Leads old (e ∷ events) lines new = (r : StepResult) × (next : HouseState) × (text : List ℕ)
-    × (later : List ℕ) × IsStepOf old e r next × IsText e r text
-    × (lines ≡ text ++ 10 ∷ later) × Leads next events later new
+Leads old (asked ∷ all) lines new = (next : HouseState) × (text : List ℕ) × (later : List ℕ)
+    × LineLeads asked old text next × (lines ≡ text ++ 10 ∷ later) × Leads next all later new
+
+-- what a line asks for was done
+abbrev pub IsDone : Line → HouseState → HouseState → Type 0
+IsDone asked old new = (text : List ℕ) × LineLeads asked old text new
+
+-- .. and was told behind what there was
+abbrev pub IsToldLine : Line → HouseState → HouseState → List ℕ → List ℕ → Type 0
+IsToldLine asked old new before after = (text : List ℕ) × LineLeads asked old text new
+    × (after ≡ before ++ (text ++ 10 ∷ []))
 
 -- a house, and what a writer holds, where that is known
 pub record Progress : Type 0 where
@@ -32,17 +48,17 @@ pub record Progress : Type 0 where
 abbrev pub progress_of : {A : Type 0} → House A → Option (List ℕ) → Progress
 progress_of house written = record { house = state_of house; written = written }
 
--- all events took place, and all their lines were written
-pub record CarriesOut (events : List Event) (old new : Progress) : Type 0 where
+-- all was done, and all lines that tell it were written
+pub record CarriesOut (asked : List Line) (old new : Progress) : Type 0 where
   pub lines : List ℕ
-  pub leads : Leads old.house events lines new.house
+  pub leads : Leads old.house asked lines new.house
   pub written : Appends old.written new.written lines
 
--- the first events took place, and a beginning of their lines was written
-pub record CarriesOutPart (events : List Event) (old new : Progress) : Type 0 where
-  pub done : List Event
-  pub later : List Event
-  pub split : events ≡ done ++ later
+-- what the first lines ask for was done, and a beginning of what tells it was written
+pub record CarriesOutPart (asked : List Line) (old new : Progress) : Type 0 where
+  pub done : List Line
+  pub later : List Line
+  pub split : asked ≡ done ++ later
   pub lines : List ℕ
   pub leads : Leads old.house done lines new.house
   pub front : List ℕ
@@ -55,9 +71,9 @@ EndsTelling (InputOutput place.Output error) = Unit {0}
 EndsTelling Memory = Unit {0}
 EndsTelling _ = ⊥
 
-abbrev pub IsCarriedOut : List Event → Progress → Progress → Result (Unit {0}) Failure → Type 0
-IsCarriedOut events old new (Ok done) = CarriesOut events old new
-IsCarriedOut events old new (Err failure) = EndsTelling failure × CarriesOutPart events old new
+abbrev pub IsCarriedOut : List Line → Progress → Progress → Result (Unit {0}) Failure → Type 0
+IsCarriedOut asked old new (Ok done) = CarriesOut asked old new
+IsCarriedOut asked old new (Err failure) = EndsTelling failure × CarriesOutPart asked old new
 
 -- these bytes were written, or a write failed after a beginning of them
 abbrev pub IsWritten : {E : Type 0} → List ℕ → Option (List ℕ) → Option (List ℕ)
@@ -65,14 +81,14 @@ abbrev pub IsWritten : {E : Type 0} → List ℕ → Option (List ℕ) → Optio
 IsWritten bytes old new (Ok done) = Appends old new bytes
 IsWritten bytes old new (Err error) = (front : List ℕ) × Begins front bytes × Appends old new front
 
--- no event took place, and nothing was written
+-- nothing was done, and nothing was written
 abbrev pub IsIdle : Progress → Progress → Type 0
 IsIdle old new = (new.house ≡ old.house) × Keeps old.written new.written
 
--- all of a reader's bytes are a script of these events
-abbrev pub IsScript : Option (List ℕ) → List Event → Type 0
-IsScript known events = (text : List ℕ) × IfSome known (λ bytes. text ≡ bytes)
-    × AskFor (lines_of text) events
+-- all of a reader's bytes are a script that asks for this
+abbrev pub IsScript : Option (List ℕ) → List Line → Type 0
+IsScript known asked = (text : List ℕ) × IfSome known (λ bytes. text ≡ bytes)
+    × AskFor (lines_of text) asked
 
 abbrev pub IsBadScript : Option (List ℕ) → ℕ → Type 0
 IsBadScript known number = (text : List ℕ) × IfSome known (λ bytes. text ≡ bytes)
@@ -80,12 +96,12 @@ IsBadScript known number = (text : List ℕ) × IfSome known (λ bytes. text ≡
 
 -- what a reader's script leads to: nothing before the whole of it was read
 abbrev pub IsScripted : Option (List ℕ) → Progress → Progress → Result (Unit {0}) Failure → Type 0
-IsScripted known old new (Ok done) = (events : List Event) × IsScript known events
-    × CarriesOut events old new
+IsScripted known old new (Ok done) = (asked : List Line) × IsScript known asked
+    × CarriesOut asked old new
 IsScripted known old new (Err (BadLine number stumble)) = IsBadScript known number × IsIdle old new
 IsScripted known old new (Err (InputOutput place.Input error)) = IsIdle old new
 IsScripted known old new (Err failure) = EndsTelling failure × (IsIdle old new
-    ⊎ ((events : List Event) × IsScript known events × CarriesOutPart events old new))
+    ⊎ ((asked : List Line) × IsScript known asked × CarriesOutPart asked old new))
 
 -- a connection through a new core of these tenants, which memory may be wanting for
 abbrev pub IsPipeServed : List Entry → Option (List ℕ) → Option (List ℕ) → Option (List ℕ)

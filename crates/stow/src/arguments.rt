@@ -7,6 +7,7 @@ use crate::serving::Serving;
 use clap::error::ErrorKind;
 use clap::{Arg, ArgAction, ArgMatches, Command, Error, value_parser};
 use std::alloc::Global;
+use stow_tree::tree_shape::TreeShape;
 
 /// What is done with standard input.
 #[derive(Clone, Copy, Debug, PartialEq, Eq)]
@@ -27,9 +28,11 @@ pub enum Job {
 }
 
 /// What the words of the command line say.
-#[derive(Debug, Drop)]
+#[derive(Drop)]
 pub struct Arguments<'a> {
     pub job: Job,
+    /// How large the parts of the tree may grow, and its cache.
+    pub shape: TreeShape,
     /// The path of the tenant file.
     pub tenants: &'a str,
     /// Whether a second line tells more of what goes wrong.
@@ -37,7 +40,7 @@ pub struct Arguments<'a> {
 }
 
 /// What the words of the command line ask for.
-#[derive(Debug, Drop)]
+#[derive(Drop)]
 pub enum Wish<'a> {
     /// The text of the help.
     Help(String),
@@ -57,18 +60,14 @@ pub fn read_arguments(alloc: Global, words: &[String]) -> Result<Wish<'_>, Failu
 
 fn matched(alloc: Global, words: &[String]) -> Result<ArgMatches<'_>, Error> {
     let pipe = Command::new(alloc, "pipe")
-        .about("Answers the requests on standard input, as one connection")
-        .arg(tenants(alloc))?
-        .arg(explain(alloc))?;
+        .about("Answers the requests on standard input, as one connection");
     let script = Command::new(alloc, "script")
-        .about("Carries out the events of a script on standard input")
-        .arg(tenants(alloc))?
-        .arg(explain(alloc))?;
+        .about("Carries out the events of a script on standard input");
     let command = Command::new(alloc, "stow")
         .about("An ordered key-value service for many tenants, spoken to in RESP2")
         .subcommand_required(true)
-        .subcommand(pipe)?
-        .subcommand(script)?
+        .subcommand(with_service(alloc, pipe)?)?
+        .subcommand(with_service(alloc, script)?)?
         .subcommand(serve(alloc)?)?;
     command.try_get_matches_from(words)
 }
@@ -96,15 +95,52 @@ fn serve<'a>(alloc: Global) -> Result<Command<'a>, Error> {
         .long("notices")
         .help("Tells the start and the end in a line each on standard error")
         .action(ArgAction::SetTrue);
+    let command = Command::new(alloc, "serve")
+        .about("Serves connections over TCP, each by a thread of its own");
     Ok(
-        Command::new(alloc, "serve")
-            .about("Serves connections over TCP, each by a thread of its own")
-            .arg(tenants(alloc))?
-            .arg(explain(alloc))?
+        with_service(alloc, command)?
             .arg(listen)?
             .arg(workers)?
             .arg(connections)?
             .arg(notices)?,
+    )
+}
+
+/// The command with what each takes: the tenant file, the flag that asks for more of what goes wrong, and the sizes of
+/// the tree.
+fn with_service<'a>(alloc: Global, command: Command<'a>) -> Result<Command<'a>, Error> {
+    let buffer = Arg::new(alloc, "buffer")
+        .long("buffer")
+        .value_name("BYTES")
+        .help("How many bytes of messages a node of the tree holds")
+        .value_parser(value_parser!(u32).range(131_072..=4_194_304))
+        .default_value("1048576");
+    let leaf = Arg::new(alloc, "leaf")
+        .long("leaf")
+        .value_name("BYTES")
+        .help("How many bytes the page of a leaf is cut by")
+        .value_parser(value_parser!(u32).range(4_096..=1_048_576))
+        .default_value("65536");
+    let fanout = Arg::new(alloc, "fanout")
+        .long("fanout")
+        .value_name("COUNT")
+        .help("How many children a node of the tree may have")
+        .value_parser(value_parser!(u32).range(4..=256))
+        .default_value("16");
+    let cache = Arg::new(alloc, "cache")
+        .long("cache")
+        .value_name("LEAVES")
+        .help("How many leaves are held unpacked; 0 for none")
+        .value_parser(value_parser!(u32).range(0..=65_536))
+        .default_value("1024");
+    Ok(
+        command
+            .arg(tenants(alloc))?
+            .arg(explain(alloc))?
+            .arg(buffer)?
+            .arg(leaf)?
+            .arg(fanout)?
+            .arg(cache)?,
     )
 }
 
@@ -137,6 +173,9 @@ fn arguments_of<'a>(alloc: Global, matches: &ArgMatches<'a>) -> Result<Wish<'a>,
     let Some(tenants) = matches.get_str("tenants") else {
         return Err(nothing);
     };
+    let Some(shape) = shape_of(matches) else {
+        return Err(nothing);
+    };
     let job = match name {
         "serve" => Job::Serve(serving_of(matches).ok_or(nothing)??),
         "script" => Job::Input(Task::Script),
@@ -144,9 +183,20 @@ fn arguments_of<'a>(alloc: Global, matches: &ArgMatches<'a>) -> Result<Wish<'a>,
     };
     Ok(Wish::Work(Arguments {
         job,
+        shape,
         tenants,
         explain: matches.get_flag("explain"),
     }))
+}
+
+/// The sizes of the tree.
+fn shape_of(matches: &ArgMatches<'_>) -> Option<TreeShape> {
+    Some(TreeShape {
+        buffer: matches.get_one::<u32>("buffer")?,
+        leaf: matches.get_one::<u32>("leaf")?,
+        fan_out: matches.get_one::<u32>("fanout")?,
+        cache: matches.get_one::<u32>("cache")?,
+    })
 }
 
 /// How connections are to be served; an `Err` where the address is none.

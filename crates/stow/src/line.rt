@@ -1,19 +1,22 @@
-//! What a script's events led to, a line each.
-ghost use Rattle.std.specs.Prelude.{◌≡◌, ◌++◌, OnOk, codes};
+//! What a script's lines led to, a line each.
+ghost use Rattle.std.specs.Prelude.{◌≡◌, ◌++◌, ◌∷◌, [], OnErr, OnOk, codes};
+ghost use Rattle.std.specs.Fmt.{decimal};
 ghost use Rattle.std.specs.Io.{StartsWith};
 ghost use Rattle.stow_model.specs.Event.{event_of};
 ghost use Rattle.stow_model.specs.Reply.{encoding, reply_of};
 ghost use Rattle.stow_house.specs.StepResult.{step_result_of, CanAnswer};
-ghost use Rattle.stow.specs.Lines.{WritesLine};
+ghost use Rattle.stow.specs.Lines.{WritesLine, shape_text};
 ghost use Rattle.stow.specs.Written.{done_text, written};
 ghost use Rattle.stow.specs.Text.{text_of};
 
 use crate::text::escape;
+use itoa::Buffer;
 use std::alloc::{AllocError, Allocator};
 use stow_house::step_result::StepResult;
 use stow_model::event::Event;
 use stow_model::reply::Reply;
 use stow_resp::encode::Encode;
+use stow_tree::shape_report::ShapeReport;
 
 /// Adds the line that tells what the event led to, which is something that it can lead to.
 pub fn write_result<A: Allocator + Copy>(
@@ -67,6 +70,48 @@ fn write_reply<A: Allocator + Copy>(
     reply.write(&mut bytes)?;
     out.extend_from_slice(b"reply ")?;
     escape(bytes.as_slice(), out)
+}
+
+/// Adds the line that tells how large a tree is, or nothing where memory is refused.
+pub fn write_shape<A: Allocator>(
+    report: ShapeReport,
+    out: &mut Vec<u8, A>,
+) -> Result<(), AllocError>
+    ensures ok { OnOk result (out.new.items ≡ out.old.items ++ (shape_text report ++ 10 ∷ [])) }
+    ensures err { OnErr result (out.new.items ≡ out.old.items) }
+{
+    let whole = out.len();
+    let told = push_shape(report, out);
+    if told.is_err() {
+        out.truncate(whole);
+    }
+    told
+}
+
+fn push_shape<A: Allocator>(report: ShapeReport, out: &mut Vec<u8, A>) -> Result<(), AllocError>
+    ensures ok { OnOk result (out.new.items ≡ out.old.items ++ (shape_text report ++ 10 ∷ [])) }
+    ensures front { StartsWith out.new.items out.old.items }
+{
+    push_count(b"height ", report.height, out)?;
+    push_count(b" leaves ", report.leaves, out)?;
+    push_count(b" buffered ", report.buffered, out)?;
+    push_count(b" cached ", report.cached, out)?;
+    out.push(b'\n')?;
+    Ok(())
+}
+
+/// Adds a name, and a count in decimal.
+fn push_count<A: Allocator>(
+    name: &[u8],
+    count: u64,
+    out: &mut Vec<u8, A>,
+) -> Result<(), AllocError>
+    ensures ok { OnOk result (out.new.items ≡ out.old.items ++ name.now ++ decimal count) }
+    ensures front { StartsWith out.new.items out.old.items }
+{
+    let mut buffer = Buffer::new();
+    out.extend_from_slice(name)?;
+    out.extend_from_slice(buffer.format(count).as_bytes())
 }
 
 /// What is told of an event that was carried out and gives nothing.

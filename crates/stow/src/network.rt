@@ -11,12 +11,15 @@ use std::net::{Net, TcpListener, TcpStream};
 use std::sync::Wait;
 use std::thread::Threads;
 use stow_login::tenants::Tenants;
+use stow_tree::tree_shape::TreeShape;
 
-/// Listens at the address, and serves the connections that come there over a new service of the tenants.
+/// Listens at the address, and serves the connections that come there over a new service of the tenants and a tree
+/// of this shape.
 pub fn listen<H, W: Write, E: Write>(
     rt: &H,
     alloc: Global,
     tenants: Tenants<Global>,
+    shape: TreeShape,
     serving: Serving,
     output: &mut W,
     errors: &mut E,
@@ -26,5 +29,5 @@ where
     ensures { IfErr result EndsServing }
 {
     let listener = Place::Network.check(TcpListener::bind(rt, serving.listen))?;
-    serve_connections(rt, alloc, &listener, tenants, serving, output, errors)
+    serve_connections(rt, alloc, &listener, tenants, shape, serving, output, errors)
 }

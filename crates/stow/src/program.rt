@@ -1,7 +1,5 @@
 //! What the program does, over any reader and writers.
-ghost use Rattle.std.specs.Prelude.{◌≡◌, IfErr, IfOk};
-ghost use Rattle.std.specs.Arc.{arc_value};
-ghost use Rattle.stow_core.specs.State.{IsNewCore};
+ghost use Rattle.std.specs.Prelude.{◌≡◌, IfErr};
 ghost use Rattle.stow.specs.Statuses.{status_of};
 ghost use Rattle.stow.specs.Told.{IsTaskServed};
 ghost use Rattle.stow.specs.Outcomes.{EndsWith, IsRun, RefusesTenants, status_after, streams_of};
@@ -10,6 +8,7 @@ use crate::arguments::{Arguments, Job, Task, Wish, read_arguments};
 use crate::failure::{Failure, Place};
 use crate::folder::Folder;
 use crate::network::listen;
+use crate::new_core::new_core;
 use crate::pipe::pipe;
 use crate::script::{finish, script};
 use std::alloc::{AllocError, Allocator, Global};
@@ -18,7 +17,6 @@ use std::io::{Read, Write};
 use std::net::{Net, TcpListener, TcpStream};
 use std::sync::{Arc, Wait};
 use std::thread::Threads;
-use stow_core::Core;
 use stow_house::house::House;
 use stow_login::explaining::explain;
 use stow_login::tenants::Tenants;
@@ -72,9 +70,10 @@ where
         (W.contents output.old) (W.contents output.new)) result }
 {
     let tenants = read_tenants(alloc, folder, arguments.tenants)?;
+    let shape = arguments.shape;
     match arguments.job {
-        Job::Input(task) => serve(alloc, tenants, task, input, output),
-        Job::Serve(serving) => listen(rt, alloc, tenants, serving, output, errors),
+        Job::Input(task) => serve(alloc, tenants, shape, task, input, output),
+        Job::Serve(serving) => listen(rt, alloc, tenants, shape, serving, output, errors),
     }
 }
 
@@ -104,10 +103,11 @@ fn read_file<D: Folder>(alloc: Global, folder: &D, path: &str) -> io::Result<Vec
     Ok(bytes)
 }
 
-/// Makes a new service of the tenants and does the task over it.
+/// Makes a new service of the tenants, over a tree of this shape, and does the task over it.
 pub fn serve<'a, A: Allocator + Copy, R: Read, W: Write>(
     alloc: A,
     tenants: Tenants<A>,
+    shape: TreeShape,
     task: Task,
     input: &mut R,
     output: &mut W,
@@ -116,24 +116,10 @@ pub fn serve<'a, A: Allocator + Copy, R: Read, W: Write>(
         (W.contents output.old) (W.contents output.new) result }
 {
     let tenants = Arc::new(alloc, tenants).map_err(AllocError::from)?;
-    let mut core = usual_core(alloc, tenants.clone()?)?;
+    let mut core = new_core(alloc, tenants.clone()?, shape)?;
     match task {
         Task::Pipe => pipe(alloc, &tenants, &mut core, input, output),
         Task::Script => script(alloc, &mut House::new(alloc, core), input, output),
-    }
-}
-
-/// A core in which each tenant's store is empty, over a tree of the usual shape.
-fn usual_core<A: Allocator + Copy>(
-    alloc: A,
-    tenants: Arc<Tenants<A>, A>,
-) -> Result<Core<A>, AllocError>
-    ensures entries { IfOk result (λ core. core.entries ≡ arc_value tenants) }
-    ensures empty { IfOk result IsNewCore }
-{
-    match Core::new(alloc, tenants, TreeShape::USUAL) {
-        Ok(core) => Ok(core),
-        Err(_) => Err(AllocError),
     }
 }
 

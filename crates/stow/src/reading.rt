@@ -3,6 +3,7 @@ ghost use Rattle.std.specs.Prelude.{◌≡◌, ◌≢◌, MatchBool, codes};
 ghost use Rattle.stow.specs.Read.{IsCut, IsEventRead, IsLineRead};
 
 use crate::number::number;
+use crate::script_line::ScriptLine;
 use crate::text::{TextFault, unescape};
 use std::alloc::Allocator;
 use stow_model::event::Event;
@@ -14,21 +15,25 @@ const FLUSHERS: u32 = 64;
 /// The greatest size of the cache in a script.
 const LEAVES: u32 = 65_536;
 
-/// The event that a line asks for; none for an empty line and a comment.
+/// What a line asks for; nothing for an empty line and a comment.
 pub fn read_line<A: Allocator + Copy>(
     alloc: A,
     line: &[u8],
-) -> Result<Option<Event<A>>, TextFault<'_>>
+) -> Result<Option<ScriptLine<A>>, TextFault<'_>>
     ensures { IsLineRead line.now result }
 {
     if line.is_empty() || line[0] == b'#' {
         return Ok(None);
     }
+    if is_same(line, b"shape") {
+        return Ok(Some(ScriptLine::Shape));
+    }
     let (word, rest) = cut(line, b' ');
     let Some(rest) = rest else {
         return Err(TextFault::Malformed(word));
     };
-    Ok(Some(read_event(alloc, word, rest)?))
+    let event = read_event(alloc, word, rest)?;
+    Ok(Some(ScriptLine::Event(event)))
 }
 
 /// The event of a line's first word and what stands behind it.

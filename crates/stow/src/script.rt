@@ -1,14 +1,17 @@
-//! A script of events.
+//! A script of events, and of questions how large the tree is.
 ghost use Rattle.std.specs.Prelude.{◌≡◌, IfErr, OnErr, OnOk, map};
 ghost use Rattle.stow_model.specs.Event.{event_of};
 ghost use Rattle.stow.specs.Lines.{WritesLine};
 ghost use Rattle.stow.specs.Read.{IsScriptRead};
-ghost use Rattle.stow.specs.Told.{EndsTelling, IsCarriedOut, IsScripted, IsWritten, progress_of};
+ghost use Rattle.stow.specs.Script.{line_of};
+ghost use Rattle.stow.specs.Told.{EndsTelling, IsCarriedOut, IsDone, IsScripted, IsToldLine, IsWritten, progress_of};
+ghost use Rattle.stow_house.specs.Steps.{state_of};
 ghost use Rattle.stow_house.specs.StepResult.{step_result_of, CanAnswer};
 
 use crate::failure::{Failure, Place};
-use crate::line::write_result;
+use crate::line::{write_result, write_shape};
 use crate::reading::{cut, read_line};
+use crate::script_line::ScriptLine;
 use crate::stumble::Stumble;
 use crate::text::TextFault;
 use std::alloc::{AllocError, Allocator};
@@ -21,8 +24,8 @@ use stow_model::event::Event;
 /// How many bytes of answers are kept before they are written.
 const ANSWERS: usize = 65_536;
 
-/// Carries out the events of the reader's script, and writes a line for each. The whole script is checked
-/// before its first event.
+/// Carries out the lines of the reader's script, and writes a line for each. The whole script is checked
+/// before its first line is carried out.
 pub fn script<'a, A: Allocator + Copy, R: Read, W: Write>(
     alloc: A,
     house: &mut House<A>,
@@ -34,24 +37,23 @@ pub fn script<'a, A: Allocator + Copy, R: Read, W: Write>(
 {
     let mut text = Vec::new(alloc);
     Place::Input.check(input.read_to_end(&mut text))?;
-    let events = read_script(alloc, text.as_slice())?;
-    carry_out(alloc, house, events.as_slice(), output)
+    let lines = read_script(alloc, text.as_slice())?;
+    carry_out(alloc, house, lines.as_slice(), output)
 }
 
-/// Carries out the events, and writes a line for each, up to the first that can't be written or kept.
+/// Carries out the lines, and writes a line for each, up to the first that can't be written or kept.
 fn carry_out<'a, A: Allocator + Copy, W: Write>(
     alloc: A,
     house: &mut House<A>,
-    events: &[Event<A>],
+    lines: &[ScriptLine<A>],
     output: &mut W,
 ) -> Result<(), Failure<'a>>
-    ensures { IsCarriedOut (map event_of events.now) (progress_of house.old (W.contents output.old))
+    ensures { IsCarriedOut (map line_of lines.now) (progress_of house.old (W.contents output.old))
         (progress_of house.new (W.contents output.new)) result }
 {
     let mut answers = Vec::new(alloc);
-    for event in events {
-        let result = house.step(alloc, event);
-        if tell(alloc, event, &result, &mut answers).is_err() {
+    for line in lines {
+        if carry_out_line(alloc, house, line, &mut answers).is_err() {
             finish(answers.as_slice(), output)?;
             return Err(Failure::Memory);
         }
@@ -61,6 +63,28 @@ fn carry_out<'a, A: Allocator + Copy, W: Write>(
         }
     }
     finish(answers.as_slice(), output)
+}
+
+/// Carries out a line, and adds what is told of it, or nothing where memory is refused to that.
+fn carry_out_line<A: Allocator + Copy>(
+    alloc: A,
+    house: &mut House<A>,
+    line: &ScriptLine<A>,
+    answers: &mut Vec<u8, A>,
+) -> Result<(), AllocError>
+    ensures ok { OnOk result (IsToldLine (line_of line.now) (state_of house.old)
+        (state_of house.new) answers.old.items answers.new.items) }
+    ensures done { OnErr result (IsDone (line_of line.now) (state_of house.old)
+        (state_of house.new)) }
+    ensures err { OnErr result (answers.new.items ≡ answers.old.items) }
+{
+    match line {
+        ScriptLine::Event(event) => {
+            let result = house.step(alloc, event);
+            tell(alloc, event, &result, answers)
+        }
+        ScriptLine::Shape => write_shape(house.core().shape(), answers),
+    }
 }
 
 /// Adds the line of an event, or nothing where memory is refused.
@@ -114,21 +138,21 @@ fn write_all<W: Write>(bytes: &[u8], output: &mut W) -> io::Result<()>
     Err(io::Error::from(ErrorKind::Interrupted))
 }
 
-/// The events of a script, or the number of its first bad line, counted from 1.
+/// What a script's lines ask for, or the number of its first bad line, counted from 1.
 fn read_script<A: Allocator + Copy>(
     alloc: A,
     text: &[u8],
-) -> Result<Vec<Event<A>, A>, Failure<'static>>
+) -> Result<Vec<ScriptLine<A>, A>, Failure<'static>>
     ensures { IsScriptRead text.now result }
 {
-    let mut events = Vec::new(alloc);
+    let mut lines = Vec::new(alloc);
     let mut left = Some(text);
     let mut number = 0;
     while let Some(rest) = left {
         let (line, after) = cut(rest, b'\n');
         number += 1;
         match read_line(alloc, line) {
-            Ok(Some(event)) => events.push(event).map_err(|_| Failure::Memory)?,
+            Ok(Some(asked)) => lines.push(asked).map_err(|_| Failure::Memory)?,
             Ok(None) => {}
             Err(TextFault::Malformed(word)) => {
                 return Err(Failure::BadLine(number, Stumble::new(word)));
@@ -137,5 +161,5 @@ fn read_script<A: Allocator + Copy>(
         }
         left = after;
     }
-    Ok(events)
+    Ok(lines)
 }

@@ -3,6 +3,7 @@ ghost use Rattle.std.specs.Prelude.{IfErr};
 ghost use Rattle.stow.specs.Outcomes.{EndsServing};
 
 use crate::failure::{Failure, Place};
+use crate::new_core::new_core;
 use crate::serving::Serving;
 use log::info;
 use log::sink::Writer;
@@ -12,7 +13,6 @@ use std::io::Write;
 use std::net::{SocketAddr, TcpListener};
 use std::sync::{Arc, Wait};
 use std::thread::Threads;
-use stow_core::Core;
 use stow_login::tenants::Tenants;
 use stow_shared::open_fault::OpenFault;
 use stow_shared::seat::Seat;
@@ -23,13 +23,14 @@ use stow_workers::open_gate::OpenGate;
 use stow_workers::pool::Pool;
 use stow_workers::pool_fault::PoolFault;
 
-/// Tells the listener's address on the output, and serves its connections over a new service of the tenants. Where notices
-/// are wanted, a line of a log tells the start and another one the end.
+/// Tells the listener's address on the output, and serves its connections over a new service of the tenants and
+/// a tree of this shape. Where notices are wanted, a line of a log tells the start and another one the end.
 pub fn serve_connections<R, A, W: Write, E: Write>(
     rt: &R,
     alloc: A,
     listener: &TcpListener,
     tenants: Tenants<A>,
+    shape: TreeShape,
     serving: Serving,
     output: &mut W,
     errors: &mut E,
@@ -40,9 +41,7 @@ where
     ensures { IfErr result EndsServing }
 {
     let tenants = Arc::new(alloc, tenants).map_err(AllocError::from)?;
-    let Ok(core) = Core::new(alloc, tenants, TreeShape::USUAL) else {
-        return Err(Failure::Memory);
-    };
+    let core = new_core(alloc, tenants, shape)?;
     let Ok((shared, seats)) = Shared::<Unkept, A>::open(alloc, core, serving.workers) else {
         return Err(Failure::Memory);
     };

@@ -401,7 +401,7 @@ fn bad_lines_are_told_by_their_number(rt: HostRuntime) -> Result<(), Fail> {
         (b"open +1\n", b"stow: bad line 1\n"),
         (b"plan 65\n", b"stow: bad line 1\n"),
         (b"resize 65537\n", b"stow: bad line 1\n"),
-        (b"shape\n", b"stow: bad line 1\n"),
+        (b"shape 1\n", b"stow: bad line 1\n"),
         (b"usage ann\n", b"stow: bad line 1\n"),
         (b"open 1\n\n# here\npiece 1\n", b"stow: bad line 4\n"),
         (b"piece 1 a\\q\n", b"stow: bad line 1\n"),

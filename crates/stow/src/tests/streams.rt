@@ -10,6 +10,7 @@ use std::test::Fail;
 use stow_login::tenants::Tenants;
 use stow_refusing::{Plan, Refusing};
 use stow_testing::tenants::THREE;
+use stow_tree::tree_shape::TreeShape;
 
 /// Gives one byte a call, and is interrupted before each; at its end it fails where it is to.
 #[derive(Drop)]
@@ -176,7 +177,7 @@ fn replies_do_not_wait(rt: HostRuntime) -> Result<(), Fail> {
     };
     let mut output = Counting { written: &written };
     let tenants = Tenants::read(alloc, alloc, THREE).map_err(|_| AllocError)?;
-    let ended = serve(alloc, tenants, Task::Pipe, &mut input, &mut output);
+    let ended = serve(alloc, tenants, TreeShape::USUAL, Task::Pipe, &mut input, &mut output);
     let (given, late) = (input.given, input.late);
     assert!(rt;
         ended.is_ok() && given == 100 && late == 0,
@@ -222,7 +223,7 @@ fn told_at<B: Allocator>(
     let tenants = Tenants::read(heap, global, THREE).map_err(|_| AllocError)?;
     let mut output = Vec::new(global);
     heap.set(Plan::RefuseAt(at));
-    let is_well = serve(heap, tenants, task, &mut input, &mut output).is_ok();
+    let is_well = serve(heap, tenants, TreeShape::USUAL, task, &mut input, &mut output).is_ok();
     let asked = heap.asked();
     heap.set(Plan::Grant);
     Ok((asked > at || !is_well).then_some((output, is_well)))
@@ -311,7 +312,7 @@ fn flushed_by(
         flushed: 0,
         breaks,
     };
-    let ended = serve(alloc, tenants, task, &mut input, &mut output);
+    let ended = serve(alloc, tenants, TreeShape::USUAL, task, &mut input, &mut output);
     Ok(ended.is_ok().then_some(output.flushed))
 }
 
