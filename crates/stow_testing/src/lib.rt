@@ -3,6 +3,7 @@
 //! return.
 #![tactic(auto)]
 
+pub mod many;
 pub mod random;
 pub mod rows;
 pub mod spelling;
