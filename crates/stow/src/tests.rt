@@ -16,6 +16,7 @@ use stow_testing::tenants::THREE;
 mod fields;
 mod limits;
 mod serve;
+mod shapes;
 mod streams;
 mod worked;
 

@@ -27,6 +27,7 @@ use stow_testing::tenants::{OTHERS, QUOTA, THREE};
 use stow_tree::tree_shape::TreeShape;
 
 mod held;
+mod shapes;
 mod worked;
 
 /// A request's words.
@@ -50,16 +51,17 @@ fn new_house<A: Allocator + Copy>(alloc: A, global: Global) -> Result<House<A>, 
     house_of(alloc, global, THREE)
 }
 
-/// A new core of a tenant file's tenants.
+/// A new core of a tenant file's tenants, over a tree of this shape.
 fn new_core<A: Allocator + Copy>(
     alloc: A,
     global: Global,
     text: &str,
+    shape: TreeShape,
 ) -> Result<Core<A>, AllocError>
     ensures { IfOk result IsNewCore }
 {
     let tenants = Tenants::read(alloc, global, text).map_err(|_| AllocError)?;
-    Core::new(alloc, Arc::new(alloc, tenants)?, TreeShape::SMALLEST).map_err(|_| AllocError)
+    Core::new(alloc, Arc::new(alloc, tenants)?, shape).map_err(|_| AllocError)
 }
 
 /// A new house of a tenant file's tenants.
@@ -70,7 +72,7 @@ fn house_of<A: Allocator + Copy>(
 ) -> Result<House<A>, AllocError>
     ensures { IfOk result (λ house. IsNewHouse (state_of house)) }
 {
-    let core = new_core(alloc, global, text)?;
+    let core = new_core(alloc, global, text, TreeShape::SMALLEST)?;
     Ok(House::new(alloc, core))
 }
 
