@@ -222,6 +222,23 @@ impl<A: Allocator> MessageBuf<A> {
         self.search_between(low, len, key, number)
     }
 
+    /// How many messages stand below the key and number. The search is the shorter the nearer the guess is.
+    pub fn count_below(&self, key: TenantKey<'_>, number: u64, guess: usize) -> usize
+        ensures count { result ≡ below (key.entry.bytes.now, number) self.now.messages }
+        ensures rising { MessagesRise self.now.messages }
+        ensures valid { All IsMessage self.now.messages }
+    {
+        let len = self.len();
+        if guess == 0 || guess > len {
+            return self.search(key.bytes, number);
+        }
+        if is_message_below(self.message(guess - 1), key.bytes, number) {
+            self.search_from(guess, key.bytes, number)
+        } else {
+            self.search(key.bytes, number)
+        }
+    }
+
     /// Whether no message of this one's key and number is held.
     pub fn is_new(&self, message: Message<'_>) -> bool
         ensures { IsTrue result ↔ IsNew (message_of message.entry) self.now.messages }
@@ -261,7 +278,14 @@ impl<A: Allocator> MessageBuf<A> {
     pub fn of_key(&self, key: TenantKey<'_>) -> Newest<'_, A>
         ensures { result ≡ reverse (of_key key.entry.bytes.now self.now.messages) }
     {
-        let from = self.search(key.bytes, 0);
+        self.of_key_near(key, usize::MAX)
+    }
+
+    /// The messages of a key, the newest first, lent. The search is the shorter the nearer the guess is to the first.
+    pub fn of_key_near(&self, key: TenantKey<'_>, guess: usize) -> Newest<'_, A>
+        ensures { result ≡ reverse (of_key key.entry.bytes.now self.now.messages) }
+    {
+        let from = self.count_below(key, 0, guess);
         let to = self.search_from(from, key.bytes, u64::MAX);
         Newest {
             run: Run {

@@ -1,5 +1,5 @@
 -- What a look-up in versions that rise finds.
-use Rattle.std.proofs.Common.{◌≡◌, ◌≢◌, ℕ, zero, suc, ◌+◌, ◌<◌, ◌≤◌, Bool, true, false, cond, List, [], ◌∷◌, ◌++◌, length, get_or, map, filter, refl, sym, ◌∙◌, ap, subst, arith, ⊎_elim, ◌⊎◌, Some, None}
+use Rattle.std.proofs.Common.{◌≡◌, ◌≢◌, ℕ, zero, suc, ◌+◌, ◌-◌, ◌<◌, ◌≤◌, Bool, true, false, cond, List, [], ◌∷◌, ◌++◌, length, get_or, map, filter, refl, sym, ◌∙◌, ap, subst, arith, ⊎_elim, ◌⊎◌, Some, None}
 use Rattle.std.specs.Option.{unwrap_or, option_map}
 use Rattle.std.specs.List.{slice_get, AllByRecursion}
 use Rattle.std.specs.List.Sorted.{IsStrictlySortedBy}
@@ -222,6 +222,23 @@ narrowed_last rows place low high h e =
     let ordered = h.ordered in
     let within = h.within in
     record { within = omega arith; up_to = h.up_to; above = λ i v past f. h.above i v (omega arith) f }
+
+-- with the version before a count not above the place, and the one at it above, it is how many stand up to it
+pub counted_from : (rows : List Version) (place : Place) (count : ℕ) → count ≤ length rows → count ≡ 0 → IsNarrowed rows place count (length rows)
+counted_from rows place count within e = subst (λ n. IsNarrowed rows place n (length rows)) (sym e) (narrowed_first rows place)
+
+pub counted_up : (rows : List Version) (place : Place) (count : ℕ) (v : Version) → VersionsRise rows → count ≤ length rows → 0 < count → slice_get rows (count - 1) ≡ Some v → is_above place v ≡ false → IsNarrowed rows place count (length rows)
+counted_up rows place count v rise within some e is =
+    let same : count - 1 + 1 ≡ count = omega arith in
+    subst (λ n. IsNarrowed rows place n (length rows)) same
+    (narrowed_up rows place 0 (length rows) (count - 1) v rise (narrowed_first rows place) (omega arith) (omega arith) e is)
+
+pub counted_all : (rows : List Version) (place : Place) (count : ℕ) → IsNarrowed rows place count (length rows) → count ≡ length rows → IsCountUpTo rows place count
+counted_all rows place count h e = narrowed_last rows place count (length rows) h (omega arith)
+
+pub counted_here : (rows : List Version) (place : Place) (count : ℕ) (v : Version) → VersionsRise rows → IsNarrowed rows place count (length rows) → slice_get rows count ≡ Some v → is_above place v ≡ true → IsCountUpTo rows place count
+counted_here rows place count v rise h e is =
+    narrowed_last rows place count count (narrowed_down rows place count (length rows) count v rise h (omega arith) (slice_get_within rows count v e) e is) (omega arith)
 
 -- ---- a version behind them
 

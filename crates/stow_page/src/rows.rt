@@ -118,11 +118,24 @@ impl<A: Allocator> Rows<A> {
         self.packed.count_up_to(key, number)
     }
 
-    /// The newest version of the key numbered at most this, lent.
-    pub fn version_at(&self, key: TenantKey<'_>, number: u64) -> Option<Version<'_>>
+    /// How many versions stand at the key and number or below. It is found at once where it is the guess or one more.
+    pub fn count_near(&self, key: TenantKey<'_>, number: u64, guess: usize) -> usize
+        ensures { IsCountUpTo self.now (key.entry.bytes.now, number) result }
+    {
+        self.packed.count_near(key, number, guess)
+    }
+
+    /// The newest version of the key numbered at most this, lent. It is found the faster the nearer the guess is to its
+    /// place.
+    pub fn version_at(
+        &self,
+        key: TenantKey<'_>,
+        number: u64,
+        guess: usize,
+    ) -> Option<Version<'_>>
         ensures { option_map version_of result ≡ version_at self.now key.entry.bytes.now number }
     {
-        self.packed.version_at(key, number)
+        self.packed.version_at(key, number, guess)
     }
 }
 
@@ -130,7 +143,7 @@ impl<A: Allocator> Rows<A> {
 pub fn at<'a, A: Allocator>(rows: &'a Rows<A>, key: TenantKey<'_>, number: u64) -> Option<&'a [u8]>
     ensures { bytes_at result ≡ value_at rows.now key.entry.bytes.now number }
 {
-    match rows.version_at(key, number) {
+    match rows.version_at(key, number, usize::MAX) {
         None => None,
         Some(version) => version.value,
     }

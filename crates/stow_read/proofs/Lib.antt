@@ -7,6 +7,7 @@ pub mod Gathered
 pub mod Versioned
 pub mod OwnRows
 pub mod NextKeys
+pub mod NextMessages
 pub mod NextRows
 pub mod NextBelow
 pub mod Ranged

@@ -1,11 +1,9 @@
 -- The next key of an interval that has messages.
-use Rattle.std.specs.Prelude.{◌≡◌, ℕ, ◌<◌, drop, List, Bool, true, false, not, Option, Some, None, IsSome, length}
+use Rattle.std.specs.Prelude.{◌≡◌, ℕ, ◌<◌, drop, List, Bool, true, false, not, Option, Some, None, IsSome}
 use Rattle.std.specs.Ordering.{is_lt}
 use Rattle.stow_bytes.specs.Bytes.{bytes_cmp}
-use Rattle.stow_message.specs.Rising.{of_key}
 use Rattle.stow_leaf.specs.Intervals.{top_key}
 use Rattle.stow_node.specs.Parts.{Part, low_or}
-use Rattle.stow_tree_model.specs.TreeMessage.{TreeMessage}
 use Rattle.stow_tree_model.specs.Operations.{Operations}
 
 -- the key stands after the lower end, or is the lower end where that counts
@@ -13,15 +11,10 @@ abbrev pub is_from : List ℕ → Bool → List ℕ → Bool
 is_from start true key = is_lt (bytes_cmp start key)
 is_from start false key = not (is_lt (bytes_cmp key start))
 
--- the number that rows of the keys from the start on are above
+-- the number that messages and rows of the keys from the start on are above
 abbrev pub passed_number : Bool → ℕ
 passed_number true = 18446744073709551615
 passed_number false = 0
-
--- how many messages of the start itself are passed over
-abbrev pub passed_of : List ℕ → Bool → List TreeMessage → ℕ
-passed_of start true ms = length (of_key start ms)
-passed_of start false ms = 0
 
 -- no key in the interval has an operation
 abbrev pub HaveNone : (List ℕ → Operations) → List ℕ → Bool → List ℕ → Type 0

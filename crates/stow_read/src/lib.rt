@@ -14,6 +14,7 @@
 pub mod descent;
 pub mod found;
 pub mod getting;
+mod guesses;
 pub mod leaf_for;
 pub mod lent_value;
 pub mod lookup;

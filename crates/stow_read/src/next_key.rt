@@ -8,8 +8,9 @@ ghost use Rattle.stow_node.specs.Nodes.{parts_of};
 ghost use Rattle.stow_node.specs.Subtree.{messages_of};
 ghost use Rattle.stow_tree_model.specs.Merged.{row_message};
 ghost use Rattle.stow_tree_model.specs.Messages.{ops_in};
-ghost use Rattle.stow_read.specs.NextKey.{IsNextKey, IsEnd, IsFromPart, passed_number, passed_of};
+ghost use Rattle.stow_read.specs.NextKey.{IsNextKey, IsEnd, IsFromPart, passed_number};
 
+use crate::guesses::Guesses;
 use std::alloc::Allocator;
 use stow_message::message_buf::MessageBuf;
 use stow_node::child::{Child, child_for};
@@ -31,54 +32,45 @@ pub(crate) fn is_below(key: TenantKey<'_>, other: TenantKey<'_>) -> bool
     key.bytes.cmp(other.bytes).is_lt()
 }
 
-/// How many messages of the start's own key are passed over.
-fn passed_over<A: Allocator>(buffer: &MessageBuf<A>, start: Start<'_>) -> usize
-    ensures { result ≡ passed_of start.entry.key.bytes.now start.entry.after buffer.now.messages }
-{
-    if start.after {
-        buffer.of_key(start.key).len()
-    } else {
-        0
-    }
-}
-
-/// The number that rows of the keys looked for are above.
+/// The number that messages and rows of the keys looked for are above.
 fn passed_number(after: bool) -> u64
     ensures { result ≡ passed_number after }
 {
     if after { u64::MAX } else { 0 }
 }
 
-/// The next key below `to` that has messages in a buffer.
+/// The next key below `to` that has messages in a buffer. Where it stands there is the next guess.
 fn next_in_buffer<'a, A: Allocator>(
     buffer: &'a MessageBuf<A>,
     start: Start<'_>,
     to: TenantKey<'_>,
+    guess: &mut usize,
 ) -> Option<TenantKey<'a>>
     ensures { IsNextKey (ops_in buffer.now.messages) start.entry.key.bytes.now start.entry.after
         to.entry.bytes.now (option_map (λ key. key.bytes.now) result) }
 {
-    let _len = buffer.len();
-    let run = buffer.in_range(start.key, to);
-    let passed = passed_over(buffer, start);
-    if passed < run.len() {
-        Some(run.get(passed).key)
-    } else {
-        None
+    let at = buffer.count_below(start.key, passed_number(start.after), *guess);
+    *guess = at;
+    if at >= buffer.len() {
+        return None;
     }
+    let key = buffer.message(at).key;
+    if is_below(key, to) { Some(key) } else { None }
 }
 
-/// The next key below `to` that has rows in a leaf.
+/// The next key below `to` that has rows in a leaf. Where it stands there is the next guess.
 fn next_in_rows<'a, A: Allocator>(
     rows: &'a Rows<A>,
     start: Start<'_>,
     to: TenantKey<'_>,
+    guess: &mut usize,
 ) -> Option<TenantKey<'a>>
     ensures { IsNextKey (ops_in (map row_message rows.now)) start.entry.key.bytes.now
         start.entry.after to.entry.bytes.now (option_map (λ key. key.bytes.now) result) }
 {
     let len = rows.len();
-    let at = rows.count_up_to(start.key, passed_number(start.after));
+    let at = rows.count_near(start.key, passed_number(start.after), *guess);
+    *guess = at;
     if at >= len {
         return None;
     }
@@ -117,20 +109,26 @@ fn start_in<'b, A: Allocator>(
     }
 }
 
-/// The next key below `to` that has messages, by all messages of the node.
+/// The next key below `to` that has messages, by all messages of the node, which is on this level. The guesses are
+/// where the searches ended.
 #[cycle(next_key)]
 pub(crate) fn next_key<'a, A: Allocator>(
     node: &'a Node<A>,
     start: Start<'_>,
     to: TenantKey<'_>,
+    guesses: &mut Guesses,
+    level: usize,
 ) -> Option<TenantKey<'a>>
     requires { spans node.now.low top_key start.key.bytes.now ≡ true }
     ensures { IsNextKey (ops_in (messages_of node.now)) start.entry.key.bytes.now
         start.entry.after to.entry.bytes.now (option_map (λ key. key.bytes.now) result) }
 {
     let children = node.children();
-    let own = next_in_buffer(node.buffer(), start, to);
+    let mut guess = guesses.at(level);
+    let own = next_in_buffer(node.buffer(), start, to, &mut guess);
+    guesses.set(level, guess);
     let end = lower_end(own, to);
+    let lower_level = level.saturating_add(1);
     let first = child_for(children, start.key);
     for i in first..children.len() {
         if i > first && !is_below(children[i].low(), end) {
@@ -138,8 +136,13 @@ pub(crate) fn next_key<'a, A: Allocator>(
         }
         let from = start_in(children, start, first, i);
         let found = match &children[i] {
-            Child::Leaf(leaf) => next_in_rows(&leaf.rows, from, end),
-            Child::Node(lower) => next_key(lower, from, end),
+            Child::Leaf(leaf) => {
+                let mut guess = guesses.at(lower_level);
+                let next = next_in_rows(&leaf.rows, from, end, &mut guess);
+                guesses.set(lower_level, guess);
+                next
+            }
+            Child::Node(lower) => next_key(lower, from, end, guesses, lower_level),
         };
         if found.is_some() {
             return found;

@@ -8,7 +8,8 @@ ghost use Rattle.stow_read.specs.Range.{IsRange, key_value};
 
 use crate::descent::may_hold;
 use crate::found::Found;
-use crate::getting::get;
+use crate::getting::get_near;
+use crate::guesses::Guesses;
 use crate::next_key::{Start, is_below, next_key};
 use crate::row::Row;
 use std::alloc::{AllocError, Allocator};
@@ -32,6 +33,7 @@ fn first_key<'a, A: Allocator>(
     node: &'a Node<A>,
     from: TenantKey<'_>,
     to: TenantKey<'_>,
+    guesses: &mut Guesses,
 ) -> Option<TenantKey<'a>>
     ensures { IsNextKey (ops_in (messages_of node.now)) from.entry.bytes.now false
         to.entry.bytes.now (option_map (λ key. key.bytes.now) result) }
@@ -42,7 +44,7 @@ fn first_key<'a, A: Allocator>(
         key = node.low();
     }
     if may_hold(node, key) {
-        next_key(node, Start { key, after: false }, to)
+        next_key(node, Start { key, after: false }, to, guesses, 0)
     } else {
         None
     }
@@ -63,17 +65,18 @@ pub fn range<A: Allocator + Copy>(
 {
     let _children = node.children();
     let mut rows = Vec::new(alloc);
-    let mut next = first_key(node, from, to);
+    let mut guesses = Guesses::none();
+    let mut next = first_key(node, from, to, &mut guesses);
     while let Some(key) = next {
         if rows.len() == count {
             return Ok(rows);
         }
-        if let Some(found) = get(alloc, node, key, at)?.found {
+        if let Some(found) = get_near(alloc, node, key, at, &guesses)?.found {
             let value = owned(alloc, found)?;
             let key = TenantKeyBuf::from_key(alloc, key)?;
             rows.push(Row { key, value })?;
         }
-        next = next_key(node, Start { key, after: true }, to);
+        next = next_key(node, Start { key, after: true }, to, &mut guesses, 0);
     }
     Ok(rows)
 }

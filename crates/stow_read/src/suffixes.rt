@@ -56,17 +56,19 @@ impl<'a, A: Allocator + Copy> Suffixes<'a, A> {
     }
 
     /// Goes over the key's messages numbered at most `at`, from the newest on, up to the first one that is no append.
+    /// They are found the faster the nearer the guess is.
     pub(crate) fn look(
         &mut self,
         buffer: &'a MessageBuf<A>,
         key: TenantKey<'_>,
         at: u64,
+        guess: usize,
     ) -> Result<Look<'a>, AllocError>
         ensures { IfOk result (λ look. Carries (ops_in buffer.now.messages key.entry.bytes.now) at
             (suffixes_of self.old) (suffixes_of self.new) look) }
     {
         let _len = buffer.len();
-        let newest = buffer.of_key(key);
+        let newest = buffer.of_key_near(key, guess);
         for i in 0..newest.len() {
             let message = newest.get(i);
             if message.number <= at {

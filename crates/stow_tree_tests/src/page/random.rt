@@ -109,7 +109,7 @@ fn random_look_ups(rt: HostRuntime) -> Result<(), Fail> {
                     want = Some(version.number);
                 }
             }
-            assert!(rt; rows.version_at(key.as_key(), number).map(|v| v.number) == want);
+            assert!(rt; rows.version_at(key.as_key(), number, usize::MAX).map(|v| v.number) == want);
         }
     }
     Ok(())

@@ -39,7 +39,7 @@ returns-then-is_some g t c =
     let next : IsNextKey (ops_in (part_messages (part_of child))) c.start_in-from.result.key.bytes.now c.start_in-from.result.after c.lower_end-end.result.bytes.now (option_map (λ (k : TenantKey). k.bytes.now) c.match-children-i.found) =
     elim c.match-children-i.branch [
       | in-Leaf w ↦ subst (λ found. IsNextKey (ops_in (part_messages (part_of child))) c.start_in-from.result.key.bytes.now c.start_in-from.result.after c.lower_end-end.result.bytes.now (option_map (λ (k : TenantKey). k.bytes.now) found)) (sym w.found-is)
-          (leaf_next child w.in-Leaf.leaf c.start_in-from.result.key.bytes.now c.start_in-from.result.after c.lower_end-end.result.bytes.now _ w.in-Leaf.is w.next_in_rows-found.ensures)
+          (leaf_next child w.in-Leaf.leaf c.start_in-from.result.key.bytes.now c.start_in-from.result.after c.lower_end-end.result.bytes.now _ w.in-Leaf.is w.next_in_rows-next.ensures)
       | in-Node w ↦ subst (λ found. IsNextKey (ops_in (part_messages (part_of child))) c.start_in-from.result.key.bytes.now c.start_in-from.result.after c.lower_end-end.result.bytes.now (option_map (λ (k : TenantKey). k.bytes.now) found)) (sym w.found-is)
           (node_next child w.in-Node.lower c.start_in-from.result.key.bytes.now c.start_in-from.result.after c.lower_end-end.result.bytes.now _ w.in-Node.is w.next_key-found.ensures)
     ] in
@@ -53,7 +53,7 @@ loop-i-preserved g t c =
     let next : IsNextKey (ops_in (part_messages (part_of child))) c.start_in-from.result.key.bytes.now c.start_in-from.result.after c.lower_end-end.result.bytes.now (option_map (λ (k : TenantKey). k.bytes.now) c.match-children-i.found) =
     elim c.match-children-i.branch [
       | in-Leaf w ↦ subst (λ found. IsNextKey (ops_in (part_messages (part_of child))) c.start_in-from.result.key.bytes.now c.start_in-from.result.after c.lower_end-end.result.bytes.now (option_map (λ (k : TenantKey). k.bytes.now) found)) (sym w.found-is)
-          (leaf_next child w.in-Leaf.leaf c.start_in-from.result.key.bytes.now c.start_in-from.result.after c.lower_end-end.result.bytes.now _ w.in-Leaf.is w.next_in_rows-found.ensures)
+          (leaf_next child w.in-Leaf.leaf c.start_in-from.result.key.bytes.now c.start_in-from.result.after c.lower_end-end.result.bytes.now _ w.in-Leaf.is w.next_in_rows-next.ensures)
       | in-Node w ↦ subst (λ found. IsNextKey (ops_in (part_messages (part_of child))) c.start_in-from.result.key.bytes.now c.start_in-from.result.after c.lower_end-end.result.bytes.now (option_map (λ (k : TenantKey). k.bytes.now) found)) (sym w.found-is)
           (node_next child w.in-Node.lower c.start_in-from.result.key.bytes.now c.start_in-from.result.after c.lower_end-end.result.bytes.now _ w.in-Node.is w.next_key-found.ensures)
     ] in

@@ -1,17 +1,29 @@
-use Rattle.std.proofs.Common.{length, get_or, ap, ◌∙◌, arith}
-use Rattle.stow_message.specs.Rising.{in_range}
+use Rattle.std.proofs.Common.{◌≡◌, ◌<◌, length, sym, ◌∙◌, subst, arith}
+use Rattle.stow_message.specs.Rising.{below}
 use Rattle.stow_tree_model.specs.TreeMessage.{message_of}
-use Rattle.stow_read.proofs.NextKeys.{buffer_none, buffer_next}
+use Rattle.stow_read.specs.NextKey.{passed_number}
+use Rattle.stow_read.proofs.NextMessages.{messages_none, messages_next, messages_end}
 use Rattle.stow_read.proofs.next_key.next_in_buffer.Goals as goal
 
-pub returns-then-passed-len : goal.returns-then-passed-len
-returns-then-passed-len g c =
-    let run = in_range c.args.start.key.bytes.now c.args.to.bytes.now c.args.buffer.now.messages in
-    buffer_next c.args.buffer.now.messages c.args.start.key.bytes.now c.args.start.after c.args.to.bytes.now (message_of c.get.result) c.len-len.ensures.rising
-    (let l = c.if-passed-len.true in let n = c.len.ensures in omega (arith, l, n, ap length c.in_range-run.ensures.messages, c.passed_over-passed.ensures))
-    (c.get.ensures ∙ (λ i. get_or (c.in_range-run.ensures.messages i) (c.passed_over-passed.ensures i) (message_of c.get.result)))
+pub returns-then-at-len : goal.returns-then-at-len
+returns-then-at-len g c =
+    let ms = c.args.buffer.now.messages in let at = c.count_below-at in
+    messages_none ms c.args.start.key.bytes.now c.args.start.after c.args.to.bytes.now at.result at.ensures.valid at.ensures.rising
+    (subst (λ n. at.result ≡ below (c.args.start.key.bytes.now, n) ms) c.passed_number.ensures at.ensures.count)
+    (let l = c.if-at-len.true in let n = c.len.ensures.len in omega (arith, l, n))
 
-pub returns-else-passed-len : goal.returns-else-passed-len
-returns-else-passed-len g c =
-    buffer_none c.args.buffer.now.messages c.args.start.key.bytes.now c.args.start.after c.args.to.bytes.now c.len-len.ensures.rising
-    (let l = c.if-passed-len.false in let n = c.len.ensures in omega (arith, l, n, ap length c.in_range-run.ensures.messages, c.passed_over-passed.ensures))
+pub returns-then-is_below : goal.returns-then-is_below
+returns-then-is_below g c =
+    let ms = c.args.buffer.now.messages in let at = c.count_below-at in
+    messages_next ms c.args.start.key.bytes.now c.args.start.after c.args.to.bytes.now at.result (message_of c.message.result) at.ensures.valid at.ensures.rising
+    (subst (λ n. at.result ≡ below (c.args.start.key.bytes.now, n) ms) c.passed_number.ensures at.ensures.count)
+    (let l = c.if-at-len.false in let n = c.len.ensures.len in omega (arith, l, n))
+    (sym c.message.ensures) (sym c.is_below.ensures ∙ c.if-is_below.true)
+
+pub returns-else-is_below : goal.returns-else-is_below
+returns-else-is_below g c =
+    let ms = c.args.buffer.now.messages in let at = c.count_below-at in
+    messages_end ms c.args.start.key.bytes.now c.args.start.after c.args.to.bytes.now at.result (message_of c.message.result) at.ensures.valid at.ensures.rising
+    (subst (λ n. at.result ≡ below (c.args.start.key.bytes.now, n) ms) c.passed_number.ensures at.ensures.count)
+    (let l = c.if-at-len.false in let n = c.len.ensures.len in omega (arith, l, n))
+    (sym c.message.ensures) (sym c.is_below.ensures ∙ c.if-is_below.false)

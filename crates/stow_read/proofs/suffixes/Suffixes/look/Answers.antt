@@ -16,8 +16,8 @@ returns-in-Put g c older above =
     let ms = c.args.buffer.now.messages in
     let key = c.args.key.bytes.now in
     let m = message_of c.get-message.result in
-    let inside : c.loop-i.i < length (newest_of key ms) = (let l = c.loop-i-test.true in let e = c.len-i-end.ensures in omega (arith, ap length c.of_key-newest.ensures)) in
-    let is : m ≡ get_or (newest_of key ms) c.loop-i.i m = c.get-message.ensures ∙ ap (λ xs. get_or xs c.loop-i.i m) c.of_key-newest.ensures in
+    let inside : c.loop-i.i < length (newest_of key ms) = (let l = c.loop-i-test.true in let e = c.len-i-end.ensures in omega (arith, ap length c.of_key_near-newest.ensures)) in
+    let is : m ≡ get_or (newest_of key ms) c.loop-i.i m = c.get-message.ensures ∙ ap (λ xs. get_or xs c.loop-i.i m) c.of_key_near-newest.ensures in
     applied_next ms key c.args.at c.loop-i.i (suffixes_of c.args.self.now) (suffixes_of c.loop-i.self) m c.len-len.ensures.rising inside is c.loop-i.invariant c.if-message-at.true older above
     ∙ ap (λ o. continued (suffixes_of c.loop-i.self) (applied m.number (Some (op_of o)) (latest (over (ops_in (drop (c.loop-i.i + 1) (newest_of key ms)) key) older) c.args.at))) c.in-Put.is
 
@@ -26,8 +26,8 @@ returns-in-Gone g c older above =
     let ms = c.args.buffer.now.messages in
     let key = c.args.key.bytes.now in
     let m = message_of c.get-message.result in
-    let inside : c.loop-i.i < length (newest_of key ms) = (let l = c.loop-i-test.true in let e = c.len-i-end.ensures in omega (arith, ap length c.of_key-newest.ensures)) in
-    let is : m ≡ get_or (newest_of key ms) c.loop-i.i m = c.get-message.ensures ∙ ap (λ xs. get_or xs c.loop-i.i m) c.of_key-newest.ensures in
+    let inside : c.loop-i.i < length (newest_of key ms) = (let l = c.loop-i-test.true in let e = c.len-i-end.ensures in omega (arith, ap length c.of_key_near-newest.ensures)) in
+    let is : m ≡ get_or (newest_of key ms) c.loop-i.i m = c.get-message.ensures ∙ ap (λ xs. get_or xs c.loop-i.i m) c.of_key_near-newest.ensures in
     applied_next ms key c.args.at c.loop-i.i (suffixes_of c.args.self.now) (suffixes_of c.loop-i.self) m c.len-len.ensures.rising inside is c.loop-i.invariant c.if-message-at.true older above
     ∙ ap (λ o. continued (suffixes_of c.loop-i.self) (applied m.number (Some (op_of o)) (latest (over (ops_in (drop (c.loop-i.i + 1) (newest_of key ms)) key) older) c.args.at))) c.in-Gone.is
 
@@ -36,8 +36,8 @@ loop-i-preserved g c =
     let ms = c.args.buffer.now.messages in
     let key = c.args.key.bytes.now in
     let m = message_of c.get-message.result in
-    let inside : c.loop-i.i < length (newest_of key ms) = (let l = c.loop-i-test.true in let e = c.len-i-end.ensures in omega (arith, ap length c.of_key-newest.ensures)) in
-    let is : m ≡ get_or (newest_of key ms) c.loop-i.i m = c.get-message.ensures ∙ ap (λ xs. get_or xs c.loop-i.i m) c.of_key-newest.ensures in
+    let inside : c.loop-i.i < length (newest_of key ms) = (let l = c.loop-i-test.true in let e = c.len-i-end.ensures in omega (arith, ap length c.of_key_near-newest.ensures)) in
+    let is : m ≡ get_or (newest_of key ms) c.loop-i.i m = c.get-message.ensures ∙ ap (λ xs. get_or xs c.loop-i.i m) c.of_key_near-newest.ensures in
     elim c.if-message-at.branch [
       | then-message-at+in-Append+in_ok-add-in-Append w ↦ subst (λ now. IsLooking ms key c.args.at (c.loop-i.i + 1) (suffixes_of c.args.self.now) now)
           (sym (ap suffixes_of w.self-is ∙ w.in_ok-add-in-Append.ensures))
@@ -52,4 +52,4 @@ returns g c older above =
     let all = c.loop-i-test.false in
     let len = c.len-i-end.ensures in
     looked_all c.args.buffer.now.messages c.args.key.bytes.now c.args.at c.loop-i.i (suffixes_of c.args.self.now) (suffixes_of c.loop-i.self) c.loop-i.invariant
-    (omega (arith, ap length c.of_key-newest.ensures)) older above
+    (omega (arith, ap length c.of_key_near-newest.ensures)) older above

@@ -1,0 +1,15 @@
+use Rattle.std.proofs.Common.{arith, ap}
+use Rattle.std.specs.Prelude.{reverse}
+use Rattle.stow_message.proofs.RisingLists.{below_within}
+use Rattle.stow_message.proofs.Ranges.{key_is}
+use Rattle.stow_message.proofs.message_buf.MessageBuf.of_key_near.Goals as goal
+
+pub search_from-to-requires : goal.search_from-to-requires
+search_from-to-requires g c = omega (arith, c.count_below-from.ensures.count, below_within (c.args.key.bytes.now, 0) c.args.self.now.messages)
+
+pub invariant_of-result : goal.invariant_of-result
+invariant_of-result g c = let ms = c.args.self.now.messages in let lo = below_within (c.args.key.bytes.now, 0) ms in let hi = below_within (c.args.key.bytes.now, 18446744073709551615) ms in let to = c.search_from-to.ensures in
+    (omega (arith, to), omega (arith, to, c.count_below-from.ensures.count, lo, hi), c.search_from-to.type_inv)
+
+pub returns : goal.returns
+returns g c = ap reverse (key_is c.args.key.bytes.now c.args.self.now.messages c.count_below-from.result c.search_from-to.result c.count_below-from.ensures.count c.search_from-to.ensures c.count_below-from.ensures.rising c.count_below-from.ensures.valid)
