@@ -1,5 +1,5 @@
 //! The tree.
-ghost use Rattle.std.specs.Prelude.{◌≡◌, ◌<◌, ◌^◌, map, option_map, IfOk, OnOk, OnErr, Err};
+ghost use Rattle.std.specs.Prelude.{◌≡◌, ◌<◌, ◌≤◌, ◌^◌, length, map, option_map, IfOk, OnOk, OnErr, Err};
 ghost use Rattle.std.specs.FinMap as finite;
 ghost use Rattle.stow_flush.specs.Rooms.{FitsSqueezed};
 ghost use Rattle.stow_leaf_cache.specs.Cache.{cache_resized};
@@ -24,6 +24,7 @@ use crate::tree_shape::TreeShape;
 use std::alloc::{AllocError, Allocator, Global};
 use std::marker::Model;
 use stow_flush::room::make_room;
+use stow_leaf::leaf::Leaf;
 use stow_leaf_cache::leaf_cache::LeafCache;
 use stow_merge::pins::Pins;
 use stow_message::head::size;
@@ -68,6 +69,24 @@ fn total(messages: &[Message<'_>]) -> usize
         total += size(messages[i]);
     }
     total
+}
+
+/// How many keys of the rows stand no higher than the leaf's last; the first one counts wherever it stands.
+fn reached<A: Allocator>(leaf: &Leaf<A>, rows: &[Row<A>]) -> usize
+    requires { 0 < length rows.now }
+    ensures { (0 < result) × (result ≤ length rows.now) }
+{
+    let len = leaf.rows.len();
+    if len == 0 {
+        return 1;
+    }
+    let last = leaf.rows.get(len - 1).key;
+    for i in 1..rows.len() {
+        if rows[i].key.as_key().bytes > last.bytes {
+            return i;
+        }
+    }
+    rows.len()
 }
 
 impl<A: Allocator + Copy> Tree<A> {
@@ -170,10 +189,26 @@ impl<A: Allocator + Copy> Tree<A> {
         ensures same { IsRead self.old self.new }
     {
         let rows = range(alloc, &self.root, from, to, at, count)?;
-        for i in 0..rows.len() {
-            self.offer(rows[i].key.as_key());
+        let mut offered = 0;
+        while offered < rows.len() {
+            offered += self.offer_first(&rows.as_slice()[offered..]);
         }
         Ok(rows)
+    }
+
+    /// Holds the rows of the first key's leaf, and tells how many of the keys it reaches, one at least.
+    fn offer_first(&mut self, rows: &[Row<A>]) -> usize
+        requires { 0 < length rows.now }
+        ensures same { IsRead self.old self.new }
+        ensures some { (0 < result) × (result ≤ length rows.now) }
+    {
+        let first = rows[0].key.as_key();
+        let reached = match leaf_for(&self.root, first) {
+            Some(leaf) => reached(leaf, rows),
+            None => 1,
+        };
+        self.offer(first);
+        reached
     }
 
     /// Holds the rows of the key's leaf, in front of all, where there is memory.
