@@ -59,10 +59,12 @@ pub fn read_arguments(alloc: Global, words: &[String]) -> Result<Wish<'_>, Failu
 }
 
 fn matched(alloc: Global, words: &[String]) -> Result<ArgMatches<'_>, Error> {
-    let pipe = Command::new(alloc, "pipe")
-        .about("Answers the requests on standard input, as one connection");
-    let script = Command::new(alloc, "script")
-        .about("Carries out the events of a script on standard input");
+    let pipe = Command::new(alloc, "pipe").about(
+        "Answers the requests on standard input, as one connection",
+    );
+    let script = Command::new(alloc, "script").about(
+        "Carries out the events of a script on standard input",
+    );
     let command = Command::new(alloc, "stow")
         .about("An ordered key-value service for many tenants, spoken to in RESP2")
         .subcommand_required(true)
@@ -95,8 +97,9 @@ fn serve<'a>(alloc: Global) -> Result<Command<'a>, Error> {
         .long("notices")
         .help("Tells the start and the end in a line each on standard error")
         .action(ArgAction::SetTrue);
-    let command = Command::new(alloc, "serve")
-        .about("Serves connections over TCP, each by a thread of its own");
+    let command = Command::new(alloc, "serve").about(
+        "Serves connections over TCP, each by a thread of its own",
+    );
     Ok(
         with_service(alloc, command)?
             .arg(listen)?

@@ -101,11 +101,7 @@ fn push_shape<A: Allocator>(report: ShapeReport, out: &mut Vec<u8, A>) -> Result
 }
 
 /// Adds a name, and a count in decimal.
-fn push_count<A: Allocator>(
-    name: &[u8],
-    count: u64,
-    out: &mut Vec<u8, A>,
-) -> Result<(), AllocError>
+fn push_count<A: Allocator>(name: &[u8], count: u64, out: &mut Vec<u8, A>) -> Result<(), AllocError>
     ensures ok { OnOk result (out.new.items ≡ out.old.items ++ name.now ++ decimal count) }
     ensures front { StartsWith out.new.items out.old.items }
 {

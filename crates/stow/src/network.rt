@@ -29,5 +29,7 @@ where
     ensures { IfErr result EndsServing }
 {
     let listener = Place::Network.check(TcpListener::bind(rt, serving.listen))?;
-    serve_connections(rt, alloc, &listener, tenants, shape, serving, output, errors)
+    serve_connections(
+        rt, alloc, &listener, tenants, shape, serving, output, errors,
+    )
 }

@@ -127,12 +127,7 @@ impl<A: Allocator> Rows<A> {
 
     /// The newest version of the key numbered at most this, lent. It is found the faster the nearer the guess is to its
     /// place.
-    pub fn version_at(
-        &self,
-        key: TenantKey<'_>,
-        number: u64,
-        guess: usize,
-    ) -> Option<Version<'_>>
+    pub fn version_at(&self, key: TenantKey<'_>, number: u64, guess: usize) -> Option<Version<'_>>
         ensures { option_map version_of result ≡ version_at self.now key.entry.bytes.now number }
     {
         self.packed.version_at(key, number, guess)

@@ -159,7 +159,10 @@ fn agrees<A: Allocator, B: Allocator + Copy>(
             &both.plain,
         ) && are_same(&both.buf.in_range(low.as_key(), high.as_key()), &among)
             && are_newest(&both.buf.of_key(low.as_key()), &of_key)
-            && are_newest(&both.buf.of_key_near(low.as_key(), usize::from(to)), &of_key),
+            && are_newest(
+                &both.buf.of_key_near(low.as_key(), usize::from(to)),
+                &of_key,
+            ),
     )
 }
 

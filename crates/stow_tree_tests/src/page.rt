@@ -97,7 +97,11 @@ fn look_ups(rt: HostRuntime) -> Result<(), Fail> {
     assert!(rt; at(&rows, key.as_key(), 0).is_none());
     assert!(rt; at(&rows, key.as_key(), 1) == Some(b"x".as_slice()));
     assert!(rt; at(&rows, key.as_key(), 2).is_none());
-    assert!(rt; rows.version_at(key.as_key(), 9, usize::MAX).map(|v| v.number) == Some(2));
+    assert!(rt;
+        rows.version_at(key.as_key(), 9, usize::MAX)
+            .map(|v| v.number)
+            == Some(2)
+    );
     let other = TenantKeyBuf::new(alloc, 2, b"a")?;
     assert!(rt; rows.version_at(other.as_key(), 9, usize::MAX).is_none());
     Ok(())

@@ -71,7 +71,14 @@ impl Talk {
         let tenants = Tenants::read(self.alloc, self.alloc, THREE).map_err(|_| AllocError)?;
         let mut input = self.asked.as_slice();
         let mut output = Vec::new(self.alloc);
-        let ended = serve(self.alloc, tenants, TreeShape::USUAL, Task::Pipe, &mut input, &mut output);
+        let ended = serve(
+            self.alloc,
+            tenants,
+            TreeShape::USUAL,
+            Task::Pipe,
+            &mut input,
+            &mut output,
+        );
         assert!(rt; ended.is_ok());
         assert!(rt; output.as_slice() == self.told.as_slice());
         Ok(())
@@ -241,7 +248,14 @@ fn a_script_may_be_long(rt: HostRuntime) -> Result<(), Fail> {
     let tenants = Tenants::read(alloc, alloc, THREE).map_err(|_| AllocError)?;
     let mut input = script.as_slice();
     let mut output = Vec::new(alloc);
-    let ended = serve(alloc, tenants, TreeShape::USUAL, Task::Script, &mut input, &mut output);
+    let ended = serve(
+        alloc,
+        tenants,
+        TreeShape::USUAL,
+        Task::Script,
+        &mut input,
+        &mut output,
+    );
     assert!(rt; ended.is_ok() && output.as_slice() == lines.as_slice());
     Ok(())
 }

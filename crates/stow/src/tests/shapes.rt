@@ -37,8 +37,14 @@ impl Talk {
     fn ask(&mut self, exchange: &Exchange<Global>) -> Result<(), AllocError> {
         let asked = text(self.alloc, exchange.asked.as_slice())?;
         let told = text(self.alloc, exchange.told.as_slice())?;
-        self.line(format!(in self.alloc; "piece 1 {asked}")?.as_str(), "taken\n")?;
-        self.line("serve 1", format!(in self.alloc; "reply {told}\n")?.as_str())
+        self.line(
+            format!(in self.alloc; "piece 1 {asked}")?.as_str(),
+            "taken\n",
+        )?;
+        self.line(
+            "serve 1",
+            format!(in self.alloc; "reply {told}\n")?.as_str(),
+        )
     }
 
     fn ask_all(&mut self, exchanges: &[Exchange<Global>]) -> Result<(), AllocError> {
@@ -112,7 +118,12 @@ fn rows_read_again(alloc: Global) -> Result<Talk, AllocError> {
 }
 
 /// The sizes that are told where the options are these, if all else is told as wanted.
-fn told_with<H>(rt: &H, alloc: Global, options: &str, talk: &Talk) -> Result<Option<Vec<Sizes>>, AllocError>
+fn told_with<H>(
+    rt: &H,
+    alloc: Global,
+    options: &str,
+    talk: &Talk,
+) -> Result<Option<Vec<Sizes>>, AllocError>
 where
     H: Net<Listener = TcpListener, Stream = TcpStream> + Threads + Wait + Sync,
 {
@@ -139,8 +150,9 @@ fn rows_are_read_in_each_shape(rt: HostRuntime) -> Result<(), Fail> {
     let talk = rows_read_again(alloc)?;
     for fan_out in [4u32, 256] {
         for cache in [0u64, 1, 1000] {
-            let options =
-                format!(in alloc; "--buffer 131072 --leaf 4096 --fanout {fan_out} --cache {cache}")?;
+            let options = format!(in alloc;
+                "--buffer 131072 --leaf 4096 --fanout {fan_out} --cache {cache}"
+            )?;
             let told = told_with(&rt, alloc, options.as_str(), &talk)?;
             let Some(told) = told else {
                 assert!(rt; false, "{options}");
@@ -160,7 +172,13 @@ fn rows_are_read_in_each_shape(rt: HostRuntime) -> Result<(), Fail> {
 }
 
 /// Wants these lines told to a script of ann's.
-fn wants<H>(rt: &H, alloc: Global, options: &str, script: &str, told: &str) -> Result<(), AllocError>
+fn wants<H>(
+    rt: &H,
+    alloc: Global,
+    options: &str,
+    script: &str,
+    told: &str,
+) -> Result<(), AllocError>
 where
     H: Abort + Net<Listener = TcpListener, Stream = TcpStream> + Threads + Wait + Sync,
 {
@@ -170,7 +188,10 @@ where
     let mut input = script.as_bytes();
     let ended = run_line(rt, alloc, line.as_str(), &mut input)?;
     let output = String::from_utf8_lossy(alloc, ended.output.as_slice())?;
-    assert!(rt; ended.status == 0 && output.as_str() == told.as_str(), "{output}");
+    assert!(rt;
+        ended.status == 0 && output.as_str() == told.as_str(),
+        "{output}"
+    );
     Ok(())
 }
 
@@ -178,7 +199,8 @@ where
 #[test]
 fn a_script_tells_the_shape(rt: HostRuntime) -> Result<(), Fail> {
     let script = "shape\npiece 1 SET k v\\nDEL k\\n\nserve 1\nserve 1\nshape\n";
-    let told = "height 1 leaves 1 buffered 0 cached 0\ntaken\nreply +OK\\r\\n\nreply :1\\r\\n\nheight 1 leaves 1 buffered 2 cached 0\n";
+    let told =
+        "height 1 leaves 1 buffered 0 cached 0\ntaken\nreply +OK\\r\\n\nreply :1\\r\\n\nheight 1 leaves 1 buffered 2 cached 0\n";
     wants(&rt, rt.alloc(), "--cache 0", script, told)?;
     Ok(())
 }
@@ -197,7 +219,13 @@ fn appends_take_the_room_of_their_suffix(rt: HostRuntime) -> Result<(), Fail> {
     }
     script.push_str("shape\n")?;
     told.push_str("height 1 leaves 1 buffered 101 cached 0\n")?;
-    wants(&rt, alloc, "--buffer 131072 --cache 0", script.as_str(), told.as_str())?;
+    wants(
+        &rt,
+        alloc,
+        "--buffer 131072 --cache 0",
+        script.as_str(),
+        told.as_str(),
+    )?;
     Ok(())
 }
 

@@ -177,7 +177,14 @@ fn replies_do_not_wait(rt: HostRuntime) -> Result<(), Fail> {
     };
     let mut output = Counting { written: &written };
     let tenants = Tenants::read(alloc, alloc, THREE).map_err(|_| AllocError)?;
-    let ended = serve(alloc, tenants, TreeShape::USUAL, Task::Pipe, &mut input, &mut output);
+    let ended = serve(
+        alloc,
+        tenants,
+        TreeShape::USUAL,
+        Task::Pipe,
+        &mut input,
+        &mut output,
+    );
     let (given, late) = (input.given, input.late);
     assert!(rt;
         ended.is_ok() && given == 100 && late == 0,
@@ -223,7 +230,15 @@ fn told_at<B: Allocator>(
     let tenants = Tenants::read(heap, global, THREE).map_err(|_| AllocError)?;
     let mut output = Vec::new(global);
     heap.set(Plan::RefuseAt(at));
-    let is_well = serve(heap, tenants, TreeShape::USUAL, task, &mut input, &mut output).is_ok();
+    let is_well = serve(
+        heap,
+        tenants,
+        TreeShape::USUAL,
+        task,
+        &mut input,
+        &mut output,
+    )
+    .is_ok();
     let asked = heap.asked();
     heap.set(Plan::Grant);
     Ok((asked > at || !is_well).then_some((output, is_well)))
@@ -312,7 +327,14 @@ fn flushed_by(
         flushed: 0,
         breaks,
     };
-    let ended = serve(alloc, tenants, TreeShape::USUAL, task, &mut input, &mut output);
+    let ended = serve(
+        alloc,
+        tenants,
+        TreeShape::USUAL,
+        task,
+        &mut input,
+        &mut output,
+    );
     Ok(ended.is_ok().then_some(output.flushed))
 }
 

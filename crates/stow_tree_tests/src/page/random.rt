@@ -110,7 +110,11 @@ fn random_look_ups(rt: HostRuntime) -> Result<(), Fail> {
                     want = Some(version.number);
                 }
             }
-            assert!(rt; rows.version_at(key.as_key(), number, guess).map(|v| v.number) == want);
+            assert!(rt;
+                rows.version_at(key.as_key(), number, guess)
+                    .map(|v| v.number)
+                    == want
+            );
         }
     }
     Ok(())
