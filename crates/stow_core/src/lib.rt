@@ -24,6 +24,7 @@ ghost use Rattle.stow_core.specs.Prepared.{HasRoom, PreparesOwn, RefusesStranger
 ghost use Rattle.stow_tree.specs.declared.tree_fault.TreeFault.TheVariants as fault;
 ghost use Rattle.stow_tree.specs.Reports.{IsReport};
 ghost use Rattle.stow_tree.specs.Shapes.{IsInRange};
+ghost use Rattle.stow_tree.specs.TreeState.{new_tree};
 
 use account::{Account, new_accounts};
 use change::Change;
@@ -89,6 +90,7 @@ impl<A: Allocator + Copy> Core<A> {
     ) -> Result<Core<A>, TreeFault>
         ensures entries { IfOk result (λ core. core.entries ≡ arc_value tenants) }
         ensures empty { IfOk result IsNewCore }
+        ensures tree { IfOk result (λ core. core.tree ≡ new_tree shape) }
         ensures in_range { IsInRange shape → OnErr result (result ≡ Err fault.Memory) }
         ensures out_of_range { ¬ (IsInRange shape) → result ≡ Err fault.Shape }
     {
