@@ -129,27 +129,6 @@ fn moving_asks_for_no_memory(rt: HostRuntime) -> Result<(), Fail> {
     Ok(())
 }
 
-/// How many bytes of the upper buffer of two are in use once its message went down, and once room was asked for.
-fn used_below<A: Allocator + Copy>(alloc: A) -> Result<Option<(usize, usize)>, AllocError> {
-    let mut spare = RawBuf::with_capacity(alloc, 131_072)?;
-    let mut cache = LeafCache::new(alloc, 0)?;
-    let pins = Pins::new(alloc);
-    let mut node = two_levels(alloc)?;
-    put_and_step(alloc, &mut node, &pins, &mut spare, &mut cache)?;
-    let before = node.buffer().used();
-    if spare.capacity() < node.buffer().capacity() || !node.makes_room(23, &mut spare) {
-        return Ok(None);
-    }
-    Ok(Some((before, node.buffer().used())))
-}
-
-// Where there is room, the dead bytes of a message that went down stay: nothing is copied.
-#[test]
-fn dead_bytes_stay_where_there_is_room(rt: HostRuntime) -> Result<(), Fail> {
-    assert!(rt; matches!(used_below(rt.alloc())?, Some((19, 19))));
-    Ok(())
-}
-
 /// Whether two levels can be had.
 fn is_made<A: Allocator + Copy>(alloc: A) -> bool {
     two_levels(alloc).is_ok()
