@@ -16,6 +16,9 @@ use stow_model::span::Span;
 use stow_model::stream_fault::StreamFault;
 use stow_model::words::Words;
 
+#[cfg(test)]
+mod tests;
+
 /// The bytes of a stream that no message was made of yet. Of an unfinished array it keeps how much of it was
 /// found whole, and of an unfinished inline line how much has no LF, so that a message in many pieces is looked
 /// through once.

@@ -188,6 +188,34 @@ fn long_replies_do_not_wait(rt: HostRuntime) -> Result<(), Fail> {
     Ok(())
 }
 
+/// How many requests for memory serving a login and so many PINGs makes.
+fn asked_by_pings<A: Allocator + Copy, B: Allocator>(
+    heap: &Refusing<B>,
+    (alloc, global): (A, Global),
+    count: usize,
+) -> Result<u64, AllocError> {
+    let mut service = Service::new(alloc, global)?;
+    let mut input = Vec::from_slice(global, b"AUTH ann bc\n")?;
+    for _ in 0..count {
+        input.extend_from_slice(b"*1\r\n$4\r\nPING\r\n")?;
+    }
+    let written = Cell::new(0);
+    let mut reader = Feed::new(input.as_slice(), 4_096, false);
+    let mut writer = Narrow::new(global, &written, 1_000);
+    heap.set(Plan::Grant);
+    let _served = service.serve(&mut reader, &mut writer);
+    Ok(heap.asked())
+}
+
+// The words of a request are filled again by the next one: a hundred requests take less memory than one a request.
+#[test]
+fn used_words_serve_the_next_request(rt: HostRuntime) -> Result<(), Fail> {
+    let heap = Refusing::new(rt.alloc());
+    let asked = asked_by_pings(&heap, (&heap, rt.alloc()), 100)?;
+    assert!(rt; asked < 30, "{asked}");
+    Ok(())
+}
+
 /// What is told where memory is refused to nothing, to the write, and to the read.
 const TOLD: [&[u8]; 3] = [
     REPLIES,
