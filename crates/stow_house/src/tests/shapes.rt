@@ -20,12 +20,16 @@ struct Talk<A: Allocator> {
 }
 
 impl<A: Allocator + Copy> Talk<A> {
+    fn ask(&mut self, alloc: A, exchange: &Exchange<A>) -> Result<(), AllocError> {
+        let bytes = ByteString::from_slice(alloc, exchange.asked.as_slice())?;
+        self.events.push(Event::Piece(1, bytes))?;
+        self.events.push(Event::Serve(1))?;
+        self.told.extend_from_slice(exchange.told.as_slice())
+    }
+
     fn ask_all(&mut self, alloc: A, exchanges: &[Exchange<A>]) -> Result<(), AllocError> {
         for exchange in exchanges {
-            let bytes = ByteString::from_slice(alloc, exchange.asked.as_slice())?;
-            self.events.push(Event::Piece(1, bytes))?;
-            self.events.push(Event::Serve(1))?;
-            self.told.extend_from_slice(exchange.told.as_slice())?;
+            self.ask(alloc, exchange)?;
         }
         Ok(())
     }
@@ -38,7 +42,7 @@ fn rows_read_again<A: Allocator + Copy>(alloc: A) -> Result<Talk<A>, AllocError>
         told: Vec::new(alloc),
     };
     talk.events.push(Event::Open(1))?;
-    talk.ask_all(alloc, &[login(alloc)?])?;
+    talk.ask(alloc, &login(alloc)?)?;
     talk.ask_all(alloc, writes(alloc)?.as_slice())?;
     let reads = reads(alloc)?;
     talk.ask_all(alloc, reads.as_slice())?;
