@@ -2,6 +2,7 @@
 ghost use Rattle.std.specs.Prelude.{◌≡◌, IfOk};
 ghost use Rattle.std.specs.Arc.{arc_value};
 ghost use Rattle.stow_core.specs.State.{IsNewCore};
+ghost use Rattle.stow_tree.specs.TreeState.{new_tree};
 
 use std::alloc::{AllocError, Allocator};
 use std::sync::Arc;
@@ -18,6 +19,7 @@ pub fn new_core<A: Allocator + Copy>(
 ) -> Result<Core<A>, AllocError>
     ensures entries { IfOk result (λ core. core.entries ≡ arc_value tenants) }
     ensures empty { IfOk result IsNewCore }
+    ensures tree { IfOk result (λ core. core.tree ≡ new_tree shape) }
 {
     match Core::new(alloc, tenants, shape) {
         Ok(core) => Ok(core),
