@@ -5,6 +5,7 @@
 //! A body that always answers `AllocError` meets the contract of `with_capacity`: tests call it with ample memory.
 #![tactic(auto)]
 
+mod filter;
 pub mod head;
 pub mod laws;
 pub mod message_buf;
