@@ -297,9 +297,6 @@ impl<A: Allocator> MessageBuf<A> {
     pub fn of_key(&self, key: TenantKey<'_>) -> Newest<'_, A>
         ensures { result ≡ reverse (of_key key.entry.bytes.now self.now.messages) }
     {
-        if !self.filter.may_have(key.bytes) {
-            return self.none();
-        }
         self.of_key_near(key, usize::MAX)
     }
 
@@ -316,10 +313,14 @@ impl<A: Allocator> MessageBuf<A> {
         }
     }
 
-    /// The messages of a key, the newest first, lent. The search is the shorter the nearer the guess is to the first.
+    /// The messages of a key, the newest first, lent. The search is the shorter the nearer the guess is to the first; for a
+    /// guess beyond all messages the filter is asked before.
     pub fn of_key_near(&self, key: TenantKey<'_>, guess: usize) -> Newest<'_, A>
         ensures { result ≡ reverse (of_key key.entry.bytes.now self.now.messages) }
     {
+        if guess > self.len() && !self.filter.may_have(key.bytes) {
+            return self.none();
+        }
         let from = self.count_below(key, 0, guess);
         let to = self.search_from(from, key.bytes, u64::MAX);
         Newest {
