@@ -7,7 +7,10 @@ use crate::serving::Serving;
 use clap::error::ErrorKind;
 use clap::{Arg, ArgAction, ArgMatches, Command, Error, value_parser};
 use std::alloc::Global;
-use stow_tree::tree_shape::TreeShape;
+use stow_tree::tree_shape::{
+    LEAST_BUFFER, LEAST_FAN_OUT, LEAST_LEAF, MOST_BUFFER, MOST_CACHE, MOST_FAN_OUT, MOST_LEAF,
+    TreeShape,
+};
 
 /// What is done with standard input.
 #[derive(Clone, Copy, Debug, PartialEq, Eq)]
@@ -116,25 +119,25 @@ fn with_service<'a>(alloc: Global, command: Command<'a>) -> Result<Command<'a>, 
         .long("buffer")
         .value_name("BYTES")
         .help("How many bytes of messages a node of the tree holds")
-        .value_parser(value_parser!(u32).range(131_072..=4_194_304))
+        .value_parser(value_parser!(u32).range(i64::from(LEAST_BUFFER)..=i64::from(MOST_BUFFER)))
         .default_value("1048576");
     let leaf = Arg::new(alloc, "leaf")
         .long("leaf")
         .value_name("BYTES")
         .help("How many bytes the page of a leaf is cut by")
-        .value_parser(value_parser!(u32).range(4_096..=1_048_576))
+        .value_parser(value_parser!(u32).range(i64::from(LEAST_LEAF)..=i64::from(MOST_LEAF)))
         .default_value("65536");
     let fanout = Arg::new(alloc, "fanout")
         .long("fanout")
         .value_name("COUNT")
         .help("How many children a node of the tree may have")
-        .value_parser(value_parser!(u32).range(4..=256))
+        .value_parser(value_parser!(u32).range(i64::from(LEAST_FAN_OUT)..=i64::from(MOST_FAN_OUT)))
         .default_value("16");
     let cache = Arg::new(alloc, "cache")
         .long("cache")
         .value_name("LEAVES")
         .help("How many leaves are held unpacked; 0 for none")
-        .value_parser(value_parser!(u32).range(0..=65_536))
+        .value_parser(value_parser!(u32).range(0..=i64::from(MOST_CACHE)))
         .default_value("1024");
     Ok(
         command
@@ -192,14 +195,19 @@ fn arguments_of<'a>(alloc: Global, matches: &ArgMatches<'a>) -> Result<Wish<'a>,
     }))
 }
 
-/// The sizes of the tree.
+/// The sizes of the tree, each within its limits.
 fn shape_of(matches: &ArgMatches<'_>) -> Option<TreeShape> {
-    Some(TreeShape {
+    let shape = TreeShape {
         buffer: matches.get_one::<u32>("buffer")?,
         leaf: matches.get_one::<u32>("leaf")?,
         fan_out: matches.get_one::<u32>("fanout")?,
         cache: matches.get_one::<u32>("cache")?,
-    })
+    };
+    if shape.is_in_range() {
+        Some(shape)
+    } else {
+        None
+    }
 }
 
 /// How connections are to be served; an `Err` where the address is none.

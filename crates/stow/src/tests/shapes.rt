@@ -135,13 +135,9 @@ where
     Ok(if is_told { Some(sizes) } else { None })
 }
 
-/// Whether so many leaves are held by a cache of at most so many.
-fn is_held(cached: u64, cache: u64) -> bool {
-    match cache {
-        0 => cached == 0,
-        1 => cached == 1,
-        _ => cached >= 1,
-    }
+/// Whether a cache of at most so many leaves holds those that a RANGE of all rows offered, which is each one.
+fn is_held(told: Sizes, cache: u64) -> bool {
+    told.cached == told.leaves.min(cache)
 }
 
 #[test]
@@ -161,8 +157,8 @@ fn rows_are_read_in_each_shape(rt: HostRuntime) -> Result<(), Fail> {
             assert!(rt; told.len() == 5);
             assert!(rt; told[0].leaves >= 2 && told[0].buffered >= 1);
             for (index, size) in [cache, 0, 1, 1000].iter().enumerate() {
-                let cached = told[index + 1].cached;
-                assert!(rt; is_held(cached, *size), "{options}: {cached} of {size}");
+                let sizes = told[index + 1];
+                assert!(rt; is_held(sizes, *size), "{options}: {size}");
             }
         }
     }
