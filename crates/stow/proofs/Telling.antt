@@ -5,7 +5,7 @@ use Rattle.std.specs.Result.{IsErrAnd, is_err}
 use Rattle.std.specs.declared.vec.Vec.{Vec}
 use Rattle.std.proofs.lemmas.List.{take_all, take_more, take-append-drop, map-append}
 use Rattle.std.specs.Io.KnownBytes.{Appends, Keeps}
-use Rattle.std.proofs.KnownBytes.{Appends-nil, Appends-trans, Appends-kept, Keeps-refl}
+use Rattle.std.proofs.KnownBytes.{Appends-nil, Appends-trans, Appends-kept}
 use Rattle.std.specs.declared.io.Error.{Error}
 use Rattle.std.specs.declared.io.ErrorKind.{ErrorKind}
 use Rattle.std.specs.declared.io.ErrorKind.TheVariants as kind
@@ -17,17 +17,19 @@ use Rattle.stow_model.specs.Event as event
 use Rattle.stow_house.specs.declared.step_result.StepResult as result
 use Rattle.stow_house.specs.StepResult.{StepResult, step_result_of, Done, Answered, More, Blank, Refused, NoMemory, CanAnswer}
 use Rattle.stow_house.specs.Steps.{HouseState, IsStepOf}
-use Rattle.stow_workers.specs.Sent.{Begins}
+use Rattle.stow_workers.specs.Failures.{CountsFailure, HasFailed}
+use Rattle.stow_workers.specs.Sent.{Begins, WritesAll, Written}
 use Rattle.stow.specs.declared.failure.Failure.{Failure}
 use Rattle.stow.specs.declared.failure.Failure.TheVariants as failure
 use Rattle.stow.specs.declared.failure.Place.TheVariants as place
+use Rattle.stow.specs.Ends.{IsOfOutput}
 use Rattle.stow.specs.Lines.{IsText, WritesLine}
 use Rattle.stow.specs.Read.{IsScriptRead}
 use Rattle.stow.specs.Text.{text_of}
 use Rattle.stow.specs.Statuses.{failure_at, failure_of_kind}
 use Rattle.stow.specs.declared.script_line.ScriptLine as script_line
 use Rattle.stow.specs.Script.{Line, line_of}
-use Rattle.stow.specs.Told.{CarriesOut, CarriesOutPart, EndsTelling, IsCarriedOut, IsDone, IsIdle, IsScript, IsScripted, IsToldLine, IsWritten, Leads, LineLeads, Progress}
+use Rattle.stow.specs.Told.{CarriesOut, CarriesOutPart, EndsTelling, IsCarriedOut, IsDone, IsIdle, IsScript, IsScripted, IsToldLine, Leads, LineLeads, Progress}
 
 -- ---- one line more
 
@@ -45,7 +47,8 @@ pub record IsToldSoFar (done : List Line) (old new : Progress) (waiting : List �
   pub leads : Leads old.house done lines new.house
   pub sent : List ℕ
   pub split : lines ≡ sent ++ waiting
-  pub written : Appends old.written new.written sent
+  pub written : Appends old.written.contents new.written.contents sent
+  pub failures : new.written.failures ≡ old.written.failures
 
 pub told_more : (done : List Line) (old mid : Progress) (waiting : List ℕ) (l : Line) (house : HouseState) (more : List ℕ)
     → IsToldSoFar done old mid waiting → IsToldLine l mid.house house waiting more
@@ -56,32 +59,39 @@ told_more done old mid waiting l house more told (text, leads, added) = record {
   sent = told.sent;
   split = ap (λ ls. ls ++ (text ++ 10 ∷ [])) told.split ∙ append_assoc told.sent waiting (text ++ 10 ∷ []) ∙ ap (λ ls. told.sent ++ ls) (sym added);
   written = told.written;
+  failures = told.failures;
 }
 
+-- all bytes were written, and nothing failed
+abbrev pub HasWritten : List ℕ → Written → Written → Type 0
+HasWritten bytes old new = Appends old.contents new.contents bytes × (new.failures ≡ old.failures)
+
 -- what waited was written
-pub told_sent : (done : List Line) (old mid : Progress) (waiting : List ℕ) (written : Option (List ℕ)) (none : List ℕ)
-    → IsToldSoFar done old mid waiting → Appends mid.written written waiting → none ≡ []
+pub told_sent : (done : List Line) (old mid : Progress) (waiting : List ℕ) (written : Written) (none : List ℕ)
+    → IsToldSoFar done old mid waiting → HasWritten waiting mid.written written → none ≡ []
     → IsToldSoFar done old (record { house = mid.house; written = written }) none
 told_sent done old mid waiting written none told appended empty = record {
   lines = told.lines;
   leads = told.leads;
   sent = told.sent ++ waiting;
   split = told.split ∙ sym (append-nil (told.sent ++ waiting)) ∙ ap (λ ls. (told.sent ++ waiting) ++ ls) (sym empty);
-  written = Appends-trans old.written mid.written written told.sent waiting told.written appended;
+  written = Appends-trans old.written.contents mid.written.contents written.contents told.sent waiting told.written appended.0;
+  failures = appended.1 ∙ told.failures;
 }
 
-pub told_all : (asked : List Line) (old mid : Progress) (waiting : List ℕ) (written : Option (List ℕ))
-    → IsToldSoFar asked old mid waiting → Appends mid.written written waiting
+pub told_all : (asked : List Line) (old mid : Progress) (waiting : List ℕ) (written : Written)
+    → IsToldSoFar asked old mid waiting → HasWritten waiting mid.written written
     → CarriesOut asked old (record { house = mid.house; written = written })
 told_all asked old mid waiting written told appended = record {
   lines = told.lines;
   leads = told.leads;
-  written = subst (Appends old.written written) (sym told.split) (Appends-trans old.written mid.written written told.sent waiting told.written appended);
+  written = subst (Appends old.written.contents written.contents) (sym told.split) (Appends-trans old.written.contents mid.written.contents written.contents told.sent waiting told.written appended.0);
+  failures = appended.1 ∙ told.failures;
 }
 
 -- of what waited a beginning was written
-pub told_part : (asked done later : List Line) (old mid : Progress) (waiting front : List ℕ) (written : Option (List ℕ))
-    → asked ≡ done ++ later → IsToldSoFar done old mid waiting → Begins front waiting → Appends mid.written written front
+pub told_part : (asked done later : List Line) (old mid : Progress) (waiting front : List ℕ) (written : Written)
+    → asked ≡ done ++ later → IsToldSoFar done old mid waiting → Begins front waiting → Appends mid.written.contents written.contents front
     → CarriesOutPart asked old (record { house = mid.house; written = written })
 told_part asked done later old mid waiting front written split told begins appended = record {
   done = done;
@@ -91,7 +101,7 @@ told_part asked done later old mid waiting front written split told begins appen
   leads = told.leads;
   front = told.sent ++ front;
   begins = (begins.0, told.split ∙ ap (λ ls. told.sent ++ ls) begins.1 ∙ sym (append_assoc told.sent front begins.0));
-  written = Appends-trans old.written mid.written written told.sent front told.written appended;
+  written = Appends-trans old.written.contents mid.written.contents written.contents told.sent front told.written appended;
 }
 
 -- each answer that an event can have has a text
@@ -121,9 +131,9 @@ a_text (By (event.Resize n)) r (inl (few, inr void)) = subst (λ s. (text : List
 a_text (By (event.Resize n)) r (inr refused) = subst (λ s. (text : List ℕ) × IsText (By (event.Resize n)) s text) (sym refused.1) (codes "refused", refl)
 
 -- what tells the last line was not kept
-pub told_refused : (asked done later : List Line) (old mid : Progress) (waiting front : List ℕ) (l : Line) (house : HouseState) (written : Option (List ℕ))
+pub told_refused : (asked done later : List Line) (old mid : Progress) (waiting front : List ℕ) (l : Line) (house : HouseState) (written : Written)
     → asked ≡ (done ++ l ∷ []) ++ later → IsToldSoFar done old mid waiting → IsDone l mid.house house
-    → Begins front waiting → Appends mid.written written front
+    → Begins front waiting → Appends mid.written.contents written.contents front
     → CarriesOutPart asked old (record { house = house; written = written })
 told_refused asked done later old mid waiting front l house written split told (text, leads) begins appended =
     let more = told_more done old mid waiting l house (waiting ++ (text ++ 10 ∷ [])) told (text, leads, refl) in
@@ -136,28 +146,37 @@ told_refused asked done later old mid waiting front l house written split told (
 pub all_begins : (bytes : List ℕ) → Begins bytes bytes
 all_begins bytes = ([], sym (append-nil bytes))
 
-pub some_written : {E : Type 0} (bytes : List ℕ) (old new : Option (List ℕ)) (r : Result (Unit {0}) E) → IsWritten bytes old new r → (front : List ℕ) × Begins front bytes × Appends old new front
-some_written bytes old new (Ok done) h = (bytes, all_begins bytes, h)
-some_written bytes old new (Err error) h = h
+pub some_written : {E : Type 0} (bytes : List ℕ) (old new : Written) (r : Result (Unit {0}) E) → WritesAll r bytes old new → (front : List ℕ) × Begins front bytes × Appends old.contents new.contents front
+some_written bytes old new (Ok done) h = (bytes, all_begins bytes, h.0)
+some_written bytes old new (Err error) h = (h.front, h.begins, h.appends)
 
 -- ---- failures
 
-ends_of_kind : (k : ErrorKind) (error : Error) → EndsTelling (failure_of_kind k place.Output error)
-ends_of_kind kind.OutOfMemory error = tt
-ends_of_kind _ error = tt
+ends_of_kind : (k : ErrorKind) (error : Error) (old new : ℕ) → HasFailed old new → EndsTelling (failure_of_kind k place.Output error) old new
+ends_of_kind kind.OutOfMemory error old new failed = inr failed
+ends_of_kind _ error old new failed = failed
 
-pub ends_at_output : (error : Error) → EndsTelling (failure_at place.Output error)
-ends_at_output error = ends_of_kind (error_kind error) error
+-- a failure of the output ends the telling, where one was counted
+pub ends_at_output : (f : Failure) (old new : ℕ) → IsOfOutput f → HasFailed old new → EndsTelling f old new
+ends_at_output (failure.InputOutput place.Output error) old new is failed = failed
+ends_at_output failure.Memory old new is failed = inr failed
+ends_at_output _ old new is failed = absurd is
 
 -- an ending is handed on
-pub ended : (asked : List Line) (old new : Progress) (r : Result (Unit {0}) Failure) (f : Failure) → IsErrAnd r (λ e. e ≡ f) → EndsTelling f → CarriesOutPart asked old new → IsCarriedOut asked old new r
+pub ended : (asked : List Line) (old new : Progress) (r : Result (Unit {0}) Failure) (f : Failure) → IsErrAnd r (λ e. e ≡ f) → EndsTelling f old.written.failures new.written.failures → CarriesOutPart asked old new → IsCarriedOut asked old new r
 ended asked old new (Ok done) f is ends part = absurd is
-ended asked old new (Err e) f is ends part = (subst EndsTelling (sym is) ends, part)
+ended asked old new (Err e) f is ends part = (subst (λ k. EndsTelling k old.written.failures new.written.failures) (sym is) ends, part)
 
 -- what a write that failed is told as
-pub failed_write : (r : Result (Unit {0}) Error) (f : Failure) (is : MatchResult r (λ u. ◌≡◌ {A = Result (Unit {0}) Failure} (Err f) (Ok u)) (λ error. ◌≡◌ {A = Result (Unit {0}) Failure} (Err f) (Err (failure_at place.Output error)))) → EndsTelling f
-failed_write (Ok done) f is = cc is
-failed_write (Err error) f is = let same : f ≡ failure_at place.Output error = cc is in subst EndsTelling (sym same) (ends_at_output error)
+pub failed_write : (r : Result (Unit {0}) Error) (f : Failure) (bytes : List ℕ) (old new : Written) (is : MatchResult r (λ u. ◌≡◌ {A = Result (Unit {0}) Failure} (Err f) (Ok u)) (λ error. ◌≡◌ {A = Result (Unit {0}) Failure} (Err f) (Err (failure_at place.Output error)))) → WritesAll r bytes old new → EndsTelling f old.failures new.failures
+failed_write (Ok done) f bytes old new is w = cc is
+failed_write (Err error) f bytes old new is w =
+    let same : f ≡ failure_at place.Output error = cc is in
+    subst (λ k. EndsTelling k old.failures new.failures) (sym same) (ends_of_kind (error_kind error) error old.failures new.failures w.failures)
+
+-- .. since the telling began, where nothing had failed until then
+pub since : (f : Failure) (old mid new : ℕ) → mid ≡ old → EndsTelling f mid new → EndsTelling f old new
+since f old mid new same ends = subst (λ n. EndsTelling f n new) same ends
 
 pub on_ok : {T E P : Type 0} (r : Result T E) → is_err r ≡ false → OnOk r P → P
 on_ok (Ok x) ok h = h
@@ -184,30 +203,30 @@ line_told lines i l old mid house kept more lt is told tells =
     subst (λ done. IsToldSoFar done old (record { house = house; written = mid.written }) more) (sym (line_at lines i l lt is))
     (told_more (map line_of (take i lines)) old mid kept (line_of l) house more told tells)
 
-pub part_told : {A : Type 0} (lines : List (script_line.ScriptLine A)) (i : ℕ) (old mid : Progress) (kept : List ℕ) (written : Option (List ℕ)) (bytes : List ℕ) (r : Result (Unit {0}) Error)
-    → IsToldSoFar (map line_of (take i lines)) old mid kept → bytes ≡ kept → IsWritten bytes mid.written written r
+pub part_told : {A : Type 0} (lines : List (script_line.ScriptLine A)) (i : ℕ) (old mid : Progress) (kept : List ℕ) (written : Written) (bytes : List ℕ) (r : Result (Unit {0}) Error)
+    → IsToldSoFar (map line_of (take i lines)) old mid kept → bytes ≡ kept → WritesAll r bytes mid.written written
     → CarriesOutPart (map line_of lines) old (record { house = mid.house; written = written })
 part_told lines i old mid kept written bytes r told same h =
     let some = some_written bytes mid.written written r h in
     told_part (map line_of lines) (map line_of (take i lines)) (map line_of (drop i lines)) old mid kept some.0 written (lines_split lines i) told
     (subst (Begins some.0) same some.1) some.2
 
-pub refused_part : {A : Type 0} (lines : List (script_line.ScriptLine A)) (i : ℕ) (l : script_line.ScriptLine A) (old mid : Progress) (house : HouseState) (kept bytes front : List ℕ) (written : Option (List ℕ))
+pub refused_part : {A : Type 0} (lines : List (script_line.ScriptLine A)) (i : ℕ) (l : script_line.ScriptLine A) (old mid : Progress) (house : HouseState) (kept bytes front : List ℕ) (written : Written)
     → i < length lines → l ≡ get_or lines i l → IsToldSoFar (map line_of (take i lines)) old mid kept
-    → IsDone (line_of l) mid.house house → bytes ≡ kept → Begins front bytes → Appends mid.written written front
+    → IsDone (line_of l) mid.house house → bytes ≡ kept → Begins front bytes → Appends mid.written.contents written.contents front
     → CarriesOutPart (map line_of lines) old (record { house = house; written = written })
 refused_part lines i l old mid house kept bytes front written lt is told done same begins appended =
     told_refused (map line_of lines) (map line_of (take i lines)) (map line_of (drop (i + 1) lines)) old mid kept front (line_of l) house written
     (lines_split lines (i + 1) ∙ ap (λ d. d ++ map line_of (drop (i + 1) lines)) (line_at lines i l lt is))
     told done (subst (Begins front) same begins) appended
 
-pub finished_all : {A : Type 0} (lines : List (script_line.ScriptLine A)) (i : ℕ) (old mid : Progress) (kept bytes : List ℕ) (written : Option (List ℕ)) (r : Result (Unit {0}) Failure)
-    → length lines ≤ i → IsToldSoFar (map line_of (take i lines)) old mid kept → bytes ≡ kept → IsWritten bytes mid.written written r → IfErr r EndsTelling
+pub finished_all : {A : Type 0} (lines : List (script_line.ScriptLine A)) (i : ℕ) (old mid : Progress) (kept bytes : List ℕ) (written : Written) (r : Result (Unit {0}) Failure)
+    → length lines ≤ i → IsToldSoFar (map line_of (take i lines)) old mid kept → bytes ≡ kept → WritesAll r bytes mid.written written → IfErr r IsOfOutput
     → IsCarriedOut (map line_of lines) old (record { house = mid.house; written = written }) r
 finished_all lines i old mid kept bytes written (Ok done) all told same h ends =
-    told_all (map line_of lines) old mid kept written (subst (λ ls. IsToldSoFar (map line_of ls) old mid kept) (take_all i lines all) told) (subst (Appends mid.written written) same h)
+    told_all (map line_of lines) old mid kept written (subst (λ ls. IsToldSoFar (map line_of ls) old mid kept) (take_all i lines all) told) (subst (λ ls. HasWritten ls mid.written written) same h)
 finished_all lines i old mid kept bytes written (Err f) all told same h ends =
-    (ends, told_part (map line_of lines) (map line_of (take i lines)) (map line_of (drop i lines)) old mid kept h.0 written (lines_split lines i) told (subst (Begins h.0) same h.1) h.2)
+    (since f _ _ _ told.failures (ends_at_output f mid.written.failures written.failures ends h.failures), told_part (map line_of lines) (map line_of (take i lines)) (map line_of (drop i lines)) old mid kept h.front written (lines_split lines i) told (subst (Begins h.front) same h.begins) h.appends)
 
 -- ---- one line, as the code carries it out
 
@@ -221,15 +240,26 @@ err_so (Err e) p = p
 
 -- ---- as the code writes
 
-pub checked_ok : (r : Result (Unit {0}) Error) (u : Unit {0}) (bytes : List ℕ) (old new : Option (List ℕ))
+pub checked_ok : (r : Result (Unit {0}) Error) (u : Unit {0}) (bytes : List ℕ) (old new : Written)
     → MatchResult r (λ v. ◌≡◌ {A = Result (Unit {0}) Failure} (Ok u) (Ok v)) (λ error. ◌≡◌ {A = Result (Unit {0}) Failure} (Ok u) (Err (failure_at place.Output error)))
-    → IsWritten bytes old new r → Appends old new bytes
+    → WritesAll r bytes old new → HasWritten bytes old new
 checked_ok (Ok done) u bytes old new is h = h
 checked_ok (Err error) u bytes old new is h = cc is
 
-pub flushed : (bytes : List ℕ) (old mid new : Option (List ℕ)) (r : Result (Unit {0}) Failure) → Appends old mid bytes → Keeps mid new → IsWritten bytes old new r
-flushed bytes old mid new (Ok done) appended kept = Appends-kept old mid new bytes appended kept
-flushed bytes old mid new (Err f) appended kept = (bytes, all_begins bytes, Appends-kept old mid new bytes appended kept)
+-- what was written was flushed
+pub flushed : (bytes : List ℕ) (old mid new : Written) (flush : Result (Unit {0}) Error) (r : Result (Unit {0}) Failure) → HasWritten bytes old mid → Keeps mid.contents new.contents → CountsFailure flush mid.failures new.failures
+    → MatchResult flush (λ v. ◌≡◌ {A = Result (Unit {0}) Failure} r (Ok v)) (λ error. ◌≡◌ {A = Result (Unit {0}) Failure} r (Err (failure_at place.Output error)))
+    → WritesAll r bytes old new
+flushed bytes old mid new (Ok done) r wrote kept same is =
+    subst (λ q. WritesAll q bytes old new) (sym is) (Appends-kept old.contents mid.contents new.contents bytes wrote.0 kept, same ∙ wrote.1)
+flushed bytes old mid new (Err error) r wrote kept failed is =
+    let part : WritesAll {E = Failure} (Err (failure_at place.Output error)) bytes old new = record {
+      front = bytes;
+      begins = all_begins bytes;
+      appends = Appends-kept old.contents mid.contents new.contents bytes wrote.0 kept;
+      failures = subst (λ n. HasFailed n new.failures) wrote.1 failed;
+    } in
+    subst (λ q. WritesAll q bytes old new) (sym is) part
 
 -- what holds of a value that another error was put in the place of
 pub ok_holds : {T E : Type 0} (F : Type 0) (P : T → Type 0) (r : Result T E) (t : T) → MatchResult r (λ x. ◌≡◌ {A = Result T F} (Ok t) (Ok x)) (λ e. ⊥) → IfOk r P → P t

@@ -1,5 +1,5 @@
 -- What the program came to, and what had been read and written by then.
-use Rattle.std.specs.Prelude.{◌≡◌, ◌⊎◌, ℕ, List, Option, Result, Ok, Err, IfErr}
+use Rattle.std.specs.Prelude.{◌≡◌, ◌⊎◌, ℕ, List, Result, Ok, Err, IfErr}
 use Rattle.stow_model.specs.Login.{Entry}
 use Rattle.stow.specs.declared.arguments.Task.{Task}
 use Rattle.stow.specs.declared.arguments.Job.{Job}
@@ -7,8 +7,11 @@ use Rattle.stow.specs.declared.arguments.Job.TheVariants as job
 use Rattle.stow.specs.declared.failure.Failure.{Failure}
 use Rattle.stow.specs.declared.failure.Failure.TheVariants.{Arguments, BadAddress, Tenants, InputOutput, Memory}
 use Rattle.stow.specs.declared.failure.Place.TheVariants as place
+use Rattle.stow_workers.specs.Failures.{HasFailed}
+use Rattle.stow_workers.specs.Sent.{Written, WritesAll}
+use Rattle.stow.specs.Ends.{InputFails, IsOfOutput, Unread}
 use Rattle.stow.specs.Statuses.{status_of}
-use Rattle.stow.specs.Told.{EndsTelling, IsTaskServed, IsWritten}
+use Rattle.stow.specs.Told.{IsTaskServed}
 
 -- 0 stands for an outcome without failure
 abbrev pub status_after : Result (Unit {0}) Failure → ℕ
@@ -29,22 +32,21 @@ RefusesTenants (InputOutput (place.File path) error) = Unit {0}
 RefusesTenants Memory = Unit {0}
 RefusesTenants _ = ⊥
 
--- connections are served no further
-abbrev pub EndsServing : Failure → Type 0
-EndsServing (InputOutput place.Network error) = Unit {0}
-EndsServing (InputOutput place.Output error) = Unit {0}
-EndsServing Memory = Unit {0}
-EndsServing _ = ⊥
+-- connections are served no further; a call of the output failed where it is told so
+abbrev pub EndsServing : ℕ → ℕ → Failure → Type 0
+EndsServing old new (InputOutput place.Network error) = Unit {0}
+EndsServing old new (InputOutput place.Output error) = HasFailed old new
+EndsServing old new Memory = Unit {0}
+EndsServing old new _ = ⊥
 
--- what the program's input still gives and its output holds, where these are known, before and after
+-- the program's input and output, before and after
 pub record Streams : Type 0 where
-  pub unread : Option (List ℕ)
-  pub left : Option (List ℕ)
-  pub before : Option (List ℕ)
-  pub after : Option (List ℕ)
+  pub unread : Unread
+  pub left : Unread
+  pub before : Written
+  pub after : Written
 
-abbrev pub streams_of : Option (List ℕ) → Option (List ℕ) → Option (List ℕ) → Option (List ℕ)
-    → Streams
+abbrev pub streams_of : Unread → Unread → Written → Written → Streams
 streams_of unread left before after =
     record { unread = unread; left = left; before = before; after = after }
 
@@ -57,14 +59,16 @@ FailsBefore Is s (Err failure) = Is failure × (s.left ≡ s.unread) × (s.after
 abbrev pub IsDone : Job → Streams → Result (Unit {0}) Failure → Type 0
 IsDone (job.Input task) s r = (entries : List Entry)
     × IsTaskServed task entries s.unread s.left s.before s.after r
-IsDone (job.Serve serving) s r = IfErr r EndsServing × (s.left ≡ s.unread)
+    × InputFails r s.unread.failures s.left.failures
+IsDone (job.Serve serving) s r =
+    IfErr r (EndsServing s.before.failures s.after.failures) × (s.left ≡ s.unread)
 
 abbrev pub IsRun : Job → Streams → Result (Unit {0}) Failure → Type 0
 IsRun asked s r = FailsBefore RefusesTenants s r ⊎ IsDone asked s r
 
 -- a text was written, and nothing was read
 abbrev pub IsHelp : Streams → Result (Unit {0}) Failure → Type 0
-IsHelp s r = (text : List ℕ) × IsWritten text s.before s.after r × IfErr r EndsTelling
+IsHelp s r = (text : List ℕ) × WritesAll r text s.before s.after × IfErr r IsOfOutput
     × (s.left ≡ s.unread)
 
 -- the words asked for help or for a job, or they are refused

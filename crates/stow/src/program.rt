@@ -1,5 +1,7 @@
 //! What the program does, over any reader and writers.
 ghost use Rattle.std.specs.Prelude.{◌≡◌, IfErr};
+ghost use Rattle.stow_workers.specs.Counted.{borrow_of, failures_of};
+ghost use Rattle.stow.specs.Ends.{InputFails, held_by, unread_of};
 ghost use Rattle.stow.specs.Statuses.{status_of};
 ghost use Rattle.stow.specs.Told.{IsTaskServed};
 ghost use Rattle.stow.specs.Outcomes.{EndsWith, IsRun, RefusesTenants, status_after, streams_of};
@@ -22,6 +24,7 @@ use stow_login::explaining::explain;
 use stow_login::tenants::Tenants;
 use stow_login::tenants_fault::TenantsFault;
 use stow_tree::tree_shape::TreeShape;
+use stow_workers::counted::Counted;
 
 /// Does what the words ask for, the first being the program's own name, and gives the exit status: 0; 2
 /// where the arguments or the script are refused; 3 where the tenant file is; 4 where input or output failed;
@@ -32,14 +35,17 @@ pub fn program<H, D: Folder, R: Read, W: Write, E: Write>(
     alloc: Global,
     folder: &D,
     words: &[String],
-    input: &mut R,
-    output: &mut W,
+    input: &mut Counted<'_, R>,
+    output: &mut Counted<'_, W>,
     errors: &mut E,
 ) -> u8
 where
     H: Net<Listener = TcpListener, Stream = TcpStream> + Threads + Wait + Sync,
-    ensures { EndsWith (streams_of (R.remaining input.old) (R.remaining input.new)
-        (W.contents output.old) (W.contents output.new)) result }
+    ensures ends { EndsWith (streams_of (unread_of R.remaining input.old)
+        (unread_of R.remaining input.new) (held_by W.contents output.old)
+        (held_by W.contents output.new)) result }
+    ensures same_input { borrow_of input.new ≡ borrow_of input.old }
+    ensures same_output { borrow_of output.new ≡ borrow_of output.old }
 {
     match read_arguments(alloc, words) {
         Ok(Wish::Work(arguments)) => {
@@ -60,14 +66,17 @@ fn run<'a, H, D: Folder, R: Read, W: Write, E: Write>(
     alloc: Global,
     folder: &D,
     arguments: &Arguments<'a>,
-    input: &mut R,
-    output: &mut W,
+    input: &mut Counted<'_, R>,
+    output: &mut Counted<'_, W>,
     errors: &mut E,
 ) -> Result<(), Failure<'a>>
 where
     H: Net<Listener = TcpListener, Stream = TcpStream> + Threads + Wait + Sync,
-    ensures { IsRun arguments.now.job (streams_of (R.remaining input.old) (R.remaining input.new)
-        (W.contents output.old) (W.contents output.new)) result }
+    ensures runs { IsRun arguments.now.job (streams_of (unread_of R.remaining input.old)
+        (unread_of R.remaining input.new) (held_by W.contents output.old)
+        (held_by W.contents output.new)) result }
+    ensures same_input { borrow_of input.new ≡ borrow_of input.old }
+    ensures same_output { borrow_of output.new ≡ borrow_of output.old }
 {
     let tenants = read_tenants(alloc, folder, arguments.tenants)?;
     let shape = arguments.shape;
@@ -109,11 +118,15 @@ pub fn serve<'a, A: Allocator + Copy, R: Read, W: Write>(
     tenants: Tenants<A>,
     shape: TreeShape,
     task: Task,
-    input: &mut R,
-    output: &mut W,
+    input: &mut Counted<'_, R>,
+    output: &mut Counted<'_, W>,
 ) -> Result<(), Failure<'a>>
-    ensures { IsTaskServed task tenants (R.remaining input.old) (R.remaining input.new)
-        (W.contents output.old) (W.contents output.new) result }
+    ensures served { IsTaskServed task tenants (unread_of R.remaining input.old)
+        (unread_of R.remaining input.new) (held_by W.contents output.old)
+        (held_by W.contents output.new) result }
+    ensures input { InputFails result (failures_of input.old) (failures_of input.new) }
+    ensures same_input { borrow_of input.new ≡ borrow_of input.old }
+    ensures same_output { borrow_of output.new ≡ borrow_of output.old }
 {
     let tenants = Arc::new(alloc, tenants).map_err(AllocError::from)?;
     let mut core = new_core(alloc, tenants.clone()?, shape)?;

@@ -1,10 +1,12 @@
 //! A script of events, and of questions how large the tree is.
-ghost use Rattle.std.specs.Prelude.{◌≡◌, IfErr, OnErr, OnOk, map};
+ghost use Rattle.std.specs.Prelude.{◌≡◌, ◌++◌, IfErr, IfSome, OnErr, OnOk, map};
 ghost use Rattle.stow_model.specs.Event.{event_of};
+ghost use Rattle.stow_workers.specs.Sent.{WritesAll, written_of};
+ghost use Rattle.stow.specs.Ends.{InputFails, IsOfInput, IsOfOutput};
 ghost use Rattle.stow.specs.Lines.{WritesLine};
 ghost use Rattle.stow.specs.Read.{IsScriptRead};
 ghost use Rattle.stow.specs.Script.{line_of};
-ghost use Rattle.stow.specs.Told.{EndsTelling, IsCarriedOut, IsDone, IsScripted, IsToldLine, IsWritten, progress_of};
+ghost use Rattle.stow.specs.Told.{IsCarriedOut, IsDone, IsScripted, IsToldLine, progress_of};
 ghost use Rattle.stow_house.specs.Steps.{state_of};
 ghost use Rattle.stow_house.specs.StepResult.{step_result_of, CanAnswer};
 
@@ -15,41 +17,72 @@ use crate::script_line::ScriptLine;
 use crate::stumble::Stumble;
 use crate::text::TextFault;
 use std::alloc::{AllocError, Allocator};
-use std::io;
-use std::io::{ErrorKind, Read, Write};
 use stow_house::house::House;
 use stow_house::step_result::StepResult;
 use stow_model::event::Event;
+use stow_workers::sink::Sink;
+use stow_workers::source::Source;
+use stow_workers::writing::write_all;
 
 /// How many bytes of answers are kept before they are written.
 const ANSWERS: usize = 65_536;
 
+/// The most bytes that are read at once.
+const PIECE: usize = 4096;
+
 /// Carries out the lines of the reader's script, and writes a line for each. The whole script is checked
 /// before its first line is carried out.
-pub fn script<'a, A: Allocator + Copy, R: Read, W: Write>(
+pub fn script<'a, A: Allocator + Copy, R: Source, W: Sink>(
     alloc: A,
     house: &mut House<A>,
     input: &mut R,
     output: &mut W,
 ) -> Result<(), Failure<'a>>
-    ensures { IsScripted (R.remaining input.old) (progress_of house.old (W.contents output.old))
-        (progress_of house.new (W.contents output.new)) result }
+    ensures scripted { IsScripted (R.remaining input.old)
+        (progress_of house.old (W.contents output.old) (W.failures output.old))
+        (progress_of house.new (W.contents output.new) (W.failures output.new)) result }
+    ensures input { InputFails result (R.failures input.old) (R.failures input.new) }
+    ensures same_input { R.borrow input.new ≡ R.borrow input.old }
+    ensures same_output { W.borrow output.new ≡ W.borrow output.old }
 {
     let mut text = Vec::new(alloc);
-    Place::Input.check(input.read_to_end(&mut text))?;
+    read_all(input, &mut text)?;
     let lines = read_script(alloc, text.as_slice())?;
     carry_out(alloc, house, lines.as_slice(), output)
 }
 
+/// Adds all that there is to be read, up to a read that fails or memory that is refused.
+fn read_all<A: Allocator, R: Source>(
+    input: &mut R,
+    text: &mut Vec<u8, A>,
+) -> Result<(), Failure<'static>>
+    ensures ok { OnOk result (IfSome (R.remaining input.old)
+        (λ bytes. text.new.items ≡ text.old.items ++ bytes)) }
+    ensures err { IfErr result IsOfInput }
+    ensures input { InputFails result (R.failures input.old) (R.failures input.new) }
+    ensures same_input { R.borrow input.new ≡ R.borrow input.old }
+{
+    let mut piece = [0u8; PIECE];
+    loop {
+        let count = Place::Input.check(input.read(&mut piece))?;
+        if count == 0 {
+            return Ok(());
+        }
+        text.extend_from_slice(&piece[..count])?;
+    }
+}
+
 /// Carries out the lines, and writes a line for each, up to the first that can't be written or kept.
-fn carry_out<'a, A: Allocator + Copy, W: Write>(
+fn carry_out<'a, A: Allocator + Copy, W: Sink>(
     alloc: A,
     house: &mut House<A>,
     lines: &[ScriptLine<A>],
     output: &mut W,
 ) -> Result<(), Failure<'a>>
-    ensures { IsCarriedOut (map line_of lines.now) (progress_of house.old (W.contents output.old))
-        (progress_of house.new (W.contents output.new)) result }
+    ensures carried_out { IsCarriedOut (map line_of lines.now)
+        (progress_of house.old (W.contents output.old) (W.failures output.old))
+        (progress_of house.new (W.contents output.new) (W.failures output.new)) result }
+    ensures same_output { W.borrow output.new ≡ W.borrow output.old }
 {
     let mut answers = Vec::new(alloc);
     for line in lines {
@@ -58,7 +91,7 @@ fn carry_out<'a, A: Allocator + Copy, W: Write>(
             return Err(Failure::Memory);
         }
         if answers.len() >= ANSWERS {
-            Place::Output.check(write_all(answers.as_slice(), output))?;
+            Place::Output.check(write_all(output, answers.as_slice()))?;
             answers.clear();
         }
     }
@@ -108,34 +141,15 @@ fn tell<A: Allocator + Copy>(
 }
 
 /// Writes the last bytes of the output.
-pub fn finish<'a, W: Write>(bytes: &[u8], output: &mut W) -> Result<(), Failure<'a>>
-    ensures written { IsWritten bytes.now (W.contents output.old) (W.contents output.new) result }
-    ensures err { IfErr result EndsTelling }
+pub fn finish<'a, W: Sink>(bytes: &[u8], output: &mut W) -> Result<(), Failure<'a>>
+    ensures written { WritesAll result bytes.now
+        (written_of (W.contents output.old) (W.failures output.old))
+        (written_of (W.contents output.new) (W.failures output.new)) }
+    ensures err { IfErr result IsOfOutput }
+    ensures same_output { W.borrow output.new ≡ W.borrow output.old }
 {
-    Place::Output.check(write_all(bytes, output))?;
+    Place::Output.check(write_all(output, bytes))?;
     Place::Output.check(output.flush())
-}
-
-/// Writes all bytes, or a beginning of them where a write fails. A write that was interrupted is made again.
-fn write_all<W: Write>(bytes: &[u8], output: &mut W) -> io::Result<()>
-    ensures { IsWritten bytes.now (W.contents output.old) (W.contents output.new) result }
-{
-    let mut rest = bytes;
-    for _ in 0..u64::MAX {
-        if rest.is_empty() {
-            return Ok(());
-        }
-        match output.write(rest) {
-            Ok(0) => {
-                let message = "failed to write whole buffer";
-                return Err(io::Error::new(ErrorKind::WriteZero, message));
-            }
-            Ok(count) => rest = &rest[count..],
-            Err(error) if error.kind() == ErrorKind::Interrupted => {}
-            Err(error) => return Err(error),
-        }
-    }
-    Err(io::Error::from(ErrorKind::Interrupted))
 }
 
 /// What a script's lines ask for, or the number of its first bad line, counted from 1.

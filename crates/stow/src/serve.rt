@@ -1,14 +1,14 @@
 //! Connections over TCP, each served by a thread.
-ghost use Rattle.std.specs.Prelude.{IfErr};
+ghost use Rattle.std.specs.Prelude.{◌≡◌, IfErr};
 ghost use Rattle.stow.specs.Outcomes.{EndsServing};
 
 use crate::failure::{Failure, Place};
 use crate::new_core::new_core;
+use crate::script::finish;
 use crate::serving::Serving;
 use log::info;
 use log::sink::Writer;
 use std::alloc::{AllocError, Allocator};
-use std::io;
 use std::io::Write;
 use std::net::{SocketAddr, TcpListener};
 use std::sync::{Arc, Wait};
@@ -22,10 +22,11 @@ use stow_tree::tree_shape::TreeShape;
 use stow_workers::open_gate::OpenGate;
 use stow_workers::pool::Pool;
 use stow_workers::pool_fault::PoolFault;
+use stow_workers::sink::Sink;
 
 /// Tells the listener's address on the output, and serves its connections over a new service of the tenants and
 /// a tree of this shape. Where notices are wanted, a line of a log tells the start and another one the end.
-pub fn serve_connections<R, A, W: Write, E: Write>(
+pub fn serve_connections<R, A, W: Sink, E: Write>(
     rt: &R,
     alloc: A,
     listener: &TcpListener,
@@ -38,7 +39,8 @@ pub fn serve_connections<R, A, W: Write, E: Write>(
 where
     R: Threads + Wait + Sync,
     A: Allocator + Copy + Send + Sync,
-    ensures { IfErr result EndsServing }
+    ensures err { IfErr result (EndsServing (W.failures output.old) (W.failures output.new)) }
+    ensures same_output { W.borrow output.new ≡ W.borrow output.old }
 {
     let tenants = Arc::new(alloc, tenants).map_err(AllocError::from)?;
     let core = new_core(alloc, tenants, shape)?;
@@ -46,7 +48,7 @@ where
         return Err(Failure::Memory);
     };
     let address = Place::Network.check(listener.local_addr())?;
-    Place::Output.check(tell_address(address, output))?;
+    tell_address(alloc, address, output)?;
     notice(serving, "start", errors);
     let (_, fault) = Pool::run(
         rt,
@@ -66,9 +68,16 @@ where
     Ok(())
 }
 
-fn tell_address<W: Write>(address: SocketAddr, output: &mut W) -> io::Result<()> {
-    output.writeln(format_args!("listening {address}"))?;
-    output.flush()
+fn tell_address<A: Allocator, W: Sink>(
+    alloc: A,
+    address: SocketAddr,
+    output: &mut W,
+) -> Result<(), Failure<'static>>
+    ensures err { IfErr result (EndsServing (W.failures output.old) (W.failures output.new)) }
+    ensures same_output { W.borrow output.new ≡ W.borrow output.old }
+{
+    let line = format!(in alloc; "listening {address}\n")?;
+    finish(line.as_bytes(), output)
 }
 
 /// A line of a log, where notices are wanted; one that can't be written is dropped.

@@ -1,8 +1,9 @@
 //! The program over memory: worked examples whose answers come from the service's description.
+use crate::arguments::Task;
 use crate::failure::Failure;
 use crate::folder::Folder;
-use crate::program::program;
-use std::alloc::{AllocError, Global};
+use crate::program::{program, serve};
+use std::alloc::{AllocError, Allocator, Global};
 use std::io;
 use std::io::{Read, Write};
 use std::net::{Net, TcpListener, TcpStream};
@@ -10,8 +11,11 @@ use std::process::Abort;
 use std::sync::Wait;
 use std::test::Fail;
 use std::thread::Threads;
+use stow_login::tenants::Tenants;
 use stow_login::tenants_fault::TenantsFault;
 use stow_testing::tenants::THREE;
+use stow_tree::tree_shape::TreeShape;
+use stow_workers::counted::Counted;
 
 mod fields;
 mod limits;
@@ -133,6 +137,38 @@ fn words_of(alloc: Global, line: &str) -> Result<Vec<String>, AllocError> {
     Ok(words)
 }
 
+/// Runs the program over files, a reader and writers.
+fn run_words<H, D: Folder, R: Read, W: Write, E: Write>(
+    rt: &H,
+    alloc: Global,
+    folder: &D,
+    words: &[String],
+    input: &mut R,
+    output: &mut W,
+    errors: &mut E,
+) -> u8
+where
+    H: Net<Listener = TcpListener, Stream = TcpStream> + Threads + Wait + Sync,
+{
+    let mut reader = Counted::new(input);
+    let mut writer = Counted::new(output);
+    program(rt, alloc, folder, words, &mut reader, &mut writer, errors)
+}
+
+/// Whether a task over a new service of these tenants ends well.
+fn ends_well<A: Allocator + Copy, R: Read, W: Write>(
+    alloc: A,
+    tenants: Tenants<A>,
+    task: Task,
+    input: &mut R,
+    output: &mut W,
+) -> bool {
+    let mut reader = Counted::new(input);
+    let mut writer = Counted::new(output);
+    let shape = TreeShape::USUAL;
+    serve(alloc, tenants, shape, task, &mut reader, &mut writer).is_ok()
+}
+
 /// Runs a command line over files and input.
 fn run_line<H, R: Read>(
     rt: &H,
@@ -146,7 +182,7 @@ where
     let words = words_of(alloc, line)?;
     let mut output = Vec::new(alloc);
     let mut errors = Vec::new(alloc);
-    let status = program(
+    let status = run_words(
         rt,
         alloc,
         &Shelf,
@@ -427,7 +463,7 @@ where
     let words = words_of(alloc, line)?;
     let mut errors = Vec::new(alloc);
     let mut input = HELLO;
-    Ok(program(
+    Ok(run_words(
         rt,
         alloc,
         &Shelf,
@@ -617,7 +653,7 @@ fn a_stream_that_fails_is_explained(rt: HostRuntime) -> Result<(), Fail> {
     let words = words_of(alloc, "script --tenants three.toml --explain")?;
     let mut errors = Vec::new(alloc);
     let mut input: &[u8] = b"open 1\n";
-    let status = program(
+    let status = run_words(
         &rt,
         alloc,
         &Shelf,

@@ -55,8 +55,6 @@ pub mod prepared;
 mod preparing;
 mod ranging;
 mod reading;
-#[cfg(test)]
-mod tests;
 mod writes;
 
 /// The stores of all tenants.

@@ -22,6 +22,4 @@ pub mod run_fault;
 pub mod session;
 pub mod step_result;
 pub mod taken;
-#[cfg(test)]
-mod tests;
 pub mod told;

@@ -21,9 +21,6 @@ use stow_model::simple_string::SimpleString;
 use stow_model::words::Words;
 use stow_resp::next::Next;
 
-#[cfg(test)]
-mod tests;
-
 /// One connection's login: the tenant of the last one that was accepted, if any was.
 #[derive(Drop)]
 pub struct Session {

@@ -17,5 +17,3 @@ mod reading;
 pub mod tenant;
 pub mod tenants;
 pub mod tenants_fault;
-#[cfg(test)]
-mod tests;

@@ -2,6 +2,7 @@ pub mod RisingLaws
 pub mod Merged
 pub mod Placed
 pub mod Pushed
+pub mod Covered
 pub mod Ranges
 pub mod Reading
 pub mod Removed

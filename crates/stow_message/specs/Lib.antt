@@ -1,4 +1,5 @@
 pub mod Laws
+pub mod Filter
 pub mod MessageBuf
 pub mod Packed
 pub mod Rising

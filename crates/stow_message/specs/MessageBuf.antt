@@ -1,10 +1,11 @@
 -- What a contract sees of a `MessageBuf`.
-use Rattle.std.specs.Prelude.{◌≡◌, ℕ, ◌+◌, ◌-◌, ◌*◌, ◌≤◌, ◌<◌, List, length, map, refl, drop}
+use Rattle.std.specs.Prelude.{◌≡◌, ℕ, ◌+◌, ◌-◌, ◌*◌, ◌≤◌, ◌<◌, List, Bool, length, map, refl, drop}
 use Rattle.std.specs.Coded.{Coded, code_by, coded×, coded_list, coded_ℕ}
 use Rattle.stow_raw.specs.RawBuf.{RawLists, raw_used}
 use Rattle.stow_tree_model.specs.Op.{Op, Put, Gone, Append, bytes_in}
 use Rattle.stow_tree_model.specs.TreeMessage.{TreeMessage}
 use Rattle.stow_tree_model.specs.Order.{MessagesRise}
+use Rattle.stow_message.specs.Filter.{Covers}
 use Rattle.stow_message.specs.Packed.{kind_of, op_by, message_at, message_size, BeginsWith}
 use Rattle.stow_message.specs.Rising.{placed, all_placed, in_range, out_of_range, without}
 use Rattle.std.specs.List.{AllByRecursion, sum_by}
@@ -74,3 +75,8 @@ pub record IsFilled (raw : RawLists) : Type 0 where
   pub rising : MessagesRise (messages_in raw)
   pub live : sum_by message_size (messages_in raw) ≤ raw_used raw
   pub within : (raw_used raw ≤ raw.capacity) × (raw.capacity < 4294967296)
+
+-- .. and each one's key has its mark
+pub record IsMarked (raw : RawLists) (marks : List Bool) : Type 0 where
+  pub filled : IsFilled raw
+  pub covers : Covers marks (messages_in raw)

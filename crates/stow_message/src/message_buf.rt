@@ -4,11 +4,13 @@ ghost use Rattle.std.specs.Ordering.{is_lt, is_eq};
 ghost use Rattle.stow_tree_model.specs.TreeMessage.{message_of};
 ghost use Rattle.stow_tree_model.specs.Order.{place_cmp, place_of, MessagesRise};
 ghost use Rattle.stow_raw.specs.RawBuf.{raw_lists, RawFits};
-ghost use Rattle.stow_message.specs.MessageBuf.{message_list, Fits, with_message, with_messages, without_batch, without_range};
+ghost use Rattle.stow_message.specs.Filter.{Covers};
+ghost use Rattle.stow_message.specs.MessageBuf.{message_list, messages_in, Fits, IsFilled, with_message, with_messages, without_batch, without_range};
 ghost use Rattle.stow_message.specs.Packed.{message_bytes, message_size, message_at, IsMessage, BeginsWith, all_bytes};
 ghost use Rattle.stow_message.specs.Rising.{is_below, below, placed, IsNew, of_key, in_range, out_of_range, all_placed, AreNew, is_same, is_first, is_first_below, AreHeld, without};
 ghost use Rattle.std.specs.List.{All, AllByRecursion, sum_by, remove_range};
 
+use crate::filter::Filter;
 use crate::head::{HEAD, SLOT, kind, op_with, read_head, size, write_head};
 use crate::newest::Newest;
 use crate::run::Run;
@@ -19,15 +21,17 @@ use stow_raw::raw_buf::RawBuf;
 use stow_tree_model::message::Message;
 use stow_tree_model::tenant_key::TenantKey;
 
-/// Messages in one block, in the order of their keys and numbers.
+/// Messages in one block, in the order of their keys and numbers, with a filter by which most look-ups of a key that has
+/// none are short.
 #[derive(Drop)]
 pub struct MessageBuf<A: Allocator = Global> {
     raw: RawBuf<A>,
+    filter: Filter<A>,
 }
 
 impl<A: Allocator> Model for MessageBuf<A> {
     ghost use Rattle.stow_raw.specs.RawBuf.{raw_used};
-    ghost use Rattle.stow_message.specs.MessageBuf.{MessageList, message_list, message_list_code, messages_in, IsFilled};
+    ghost use Rattle.stow_message.specs.MessageBuf.{MessageList, message_list, message_list_code, messages_in, IsMarked};
 
     ghost Value = { MessageList };
 
@@ -35,7 +39,7 @@ impl<A: Allocator> Model for MessageBuf<A> {
 
     ghost view = { λ b. message_list (messages_in b.raw) (raw_used b.raw) b.raw.capacity };
 
-    ghost invariant = { λ b. IsFilled b.raw };
+    ghost invariant = { λ b. IsMarked b.raw b.filter.marks.items };
 }
 
 /// Whether the message stands below the key and number.
@@ -125,16 +129,54 @@ fn is_slot_below<A: Allocator>(raw: &RawBuf<A>, index: usize, message: Message<'
     }
 }
 
-impl<A: Allocator> MessageBuf<A> {
+/// Adds the key of each message to the filter.
+fn mark_all<A: Allocator>(raw: &RawBuf<A>, filter: &mut Filter<A>)
+    requires filled { IsFilled raw.now }
+    ensures { Covers filter.new.marks.items (messages_in raw.now) }
+{
+    for i in 0..raw.slot_count() {
+        let message = read_message(raw, raw.slot(i) as usize);
+        filter.add(message.key.bytes);
+    }
+}
+
+/// Drops the marks of keys that left, where they may be many.
+fn renew_marks<A: Allocator>(raw: &RawBuf<A>, filter: &mut Filter<A>)
+    requires filled { IsFilled raw.now }
+    requires covers { Covers filter.old.marks.items (messages_in raw.now) }
+    ensures { Covers filter.new.marks.items (messages_in raw.now) }
+{
+    if filter.is_stale(raw.slot_count()) {
+        filter.clear();
+        mark_all(raw, filter);
+    }
+}
+
+/// How many bytes the messages of a run take, their slots among them.
+fn bytes_in<A: Allocator>(run: &Run<'_, A>) -> usize
+    requires { length run.now < 4294967296 }
+    ensures { result ≡ sum_by message_size run.now }
+{
+    let mut total = 0;
+    for i in 0..run.len() {
+        total += size(run.get(i));
+    }
+    total
+}
+
+impl<A: Allocator + Copy> MessageBuf<A> {
     /// A buffer of `capacity` bytes with no message. A capacity of 0 asks for no memory.
     pub fn with_capacity(alloc: A, capacity: usize) -> Result<Self, AllocError>
         requires { capacity < 4294967296 }
         ensures { IfOk result (λ b. b ≡ message_list [] 0 capacity) }
     {
         let raw = RawBuf::with_capacity(alloc, capacity)?;
-        Ok(MessageBuf { raw })
+        let filter = Filter::with_capacity(alloc, capacity)?;
+        Ok(MessageBuf { raw, filter })
     }
+}
 
+impl<A: Allocator> MessageBuf<A> {
     /// How many bytes the block has.
     pub fn capacity(&self) -> usize
         ensures { result ≡ self.now.capacity }
@@ -149,6 +191,25 @@ impl<A: Allocator> MessageBuf<A> {
         ensures live { sum_by message_size self.now.messages ≤ result }
     {
         self.raw.capacity() - self.raw.room()
+    }
+
+    /// All messages, lent.
+    fn all(&self) -> Run<'_, A>
+        ensures messages { result ≡ self.now.messages }
+        ensures small { length result < 4294967296 }
+    {
+        Run {
+            buf: self,
+            from: 0,
+            to: self.len(),
+        }
+    }
+
+    /// How many bytes the messages take, their slots among them: as many as are in use where none are dead.
+    pub fn live(&self) -> usize
+        ensures { result ≡ sum_by message_size self.now.messages }
+    {
+        bytes_in(&self.all())
     }
 
     /// How many messages there are.
@@ -272,6 +333,7 @@ impl<A: Allocator> MessageBuf<A> {
         let at = self.raw.front_len() as u32;
         append(&mut self.raw, message);
         self.raw.insert_slot(index, at);
+        self.filter.add(message.key.bytes);
     }
 
     /// The messages of a key, the newest first, lent.
@@ -281,10 +343,27 @@ impl<A: Allocator> MessageBuf<A> {
         self.of_key_near(key, usize::MAX)
     }
 
-    /// The messages of a key, the newest first, lent. The search is the shorter the nearer the guess is to the first.
+    /// No messages.
+    fn none(&self) -> Newest<'_, A>
+        ensures { result ≡ [] }
+    {
+        Newest {
+            run: Run {
+                buf: self,
+                from: 0,
+                to: 0,
+            },
+        }
+    }
+
+    /// The messages of a key, the newest first, lent. The search is the shorter the nearer the guess is to the first; for a
+    /// guess beyond all messages the filter is asked before.
     pub fn of_key_near(&self, key: TenantKey<'_>, guess: usize) -> Newest<'_, A>
         ensures { result ≡ reverse (of_key key.entry.bytes.now self.now.messages) }
     {
+        if guess > self.len() && !self.filter.may_have(key.bytes) {
+            return self.none();
+        }
         let from = self.count_below(key, 0, guess);
         let to = self.search_from(from, key.bytes, u64::MAX);
         Newest {
@@ -316,12 +395,7 @@ impl<A: Allocator> MessageBuf<A> {
             ≡ sum_by message_size
             (in_range from.entry.bytes.now to.entry.bytes.now self.now.messages) }
     {
-        let run = self.in_range(from, to);
-        let mut total = 0;
-        for i in 0..run.len() {
-            total += size(run.get(i));
-        }
-        total
+        bytes_in(&self.in_range(from, to))
     }
 
     /// Lets the `count` messages from `index` on go: their bytes are dead.
@@ -343,6 +417,7 @@ impl<A: Allocator> MessageBuf<A> {
         ensures { self.new ≡ message_list (all_placed run.now self.old.messages)
             (self.old.used + sum_by message_size run.now) self.old.capacity }
     {
+        self.filter.add_all(run);
         let mut at = self.raw.front_len();
         append_all(&mut self.raw, run);
         let count = run.len();
@@ -466,6 +541,7 @@ impl<A: Allocator> MessageBuf<A> {
         }
         self.raw.clear_front();
         self.raw.push_front(spare.bytes(0, spare.front_len()));
+        renew_marks(&self.raw, &mut self.filter);
     }
 
     /// Drops every message.
@@ -473,5 +549,6 @@ impl<A: Allocator> MessageBuf<A> {
         ensures { self.new ≡ message_list [] 0 self.old.capacity }
     {
         self.raw.reset();
+        self.filter.clear();
     }
 }

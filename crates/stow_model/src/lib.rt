@@ -38,7 +38,5 @@ pub mod span;
 pub mod stream_fault;
 pub mod stream_read;
 pub mod stream_rest;
-#[cfg(test)]
-mod tests;
 pub mod usage;
 pub mod words;

@@ -295,10 +295,11 @@ impl<A: Allocator> Node<A> {
         from.move_range(self.low.as_key(), to, &mut self.buffer);
     }
 
-    /// Whether so many bytes fit into its own buffer; where they don't at first, dead bytes are dropped.
+    /// Whether so many bytes fit into its own buffer. Dead bytes are dropped where they fit then and not before.
     pub fn makes_room(&mut self, bytes: usize, spare: &mut RawBuf<A>) -> bool
         requires { self.old.buffer.capacity ≤ spare.old.capacity }
         ensures same { IsSqueezed self.old self.new }
+        ensures still { self.old.buffer.used + bytes ≤ self.old.buffer.capacity → self.new ≡ self.old }
         ensures room { IsTrue result → self.new.buffer.used + bytes ≤ self.new.buffer.capacity }
         ensures full { result ≡ false → self.new.buffer.capacity
             < sum_by message_size self.new.buffer.messages + bytes }
@@ -308,7 +309,10 @@ impl<A: Allocator> Node<A> {
         if bytes <= capacity - self.buffer.used() {
             return true;
         }
+        if bytes > capacity - self.buffer.live() {
+            return false;
+        }
         self.buffer.squeeze(spare);
-        bytes <= capacity - self.buffer.used()
+        true
     }
 }

@@ -14,5 +14,3 @@ pub mod plain_rows;
 pub mod plain_run;
 pub mod plain_store;
 pub mod plain_version;
-#[cfg(test)]
-mod tests;

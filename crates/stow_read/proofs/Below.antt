@@ -8,7 +8,7 @@ use Rattle.stow_tree_model.specs.Operations.{or_else}
 use Rattle.std.proofs.lemmas.List.Elements.{Contains-append_left, Contains-append_right}
 use Rattle.stow_leaf.specs.Intervals.{top_key, spans}
 use Rattle.stow_leaf.specs.LeafRows.{LeafRows, row_messages}
-use Rattle.stow_leaf.proofs.Intervals.{span_low, span_high, spanned, lt_le}
+use Rattle.stow_leaf.proofs.Intervals.{lt, span_low, span_high, spanned, lt_le, le_le}
 use Rattle.stow_leaf.proofs.Ops.{ops-append}
 use Rattle.stow_node.specs.declared.child.Child.{Child}
 use Rattle.stow_node.specs.Nodes.{part_of, parts_of, AreChildren}
@@ -17,7 +17,7 @@ use Rattle.stow_node.specs.Subtree.{Subtree}
 use Rattle.stow_node.proofs.Lowered.{rows_by_part, end_at_most}
 use Rattle.stow_node.proofs.Row.{message_taken, row_taken, messages_apart, rows_apart, at_part}
 use Rattle.stow_node.proofs.Stayed.{level_at}
-use Rattle.stow_read.specs.Descent.{part_messages, LeadsTo}
+use Rattle.stow_read.specs.Descent.{part_messages, LeadsTo, LeadsAllTo}
 
 leaves_of : (ps : List Part) (i : ℕ) (d : Part) (leaf : LeafRows) → i < length ps → Contains (get_or ps i d).leaves leaf → Contains (leaves_in ps) leaf
 leaves_of [] i d leaf h c = absurd (omega arith)
@@ -58,3 +58,15 @@ leads_to t cs key i c are for e = record {
         (λ j. ops_in (are.deeper j ++ row_messages (are.leaves j)) key n)
         ∙ row_has (parts_of cs) i (part_of c) key n are.tiled for
         ∙ ap (λ (p : Part). ops_in (part_messages p) key n) is
+
+-- a row's part for a key is that for the keys behind it up to the part's end
+pub leads_all_to : {A : Type 0} (t : Subtree) (cs : List (Child A)) (key : List ℕ) (i : ℕ) (c : Child A) (high : List ℕ) → AreChildren t cs → IsFor (parts_of cs) key i → c ≡ get_or cs i c → high ≡ high_of (parts_of cs) i → LeadsAllTo t key high c
+leads_all_to t cs key i c high are for e end = record {
+  inside = ap (lt key) end ∙ span_high (get_or (parts_of cs) i (part_of c)).low (high_of (parts_of cs) i) key (for.spanned (part_of c));
+  each = λ other s. leads_to t cs other i c are (record {
+    inside = for.inside;
+    spanned = λ d. spanned (get_or (parts_of cs) i d).low (high_of (parts_of cs) i) other
+        (le_le (get_or (parts_of cs) i d).low key other (span_low (get_or (parts_of cs) i d).low (high_of (parts_of cs) i) key (for.spanned d)) (span_low key high other s))
+        (ap (lt other) (sym end) ∙ span_high key high other s);
+  }) e;
+}

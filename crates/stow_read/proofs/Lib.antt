@@ -11,3 +11,4 @@ pub mod NextMessages
 pub mod NextRows
 pub mod NextBelow
 pub mod Ranged
+pub mod Ways

@@ -233,7 +233,7 @@ children_end t cs start after to end first i c here are l e clear next is low =
     own_next (ops_in t.buffer.messages) (ops_in (messages_in (parts_of cs) ++ row_messages (leaves_in (parts_of cs)))) (ops_in (messages_of t)) start after to end here (λ k n. rest_of t cs k n are) next is
     (none_below (parts_of cs) start after end first i clear (ap (λ k. lt k end) (sym (fence_of_child cs i c l e)) ∙ low))
 
-none_right : (a b : Option Op) → or_else a b ≡ None → b ≡ None
+pub none_right : (a b : Option Op) → or_else a b ≡ None → b ≡ None
 none_right None b e = e
 none_right (Some op) b e = absurd cc
 

@@ -45,7 +45,7 @@ abbrev pub IsNextHeld : (List ℕ → Operations) → Option (List ℕ) → Type
 IsNextHeld ops None = Unit {0}
 IsNextHeld ops (Some k) = IsHeld ops k
 
-next_held : (ops : List ℕ → Operations) (start : List ℕ) (after : Bool) (to : List ℕ) (next : Option (List ℕ)) → IsNextKey ops start after to next → IsNextHeld ops next
+pub next_held : (ops : List ℕ → Operations) (start : List ℕ) (after : Bool) (to : List ℕ) (next : Option (List ℕ)) → IsNextKey ops start after to next → IsNextHeld ops next
 next_held ops start after to None none = tt
 next_held ops start after to (Some k) low = record { number = low.number; there = low.there }
 

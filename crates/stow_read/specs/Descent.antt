@@ -1,5 +1,7 @@
 -- The way down to a key's leaf.
 use Rattle.std.specs.Prelude.{◌≡◌, ℕ, ◌<◌, List, ◌++◌, true, Contains}
+use Rattle.std.specs.Ordering.{is_lt}
+use Rattle.stow_bytes.specs.Bytes.{bytes_cmp}
 use Rattle.stow_leaf.specs.Intervals.{top_key, spans}
 use Rattle.stow_leaf.specs.LeafRows.{LeafRows, row_messages}
 use Rattle.stow_tree_model.specs.Messages.{ops_in}
@@ -22,3 +24,8 @@ pub record LeadsTo {A : Type 0} (t : Subtree) (key : List ℕ) (child : Child A)
       ≡ ops_in (part_messages (part_of child)) key n
   pub newer : IsAbove (ops_in t.buffer.messages key) (ops_in (part_messages (part_of child)) key)
   pub leaves : (leaf : LeafRows) → Contains (part_of child).leaves leaf → Contains t.leaves leaf
+
+-- the child is where all that stands below the node stands for each key of the interval
+pub record LeadsAllTo {A : Type 0} (t : Subtree) (low high : List ℕ) (child : Child A) : Type 0 where
+  pub inside : is_lt (bytes_cmp low high) ≡ true
+  pub each : (key : List ℕ) → spans low high key ≡ true → LeadsTo t key child

@@ -6,3 +6,4 @@ pub mod Path
 pub mod Versions
 pub mod NextKey
 pub mod Range
+pub mod Way

@@ -3,10 +3,10 @@ ghost use Rattle.std.specs.Prelude.{◌≡◌, ◌<◌, length, true};
 ghost use Rattle.std.specs.Ordering.{is_lt};
 ghost use Rattle.stow_bytes.specs.Bytes.{bytes_cmp};
 ghost use Rattle.stow_leaf.specs.Intervals.{top_key, spans};
-ghost use Rattle.stow_read.specs.Descent.{LeadsTo};
+ghost use Rattle.stow_read.specs.Descent.{LeadsTo, LeadsAllTo};
 
 use std::alloc::Allocator;
-use stow_node::child::{Child, child_for};
+use stow_node::child::{Child, child_for, high_after};
 use stow_node::node::Node;
 use stow_tree_model::tenant_key::TenantKey;
 
@@ -17,6 +17,29 @@ pub(crate) fn below<'a, A: Allocator>(node: &'a Node<A>, key: TenantKey<'_>) -> 
 {
     let children = node.children();
     &children[child_for(children, key)]
+}
+
+/// What stands below a node for a key, and where the keys end that it stands there for.
+#[derive(Drop)]
+pub(crate) struct Underneath<'a, A: Allocator> {
+    pub(crate) child: &'a Child<A>,
+    pub(crate) high: TenantKey<'a>,
+}
+
+/// What stands below a node for the key and those behind it.
+pub(crate) fn below_until<'a, A: Allocator>(
+    node: &'a Node<A>,
+    key: TenantKey<'_>,
+) -> Underneath<'a, A>
+    requires { spans node.now.low top_key key.bytes.now ≡ true }
+    ensures { LeadsAllTo node.now key.entry.bytes.now result.high.bytes.now result.child.now }
+{
+    let children = node.children();
+    let at = child_for(children, key);
+    Underneath {
+        child: &children[at],
+        high: high_after(children, at),
+    }
 }
 
 /// Whether a node may hold messages of the key.

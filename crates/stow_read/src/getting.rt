@@ -11,7 +11,6 @@ ghost use Rattle.stow_read.specs.Found.{found_value, lent_of};
 ghost use Rattle.stow_read.specs.Suffixes.{suffixes_of, continued};
 
 use crate::descent::{below, may_hold};
-use crate::guesses::Guesses;
 use crate::lent_value::LentValue;
 use crate::lookup::Lookup;
 use crate::suffixes::{Look, Suffixes};
@@ -32,7 +31,7 @@ struct End<'a, A: Allocator> {
 }
 
 /// What the key has at a number by a leaf's rows.
-fn value_in_rows<'a, A: Allocator>(
+pub(crate) fn value_in_rows<'a, A: Allocator>(
     rows: &'a Rows<A>,
     key: TenantKey<'_>,
     at: u64,
@@ -54,7 +53,6 @@ fn walk<'a, A: Allocator + Copy>(
     node: &'a Node<A>,
     key: TenantKey<'_>,
     at: u64,
-    guesses: &Guesses,
 ) -> Result<End<'a, A>, AllocError>
     requires { spans node.now.low top_key key.bytes.now ≡ true }
     ensures value { IfOk result (λ end.
@@ -63,18 +61,16 @@ fn walk<'a, A: Allocator + Copy>(
     ensures leaf { IfOk result (λ end. IfSome end.leaf
         (λ leaf. Contains node.now.leaves (leaf_rows leaf.now))) }
 {
-    let (mut here, mut level) = (node, 0usize);
+    let mut here = node;
     loop {
         let _children = here.children();
-        let guess = guesses.at(level);
-        level = level.saturating_add(1);
-        if let Look::Base(base) = suffixes.look(here.buffer(), key, at, guess)? {
+        if let Look::Base(base) = suffixes.look(here.buffer(), key, at, usize::MAX)? {
             return Ok(End { base, leaf: None });
         }
         match below(here, key) {
             Child::Leaf(leaf) => {
                 return Ok(End {
-                    base: value_in_rows(&leaf.rows, key, at, guesses.at(level)),
+                    base: value_in_rows(&leaf.rows, key, at, usize::MAX),
                     leaf: Some(leaf),
                 });
             }
@@ -95,22 +91,6 @@ pub fn get<'a, A: Allocator + Copy>(
     ensures leaf { IfOk result (λ lookup. IfSome lookup.leaf
         (λ leaf. Contains node.now.leaves (leaf_rows leaf.now))) }
 {
-    get_near(alloc, node, key, at, &Guesses::none())
-}
-
-/// The same, by searches that are the shorter the nearer the guesses are.
-pub(crate) fn get_near<'a, A: Allocator + Copy>(
-    alloc: A,
-    node: &'a Node<A>,
-    key: TenantKey<'_>,
-    at: u64,
-    guesses: &Guesses,
-) -> Result<Lookup<'a, A>, AllocError>
-    ensures value { IfOk result (λ lookup. option_map found_value lookup.found
-        ≡ latest (ops_in (messages_of node.now) key.entry.bytes.now) at) }
-    ensures leaf { IfOk result (λ lookup. IfSome lookup.leaf
-        (λ leaf. Contains node.now.leaves (leaf_rows leaf.now))) }
-{
     let _children = node.children();
     if !may_hold(node, key) {
         return Ok(Lookup {
@@ -119,7 +99,7 @@ pub(crate) fn get_near<'a, A: Allocator + Copy>(
         });
     }
     let mut suffixes = Suffixes::new(alloc);
-    let end = walk(&mut suffixes, node, key, at, guesses)?;
+    let end = walk(&mut suffixes, node, key, at)?;
     Ok(Lookup {
         found: suffixes.on(alloc, end.base)?,
         leaf: end.leaf,

@@ -2,8 +2,9 @@
 //!
 //! A read goes down one path. What it answers is told by all messages of the node: those in its buffers and those that its
 //! leaves' rows stand for (`messages_of`). Messages in a buffer are newer than those below it, so the first ones found from
-//! the top are the newest. A range goes from key to key: it looks for the next one that has messages, in the buffers on the
-//! way and in the leaves from there on, and reads that one.
+//! the top are the newest. A range goes down once a leaf: the buffers on the way and the leaf's rows have all that is told of
+//! the leaf's keys, so the next one is the lowest of their next ones (`way`). Where the leaf ends, the next key is looked for
+//! in the buffers from the top on and in the leaves from there on (`next_key`).
 //!
 //! A body that always answers `AllocError` meets each contract here: tests call each with ample memory, and with each
 //! request refused. How much of a node a read looks at stands in no contract. `leaf_for` may answer none, or another leaf of
@@ -17,6 +18,7 @@ pub mod getting;
 mod guesses;
 pub mod leaf_for;
 pub mod lent_value;
+mod level;
 pub mod lookup;
 mod next_key;
 mod path;
@@ -24,3 +26,4 @@ pub mod range;
 pub mod row;
 mod suffixes;
 pub mod versions;
+mod way;

@@ -40,7 +40,7 @@ fn passed_number(after: bool) -> u64
 }
 
 /// The next key below `to` that has messages in a buffer. Where it stands there is the next guess.
-fn next_in_buffer<'a, A: Allocator>(
+pub(crate) fn next_in_buffer<'a, A: Allocator>(
     buffer: &'a MessageBuf<A>,
     start: Start<'_>,
     to: TenantKey<'_>,
@@ -59,7 +59,7 @@ fn next_in_buffer<'a, A: Allocator>(
 }
 
 /// The next key below `to` that has rows in a leaf. Where it stands there is the next guess.
-fn next_in_rows<'a, A: Allocator>(
+pub(crate) fn next_in_rows<'a, A: Allocator>(
     rows: &'a Rows<A>,
     start: Start<'_>,
     to: TenantKey<'_>,

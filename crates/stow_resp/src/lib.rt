@@ -34,6 +34,3 @@ pub use stow_model::reply::Reply;
 pub use stow_model::simple_string::SimpleString;
 pub use stow_model::stream_fault::StreamFault;
 pub use stow_model::words::Words;
-
-#[cfg(test)]
-mod tests;

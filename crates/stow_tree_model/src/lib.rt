@@ -14,7 +14,5 @@ pub mod plain;
 pub mod rows;
 pub mod tenant_key;
 pub mod tenant_key_buf;
-#[cfg(test)]
-mod tests;
 pub mod version;
 pub mod version_buf;

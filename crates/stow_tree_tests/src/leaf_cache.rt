@@ -48,85 +48,137 @@ fn is_used<A: Allocator + Copy>(cache: &mut LeafCache<A>, fence: &[u8]) -> bool
     cache.find(fence).is_some()
 }
 
-#[test]
-fn the_last_used_stay(rt: HostRuntime) -> Result<(), Fail> {
-    let alloc = rt.alloc();
-    let mut cache = LeafCache::new(alloc, 2)?;
-    assert_eq!(rt; cache.len(), 0);
-    cache.keep(b"a", rows_of(alloc, 1)?);
-    cache.keep(b"b", rows_of(alloc, 2)?);
-    assert!(rt; is_used(&mut cache, b"a") && !is_used(&mut cache, b"c"));
-    cache.keep(b"c", rows_of(alloc, 3)?);
-    assert_eq!(rt; cache.len(), 2);
-    assert_eq!(rt; number_under(&cache, b"a"), 1);
-    assert_eq!(rt; number_under(&cache, b"b"), 0);
-    assert_eq!(rt; number_under(&cache, b"c"), 3);
-    cache.keep(b"a", rows_of(alloc, 4)?);
-    assert_eq!(rt; number_under(&cache, b"a"), 4);
-    cache.resize(1)?;
-    assert_eq!(rt; cache.len(), 1);
-    assert_eq!(rt; number_under(&cache, b"a"), 4);
-    cache.forget(b"a");
-    assert_eq!(rt; cache.len(), 0);
+/// Keeps the leaf of a version's number under a fence.
+fn keep<A: Allocator + Copy>(
+    cache: &mut LeafCache<A>,
+    alloc: A,
+    fence: &[u8],
+    number: u8,
+) -> Result<(), AllocError>
+    ensures { cache.new.limit ≡ cache.old.limit }
+{
+    let rows = rows_of(alloc, number)?;
+    cache.keep(fence, rows);
     Ok(())
 }
 
-// A cache of no leaves holds none, until it may hold some.
+/// Whether a cache holds these under `a`, `b` and `c`, where 0 is none.
+fn are_held<A: Allocator + Copy>(cache: &LeafCache<A>, numbers: [u64; 3]) -> bool {
+    number_under(cache, b"a") == numbers[0]
+        && number_under(cache, b"b") == numbers[1]
+        && number_under(cache, b"c") == numbers[2]
+}
+
+/// Three leaves, of which two are held: those that were used last.
+fn with_two<A: Allocator + Copy>(alloc: A) -> Result<LeafCache<A>, AllocError> {
+    let mut cache = LeafCache::new(alloc, 2)?;
+    keep(&mut cache, alloc, b"a", 1)?;
+    keep(&mut cache, alloc, b"b", 2)?;
+    if is_used(&mut cache, b"a") && !is_used(&mut cache, b"c") {
+        keep(&mut cache, alloc, b"c", 3)?;
+    }
+    Ok(cache)
+}
+
+/// Whether the last used stay, a leaf is held anew, and fewer are held under a lower limit and after one is forgotten.
+fn stay<A: Allocator + Copy>(alloc: A) -> Result<bool, AllocError> {
+    let mut cache = with_two(alloc)?;
+    let two = cache.len() == 2 && are_held(&cache, [1, 0, 3]);
+    keep(&mut cache, alloc, b"a", 4)?;
+    let anew = are_held(&cache, [4, 0, 3]);
+    cache.resize(1)?;
+    let one = cache.len() == 1 && are_held(&cache, [4, 0, 0]);
+    cache.forget(b"a");
+    Ok(two && anew && one && cache.len() == 0)
+}
+
+#[test]
+fn the_last_used_stay(rt: HostRuntime) -> Result<(), Fail> {
+    assert!(rt; stay(rt.alloc())?);
+    Ok(())
+}
+
+/// Whether a cache of no leaves holds none, until it may hold some.
+fn holds_none<A: Allocator + Copy>(alloc: A) -> Result<bool, AllocError> {
+    let mut cache = LeafCache::new(alloc, 0)?;
+    keep(&mut cache, alloc, b"a", 1)?;
+    let none = cache.len() == 0;
+    cache.resize(65_536)?;
+    keep(&mut cache, alloc, b"a", 1)?;
+    let one = are_held(&cache, [1, 0, 0]);
+    cache.resize(0)?;
+    let dropped = cache.len() == 0;
+    keep(&mut cache, alloc, b"a", 1)?;
+    Ok(none && one && dropped && cache.len() == 0)
+}
+
 #[test]
 fn no_leaves(rt: HostRuntime) -> Result<(), Fail> {
-    let alloc = rt.alloc();
-    let mut cache = LeafCache::new(alloc, 0)?;
-    cache.keep(b"a", rows_of(alloc, 1)?);
-    assert_eq!(rt; cache.len(), 0);
-    cache.resize(65_536)?;
-    cache.keep(b"a", rows_of(alloc, 1)?);
-    assert_eq!(rt; number_under(&cache, b"a"), 1);
-    cache.resize(0)?;
-    assert_eq!(rt; cache.len(), 0);
-    cache.keep(b"a", rows_of(alloc, 1)?);
-    assert_eq!(rt; cache.len(), 0);
+    assert!(rt; holds_none(rt.alloc())?);
     Ok(())
+}
+
+/// Whether a leaf that this request for memory is refused to is not kept, and another stays; `None` where it asks for fewer
+/// and is kept.
+fn withstands<A: Allocator + Copy, B: Allocator>(
+    heap: &Refusing<B>,
+    alloc: A,
+    at: u64,
+) -> Result<Option<bool>, AllocError> {
+    heap.set(Plan::Grant);
+    let mut cache = LeafCache::new(alloc, 2)?;
+    keep(&mut cache, alloc, b"b", 2)?;
+    let rows = rows_of(alloc, 1)?;
+    heap.set(Plan::RefuseAt(at));
+    cache.keep(b"a", rows);
+    if heap.asked() <= at && are_held(&cache, [1, 2, 0]) {
+        return Ok(None);
+    }
+    Ok(Some(are_held(&cache, [0, 2, 0])))
+}
+
+/// Whether a cache can be had.
+fn is_made<A: Allocator + Copy>(alloc: A) -> bool {
+    LeafCache::new(alloc, 2).is_ok()
 }
 
 #[test]
 fn withstands_each_refusal(rt: HostRuntime) -> Result<(), Fail> {
     let heap = Refusing::new(rt.alloc());
     heap.set(Plan::RefuseAt(0));
-    assert!(rt; LeafCache::new(&heap, 2).is_err());
-    heap.set(Plan::Grant);
-    let mut cache = LeafCache::new(&heap, 2)?;
-    cache.keep(b"b", rows_of(&heap, 2)?);
+    assert!(rt; !is_made(&heap));
     let mut refusals = 0u64;
-    for n in 0..20u64 {
-        heap.set(Plan::Grant);
-        cache.forget(b"a");
-        let rows = rows_of(&heap, 1)?;
-        heap.set(Plan::RefuseAt(n));
-        cache.keep(b"a", rows);
-        if heap.asked() <= n {
-            assert_eq!(rt; number_under(&cache, b"a"), 1);
-            break;
+    for at in 0..20u64 {
+        match withstands(&heap, &heap, at)? {
+            None => break,
+            Some(is_right) => assert!(rt; is_right, "request {at}"),
         }
-        refusals = n + 1;
-        assert_eq!(rt; number_under(&cache, b"a"), 0);
-        assert_eq!(rt; number_under(&cache, b"b"), 2);
+        refusals = at + 1;
     }
     assert!(rt; refusals >= 2, "{refusals} refusals");
     Ok(())
 }
 
+/// Whether what is held is looked up and forgotten, and fewer are held, with every request for memory refused. Only the
+/// last asks for any.
+fn asks_for_none<A: Allocator + Copy, B: Allocator>(
+    heap: &Refusing<B>,
+    alloc: A,
+) -> Result<bool, AllocError> {
+    let mut cache = LeafCache::new(alloc, 2)?;
+    keep(&mut cache, alloc, b"a", 1)?;
+    keep(&mut cache, alloc, b"b", 2)?;
+    heap.set(Plan::RefuseAll);
+    let is_found = is_used(&mut cache, b"a") && cache.peek(b"a").is_some();
+    cache.forget(b"b");
+    let is_free = heap.asked() == 0 && cache.len() == 1;
+    cache.resize(1)?;
+    Ok(is_found && is_free && are_held(&cache, [1, 0, 0]))
+}
+
 #[test]
 fn looks_up_without_memory(rt: HostRuntime) -> Result<(), Fail> {
     let heap = Refusing::new(rt.alloc());
-    let mut cache = LeafCache::new(&heap, 2)?;
-    cache.keep(b"a", rows_of(&heap, 1)?);
-    cache.keep(b"b", rows_of(&heap, 2)?);
-    heap.set(Plan::RefuseAll);
-    assert!(rt; cache.find(b"a").is_some() && cache.peek(b"a").is_some());
-    cache.forget(b"b");
-    assert_eq!(rt; cache.len(), 1);
-    assert_eq!(rt; heap.asked(), 0);
-    cache.resize(1)?;
-    assert_eq!(rt; number_under(&cache, b"a"), 1);
+    assert!(rt; asks_for_none(&heap, &heap)?);
     Ok(())
 }

@@ -46,22 +46,29 @@ fn push<A: Allocator>(
     }
 }
 
+/// Whether a buffer has room for a message of 23 bytes, and none for it once more.
+fn takes_once<A: Allocator + Copy>(buf: &mut MessageBuf<A>, key: TenantKey<'_>) -> bool {
+    let Some(message) = put(key, 1, b"x") else {
+        return false;
+    };
+    let before = size(message) == 23 && buf.fits(message) && buf.is_new(message);
+    let pushed = push(buf, key, 1, b"x");
+    let counted = buf.len() == 1 && buf.used() == 23 && buf.capacity() == 40;
+    before && pushed && counted && !buf.fits(message) && !buf.is_new(message)
+}
+
+/// Whether a buffer of 40 bytes takes one such message, and one of none takes none.
+fn has_room_for_one<A: Allocator + Copy>(alloc: A) -> Result<bool, AllocError> {
+    let key = TenantKeyBuf::new(alloc, 1, b"a")?;
+    let mut buf = MessageBuf::with_capacity(alloc, 40)?;
+    let mut empty = MessageBuf::with_capacity(alloc, 0)?;
+    let none = !push(&mut empty, key.as_key(), 1, b"x") && empty.used() == 0;
+    Ok(takes_once(&mut buf, key.as_key()) && none)
+}
+
 #[test]
 fn one_message(rt: HostRuntime) -> Result<(), Fail> {
-    let alloc = rt.alloc();
-    let mut buf = MessageBuf::with_capacity(alloc, 40)?;
-    let key = TenantKeyBuf::new(alloc, 1, b"a")?;
-    let empty = MessageBuf::with_capacity(alloc, 0)?;
-    match put(key.as_key(), 1, b"x") {
-        Some(message) => {
-            assert!(rt; size(message) == 23 && buf.fits(message) && buf.is_new(message));
-            assert!(rt; push(&mut buf, key.as_key(), 1, b"x"));
-            assert!(rt; buf.len() == 1 && buf.used() == 23 && buf.capacity() == 40);
-            assert!(rt; !buf.fits(message) && !buf.is_new(message));
-            assert!(rt; !empty.fits(message) && empty.used() == 0);
-        }
-        None => assert!(rt; false),
-    }
+    assert!(rt; has_room_for_one(rt.alloc())?);
     Ok(())
 }
 
@@ -84,7 +91,7 @@ struct Both<A: Allocator, B: Allocator> {
 }
 
 /// An empty buffer beside an empty vector.
-fn empty<A: Allocator, B: Allocator>(
+fn empty<A: Allocator + Copy, B: Allocator>(
     heap: A,
     alloc: B,
     capacity: usize,
@@ -279,44 +286,81 @@ fn random_step<A: Allocator, B: Allocator + Copy>(
     }
 }
 
-#[test]
-fn random_calls_beside_sorted_vectors(rt: HostRuntime) -> Result<(), Fail> {
-    let (alloc, heap) = (rt.alloc(), Refusing::new(rt.alloc()));
-    let (mut left, mut right) = (empty(&heap, alloc, 9_000)?, empty(&heap, alloc, 9_000)?);
-    let (mut batch, mut spare) = (
-        empty(&heap, alloc, 60)?,
-        RawBuf::with_capacity(&heap, 9_000)?,
-    );
-    heap.set(Plan::RefuseAll);
-    let mut seed = 7;
-    for turn in 0..400u64 {
+/// Two buffers, a batch and a spare block, each beside its vector.
+#[derive(Drop)]
+struct All<A: Allocator, B: Allocator> {
+    left: Both<A, B>,
+    right: Both<A, B>,
+    batch: Both<A, B>,
+    spare: RawBuf<A>,
+}
+
+fn all_empty<A: Allocator + Copy, B: Allocator + Copy>(
+    heap: A,
+    alloc: B,
+) -> Result<All<A, B>, AllocError> {
+    Ok(All {
+        left: empty(heap, alloc, 9_000)?,
+        right: empty(heap, alloc, 9_000)?,
+        batch: empty(heap, alloc, 60)?,
+        spare: RawBuf::with_capacity(heap, 9_000)?,
+    })
+}
+
+impl<A: Allocator, B: Allocator + Copy> All<A, B> {
+    /// A random call on both sides; whether they still agree. Answers the next seed.
+    fn turn(&mut self, alloc: B, seed: u64) -> Result<(bool, u64), AllocError> {
         let (kind, one) = random(seed, 9);
         let (number, ranks, two) = random_call(one);
-        seed = two;
-        let call = (kind, number, ranks);
         let same = random_step(
-            (&mut left, &mut right),
-            (&mut batch, &mut spare),
+            (&mut self.left, &mut self.right),
+            (&mut self.batch, &mut self.spare),
             alloc,
-            call,
+            (kind, number, ranks),
         )?;
-        assert!(rt; same, "turn {turn}");
-        assert!(rt;
-            agrees(&left, alloc, ranks)? && agrees(&right, alloc, ranks)?,
-            "turn {turn}"
-        );
+        let left = agrees(&self.left, alloc, ranks)?;
+        let right = agrees(&self.right, alloc, ranks)?;
+        Ok((same && left && right, two))
     }
-    assert!(rt; left.plain.len() > 20 && right.plain.len() > 20 && heap.asked() == 0);
+
+    /// So many random calls; the first after which they don't agree.
+    fn go_on(&mut self, alloc: B, turns: u64) -> Result<Option<u64>, AllocError> {
+        let mut seed = 7;
+        for turn in 0..turns {
+            let (same, next) = self.turn(alloc, seed)?;
+            seed = next;
+            if !same {
+                return Ok(Some(turn));
+            }
+        }
+        Ok(None)
+    }
+}
+
+/// Whether buffers agree with their vectors through random calls, with every request for memory refused.
+fn agree<A: Allocator + Copy, B: Allocator + Copy, C: Allocator>(
+    heap: &Refusing<C>,
+    (lent, alloc): (A, B),
+) -> Result<bool, AllocError> {
+    let mut all = all_empty(lent, alloc)?;
+    heap.set(Plan::RefuseAll);
+    let other = all.go_on(alloc, 400)?;
+    let are_many = all.left.plain.len() > 20 && all.right.plain.len() > 20;
+    Ok(other.is_none() && are_many && heap.asked() == 0)
+}
+
+#[test]
+fn random_calls_beside_sorted_vectors(rt: HostRuntime) -> Result<(), Fail> {
+    let heap = Refusing::new(rt.alloc());
+    assert!(rt; agree(&heap, (&heap, rt.alloc()))?);
     Ok(())
 }
 
 /// A buffer of 200 bytes with four messages of two tenants, two of them of one key.
-fn four<A: Allocator, B: Allocator>(heap: A, alloc: &B) -> Result<MessageBuf<A>, Fail> {
-    let mut buf = MessageBuf::with_capacity(heap, 200)?;
-    let (a, b) = (
-        TenantKeyBuf::new(alloc, 1, b"a")?,
-        TenantKeyBuf::new(alloc, 1, b"b")?,
-    );
+fn four<A: Allocator + Copy>(alloc: A) -> Result<MessageBuf<A>, AllocError> {
+    let mut buf = MessageBuf::with_capacity(alloc, 200)?;
+    let a = TenantKeyBuf::new(alloc, 1, b"a")?;
+    let b = TenantKeyBuf::new(alloc, 1, b"b")?;
     let c = TenantKeyBuf::new(alloc, 2, b"a")?;
     push(&mut buf, c.as_key(), 1, b"cc");
     push(&mut buf, b.as_key(), 3, b"new");
@@ -325,83 +369,121 @@ fn four<A: Allocator, B: Allocator>(heap: A, alloc: &B) -> Result<MessageBuf<A>,
     Ok(buf)
 }
 
+/// Whether a buffer has so many messages and bytes in use.
+fn has<A: Allocator>(buf: &MessageBuf<A>, len: usize, used: usize) -> bool {
+    buf.len() == len && buf.used() == used
+}
+
+/// Whether these are the messages 3 and 1.
+fn are_two<A: Allocator>(newest: &Newest<'_, A>) -> bool {
+    newest.len() == 2 && newest.get(0).number == 3 && newest.get(1).number == 1
+}
+
+/// Whether a key and an interval of the four are found.
+fn are_found<A: Allocator + Copy>(alloc: A) -> Result<bool, AllocError> {
+    let buf = four(alloc)?;
+    let b = TenantKeyBuf::new(alloc, 1, b"b")?;
+    let c = TenantKeyBuf::new(alloc, 2, b"")?;
+    let interval = buf.in_range(b.as_key(), c.as_key()).len() == 2
+        && buf.range_bytes(b.as_key(), c.as_key()) == 50;
+    Ok(are_two(&buf.of_key(b.as_key())) && interval && buf.used() == 98)
+}
+
 #[test]
 fn a_key_and_an_interval(rt: HostRuntime) -> Result<(), Fail> {
-    let plain = rt.alloc();
-    let buf = four(plain, &plain)?;
-    let (b, c) = (
-        TenantKeyBuf::new(plain, 1, b"b")?,
-        TenantKeyBuf::new(plain, 2, b"")?,
-    );
-    let found = buf.of_key(b.as_key());
-    if found.len() == 2 {
-        assert!(rt; found.get(0).number == 3 && found.get(1).number == 1);
-    }
-    assert!(rt; found.len() == 2 && buf.in_range(b.as_key(), c.as_key()).len() == 2);
-    assert!(rt; buf.range_bytes(b.as_key(), c.as_key()) == 50 && buf.used() == 98);
+    assert!(rt; are_found(rt.alloc())?);
     Ok(())
+}
+
+/// Whether an interval of the four moves, and is dropped, with every request for memory refused.
+fn is_moved<A: Allocator + Copy, B: Allocator>(
+    heap: &Refusing<B>,
+    alloc: A,
+) -> Result<bool, AllocError> {
+    heap.set(Plan::Grant);
+    let mut buf = four(alloc)?;
+    let mut other = MessageBuf::with_capacity(alloc, 200)?;
+    let b = TenantKeyBuf::new(alloc, 1, b"b")?;
+    let c = TenantKeyBuf::new(alloc, 2, b"")?;
+    heap.set(Plan::RefuseAll);
+    let moved = moves(&mut buf, (b.as_key(), c.as_key()), &mut other);
+    let parted = has(&buf, 2, 90) && has(&other, 2, 50);
+    other.drop_range(b.as_key(), c.as_key());
+    Ok(moved && parted && has(&other, 0, 42) && heap.asked() == 0)
+}
+
+/// Whether a buffer can be had.
+fn is_made<A: Allocator + Copy>(alloc: A) -> bool {
+    MessageBuf::with_capacity(alloc, 200).is_ok()
 }
 
 #[test]
 fn an_interval_moves_without_memory(rt: HostRuntime) -> Result<(), Fail> {
-    let plain = rt.alloc();
     let heap = Refusing::new(rt.alloc());
     heap.set(Plan::RefuseAt(0));
-    assert!(rt; MessageBuf::with_capacity(&heap, 200).is_err());
-    heap.set(Plan::Grant);
-    let mut buf = four(&heap, &plain)?;
-    let mut other = MessageBuf::with_capacity(&heap, 200)?;
-    let (b, c) = (
-        TenantKeyBuf::new(plain, 1, b"b")?,
-        TenantKeyBuf::new(plain, 2, b"")?,
-    );
-    heap.set(Plan::RefuseAll);
-    if buf.range_bytes(b.as_key(), c.as_key()) <= 200 {
-        buf.move_range(b.as_key(), c.as_key(), &mut other);
-    }
-    assert!(rt; buf.len() == 2 && buf.used() == 90 && other.len() == 2 && other.used() == 50);
-    other.drop_range(b.as_key(), c.as_key());
-    assert!(rt; other.len() == 0 && other.used() == 42);
-    assert!(rt; heap.asked() == 0);
+    assert!(rt; !is_made(&heap));
+    assert!(rt; is_moved(&heap, &heap)?);
     Ok(())
+}
+
+/// A batch of tenant 1's `a` as the four have it, and its `b` at 3 with this value.
+fn fill_batch<A: Allocator + Copy>(
+    batch: &mut MessageBuf<A>,
+    (a, b): (TenantKey<'_>, TenantKey<'_>),
+    value: &[u8],
+) -> bool {
+    batch.reset();
+    push(batch, b, 3, value) && push(batch, a, 2, b"aa")
+}
+
+/// Whether a batch is taken out of the four where all of it is there, and else nothing, with every request for memory
+/// refused.
+fn is_taken_whole<A: Allocator + Copy, B: Allocator>(
+    heap: &Refusing<B>,
+    alloc: A,
+) -> Result<bool, AllocError> {
+    heap.set(Plan::Grant);
+    let mut buf = four(alloc)?;
+    let mut batch = MessageBuf::with_capacity(alloc, 200)?;
+    let a = TenantKeyBuf::new(alloc, 1, b"a")?;
+    let b = TenantKeyBuf::new(alloc, 1, b"b")?;
+    heap.set(Plan::RefuseAll);
+    let other = fill_batch(&mut batch, (a.as_key(), b.as_key()), b"not");
+    let left = other && !buf.take_out(&batch) && has(&buf, 4, 98);
+    let same = fill_batch(&mut batch, (a.as_key(), b.as_key()), b"new");
+    let taken = same && buf.take_out(&batch) && has(&buf, 2, 90);
+    Ok(left && taken && heap.asked() == 0)
 }
 
 #[test]
 fn a_batch_goes_whole_or_not_at_all(rt: HostRuntime) -> Result<(), Fail> {
-    let plain = rt.alloc();
     let heap = Refusing::new(rt.alloc());
-    let mut buf = four(&heap, &plain)?;
-    let mut batch = MessageBuf::with_capacity(plain, 200)?;
-    let (a, b) = (
-        TenantKeyBuf::new(plain, 1, b"a")?,
-        TenantKeyBuf::new(plain, 1, b"b")?,
-    );
-    heap.set(Plan::RefuseAll);
-    push(&mut batch, a.as_key(), 2, b"aa");
-    push(&mut batch, b.as_key(), 3, b"not");
-    assert!(rt; !buf.take_out(&batch) && buf.len() == 4 && buf.used() == 98);
-    batch.reset();
-    push(&mut batch, b.as_key(), 3, b"new");
-    push(&mut batch, a.as_key(), 2, b"aa");
-    assert!(rt; buf.take_out(&batch) && buf.len() == 2 && buf.used() == 90);
-    assert!(rt; heap.asked() == 0);
+    assert!(rt; is_taken_whole(&heap, &heap)?);
     Ok(())
 }
 
-#[test]
-fn dead_bytes_go_without_memory(rt: HostRuntime) -> Result<(), Fail> {
-    let plain = rt.alloc();
-    let heap = Refusing::new(rt.alloc());
-    let mut buf = four(&heap, &plain)?;
-    let mut spare = RawBuf::with_capacity(&heap, 200)?;
-    let key = TenantKeyBuf::new(plain, 1, b"c")?;
+/// Whether the four are squeezed, and give way to another, with every request for memory refused.
+fn is_squeezed<A: Allocator + Copy, B: Allocator>(
+    heap: &Refusing<B>,
+    alloc: A,
+) -> Result<bool, AllocError> {
+    heap.set(Plan::Grant);
+    let mut buf = four(alloc)?;
+    let mut spare = RawBuf::with_capacity(alloc, 200)?;
+    let key = TenantKeyBuf::new(alloc, 1, b"c")?;
     heap.set(Plan::RefuseAll);
     if buf.capacity() <= spare.capacity() {
         buf.squeeze(&mut spare);
     }
-    assert!(rt; buf.len() == 4 && buf.used() == 98);
+    let squeezed = has(&buf, 4, 98);
     buf.reset();
-    assert!(rt; push(&mut buf, key.as_key(), 9, b"again") && buf.used() == 27);
-    assert!(rt; heap.asked() == 0);
+    let again = push(&mut buf, key.as_key(), 9, b"again") && buf.used() == 27;
+    Ok(squeezed && again && heap.asked() == 0)
+}
+
+#[test]
+fn dead_bytes_go_without_memory(rt: HostRuntime) -> Result<(), Fail> {
+    let heap = Refusing::new(rt.alloc());
+    assert!(rt; is_squeezed(&heap, &heap)?);
     Ok(())
 }

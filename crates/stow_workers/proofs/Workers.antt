@@ -1,9 +1,12 @@
 -- What calls do to a seat, one connection after another, and relations of lists place by place.
-use Rattle.std.proofs.Common.{◌≡◌, ℕ, Bool, List, [], ◌∷◌, ◌++◌, ◌∙◌, refl, sym, subst, ap, length, arith}
+use Rattle.std.proofs.Common.{◌≡◌, ◌≤◌, ◌<◌, ◌⊎◌, ℕ, zero, suc, Bool, inl, inr, List, [], ◌∷◌, ◌++◌, ◌∙◌, refl, sym, subst, ap, length, drop, arith}
+use Rattle.std.proofs.lemmas.List.{drop-append-le, drop_all, length_push}
+use Rattle.std.proofs.lemmas.Bool.{cases_lt}
 use Rattle.stow_model.specs.Reply.{Reply}
 use Rattle.stow_shared.specs.Seats.{SeatState, SeatCalls}
 use Rattle.stow_workers.specs.Exchanges.{Call, LeadTo}
-use Rattle.stow_workers.specs.Pools.{HasCalled, AreEach}
+use Rattle.stow_workers.specs.Pools.{HasCalled, AreEach, IsIdleOf}
+use Rattle.stow_workers.specs.declared.worker.Worker.{Worker}
 use Rattle.stow_workers.specs.Talks.{Answers}
 
 -- ---- calls
@@ -69,6 +72,41 @@ each_then R S T both [] [] (z ∷ zs) first second = absurd second
 each_then R S T both [] (y ∷ ys) zs first second = absurd first
 each_then R S T both (x ∷ xs) [] zs first second = absurd first
 each_then R S T both (x ∷ xs) (y ∷ ys) [] first second = absurd second
+
+-- the same of what stands behind the first so many
+pub each_drop : {X Y : Type 0} (R : X → Y → Type 0) (n : ℕ) (xs : List X) (ys : List Y) → AreEach R xs ys → AreEach R (drop n xs) (drop n ys)
+unfolding AreEach
+each_drop R zero xs ys each = each
+each_drop R (suc n) [] [] each = tt
+each_drop R (suc n) (x ∷ xs) (y ∷ ys) each = each_drop R n xs ys each.1
+each_drop R (suc n) [] (y ∷ ys) each = absurd each
+each_drop R (suc n) (x ∷ xs) [] each = absurd each
+
+later_by : {X Y : Type 0} (R : X → Y → Type 0) (n : ℕ) (xs : List X) (ys : List Y) (x : X) (y : Y)
+    → length xs ≡ length ys → AreEach R (drop n xs) (drop n ys) → (n ≤ length ys → R x y) → (length ys < n) ⊎ (n ≤ length ys) → AreEach R (drop n (xs ++ x ∷ [])) (drop n (ys ++ y ∷ []))
+later_by R n xs ys x y same each last (inl lt) =
+    let xs_none : drop n (xs ++ x ∷ []) ≡ [] = drop_all n (xs ++ x ∷ []) (omega (arith, length_push xs x)) in
+    let ys_none : drop n (ys ++ y ∷ []) ≡ [] = drop_all n (ys ++ y ∷ []) (omega (arith, length_push ys y)) in
+    rw (xs_none, ys_none) (each_none R)
+later_by R n xs ys x y same each last (inr le) =
+    let le_xs : n ≤ length xs = omega arith in
+    rw (drop-append-le n xs (x ∷ []) le_xs, drop-append-le n ys (y ∷ []) le) (each_more R _ _ x y each (last le))
+
+-- one more behind the first so many, if it stands there
+pub each_later : {X Y : Type 0} (R : X → Y → Type 0) (n : ℕ) (xs : List X) (ys : List Y) (x : X) (y : Y)
+    → length xs ≡ length ys → AreEach R (drop n xs) (drop n ys) → (n ≤ length ys → R x y) → AreEach R (drop n (xs ++ x ∷ [])) (drop n (ys ++ y ∷ []))
+each_later R n xs ys x y same each last = later_by R n xs ys x y same each last (cases_lt (length ys) n)
+
+pub each_equal : {X : Type 0} (xs ys : List X) → AreEach (λ (x y : X). y ≡ x) xs ys → ys ≡ xs
+unfolding AreEach
+each_equal [] [] each = refl
+each_equal (x ∷ xs) (y ∷ ys) each = ap (λ z. z ∷ ys) each.0 ∙ ap (λ zs. x ∷ zs) (each_equal xs ys each.1)
+each_equal [] (y ∷ ys) each = absurd each
+each_equal (x ∷ xs) [] each = absurd each
+
+-- of no workers all are idle
+pub none_idle : {J A : Type 0} (n : ℕ) (workers : List (Worker J A)) → workers ≡ [] → AreEach IsIdleOf (drop n []) (drop n workers)
+none_idle n workers none = rw none (each_drop IsIdleOf n [] [] (each_none IsIdleOf))
 
 pub nothing_left : {X : Type 0} (xs : List X) → length xs ≡ 0 → xs ≡ []
 nothing_left [] none = refl

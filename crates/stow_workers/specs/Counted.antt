@@ -19,6 +19,6 @@ abbrev pub last_of : {T : Type 0} → Counted T → Option Error
 last_of counted = counted.last
 
 -- the reason of a failure is kept, and else the one before it
-abbrev pub KeepsReason : Result ℕ Error → Option Error → Option Error → Type 0
-KeepsReason (Ok n) old new = new ≡ old
+abbrev pub KeepsReason : {T : Type 0} → Result T Error → Option Error → Option Error → Type 0
+KeepsReason (Ok value) old new = new ≡ old
 KeepsReason (Err error) old new = new ≡ Some error

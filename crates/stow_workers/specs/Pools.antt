@@ -1,5 +1,5 @@
 -- What the workers of a pool did with their seats.
-use Rattle.std.specs.Prelude.{◌≡◌, Bool, List, [], ◌∷◌}
+use Rattle.std.specs.Prelude.{◌≡◌, ℕ, Bool, List, [], ◌∷◌, drop}
 use Rattle.stow_shared.specs.Seats.{SeatState, SeatCalls}
 use Rattle.stow_workers.specs.Exchanges.{Call, LeadTo}
 use Rattle.stow_workers.specs.declared.worker.Worker.{Worker}
@@ -23,7 +23,17 @@ abbrev pub IsWorkerOf : {J A : Type 0} → Bool → SeatState → Worker J A →
 IsWorkerOf keeps seat (worker.Running thread) = thread.promise.seat.value ≡ seat
 IsWorkerOf keeps seat (worker.Idle handed) = HasCalled keeps seat handed
 
--- what joining a worker gives: the seat that it is a worker of, after calls
-abbrev pub GivesBack : {J A : Type 0} → Bool → Worker J A → SeatState → Type 0
-GivesBack keeps worker seat =
-    (first : SeatState) → IsWorkerOf keeps first worker → HasCalled keeps first seat
+-- a worker without a thread, which has this seat
+abbrev pub IsIdleOf : {J A : Type 0} → SeatState → Worker J A → Type 0
+IsIdleOf seat (worker.Running thread) = ⊥
+IsIdleOf seat (worker.Idle handed) = handed ≡ seat
+
+-- what joining a worker gives: the seat that it is a worker of, after calls, or as it was where it had no thread
+pub record GivesBack {J A : Type 0} (keeps : Bool) (worker : Worker J A) (seat : SeatState) : Type 0
+  where
+    pub called : (first : SeatState) → IsWorkerOf keeps first worker → HasCalled keeps first seat
+    pub unused : (first : SeatState) → IsIdleOf first worker → seat ≡ first
+
+-- all but the first so many are as they were
+abbrev pub AreUnusedFrom : {X : Type 0} → ℕ → List X → List X → Type 0
+AreUnusedFrom count old new = drop count new ≡ drop count old

@@ -1,5 +1,5 @@
 -- What a writer was given of the replies, and what waits for it.
-use Rattle.std.specs.Prelude.{◌≡◌, ℕ, Bool, true, false, List, [], ◌++◌, Option, Some, None}
+use Rattle.std.specs.Prelude.{◌≡◌, ℕ, Bool, true, false, List, [], ◌++◌, Option, Some, None, Result, Ok, Err}
 use Rattle.std.specs.Io.KnownBytes.{Appends}
 use Rattle.stow_model.specs.Reply.{Reply, encoding}
 use Rattle.stow_workers.specs.declared.replies.Replies.{Replies}
@@ -71,9 +71,10 @@ pub record WritesPart (bytes : List ℕ) (old new : Written) : Type 0 where
   pub appends : Appends old.contents new.contents front
   pub failures : HasFailed old.failures new.failures
 
-abbrev pub WritesAll : Bool → List ℕ → Written → Written → Type 0
-WritesAll true bytes old new = Appends old.contents new.contents bytes × (new.failures ≡ old.failures)
-WritesAll false bytes old new = WritesPart bytes old new
+abbrev pub WritesAll : {E : Type 0} → Result (Unit {0}) E → List ℕ → Written → Written → Type 0
+WritesAll (Ok done) bytes old new =
+    Appends old.contents new.contents bytes × (new.failures ≡ old.failures)
+WritesAll (Err error) bytes old new = WritesPart bytes old new
 
 -- a writer of which this is known
 abbrev pub written_of : Option (List ℕ) → ℕ → Written

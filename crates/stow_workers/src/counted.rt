@@ -1,8 +1,8 @@
 //! A reader or a writer that is lent, and whose failures are counted.
 ghost use Rattle.std.specs.Prelude.{◌≡◌, ◌<◌, IsSome, Some, None};
 ghost use Rattle.std.specs.Io.{ReadsAtMost, WritesAtMost};
-ghost use Rattle.std.specs.Io.KnownBytes.{ReadConsumes, WriteAppends};
-ghost use Rattle.stow_workers.specs.Failures.{HasFailed, CountsRead, CountsWrite};
+ghost use Rattle.std.specs.Io.KnownBytes.{Keeps, ReadConsumes, WriteAppends};
+ghost use Rattle.stow_workers.specs.Failures.{HasFailed, CountsFailure, CountsWrite};
 
 use crate::sink::Sink;
 use crate::source::Source;
@@ -74,7 +74,7 @@ impl<T: Read> Source for Counted<'_, T> {
         ensures bound { ReadsAtMost result room.new }
         ensures bytes { ReadConsumes (T.remaining (inner_of self.old))
             (T.remaining (inner_of self.new)) result room.new }
-        ensures failures { CountsRead result (failures_of self.old) (failures_of self.new) }
+        ensures failures { CountsFailure result (failures_of self.old) (failures_of self.new) }
         ensures reason { KeepsReason result (last_of self.old) (last_of self.new) }
         ensures same_borrow { Some (borrow_of self.new) ≡ Some (borrow_of self.old) }
     {
@@ -114,6 +114,22 @@ impl<T: Write> Sink for Counted<'_, T> {
                     return Err(self.fail(error));
                 }
                 Ok(count) => return Ok(count),
+                Err(error) if error.kind() == ErrorKind::Interrupted => {}
+                Err(error) => return Err(self.fail(error)),
+            }
+        }
+        Err(self.fail(Error::from(ErrorKind::Interrupted)))
+    }
+
+    fn flush(&mut self) -> io::Result<()>
+        ensures bytes { Keeps (T.contents (inner_of self.old)) (T.contents (inner_of self.new)) }
+        ensures failures { CountsFailure result (failures_of self.old) (failures_of self.new) }
+        ensures reason { KeepsReason result (last_of self.old) (last_of self.new) }
+        ensures same_borrow { Some (borrow_of self.new) ≡ Some (borrow_of self.old) }
+    {
+        for _ in 0..u64::MAX {
+            match self.inner.flush() {
+                Ok(()) => return Ok(()),
                 Err(error) if error.kind() == ErrorKind::Interrupted => {}
                 Err(error) => return Err(self.fail(error)),
             }

@@ -18,20 +18,24 @@
 //! - Through a core with empty stores it is the history of one connection, of which the isolation theorem speaks
 //!   (`laws`, whose body is empty, so no wrong body can be tried on it).
 //!
+//! - Bytes are written whole (`writing::write_all`), or a beginning of them where a call of the writer failed.
 //! - A pool (`pool::Pool`) gives each seat back in its place, at a fault too, and nothing but calls was done from it:
 //!   it gained the receipt of each, where receipts are kept, or counted that memory was refused to it
-//!   (`specs/Pools.antt`). Whoever then closes the lock learns from it that these receipts are one legal journal.
+//!   (`specs/Pools.antt`); the seats that are kept for flushers come back as they were. Whoever then closes the lock
+//!   learns from it that these receipts are one legal journal.
 //!
 //! Only tested of the pool, over loopback: that it serves at all, that its workers do so side by side, that a client
 //! which breaks off, faults or reads nothing leaves its worker to the next one, which fault it tells, and that it
 //! ends. Nothing is said of a socket's bytes, of the channel that hands connections over, or of when a thread runs;
 //! a pool that serves nobody meets its contract. That a refused thread, or refused memory, gives the seats back is
-//! proved, and no test refuses the pool either.
+//! proved; that refused memory is told, and only then, is tested of each request that the pool makes itself. No test
+//! refuses it a thread.
 //!
 //! Only tested of a connection: that want of memory is told only where it was refused, so a body that gives up with it is right by
 //! the contracts; that replies are written before the next piece is read, and once much of them waits; that
-//! the gate is passed around each call of a door. A gate's method promises nothing. Not said: time, and that a
-//! reader or a writer returns.
+//! the gate is passed around each call of a door. A gate's method promises nothing. Not said: time, that a
+//! reader or a writer returns, and with which error a write failed, but that a `Counted` keeps the last one: so a
+//! body of `write_all` that tells another error where a write failed is right by its contract.
 #![tactic(auto)]
 
 mod accepting;
@@ -55,3 +59,4 @@ mod tests;
 mod turn;
 pub mod worker;
 pub mod workplace;
+pub mod writing;

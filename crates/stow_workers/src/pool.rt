@@ -1,7 +1,7 @@
 //! Threads that serve the connections of a listener.
 ghost use denote.Param.Send.{Frees, IsSend, IsSync};
-ghost use Rattle.std.specs.Prelude.{◌≡◌, ◌<◌, ◌≤◌, vec_len, vec_capacity, []};
-ghost use Rattle.stow_workers.specs.Pools.{AreEach, GivesBack, HasCalled, IsWorkerOf};
+ghost use Rattle.std.specs.Prelude.{◌≡◌, ◌-◌, ◌<◌, ◌≤◌, drop, false, vec_len, vec_capacity, []};
+ghost use Rattle.stow_workers.specs.Pools.{AreEach, AreUnusedFrom, GivesBack, HasCalled, IsIdleOf, IsWorkerOf};
 
 use crate::accepting::accept;
 use crate::gate::Gate;
@@ -48,7 +48,8 @@ impl Pool {
         gate: &'a G,
     ) -> (Vec<Seat<J, A>, A>, Option<PoolFault>)
         requires { flushers < vec_len seats }
-        ensures { AreEach (HasCalled J.keeps) seats.items result.0.items }
+        ensures each { AreEach (HasCalled J.keeps) seats.items result.0.items }
+        ensures unused { AreUnusedFrom (vec_len seats - flushers) seats.items result.0.items }
     {
         let count = seats.len() - flushers;
         let Ok(workers) = Vec::with_capacity(alloc, seats.len()) else {
@@ -76,7 +77,8 @@ impl Pool {
                     × IsSend J.row × IsSend A.row × Frees A.Allocator A.dealloc_token
                     × (workers.items ≡ []) × (vec_len seats ≤ vec_capacity workers)
                     × (returned.items ≡ []) × (vec_len seats ≤ vec_capacity returned) }
-                ensures { AreEach (HasCalled J.keeps) seats.items result.0.items }
+                ensures each { AreEach (HasCalled J.keeps) seats.items result.0.items }
+                ensures unused { AreUnusedFrom count seats.items result.0.items }
             {
                 let mut sender = Some(sender);
                 let workers = start_all(scope, place, count, seats, &mut sender, workers);
@@ -108,6 +110,7 @@ where
     A: Allocator + Copy + Send + Sync,
     requires { (workers.items ≡ []) × (vec_len seats ≤ vec_capacity workers) }
     ensures each { AreEach (IsWorkerOf J.keeps) seats.items result.items }
+    ensures idle { AreEach IsIdleOf (drop count seats.items) (drop count result.items) }
     ensures count { vec_len result ≡ vec_len seats }
 {
     for seat in seats {
@@ -131,7 +134,8 @@ where
     J: Journal + Send + Sync,
     G: Gate + Sync,
     A: Allocator + Copy + Send + Sync,
-    ensures { IsWorkerOf J.keeps seat result }
+    ensures worker { IsWorkerOf J.keeps seat result }
+    ensures idle { is_running ≡ false → IsIdleOf seat result }
 {
     if !is_running || sender.is_none() {
         return Worker::Idle(seat);

@@ -1,9 +1,10 @@
 //! Replies on their way to a writer.
 ghost use Rattle.std.specs.Prelude.{◌≡◌, false, [], OnOk, OnErr, option_map};
 ghost use Rattle.stow_model.specs.Reply.{reply_of};
-ghost use Rattle.stow_workers.specs.Sent.{SendsReply, StaysSent, IsWritten, WritesAll, sent_of, written_of};
+ghost use Rattle.stow_workers.specs.Sent.{SendsReply, StaysSent, IsWritten, sent_of};
 
 use crate::sink::Sink;
+use crate::writing::write_all;
 use std::alloc::{AllocError, Allocator, Global};
 use stow_model::reply::Reply;
 use stow_resp::encode::Encode;
@@ -80,28 +81,11 @@ impl<A: Allocator + Copy> Replies<A> {
         if self.has_failed {
             return;
         }
-        self.has_failed = !write_all(writer, self.bytes.as_slice());
+        self.has_failed = write_all(writer, self.bytes.as_slice()).is_err();
         if self.bytes.capacity() > KEPT {
             self.bytes = Vec::new(self.alloc);
         } else {
             self.bytes.clear();
         }
     }
-}
-
-/// Writes all bytes, unless a write fails.
-fn write_all<W: Sink>(writer: &mut W, bytes: &[u8]) -> bool
-    ensures written { WritesAll result bytes.now
-        (written_of (W.contents writer.old) (W.failures writer.old))
-        (written_of (W.contents writer.new) (W.failures writer.new)) }
-    ensures same_borrow { W.borrow writer.new ≡ W.borrow writer.old }
-{
-    let mut rest = bytes;
-    while !rest.is_empty() {
-        match writer.write(rest) {
-            Ok(count) if count > 0 => rest = &rest[count..],
-            _ => return false,
-        }
-    }
-    true
 }

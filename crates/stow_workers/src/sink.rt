@@ -2,17 +2,17 @@
 ghost use Rattle.std.specs.Prelude.{◌≡◌, ℕ, List, Option, None};
 ghost use Rattle.std.specs.Borrow.{GName};
 ghost use Rattle.std.specs.Io.{WritesAtMost};
-ghost use Rattle.std.specs.Io.KnownBytes.{WriteAppends};
-ghost use Rattle.stow_workers.specs.Failures.{CountsWrite};
+ghost use Rattle.std.specs.Io.KnownBytes.{Keeps, WriteAppends};
+ghost use Rattle.stow_workers.specs.Failures.{CountsFailure, CountsWrite};
 
 use std::io;
 
-/// What bytes are written to, and how many writes have failed.
+/// What bytes are written to, and how many of its calls have failed.
 pub trait Sink {
     // The bytes that it holds, where they are known.
     ghost contents: { Self → Option (List ℕ) } = { λ _. None };
 
-    // How many writes have failed, up to the limit.
+    // How many writes and flushes have failed, up to the limit.
     ghost failures: { Self → ℕ };
 
     // The borrow that it writes through, where that is known: each call leaves it.
@@ -23,5 +23,11 @@ pub trait Sink {
         ensures bound { WritesAtMost result bytes.now }
         ensures bytes { WriteAppends (contents self.old) (contents self.new) result bytes.now }
         ensures failures { CountsWrite result bytes.now (failures self.old) (failures self.new) }
+        ensures same_borrow { borrow self.new ≡ borrow self.old };
+
+    /// Passes on what it has kept back.
+    fn flush(&mut self) -> io::Result<()>
+        ensures bytes { Keeps (contents self.old) (contents self.new) }
+        ensures failures { CountsFailure result (failures self.old) (failures self.new) }
         ensures same_borrow { borrow self.new ≡ borrow self.old };
 }

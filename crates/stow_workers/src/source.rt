@@ -3,7 +3,7 @@ ghost use Rattle.std.specs.Prelude.{◌≡◌, ℕ, List, Option, None};
 ghost use Rattle.std.specs.Borrow.{GName};
 ghost use Rattle.std.specs.Io.{ReadsAtMost};
 ghost use Rattle.std.specs.Io.KnownBytes.{ReadConsumes};
-ghost use Rattle.stow_workers.specs.Failures.{CountsRead};
+ghost use Rattle.stow_workers.specs.Failures.{CountsFailure};
 
 use std::io;
 
@@ -22,6 +22,6 @@ pub trait Source {
     fn read(&mut self, room: &mut [u8]) -> io::Result<usize>
         ensures bound { ReadsAtMost result room.new }
         ensures bytes { ReadConsumes (remaining self.old) (remaining self.new) result room.new }
-        ensures failures { CountsRead result (failures self.old) (failures self.new) }
+        ensures failures { CountsFailure result (failures self.old) (failures self.new) }
         ensures same_borrow { borrow self.new ≡ borrow self.old };
 }

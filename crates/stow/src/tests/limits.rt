@@ -2,15 +2,13 @@
 //! is told nowhere.
 use crate::arguments::Task;
 use crate::folder::Folder;
-use crate::program::{program, serve};
-use crate::tests::words_of;
+use crate::tests::{ends_well, run_words, words_of};
 use std::alloc::{AllocError, Global};
 use std::io;
 use std::process::Abort;
 use std::test::Fail;
 use stow_login::tenants::Tenants;
 use stow_testing::tenants::THREE;
-use stow_tree::tree_shape::TreeShape;
 
 /// The most bytes of a key, and of a value.
 const KEY: usize = 1024;
@@ -71,15 +69,8 @@ impl Talk {
         let tenants = Tenants::read(self.alloc, self.alloc, THREE).map_err(|_| AllocError)?;
         let mut input = self.asked.as_slice();
         let mut output = Vec::new(self.alloc);
-        let ended = serve(
-            self.alloc,
-            tenants,
-            TreeShape::USUAL,
-            Task::Pipe,
-            &mut input,
-            &mut output,
-        );
-        assert!(rt; ended.is_ok());
+        let is_well = ends_well(self.alloc, tenants, Task::Pipe, &mut input, &mut output);
+        assert!(rt; is_well);
         assert!(rt; output.as_slice() == self.told.as_slice());
         Ok(())
     }
@@ -216,7 +207,7 @@ fn the_last_tenant_logs_in(rt: HostRuntime) -> Result<(), Fail> {
     let mut input: &[u8] = b"AUTH n65534 abc\nPING\n";
     let mut output = Vec::new(alloc);
     let mut errors = Vec::new(alloc);
-    let ended = program(
+    let ended = run_words(
         &rt,
         alloc,
         &folder,
@@ -248,14 +239,7 @@ fn a_script_may_be_long(rt: HostRuntime) -> Result<(), Fail> {
     let tenants = Tenants::read(alloc, alloc, THREE).map_err(|_| AllocError)?;
     let mut input = script.as_slice();
     let mut output = Vec::new(alloc);
-    let ended = serve(
-        alloc,
-        tenants,
-        TreeShape::USUAL,
-        Task::Script,
-        &mut input,
-        &mut output,
-    );
-    assert!(rt; ended.is_ok() && output.as_slice() == lines.as_slice());
+    let is_well = ends_well(alloc, tenants, Task::Script, &mut input, &mut output);
+    assert!(rt; is_well && output.as_slice() == lines.as_slice());
     Ok(())
 }

@@ -1,6 +1,5 @@
 //! `stow serve` over loopback: its statuses, its texts, and one client.
-use crate::program::program;
-use crate::tests::{Shelf, words_of};
+use crate::tests::{Shelf, run_words, words_of};
 use std::alloc::Global;
 use std::io;
 use std::io::{Read, Write};
@@ -47,7 +46,7 @@ fn a_client_is_served(rt: HostRuntime) -> Result<(), Fail> {
         stream: None,
     };
     let mut errors = Vec::new(alloc);
-    let status = program(
+    let status = run_words(
         &rt,
         alloc,
         &Shelf,
@@ -109,7 +108,7 @@ fn serving_may_be_refused(rt: HostRuntime) -> Result<(), Fail> {
         let words = words_of(alloc, line)?;
         let mut input: &[u8] = b"";
         let (mut output, mut errors) = (Vec::new(alloc), Vec::new(alloc));
-        let status = program(
+        let status = run_words(
             &rt,
             alloc,
             &Shelf,
@@ -134,7 +133,7 @@ fn serving_may_be_refused(rt: HostRuntime) -> Result<(), Fail> {
         let words = words_of(alloc, line)?;
         let mut input: &[u8] = b"";
         let (mut output, mut errors) = (Vec::new(alloc), Vec::new(alloc));
-        let status = program(
+        let status = run_words(
             &rt,
             alloc,
             &Shelf,

@@ -1,7 +1,8 @@
 //! Readers and writers that are slow, interrupted, full or broken.
 use crate::arguments::Task;
-use crate::program::{program, serve};
-use crate::tests::{HELLO, HELLO_REPLIES, Pieces, Shelf, expect, run, words_of};
+use crate::tests::{
+    HELLO, HELLO_REPLIES, Pieces, Shelf, ends_well, expect, run, run_words, words_of,
+};
 use std::alloc::{AllocError, Allocator, Global};
 use std::cell::Cell;
 use std::io;
@@ -10,7 +11,6 @@ use std::test::Fail;
 use stow_login::tenants::Tenants;
 use stow_refusing::{Plan, Refusing};
 use stow_testing::tenants::THREE;
-use stow_tree::tree_shape::TreeShape;
 
 /// Gives one byte a call, and is interrupted before each; at its end it fails where it is to.
 #[derive(Drop)]
@@ -82,7 +82,7 @@ fn bytes_may_come_and_go_one_by_one(rt: HostRuntime) -> Result<(), Fail> {
             room,
         };
         let mut input = Slow::new(HELLO, false);
-        let ended = program(
+        let ended = run_words(
             &rt,
             alloc,
             &Shelf,
@@ -177,19 +177,9 @@ fn replies_do_not_wait(rt: HostRuntime) -> Result<(), Fail> {
     };
     let mut output = Counting { written: &written };
     let tenants = Tenants::read(alloc, alloc, THREE).map_err(|_| AllocError)?;
-    let ended = serve(
-        alloc,
-        tenants,
-        TreeShape::USUAL,
-        Task::Pipe,
-        &mut input,
-        &mut output,
-    );
+    let is_well = ends_well(alloc, tenants, Task::Pipe, &mut input, &mut output);
     let (given, late) = (input.given, input.late);
-    assert!(rt;
-        ended.is_ok() && given == 100 && late == 0,
-        "{given} {late}"
-    );
+    assert!(rt; is_well && given == 100 && late == 0, "{given} {late}");
     Ok(())
 }
 
@@ -230,15 +220,7 @@ fn told_at<B: Allocator>(
     let tenants = Tenants::read(heap, global, THREE).map_err(|_| AllocError)?;
     let mut output = Vec::new(global);
     heap.set(Plan::RefuseAt(at));
-    let is_well = serve(
-        heap,
-        tenants,
-        TreeShape::USUAL,
-        task,
-        &mut input,
-        &mut output,
-    )
-    .is_ok();
+    let is_well = ends_well(heap, tenants, task, &mut input, &mut output);
     let asked = heap.asked();
     heap.set(Plan::Grant);
     Ok((asked > at || !is_well).then_some((output, is_well)))
@@ -327,22 +309,22 @@ fn flushed_by(
         flushed: 0,
         breaks,
     };
-    let ended = serve(
-        alloc,
-        tenants,
-        TreeShape::USUAL,
-        task,
-        &mut input,
-        &mut output,
-    );
-    Ok(ended.is_ok().then_some(output.flushed))
+    let is_well = ends_well(alloc, tenants, task, &mut input, &mut output);
+    Ok(is_well.then_some(output.flushed))
 }
 
 #[test]
 fn what_is_told_is_flushed(rt: HostRuntime) -> Result<(), Fail> {
     let alloc = rt.alloc();
-    let pipe = flushed_by(alloc, Task::Pipe, HELLO, false)?;
-    assert_eq!(rt; pipe, Some(HELLO_REPLIES.len()));
+    let fault: &[u8] = b"-ERR Protocol error: invalid multibulk length\r\n";
+    for (input, count) in [
+        (HELLO, HELLO_REPLIES.len()),
+        (b"QUIT\n", 5),
+        (b"*x", fault.len()),
+    ] {
+        let pipe = flushed_by(alloc, Task::Pipe, input, false)?;
+        assert_eq!(rt; pipe, Some(count));
+    }
     assert_eq!(rt;
         flushed_by(alloc, Task::Script, b"open 1\n", false)?,
         Some(5)

@@ -22,24 +22,33 @@ fn round<A: Allocator + Copy>(cache: &mut LeafCache<A>, alloc: A) -> Result<(), 
     Ok(())
 }
 
+/// Whether a cache holds no more of the heap after a second round than after the first.
+fn holds_no_more<A: Allocator + Copy>(heap: &LocalHeap, alloc: A) -> Result<bool, AllocError> {
+    let mut cache = LeafCache::new(alloc, 2)?;
+    round(&mut cache, alloc)?;
+    let held = heap.used();
+    round(&mut cache, alloc)?;
+    Ok(heap.used() <= held)
+}
+
 #[test]
 fn a_second_round_holds_no_more(rt: HostRuntime) -> Result<(), Fail> {
     let heap = LocalHeap::new(rt.alloc(), 1_048_576)?;
-    let mut cache = LeafCache::new(&heap, 2)?;
-    round(&mut cache, &heap)?;
-    let held = heap.used();
-    round(&mut cache, &heap)?;
-    assert!(rt; heap.used() <= held, "{held}");
+    assert!(rt; holds_no_more(&heap, &heap)?);
     Ok(())
+}
+
+/// How many of so many leaves are held where as many may be as ever.
+fn held_of<A: Allocator + Copy>(alloc: A, count: u32) -> Result<usize, AllocError> {
+    let mut cache = LeafCache::new(alloc, 65_536)?;
+    for number in 0..count {
+        cache.keep(&number.to_be_bytes(), rows_of(alloc, 1)?);
+    }
+    Ok(cache.len())
 }
 
 #[test]
 fn many_leaves_are_held(rt: HostRuntime) -> Result<(), Fail> {
-    let alloc = rt.alloc();
-    let mut cache = LeafCache::new(alloc, 65_536)?;
-    for number in 0..4_000u32 {
-        cache.keep(&number.to_be_bytes(), rows_of(alloc, 1)?);
-    }
-    assert_eq!(rt; cache.len(), 4_000);
+    assert_eq!(rt; held_of(rt.alloc(), 4_000)?, 4_000);
     Ok(())
 }

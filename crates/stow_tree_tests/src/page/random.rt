@@ -3,6 +3,8 @@ use crate::page::plain::first_fault;
 use crate::page::{fault_of, pushed, rows_of};
 use std::alloc::{AllocError, Allocator};
 use std::test::Fail;
+use stow_page::rows::Rows;
+use stow_tree_model::tenant_key::TenantKey;
 use stow_tree_model::tenant_key_buf::TenantKeyBuf;
 
 /// The next number of a fixed row of numbers that looks random.
@@ -75,47 +77,73 @@ fn agrees_on_changes<A: Allocator + Copy>(
     Ok(true)
 }
 
+/// Whether a random page is read as by the plain reader: as it is, with a byte changed or cut off, and with one more.
+fn is_read_plainly<A: Allocator + Copy>(alloc: A, state: &mut u64) -> Result<bool, AllocError> {
+    let mut page = random_page(alloc, state)?;
+    let whole = fault_of(alloc, page.as_slice())? == 0 && first_fault(page.as_slice()) == 0;
+    let changed = agrees_on_changes(alloc, page.as_slice(), state)?;
+    page.push(0)?;
+    Ok(whole && changed && fault_of(alloc, page.as_slice())? == 4)
+}
+
 #[test]
 fn random_pages_are_read_as_by_the_plain_reader(rt: HostRuntime) -> Result<(), Fail> {
-    let alloc = rt.alloc();
     let mut state = 11u64;
     for _ in 0..30 {
-        let mut page = random_page(alloc, &mut state)?;
-        assert_eq!(rt; fault_of(alloc, page.as_slice())?, 0);
-        assert_eq!(rt; first_fault(page.as_slice()), 0);
-        assert!(rt; agrees_on_changes(alloc, page.as_slice(), &mut state)?);
-        page.push(0)?;
-        assert_eq!(rt; fault_of(alloc, page.as_slice())?, 4);
+        assert!(rt; is_read_plainly(rt.alloc(), &mut state)?);
     }
     Ok(())
 }
 
-// Each look-up, from wherever it begins, beside a walk over all versions.
+/// The number of the last version of a key up to a number, by a walk over all.
+fn walked<A: Allocator>(rows: &Rows<A>, key: TenantKey<'_>, number: u64) -> Option<u64> {
+    let mut found = None;
+    for i in 0..rows.len() {
+        let version = rows.get(i);
+        if version.key.bytes == key.bytes && version.number <= number {
+            found = Some(version.number);
+        }
+    }
+    found
+}
+
+/// Whether a random look-up, from wherever it begins, finds what a walk does.
+fn is_found<A: Allocator + Copy>(
+    alloc: A,
+    rows: &Rows<A>,
+    state: &mut u64,
+) -> Result<bool, AllocError> {
+    let letter = [b'a' + (random(state) % 4) as u8];
+    let key = TenantKeyBuf::new(alloc, (random(state) % 5) as u32, &letter)?;
+    let number = random(state) % 5;
+    let guess = (random(state) % 16) as usize;
+    let found = rows.version_at(key.as_key(), number, guess);
+    Ok(found.map(|version| version.number) == walked(rows, key.as_key(), number))
+}
+
+/// Whether so many random look-ups in a random page do.
+fn are_found<A: Allocator + Copy>(
+    alloc: A,
+    state: &mut u64,
+    count: u32,
+) -> Result<bool, AllocError> {
+    let page = random_page(alloc, state)?;
+    let Some(rows) = rows_of(alloc, page.as_slice())? else {
+        return Ok(false);
+    };
+    for _ in 0..count {
+        if !is_found(alloc, &rows, state)? {
+            return Ok(false);
+        }
+    }
+    Ok(true)
+}
+
 #[test]
 fn random_look_ups(rt: HostRuntime) -> Result<(), Fail> {
-    let alloc = rt.alloc();
     let mut state = 5u64;
-    for _ in 0..20 {
-        let page = random_page(alloc, &mut state)?;
-        let rows = rows_of(alloc, page.as_slice())?.ok_or("no page")?;
-        for _ in 0..40 {
-            let letter = [b'a' + (random(&mut state) % 4) as u8];
-            let key = TenantKeyBuf::new(alloc, (random(&mut state) % 5) as u32, &letter)?;
-            let number = random(&mut state) % 5;
-            let guess = (random(&mut state) % 16) as usize;
-            let mut want = None;
-            for i in 0..rows.len() {
-                let version = rows.get(i);
-                if version.key.bytes == key.as_key().bytes && version.number <= number {
-                    want = Some(version.number);
-                }
-            }
-            assert!(rt;
-                rows.version_at(key.as_key(), number, guess)
-                    .map(|v| v.number)
-                    == want
-            );
-        }
+    for turn in 0..20u32 {
+        assert!(rt; are_found(rt.alloc(), &mut state, 40)?, "page {turn}");
     }
     Ok(())
 }
@@ -130,12 +158,18 @@ fn long_page<A: Allocator + Copy>(alloc: A) -> Result<Vec<u8, A>, AllocError> {
     Ok(page)
 }
 
+/// How many rows a long page has, if it is made again in the same bytes.
+fn rows_of_long<A: Allocator + Copy>(alloc: A) -> Result<Option<usize>, AllocError> {
+    let page = long_page(alloc)?;
+    let Some(rows) = rows_of(alloc, page.as_slice())? else {
+        return Ok(None);
+    };
+    let is_same = pushed(alloc, &rows)?.as_bytes() == page.as_slice();
+    Ok(if is_same { Some(rows.len()) } else { None })
+}
+
 #[test]
 fn a_long_page_is_read_and_made(rt: HostRuntime) -> Result<(), Fail> {
-    let alloc = rt.alloc();
-    let page = long_page(alloc)?;
-    let rows = rows_of(alloc, page.as_slice())?.ok_or("no page")?;
-    assert_eq!(rt; rows.len(), 3_000);
-    assert!(rt; pushed(alloc, &rows)?.as_bytes() == page.as_slice());
+    assert_eq!(rt; rows_of_long(rt.alloc())?, Some(3_000));
     Ok(())
 }

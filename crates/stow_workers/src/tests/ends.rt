@@ -142,4 +142,8 @@ impl Sink for Narrow<'_> {
         let error = one_more(&mut self.failures);
         if self.takes_none { Ok(0) } else { Err(error) }
     }
+
+    fn flush(&mut self) -> io::Result<()> {
+        Ok(())
+    }
 }

@@ -14,7 +14,7 @@ use std::net::{Net, SocketAddr, TcpListener, TcpStream};
 use std::process::Abort;
 use std::sync::{Arc, Wait};
 use std::test::Fail;
-use std::thread::{join, map_indices};
+use std::thread::{Threads, join, map_indices};
 use std::time::Clock;
 use stow_core::Core;
 use stow_login::tenants::Tenants;
@@ -23,6 +23,7 @@ use stow_model::items::Items;
 use stow_model::reply::Reply;
 use stow_model::simple_string::SimpleString;
 use stow_model::words::Words;
+use stow_refusing::{Plan, Refusing};
 use stow_shared::entry::Entry;
 use stow_shared::journal::Journal;
 use stow_shared::kept::Kept;
@@ -357,21 +358,65 @@ fn a_worker_outlives_its_clients(rt: HostRuntime) -> Result<(), Fail> {
     Ok(())
 }
 
-// A listener that doesn't wait has nobody to accept. All seats come back, the unused ones too.
+/// A listener that doesn't wait, and so has nobody to accept.
+fn at_once<R: Net<Listener = TcpListener, Stream = TcpStream>>(rt: &R) -> io::Result<TcpListener> {
+    let listener = TcpListener::bind(rt, "127.0.0.1:0")?;
+    listener.set_nonblocking(true)?;
+    Ok(listener)
+}
+
+/// Whether these are seats 1 to 3, in their order.
+fn are_three<J: Journal, A: Allocator>(seats: &[Seat<J, A>]) -> bool {
+    seats.iter().map(|seat| seat.number()).eq([1, 2, 3])
+}
+
+// At a fault all seats come back, the unused ones too.
 #[test]
 fn seats_come_back_at_a_fault(rt: HostRuntime) -> Result<(), Fail> {
     let alloc = rt.alloc();
-    let listener = TcpListener::bind(&rt, "127.0.0.1:0")?;
-    listener.set_nonblocking(true)?;
+    let listener = at_once(&rt)?;
     let (shared, seats) = opened::<Unkept, Global>(alloc, alloc, 3)?;
     let (seats, fault) = Pool::run(&rt, alloc, &listener, &shared, seats, 1, 0, &OpenGate);
     let Some(PoolFault::AcceptFailed(error)) = fault else {
         panic!(rt; "another fault, or none");
     };
     assert!(rt; error.kind() == ErrorKind::WouldBlock);
-    assert_eq!(rt; seats.len(), 3);
-    for (before, seat) in seats.iter().enumerate() {
-        assert!(rt; seat.number() as usize == before + 1);
+    assert!(rt; are_three(seats.as_slice()));
+    Ok(())
+}
+
+/// Whether a pool that this request for memory is refused to gives all its seats back and tells so, or nothing where
+/// it asks for fewer.
+fn withstands<R: Threads + Wait + Sync, A: Allocator + Copy + Send + Sync, B: Allocator>(
+    rt: &R,
+    heap: &Refusing<B>,
+    (alloc, global): (A, Global),
+    listener: &TcpListener,
+    at: u64,
+) -> Result<Option<bool>, AllocError> {
+    heap.set(Plan::Grant);
+    let (shared, seats) = opened::<Unkept, A>(alloc, global, 3)?;
+    heap.set(Plan::RefuseAt(at));
+    let (seats, fault) = Pool::run(rt, alloc, listener, &shared, seats, 1, 0, &OpenGate);
+    let asked = heap.asked();
+    heap.set(Plan::Grant);
+    let is_told = matches!(fault, Some(PoolFault::Refused)) && are_three(seats.as_slice());
+    Ok(if asked > at { Some(is_told) } else { None })
+}
+
+// Each request for memory of a pool itself is refused in turn; its workers have nothing to serve.
+#[test]
+fn a_pool_withstands_each_refusal(rt: HostRuntime) -> Result<(), Fail> {
+    let heap = Refusing::new(rt.alloc());
+    let listener = at_once(&rt)?;
+    let mut refusals = 0u64;
+    for at in 0..100u64 {
+        let Some(is_told) = withstands(&rt, &heap, (&heap, rt.alloc()), &listener, at)? else {
+            break;
+        };
+        assert!(rt; is_told, "request {at}");
+        refusals = at + 1;
     }
+    assert!(rt; refusals >= 3 && refusals < 100, "{refusals} refusals");
     Ok(())
 }

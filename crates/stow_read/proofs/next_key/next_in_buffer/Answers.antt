@@ -1,7 +1,6 @@
-use Rattle.std.proofs.Common.{◌≡◌, ◌<◌, length, sym, ◌∙◌, subst, arith}
+use Rattle.std.proofs.Common.{◌≡◌, sym, ◌∙◌, subst, arith}
 use Rattle.stow_message.specs.Rising.{below}
 use Rattle.stow_tree_model.specs.TreeMessage.{message_of}
-use Rattle.stow_read.specs.NextKey.{passed_number}
 use Rattle.stow_read.proofs.NextMessages.{messages_none, messages_next, messages_end}
 use Rattle.stow_read.proofs.next_key.next_in_buffer.Goals as goal
 

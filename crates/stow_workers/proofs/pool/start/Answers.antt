@@ -5,8 +5,8 @@ use Rattle.stow_workers.proofs.Sends.{workplace_syncs}
 use Rattle.stow_workers.proofs.Workers.{no_calls}
 use Rattle.stow_workers.proofs.pool.start.Goals as goal
 
-pub returns-then-not-is_running : goal.returns-then-not-is_running
-returns-then-not-is_running g c = no_calls _ _
+pub returns-then-not-is_running-clause-worker : goal.returns-then-not-is_running-clause-worker
+returns-then-not-is_running-clause-worker g c = no_calls _ _
 
 pub spawn_with-requires-send-F : goal.spawn_with-requires-send-F
 spawn_with-requires-send-F g c κs within =

@@ -1,7 +1,8 @@
-use Rattle.std.proofs.Common.{rules, ◌≡◌, [], ◌∷◌, ◌++◌, ◌∙◌, refl, sym, ap, subst, length, arith, append_assoc, append-nil}
+use Rattle.std.proofs.Common.{rules, ◌≡◌, [], ◌∷◌, ◌++◌, ◌∙◌, refl, sym, ap, subst, length, drop, arith, append_assoc, append-nil}
+use Rattle.std.proofs.lemmas.List.{length_push}
 use Rattle.std.specs.Vec.Iter.{into_iter_items}
-use Rattle.stow_workers.specs.Pools.{AreEach, IsWorkerOf}
-use Rattle.stow_workers.proofs.Workers.{each_more, each_none, nothing_left}
+use Rattle.stow_workers.specs.Pools.{AreEach, IsIdleOf, IsWorkerOf}
+use Rattle.stow_workers.proofs.Workers.{each_later, each_more, each_none, none_idle, nothing_left}
 use Rattle.stow_workers.proofs.pool.start_all.Goals as goal
 
 pub loop-seat-init : goal.loop-seat-init
@@ -11,6 +12,8 @@ loop-seat-init g c = (
   search rules,
   search rules,
   search rules,
+  search rules,
+  none_idle c.args.count c.args.workers.items c.requires.0,
 )
 
 pub loop-seat-preserved : goal.loop-seat-preserved
@@ -19,7 +22,7 @@ loop-seat-preserved g c =
     let x = c.in-Some.seat in
     let steps : into_iter_items at.seat-iterator ≡ x ∷ into_iter_items c.next.new.self = c.in-Some.ensures.steps.0 in (
       append_assoc at.yielded (x ∷ []) _ ∙ rw (← steps) at.invariant.0,
-      subst (λ items. AreEach (IsWorkerOf g.J.Journal.keeps) (at.yielded ++ x ∷ []) items) (sym c.push_reserved.ensures.items) (each_more (IsWorkerOf g.J.Journal.keeps) _ _ _ _ at.invariant.1 c.start-worker.ensures),
+      subst (λ items. AreEach (IsWorkerOf g.J.Journal.keeps) (at.yielded ++ x ∷ []) items) (sym c.push_reserved.ensures.items) (each_more (IsWorkerOf g.J.Journal.keeps) _ _ _ _ at.invariant.1 c.start-worker.ensures.worker),
       let was = at.invariant.2 in
           let gone = c.in-Some.ensures.steps.1 in
           let short = ap length steps in
@@ -31,6 +34,13 @@ loop-seat-preserved g c =
       let room = at.invariant.4 in
           let same = c.push_reserved.ensures.capacity in
           omega arith,
+      let same = at.invariant.5 in
+          let first = ap length c.push_reserved.ensures.items in
+          let second = length_push at.workers.items c.start-worker.result in
+          let more = length_push at.yielded x in
+          omega arith,
+      subst (λ items. AreEach IsIdleOf (drop c.args.count (at.yielded ++ x ∷ [])) (drop c.args.count items)) (sym c.push_reserved.ensures.items)
+          (each_later IsIdleOf c.args.count _ _ _ _ (sym at.invariant.5) at.invariant.6 (λ le. c.start-worker.ensures.idle (search rules))),
     )
 
 pub returns : goal.returns
@@ -42,5 +52,6 @@ returns g c =
     let began = c.into_iter-seat-iterator.ensures.into_iter_gives in
     record {
       each = subst (λ l. AreEach (IsWorkerOf g.J.Journal.keeps) l at.workers.items) all at.invariant.1;
+      idle = subst (λ l. AreEach IsIdleOf (drop c.args.count l) (drop c.args.count at.workers.items)) all at.invariant.6;
       count = omega (arith, at.invariant.3, none.0, began.1);
     }

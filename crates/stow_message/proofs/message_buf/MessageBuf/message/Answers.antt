@@ -6,11 +6,11 @@ use Rattle.stow_message.proofs.message_buf.MessageBuf.message.Goals as goal
 
 pub read_message-requires : goal.read_message-requires
 read_message-requires g c =
-    let raw = c.self.inside.raw in let h = c.self.invariant in let i = c.args.index in let lt : i < length raw.slots = index_within raw c.args.self.now c.self.view_is i c.requires in
+    let raw = c.self.inside.raw in let h = c.self.invariant.filled in let i = c.args.index in let lt : i < length raw.slots = index_within raw c.args.self.now c.self.view_is i c.requires in
     record { begins = filled_at raw h i lt c.slot.result c.slot.ensures; small = omega (arith, h.within) }
 
 pub returns : goal.returns
 returns g c =
-    let raw = c.self.inside.raw in let h = c.self.invariant in let i = c.args.index in let lt : i < length raw.slots = index_within raw c.args.self.now c.self.view_is i c.requires in
+    let raw = c.self.inside.raw in let h = c.self.invariant.filled in let i = c.args.index in let lt : i < length raw.slots = index_within raw c.args.self.now c.self.view_is i c.requires in
     let d : TreeMessage = message_of c.read_message.result in let b = filled_at raw h i lt c.slot.result c.slot.ensures in
     c.read_message.ensures ∙ read_is raw.front c.slot.result b ∙ sym (message_there raw h i lt c.slot.result c.slot.ensures d) ∙ ap (λ (w : MessageList). get_or w.messages i d) c.self.view_is

@@ -1,9 +1,12 @@
-use Rattle.std.proofs.Common.{◌+◌, ◌-◌, length}
+use Rattle.std.proofs.Common.{◌≡◌, ◌+◌, ◌-◌, length}
 use Rattle.stow_message.proofs.Merged.{Filling}
 use Rattle.stow_message.proofs.message_buf.MessageBuf.push_all.Given as goal
 
 abbrev pub invariant-loop-new : goal.invariant-loop-new
-invariant-loop-new g l = Filling l.fn.self l.run l.self-inside.raw l.new l.old l.place l.at
+invariant-loop-new g l = record {
+  filling : Filling l.fn.self l.run l.self-inside.raw l.new l.old l.place l.at;
+  marks : l.self-inside.filter.marks.items ≡ l.initial.self-inside.filter.marks.items;
+}
 
 abbrev pub decreases-loop-new : goal.decreases-loop-new
 decreases-loop-new g l = length l.run + length l.fn.self.messages - l.place

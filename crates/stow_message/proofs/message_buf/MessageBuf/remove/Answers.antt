@@ -1,7 +1,9 @@
 use Rattle.std.proofs.Common.{◌≡◌, ◌+◌, ◌-◌, ◌*◌, ◌≤◌, length, ap, sym, subst, ◌∙◌, arith}
 use Rattle.std.specs.List.{remove_range}
 use Rattle.stow_raw.specs.RawBuf.{RawLists, raw_used}
+use Rattle.stow_message.specs.Filter.{Covers}
 use Rattle.stow_message.specs.MessageBuf.{MessageList, message_list, messages_in, IsFilled}
+use Rattle.stow_message.proofs.Covered.{covers_rest}
 use Rattle.stow_message.proofs.Pushed.{slots_of_messages}
 use Rattle.stow_message.proofs.Removed.{removed, removed_messages, removed_used, removed_filled}
 use Rattle.stow_message.proofs.message_buf.MessageBuf.remove.Goals as goal
@@ -11,13 +13,18 @@ remove_slots-requires g c = omega (arith, c.requires, slots_of_messages c.self.i
 
 pub invariant_of-self : goal.invariant_of-self
 invariant_of-self g c =
-    let raw = c.self.inside.raw in let h = c.self.invariant in let i = c.args.index in let k = c.args.count in
+    let raw = c.self.inside.raw in let h = c.self.invariant.filled in let i = c.args.index in let k = c.args.count in
     let le : i + k ≤ length raw.slots = omega (arith, c.requires, slots_of_messages raw, ap (λ (w : MessageList). length w.messages) c.self.view_is) in
-    subst IsFilled (sym c.remove_slots.ensures) (removed_filled raw h i k le)
+    let marks = c.self.inside.filter.marks.items in
+    record {
+      filled = subst IsFilled (sym c.remove_slots.ensures) (removed_filled raw h i k le);
+      covers = subst (λ (r : RawLists). Covers marks (messages_in r)) (sym c.remove_slots.ensures)
+          (subst (Covers marks) (sym (removed_messages raw h i k le)) (covers_rest marks (messages_in raw) i (i + k) c.self.invariant.covers));
+    }
 
 pub returns : goal.returns
 returns g c =
-    let raw = c.self.inside.raw in let h = c.self.invariant in let i = c.args.index in let k = c.args.count in
+    let raw = c.self.inside.raw in let h = c.self.invariant.filled in let i = c.args.index in let k = c.args.count in
     let le : i + k ≤ length raw.slots = omega (arith, c.requires, slots_of_messages raw, ap (λ (w : MessageList). length w.messages) c.self.view_is) in
     let less : raw_used (removed raw h i k le) ≡ raw_used raw - 4 * k = omega (arith, removed_used raw h i k le) in
     ap (λ (r : RawLists). message_list (messages_in r) (raw_used r) r.capacity) c.remove_slots.ensures ∙ (λ j. message_list (removed_messages raw h i k le j) (less j) raw.capacity)

@@ -5,6 +5,7 @@ use Rattle.stow_node.specs.declared.child.Child.{Child}
 use Rattle.stow_node.specs.Subtree.{Subtree}
 use Rattle.stow_node.proofs.Cut.{Cut, cut_at}
 use Rattle.stow_node.proofs.Filled.{some_bytes}
+use Rattle.stow_node.proofs.Flushed.{on_err}
 use Rattle.stow_node.proofs.node.Node.split.Goals as goal
 use Rattle.stow_node.proofs.node.Node.split.Given as given
 
@@ -36,3 +37,6 @@ invariant_of-self-2 g c = rw (c.move_range.ensures.rest, c.as_key.ensures, c.top
 
 pub returns-clause-halves : goal.returns-clause-halves
 returns-clause-halves g c = rw (← c.self.view_is) (rw (c.move_range.ensures.rest, c.move_range.ensures.moved, c.in_ok-buffer.ensures, c.as_key.ensures, c.top_key.ensures) (done g c).halves)
+
+pub returns-in_err-children-clause-same : goal.returns-in_err-children-clause-same
+returns-in_err-children-clause-same g c = on_err c.from_residual-in_err-children.result (rw c.in_err-children.ensures.err c.self.view_is)

@@ -1,0 +1,19 @@
+//! Tests of the crates that stand below the tree and the core: the meaning of requests, requests in and replies out,
+//! tenant files, words as commands, and the tenant's own run.
+//!
+//! They stand in a crate of their own for the gate's time: it proves a crate again with its tests. A module is named after
+//! the crate that it tests.
+#![tactic(auto)]
+
+#[cfg(test)]
+mod commands;
+#[cfg(test)]
+mod login;
+#[cfg(test)]
+mod model;
+#[cfg(test)]
+mod plain;
+#[cfg(test)]
+mod resp;
+#[cfg(test)]
+mod tree_model;

@@ -1,0 +1,7 @@
+//! Requests and replies at their edges, and with memory refused.
+mod held;
+mod long;
+mod refusals;
+mod replies;
+mod streams;
+mod telling;

@@ -1,7 +1,0 @@
-use Rattle.std.proofs.Common.{◌≡◌, ◌*◌, ◌≤◌, take}
-use Rattle.std.specs.List.{sum_by}
-use Rattle.stow_message.specs.Packed.{message_size}
-use Rattle.stow_message.proofs.message_buf.MessageBuf.range_bytes.Given as goal
-
-abbrev pub invariant-loop-i : goal.invariant-loop-i
-invariant-loop-i g l = record { sum : l.total ≡ sum_by message_size (take l.i l.run); small : l.total ≤ 66580 * l.i }

@@ -1,0 +1,165 @@
+//! Random requests of three tenants, each beside the tenant's own plain store.
+use crate::making::core_of;
+use crate::text::{filled_words, reply_text, words_of};
+use std::alloc::{AllocError, Allocator, Global};
+use std::test::Fail;
+use stow_core::Core;
+use stow_model::words::Words;
+use stow_plain::plain_request::PlainRequest;
+use stow_plain::plain_store::PlainStore;
+use stow_testing::random::Random;
+use stow_testing::tenants::{QUOTA, THREE};
+use stow_tree::tree_shape::{MOST_BUFFER, MOST_CACHE, MOST_FAN_OUT, MOST_LEAF, TreeShape};
+
+const KEYS: [&str; 6] = ["''", "a", "ab", "b", "b0", "c"];
+
+const VALUES: [&str; 7] = ["''", "7", "-3", "x", "9223372036854775807", "007", "LONG"];
+
+/// The largest shape.
+const LARGEST: TreeShape = TreeShape {
+    buffer: MOST_BUFFER,
+    leaf: MOST_LEAF,
+    fan_out: MOST_FAN_OUT,
+    cache: MOST_CACHE,
+};
+
+const NUMBERS: [&str; 5] = ["0", "1", "2", "3", "4"];
+
+/// A request's line: `k` and `l` are keys, `v` is a value, and `n` a number.
+const LINES: [&str; 16] = [
+    "GET k",
+    "MGET k l k",
+    "EXISTS k l k",
+    "STRLEN k",
+    "RANGE k l n",
+    "RANGE k '' n",
+    "SET k v NX",
+    "SET k v XX",
+    "APPEND k v",
+    "INCR k",
+    "DECR k",
+    "INCRBY k v",
+    "DEL k l",
+    "DEL k l k",
+    "ECHO v",
+    "SET k v",
+];
+
+/// A random request: its line, and what stands at `k` and `l`, and at `v` and `n`, in it.
+type Drawn = (
+    &'static str,
+    (&'static str, &'static str),
+    (&'static str, &'static str),
+);
+
+fn draw(random: &mut Random) -> Drawn {
+    let k = random.one_of(&KEYS);
+    let l = random.one_of(&KEYS);
+    let v = random.one_of(&VALUES);
+    let n = random.one_of(&NUMBERS);
+    (random.one_of(&LINES), (k, l), (v, n))
+}
+
+/// Whether the core and the tenant's own store tell words the same.
+fn is_alike<A: Allocator + Copy>(
+    core: &mut Core<A>,
+    alone: &mut PlainStore<A>,
+    alloc: A,
+    tenant: u32,
+    words: Words<A>,
+) -> Result<bool, AllocError> {
+    let told = core.call(alloc, tenant, &words);
+    let request = PlainRequest {
+        words,
+        is_refused: false,
+    };
+    let want = alone.step(alloc, &request)?;
+    Ok(reply_text(alloc, &told)? == reply_text(alloc, &want)?)
+}
+
+/// The own stores of three tenants.
+#[derive(Drop)]
+struct OwnStores<A: Allocator + Copy> {
+    first: PlainStore<A>,
+    second: PlainStore<A>,
+    third: PlainStore<A>,
+}
+
+impl<A: Allocator + Copy> OwnStores<A> {
+    /// Three stores without rows.
+    fn new(alloc: A) -> OwnStores<A> {
+        OwnStores {
+            first: PlainStore::new(alloc, QUOTA),
+            second: PlainStore::new(alloc, QUOTA),
+            third: PlainStore::new(alloc, QUOTA),
+        }
+    }
+
+    /// The store of tenant 1, 2 or 3.
+    fn of(&mut self, tenant: u32) -> &mut PlainStore<A> {
+        match tenant {
+            1 => &mut self.first,
+            2 => &mut self.second,
+            _ => &mut self.third,
+        }
+    }
+}
+
+/// Random requests to a core and to the own stores; `None` where each is answered as alone, and else the first that isn't.
+fn first_other<A: Allocator + Copy>(
+    core: &mut Core<A>,
+    stores: &mut OwnStores<A>,
+    alloc: A,
+) -> Result<Option<Drawn>, AllocError> {
+    let mut random = Random::new(7);
+    for _ in 0..3_000 {
+        let tenant = random.below(3) + 1;
+        let drawn = draw(&mut random);
+        let words = filled_words(alloc, drawn.0, drawn.1, drawn.2)?;
+        if !is_alike(core, stores.of(tenant), alloc, tenant, words)? {
+            return Ok(Some(drawn));
+        }
+    }
+    Ok(None)
+}
+
+/// Whether each tenant has written more than a hundred times, and has the rows that its own store has.
+fn are_rows_alike<A: Allocator + Copy>(
+    core: &mut Core<A>,
+    stores: &mut OwnStores<A>,
+    alloc: A,
+) -> Result<bool, AllocError> {
+    for tenant in 1..4u32 {
+        let alone = stores.of(tenant);
+        let words = words_of(alloc, "RANGE '' '' 1024")?;
+        if alone.last <= 100 || !is_alike(core, alone, alloc, tenant, words)? {
+            return Ok(false);
+        }
+    }
+    Ok(true)
+}
+
+/// The first request to a new core of this shape that is not answered as alone, or that the rows are others.
+fn other_of<A: Allocator + Copy>(
+    alloc: A,
+    global: Global,
+    shape: TreeShape,
+) -> Result<Option<Drawn>, AllocError> {
+    let mut core = core_of(alloc, global, THREE, shape)?;
+    let mut stores = OwnStores::new(alloc);
+    let other = first_other(&mut core, &mut stores, alloc)?;
+    if other.is_some() || are_rows_alike(&mut core, &mut stores, alloc)? {
+        return Ok(other);
+    }
+    Ok(Some(("the rows", ("", ""), ("", ""))))
+}
+
+// Values that are long enough for many flushes are among them.
+#[test]
+fn random_requests_are_answered_as_alone(rt: HostRuntime) -> Result<(), Fail> {
+    for shape in [TreeShape::SMALLEST, LARGEST] {
+        let other = other_of(rt.alloc(), rt.alloc(), shape)?;
+        assert!(rt; other.is_none(), "{other:?}");
+    }
+    Ok(())
+}

@@ -1,0 +1,142 @@
+//! Connections as their clients see them: what each is to be told, by each tenant's own run.
+use crate::events::acts::Act;
+use crate::text::words_of;
+use std::alloc::{AllocError, Allocator};
+use stow_house::mark::Mark;
+use stow_house::outputs::Outputs;
+use stow_plain::own_run::own_run;
+use stow_plain::plain_request::PlainRequest;
+use stow_resp::encode::Encode;
+use stow_testing::tenants::QUOTA;
+
+/// What a connection is to be told next.
+#[derive(Clone, Copy)]
+enum Expected {
+    LoggedIn,
+    LogIn,
+    /// The next reply of the tenant's own run.
+    Own,
+}
+
+/// One connection as its client sees it: a list of requests, and its tenant's own.
+#[derive(Drop)]
+struct Client<A: Allocator> {
+    is_open: bool,
+    is_logged_in: bool,
+    sent: Vec<&'static str, A>,
+    taken: usize,
+    line: Vec<PlainRequest<A>, A>,
+    expected: Vec<Expected, A>,
+}
+
+impl<A: Allocator + Copy> Client<A> {
+    fn new(alloc: A) -> Client<A> {
+        Client {
+            is_open: false,
+            is_logged_in: false,
+            sent: Vec::new(alloc),
+            taken: 0,
+            line: Vec::new(alloc),
+            expected: Vec::new(alloc),
+        }
+    }
+
+    /// One act of this connection that was not void.
+    fn go_on(&mut self, alloc: A, act: Act, mark: Mark) -> Result<(), AllocError> {
+        match act {
+            Act::Open(_) => {
+                self.is_open = true;
+                Ok(())
+            }
+            Act::Send(_, line) => self.send(line),
+            Act::Serve(_) => self.serve(alloc, mark),
+        }
+    }
+
+    fn send(&mut self, line: &'static str) -> Result<(), AllocError> {
+        if self.is_open {
+            self.sent.push(line)?;
+        }
+        Ok(())
+    }
+
+    /// The next request is served, if there is one.
+    fn serve(&mut self, alloc: A, mark: Mark) -> Result<(), AllocError> {
+        let Some(line) = self.sent.get(self.taken).copied() else {
+            return Ok(());
+        };
+        self.taken = self.taken.saturating_add(1);
+        if line.starts_with("AUTH") {
+            self.is_logged_in = true;
+            self.expected.push(Expected::LoggedIn)?;
+        } else if self.is_logged_in {
+            self.ask(alloc, line, mark)?;
+        } else {
+            self.expected.push(Expected::LogIn)?;
+        }
+        Ok(())
+    }
+
+    /// A request of the tenant's.
+    fn ask(&mut self, alloc: A, line: &str, mark: Mark) -> Result<(), AllocError> {
+        self.line.push(PlainRequest {
+            words: words_of(alloc, line)?,
+            is_refused: mark == Mark::Refused,
+        })?;
+        self.expected.push(Expected::Own)?;
+        Ok(())
+    }
+
+    /// The bytes that the connection is to be told, the tenant's own part by its own run.
+    fn bytes(&self, alloc: A) -> Result<Vec<u8, A>, AllocError> {
+        let own = own_run(alloc, QUOTA, self.line.as_slice())?;
+        let mut replies = own.replies.iter();
+        let mut bytes = Vec::new(alloc);
+        for expected in &self.expected {
+            match expected {
+                Expected::LoggedIn => bytes.extend_from_slice(b"+OK\r\n")?,
+                Expected::LogIn => {
+                    bytes.extend_from_slice(b"-NOAUTH Authentication required.\r\n")?
+                }
+                Expected::Own => {
+                    if let Some(reply) = replies.next() {
+                        reply.write(&mut bytes)?;
+                    }
+                }
+            }
+        }
+        Ok(bytes)
+    }
+}
+
+/// The client of a connection after the first acts, as many as there are marks.
+fn client_of<A: Allocator + Copy>(
+    alloc: A,
+    connection: u32,
+    acts: &[Act],
+    marks: &[Mark],
+) -> Result<Client<A>, AllocError> {
+    let mut client = Client::new(alloc);
+    for (act, mark) in acts.iter().zip(marks) {
+        if act.connection() == connection && *mark != Mark::Void {
+            client.go_on(alloc, *act, *mark)?;
+        }
+    }
+    Ok(client)
+}
+
+/// Whether each of the two connections was told what its client expects after the first acts, as many as there are marks.
+pub(crate) fn are_told_as_alone<A: Allocator + Copy>(
+    alloc: A,
+    acts: &[Act],
+    outputs: &Outputs<A>,
+) -> Result<bool, AllocError> {
+    for connection in 1..3u32 {
+        let client = client_of(alloc, connection, acts, outputs.marks())?;
+        let expected = client.bytes(alloc)?;
+        if outputs.bytes(alloc, connection)?.as_slice() != expected.as_slice() {
+            return Ok(false);
+        }
+    }
+    Ok(true)
+}

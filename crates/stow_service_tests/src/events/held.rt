@@ -1,0 +1,70 @@
+//! Memory is given back: a second equal round of acts leaves no more of it held than the first did.
+use crate::events::acts::{Act, event_of, random_acts};
+use crate::making::new_house;
+use linked_list_allocator::LocalHeap;
+use std::alloc::{AllocError, Allocator, Global};
+use std::test::Fail;
+use stow_house::house::House;
+use stow_house::step_result::StepResult;
+use stow_model::event::Event;
+
+/// Acts in a round.
+const ACTS: u32 = 10_000;
+
+/// What deletes every row that the acts can make.
+const DELETION: [Act; 2] = [Act::Send(1, "DEL a b ''"), Act::Send(2, "DEL a b ''")];
+
+/// Carries the acts out, each an event of its own memory.
+fn carry<A: Allocator + Copy>(
+    house: &mut House<A>,
+    alloc: A,
+    acts: &[Act],
+) -> Result<(), AllocError> {
+    for act in acts {
+        let _result = house.step(alloc, &event_of(alloc, *act)?);
+    }
+    Ok(())
+}
+
+/// Serves what came on a connection and was not served yet.
+fn drain<A: Allocator + Copy>(house: &mut House<A>, alloc: A, connection: u32) {
+    for _ in 0..ACTS {
+        if let StepResult::More = house.step(alloc, &Event::Serve(connection)) {
+            return;
+        }
+    }
+}
+
+/// The acts, and then the deletion of all rows.
+fn round<A: Allocator + Copy>(
+    house: &mut House<A>,
+    alloc: A,
+    acts: &[Act],
+) -> Result<(), AllocError> {
+    carry(house, alloc, acts)?;
+    carry(house, alloc, &DELETION)?;
+    drain(house, alloc, 1);
+    drain(house, alloc, 2);
+    Ok(())
+}
+
+/// Whether a new house holds no more of the heap after a second round than after the first.
+fn holds_no_more<A: Allocator + Copy>(
+    heap: &LocalHeap,
+    (alloc, global): (A, Global),
+    acts: &[Act],
+) -> Result<bool, AllocError> {
+    let mut house = new_house(alloc, global)?;
+    round(&mut house, alloc, acts)?;
+    let held = heap.used();
+    round(&mut house, alloc, acts)?;
+    Ok(heap.used() <= held)
+}
+
+#[test]
+fn a_second_round_holds_no_more(rt: HostRuntime) -> Result<(), Fail> {
+    let heap = LocalHeap::new(rt.alloc(), 4_194_304)?;
+    let acts = random_acts(rt.alloc(), ACTS)?;
+    assert!(rt; holds_no_more(&heap, (&heap, rt.alloc()), acts.as_slice())?);
+    Ok(())
+}

@@ -1,0 +1,9 @@
+use Rattle.std.proofs.Common.{◌≡◌}
+use Rattle.std.specs.Io.KnownBytes.{Keeps}
+use Rattle.stow_workers.specs.Counted.{inner_of, failures_of, last_of, borrow_of}
+use Rattle.stow_workers.proofs.counted.CountedSink.flush.Given as goal
+
+-- interrupted calls have changed nothing
+abbrev pub invariant-loop : goal.invariant-loop
+invariant-loop g l = Keeps (g.T.Write.contents (inner_of l.initial.self)) (g.T.Write.contents (inner_of l.self)) × (failures_of l.self ≡ failures_of l.initial.self) × (last_of l.self ≡ last_of l.initial.self)
+    × (borrow_of l.self ≡ borrow_of l.initial.self)
