@@ -134,7 +134,8 @@ fn asked_by_call<A: Allocator + Copy, B: Allocator>(
 
 // Each request for memory of a prepare is refused in turn: what stood before still stands, and the same call
 // succeeds once memory is there. Its commit, to which every request is refused, asks for none. No prepare asks for
-// more than it takes: a value, the keys of a deletion, and what a reply copies; nor does a call.
+// more than it takes: a value, the keys of a deletion, what a reply copies, and the way that a range goes down; nor
+// does a call.
 #[test]
 fn prepares_withstand_each_refusal(rt: HostRuntime) -> Result<(), Fail> {
     let global = rt.alloc();
@@ -150,7 +151,7 @@ fn prepares_withstand_each_refusal(rt: HostRuntime) -> Result<(), Fail> {
         ("MGET a b a", "[$old nil $old ]", "$old", "nil", 2),
         ("EXISTS a b a", ":2", "$old", "nil", 0),
         ("STRLEN a", ":3", "$old", "nil", 0),
-        ("RANGE '' '' 9", "[$a $old ]", "$old", "nil", 6),
+        ("RANGE '' '' 9", "[$a $old ]", "$old", "nil", 7),
         ("PING hello", "$hello", "$old", "nil", 1),
         ("ECHO hello", "$hello", "$old", "nil", 1),
         ("APPEND a er", ":5", "$older", "nil", 1),
