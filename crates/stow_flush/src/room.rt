@@ -13,6 +13,33 @@ use stow_merge::pins::Pins;
 use stow_node::node::Node;
 use stow_raw::raw_buf::RawBuf;
 
+/// Flushes until so many bytes fit into the root's own buffer. Where memory is refused, the root means what it did.
+fn flush<A: Allocator + Copy>(
+    alloc: A,
+    root: &mut Node<A>,
+    bytes: usize,
+    pins: &Pins<A>,
+    spare: &mut RawBuf<A>,
+    cache: &mut LeafCache<A>,
+) -> Result<(), AllocError>
+    requires shape { 4 ≤ root.old.shape.fan_out }
+    requires bytes { bytes ≤ root.old.shape.buffer }
+    requires short { AreShort (messages_of root.old) }
+    requires spare { root.old.buffer.capacity ≤ spare.old.capacity }
+    ensures room { OnOk result (HasRoom bytes root.new) }
+    ensures stands { Stands (pins_in pins.now) root.old root.new }
+    ensures cache { Forgets root.old.leaves root.new.leaves cache.old cache.new }
+    ensures spare { spare.new.capacity ≡ spare.old.capacity }
+{
+    while !root.makes_room(bytes, root.shape().ample(bytes), spare) {
+        if root.shape().fan_out as usize - root.width() < root.places() {
+            return root.raise(alloc);
+        }
+        root.step(alloc, pins, spare, cache)?;
+    }
+    Ok(())
+}
+
 /// Makes room for so many bytes in the root's own buffer. Where they fit once dead bytes are dropped, no message moves.
 /// Where memory is refused, the root means what it did.
 pub fn make_room<A: Allocator + Copy>(
@@ -33,11 +60,8 @@ pub fn make_room<A: Allocator + Copy>(
     ensures cache { Forgets root.old.leaves root.new.leaves cache.old cache.new }
     ensures spare { spare.new.capacity ≡ spare.old.capacity }
 {
-    while !root.makes_room(bytes, spare) {
-        if root.shape().fan_out as usize - root.width() < root.places() {
-            return root.raise(alloc);
-        }
-        root.step(alloc, pins, spare, cache)?;
+    if root.makes_room(bytes, bytes, spare) {
+        return Ok(());
     }
-    Ok(())
+    flush(alloc, root, bytes, pins, spare, cache)
 }

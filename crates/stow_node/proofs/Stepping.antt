@@ -104,9 +104,9 @@ pub record CanStep (y : Subtree) (height capacity : ℕ) : Type 0 where
   pub same : y.buffer.capacity ≡ capacity
   pub lower : y.height < height
 
-pub can_step : {A : Type 0} (a : Inside A) (v : Vec (Child A) A) (i bytes : ℕ) (x y : Subtree) (pins : TenantPins) → Stepping a v i bytes x pins → IsSqueezed x y → y.buffer.capacity < sum_by message_size y.buffer.messages + bytes → 4 ≤ a.shape.fan_out → AreShort (messages_of (subtree_of a)) → CanStep y a.height a.buffer.capacity
-can_step {A} a v i bytes x y pins s q full wide short = record {
-  filled = full_has_messages y bytes full (let f = s.next.few in let k = squeezed.capacity in let n = s.next.capacity in omega (arith, f, k, n));
+pub can_step : {A : Type 0} (a : Inside A) (v : Vec (Child A) A) (i bytes ample : ℕ) (x y : Subtree) (pins : TenantPins) → Stepping a v i bytes x pins → IsSqueezed x y → y.buffer.capacity < sum_by message_size y.buffer.messages + ample → (bytes ≤ a.shape.buffer → ample ≤ a.shape.buffer) → 4 ≤ a.shape.fan_out → AreShort (messages_of (subtree_of a)) → CanStep y a.height a.buffer.capacity
+can_step {A} a v i bytes ample x y pins s q full most wide short = record {
+  filled = full_has_messages y ample full (let b = s.entered.is_node.fits in let f = most (let l = s.next.few in omega (arith, l, b)) in let k = squeezed.capacity in let n = s.next.capacity in omega (arith, b, f, k, n));
   shape = let e = fan_out in omega (arith, e, wide);
   places = let e = fan_out in let p = s.places in let w = squeezed.width in let h = ap places_at squeezed.height in omega (arith, e, p, w, h);
   short = rw q.is (child_short (record a { children = v }) i x s.entered.is_node s.next.at (λ key. (s.entered.keeps.means key).short (short key)));

@@ -204,10 +204,11 @@ impl<A: Allocator + Copy> Node<A> {
         let fan_out = self.shape.fan_out as usize;
         let index = next_child(alloc, &mut self.children, &self.buffer, fan_out)?;
         let bytes = bytes_for(self.children.as_slice(), index, &self.buffer);
+        let ample = self.shape.ample(bytes);
         match &mut self.children[index] {
             Child::Leaf(_) => unreachable!(),
             Child::Node(node) => {
-                if !node.makes_room(bytes, spare) {
+                if !node.makes_room(bytes, ample, spare) {
                     return node.step(alloc, pins, spare, cache);
                 }
             }
@@ -295,21 +296,22 @@ impl<A: Allocator> Node<A> {
         from.move_range(self.low.as_key(), to, &mut self.buffer);
     }
 
-    /// Whether so many bytes fit into its own buffer. Dead bytes are dropped where they fit then and not before.
-    pub fn makes_room(&mut self, bytes: usize, spare: &mut RawBuf<A>) -> bool
-        requires { self.old.buffer.capacity ≤ spare.old.capacity }
+    /// Whether so many bytes fit into its own buffer. Where they don't, dead bytes are dropped if `ample` bytes fit then.
+    pub fn makes_room(&mut self, bytes: usize, ample: usize, spare: &mut RawBuf<A>) -> bool
+        requires spare { self.old.buffer.capacity ≤ spare.old.capacity }
+        requires ample { bytes ≤ ample }
         ensures same { IsSqueezed self.old self.new }
         ensures still { self.old.buffer.used + bytes ≤ self.old.buffer.capacity → self.new ≡ self.old }
         ensures room { IsTrue result → self.new.buffer.used + bytes ≤ self.new.buffer.capacity }
         ensures full { result ≡ false → self.new.buffer.capacity
-            < sum_by message_size self.new.buffer.messages + bytes }
+            < sum_by message_size self.new.buffer.messages + ample }
         ensures spare { spare.new.capacity ≡ spare.old.capacity }
     {
         let capacity = self.buffer.capacity();
         if bytes <= capacity - self.buffer.used() {
             return true;
         }
-        if bytes > capacity - self.buffer.live() {
+        if ample > capacity - self.buffer.live() {
             return false;
         }
         self.buffer.squeeze(spare);

@@ -45,8 +45,8 @@ unreachable-requires g t c =
     let e : Entered c.self.inside c.next_child.new.children c.in_ok-index.index (pins_in c.args.pins.now) = entered c.self.inside c.next_child.new.children c.in_ok-index.index (pins_in c.args.pins.now) c.self.invariant (λ e. c.if-self-eq1.false e) (subst (λ (s : Subtree). 0 < length s.buffer.messages) (sym c.self.view_is) c.requires.some) (subst (λ (s : Subtree). 4 ≤ s.shape.fan_out) (sym c.self.view_is) c.requires.shape) (has_place (subtree_of c.self.inside) (subst (λ (s : Subtree). s.width + places_at s.height ≤ s.shape.fan_out) (sym c.self.view_is) c.requires.places)) c.in_ok-index.ensures.ok in
     not_leaf c.next_child.new.children.items c.in_ok-index.index c.index_mut.result.now c.in-Leaf.field-0 e.node e.at c.index_mut.ensures.value c.in-Leaf.is
 
-pub makes_room-requires : goal.makes_room-requires
-makes_room-requires g t c =
+pub makes_room-requires-clause-spare : goal.makes_room-requires-clause-spare
+makes_room-requires-clause-spare g t c =
     let s : Stepping c.self.inside c.next_child.new.children c.in_ok-index.index c.bytes_for-bytes.result c.in-Node.node (pins_in c.args.pins.now) = stepping c.self.inside c.next_child.new.children c.in_ok-index.index c.bytes_for-bytes.result c.in-Node.node (pins_in c.args.pins.now) c.index_mut.result.now c.as_slice.result.now (entered c.self.inside c.next_child.new.children c.in_ok-index.index (pins_in c.args.pins.now) c.self.invariant (λ e. c.if-self-eq1.false e) (subst (λ (s : Subtree). 0 < length s.buffer.messages) (sym c.self.view_is) c.requires.some) (subst (λ (s : Subtree). 4 ≤ s.shape.fan_out) (sym c.self.view_is) c.requires.shape) (has_place (subtree_of c.self.inside) (subst (λ (s : Subtree). s.width + places_at s.height ≤ s.shape.fan_out) (sym c.self.view_is) c.requires.places)) c.in_ok-index.ensures.ok) c.index_mut.ensures.value c.in-Node.is c.as_slice.ensures.value c.bytes_for-bytes.ensures (let u = c.used-used.ensures.live in let w = c.used-used.ensures.within in omega arith) in
     let same = s.next.capacity in
     let own = ap (λ (s : Subtree). s.buffer.capacity) c.self.view_is in
@@ -57,7 +57,7 @@ pub step-requires : goal.step-requires
 step-requires g t c κs within =
     let s : Stepping c.self.inside c.next_child.new.children c.in_ok-index.index c.bytes_for-bytes.result c.in-Node.node (pins_in c.args.pins.now) = stepping c.self.inside c.next_child.new.children c.in_ok-index.index c.bytes_for-bytes.result c.in-Node.node (pins_in c.args.pins.now) c.index_mut.result.now c.as_slice.result.now (entered c.self.inside c.next_child.new.children c.in_ok-index.index (pins_in c.args.pins.now) c.self.invariant (λ e. c.if-self-eq1.false e) (subst (λ (s : Subtree). 0 < length s.buffer.messages) (sym c.self.view_is) c.requires.some) (subst (λ (s : Subtree). 4 ≤ s.shape.fan_out) (sym c.self.view_is) c.requires.shape) (has_place (subtree_of c.self.inside) (subst (λ (s : Subtree). s.width + places_at s.height ≤ s.shape.fan_out) (sym c.self.view_is) c.requires.places)) c.in_ok-index.ensures.ok) c.index_mut.ensures.value c.in-Node.is c.as_slice.ensures.value c.bytes_for-bytes.ensures (let u = c.used-used.ensures.live in let w = c.used-used.ensures.within in omega arith) in
     let can : CanStep c.makes_room.new.self c.self.inside.height c.self.inside.buffer.capacity =
-    can_step c.self.inside c.next_child.new.children c.in_ok-index.index c.bytes_for-bytes.result c.in-Node.node c.makes_room.new.self (pins_in c.args.pins.now) s c.makes_room.ensures.same (c.makes_room.ensures.full c.if-not-makes_room.true) (subst (λ (s : Subtree). 4 ≤ s.shape.fan_out) (sym c.self.view_is) c.requires.shape) (subst (λ (s : Subtree). AreShort (messages_of s)) (sym c.self.view_is) c.requires.short) in
+    can_step c.self.inside c.next_child.new.children c.in_ok-index.index c.bytes_for-bytes.result c.ample-ample.result c.in-Node.node c.makes_room.new.self (pins_in c.args.pins.now) s c.makes_room.ensures.same (c.makes_room.ensures.full c.if-not-makes_room.true) c.ample-ample.ensures.most (subst (λ (s : Subtree). 4 ≤ s.shape.fan_out) (sym c.self.view_is) c.requires.shape) (subst (λ (s : Subtree). AreShort (messages_of s)) (sym c.self.view_is) c.requires.short) in
     let less : c.makes_room.new.self.height < c.args.self.now.height = let low = can.lower in let own = ap (λ (s : Subtree). s.height) c.self.view_is in omega arith in
     let size = can.same in
     let mine = ap (λ (s : Subtree). s.buffer.capacity) c.self.view_is in
