@@ -4,7 +4,7 @@ mod rows;
 mod text;
 
 use crate::plain::rows::{LONG, LongRequest, MIXED, REFUSED, RUNS, Run};
-use crate::plain::text::{reply_text, request_of};
+use crate::plain::text::request_of;
 use std::alloc::{AllocError, Allocator};
 use std::test::Fail;
 use stow_model::reply::Reply;
@@ -14,6 +14,7 @@ use stow_plain::own_run::own_run;
 use stow_plain::plain_request::PlainRequest;
 use stow_plain::plain_store::PlainStore;
 use stow_refusing::{Plan, Refusing};
+use stow_testing::replies::reply_text;
 
 /// Whether the store, of the quota 1,000,000, reports this usage.
 fn is_reported<A: Allocator + Copy>(store: &PlainStore<A>, run: &Run) -> bool {

@@ -4,7 +4,6 @@ ghost use Rattle.stow_model.specs.declared.refusal.Refusal.TheVariants as refusa
 ghost use Rattle.stow_model.specs.Reply as told;
 ghost use Rattle.stow_model.specs.Reply.{reply_of};
 
-use crate::text::{is_text, words_of};
 use std::alloc::{AllocError, Allocator, Global};
 use std::marker::Model;
 use std::test::Fail;
@@ -18,6 +17,8 @@ use stow_model::stream_fault::StreamFault;
 use stow_model::words::Words;
 use stow_refusing::{Plan, Refusing};
 use stow_resp::next::Next;
+use stow_testing::lines::words_of;
+use stow_testing::replies::is_text;
 use stow_testing::tenants::THREE;
 
 /// A door over memory: it keeps each call, and tells the tenant its index.

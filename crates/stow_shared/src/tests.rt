@@ -28,6 +28,7 @@ use stow_model::words::Words;
 use stow_plain::plain_request::PlainRequest;
 use stow_plain::plain_store::PlainStore;
 use stow_refusing::{Plan, Refusing};
+use stow_testing::lines::words_of;
 use stow_testing::tenants::{QUOTA, THREE};
 use stow_tree::tree_shape::TreeShape;
 
@@ -65,14 +66,6 @@ fn opened_for_one<R: Abort, J: Journal, A: Allocator + Copy>(
 ) -> (Shared<J, A>, Seat<J, A>) {
     let (shared, mut seats) = opened(rt, alloc, global, 1);
     (shared, seats.pop().expect(rt, "a seat"))
-}
-
-fn words_of<A: Allocator + Copy>(alloc: A, line: &str) -> Result<Words<A>, AllocError> {
-    let mut words = Words::new(alloc);
-    for word in line.split_whitespace() {
-        words.push(word.as_bytes())?;
-    }
-    Ok(words)
 }
 
 /// Whether these are the words of a line.

@@ -1,13 +1,15 @@
 //! Random requests of three tenants, each beside the tenant's own plain store.
 use crate::making::core_of;
-use crate::text::{filled_words, reply_text, words_of};
+use crate::text::filled_words;
 use std::alloc::{AllocError, Allocator, Global};
 use std::test::Fail;
 use stow_core::Core;
 use stow_model::words::Words;
 use stow_plain::plain_request::PlainRequest;
 use stow_plain::plain_store::PlainStore;
+use stow_testing::lines::words_of;
 use stow_testing::random::Random;
+use stow_testing::replies::reply_text;
 use stow_testing::tenants::{QUOTA, THREE};
 use stow_tree::tree_shape::{MOST_BUFFER, MOST_CACHE, MOST_FAN_OUT, MOST_LEAF, TreeShape};
 

@@ -1,6 +1,6 @@
 //! Memory is given back: rounds of equal requests on keys of their own leave no more of it held than the first did.
 use crate::making::new_core;
-use crate::text::{filled_words, words_of};
+use crate::text::filled_words;
 use linked_list_allocator::LocalHeap;
 use std::alloc::{AllocError, Allocator, Global};
 use std::test::Fail;
@@ -8,6 +8,7 @@ use stow_core::Core;
 use stow_model::refusal::Refusal;
 use stow_model::reply::Reply;
 use stow_model::words::Words;
+use stow_testing::lines::words_of;
 use stow_testing::random::Random;
 
 /// Requests in a round.

@@ -1,11 +1,13 @@
 //! Each request for memory of each command, refused in turn.
 use crate::making::new_core;
-use crate::text::{is_text, is_told, words_of};
+use crate::text::is_told;
 use std::alloc::{AllocError, Allocator, Global};
 use std::test::Fail;
 use stow_core::Core;
 use stow_model::words::Words;
 use stow_refusing::{Plan, Refusing};
+use stow_testing::lines::words_of;
+use stow_testing::replies::is_text;
 
 /// A request of tenant 1, its reply, and what then stands at the keys `a` and `b`, the first of which had "old".
 #[derive(Clone, Copy)]

@@ -1,10 +1,12 @@
 //! Each tenant's own keys, the longest value, many suffixes to a long one, and the last key beside other tenants' first.
 use crate::making::new_core;
-use crate::text::{is_text, is_told, repeated, words_of};
+use crate::text::is_told;
 use std::alloc::{AllocError, Allocator, Global};
 use std::test::Fail;
 use stow_core::Core;
 use stow_model::reply::Reply;
+use stow_testing::lines::{repeated, words_of};
+use stow_testing::replies::is_text;
 use stow_tree::shape_report::ShapeReport;
 
 /// What a tenant is told to a line.

@@ -1,12 +1,12 @@
 //! Connections as their clients see them: what each is to be told, by each tenant's own run.
 use crate::events::acts::Act;
-use crate::text::words_of;
 use std::alloc::{AllocError, Allocator};
 use stow_house::mark::Mark;
 use stow_house::outputs::Outputs;
 use stow_plain::own_run::own_run;
 use stow_plain::plain_request::PlainRequest;
 use stow_resp::encode::Encode;
+use stow_testing::lines::words_of;
 use stow_testing::tenants::QUOTA;
 
 /// What a connection is to be told next.

@@ -1,6 +1,5 @@
 //! Worked requests: each list by a run of the house, and by the tenant's own run.
 use crate::making::new_house;
-use crate::text::words_of;
 use std::alloc::{AllocError, Allocator, Global};
 use std::test::Fail;
 use stow_bytes::byte_string::ByteString;
@@ -8,6 +7,7 @@ use stow_model::event::Event;
 use stow_plain::own_run::own_run;
 use stow_plain::plain_request::PlainRequest;
 use stow_resp::encode::Encode;
+use stow_testing::lines::words_of;
 use stow_testing::rows::{ROWS, Told, asked, told};
 use stow_testing::tenants::QUOTA;
 
