@@ -9,7 +9,8 @@
 //! A body that always answers `AllocError` meets each contract here: tests call each with ample memory, and with each
 //! request refused. How much of a node a read looks at stands in no contract. `leaf_for` may answer none, or another leaf of
 //! the node: it is asked only for what to hold, and whatever leaf of the tree is held, and none, is right. That leaves are
-//! held is seen by tests of the tree.
+//! held is seen by tests of the tree. A search finds the same wherever it begins: a guess or a place that is always 0 is
+//! right, and only slower.
 #![tactic(auto)]
 
 pub mod descent;
