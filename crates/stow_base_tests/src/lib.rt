@@ -6,6 +6,8 @@
 #![tactic(auto)]
 
 #[cfg(test)]
+mod bytes;
+#[cfg(test)]
 mod commands;
 #[cfg(test)]
 mod login;
@@ -14,6 +16,10 @@ mod model;
 #[cfg(test)]
 mod plain;
 #[cfg(test)]
+mod refusing;
+#[cfg(test)]
 mod resp;
+#[cfg(test)]
+mod testing;
 #[cfg(test)]
 mod tree_model;

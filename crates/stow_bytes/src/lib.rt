@@ -7,5 +7,3 @@
 
 pub mod byte_string;
 pub mod limits;
-#[cfg(test)]
-mod tests;

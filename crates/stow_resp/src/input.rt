@@ -16,9 +16,6 @@ use stow_model::span::Span;
 use stow_model::stream_fault::StreamFault;
 use stow_model::words::Words;
 
-#[cfg(test)]
-mod tests;
-
 /// The bytes of a stream that no message was made of yet. Of an unfinished array it keeps how much of it was
 /// found whole, and of an unfinished inline line how much has no LF, so that a message in many pieces is looked
 /// through once.
@@ -76,6 +73,15 @@ impl<A: Allocator + Copy> Input<A> {
         if block.capacity() <= KEPT_BYTES && spans.capacity() <= KEPT_SPANS {
             self.block = block;
             self.spans = spans;
+        }
+    }
+
+    /// How many bytes of the unfinished message in front were looked at and are not looked at again.
+    pub fn looked(&self) -> usize {
+        match &self.known {
+            Known::Nothing => 0,
+            Known::Array(progress) => progress.scanned,
+            Known::Line(looked) => *looked,
         }
     }
 

@@ -10,5 +10,3 @@ pub mod replies;
 pub mod rows;
 pub mod spelling;
 pub mod tenants;
-#[cfg(test)]
-mod tests;

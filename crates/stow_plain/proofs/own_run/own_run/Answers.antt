@@ -1,4 +1,5 @@
-use Rattle.std.proofs.Common.{◌≡◌, ◌∷◌, ◌++◌, [], map, reverse, take, sym, ap, ◌∙◌}
+use Rattle.std.proofs.lemmas.Grind.{common_steps}
+use Rattle.std.proofs.Common.{◌≡◌, ◌∷◌, ◌++◌, [], map, reverse, take, sym, ap, ◌∙◌, arith}
 use Rattle.std.proofs.Common.{◌+◌}
 use Rattle.std.proofs.lemmas.List.{take_more}
 use Rattle.stow_model.specs.Store as store
@@ -32,3 +33,21 @@ loop-request-preserved g c =
       store = store-step quota (store_of old) (store_of c.step.new.self) (reply_of c.in_ok-step.field-0) request line v.store done ∙ ap (store_after quota) lines;
       replies = told ∙ replies-step quota (store_of old) (store_of c.step.new.self) (reply_of c.in_ok-step.field-0) request line (reverse (map reply_of c.loop-request.replies.items)) v.store done v.replies ∙ ap (replies_after quota) lines;
     }
+
+pub returns-in_err-step-clause-store : goal.returns-in_err-step-clause-store
+returns-in_err-step-clause-store g c = grind (arith, common_steps)
+
+pub returns-in_err-step-clause-replies : goal.returns-in_err-step-clause-replies
+returns-in_err-step-clause-replies g c = grind (arith, common_steps)
+
+pub returns-in_err-push-clause-store : goal.returns-in_err-push-clause-store
+returns-in_err-push-clause-store g c = grind (arith, common_steps)
+
+pub returns-in_err-push-clause-replies : goal.returns-in_err-push-clause-replies
+returns-in_err-push-clause-replies g c = grind (arith, common_steps)
+
+pub returns-clause-store : goal.returns-clause-store
+returns-clause-store g c = grind (arith, common_steps)
+
+pub returns-clause-replies : goal.returns-clause-replies
+returns-clause-replies g c = grind (arith, common_steps)

@@ -1,4 +1,5 @@
-use Rattle.std.proofs.Common.{◌≡◌, ◌++◌, [], ◌∷◌, ap, sym, ◌∙◌}
+use Rattle.std.proofs.lemmas.Grind.{common_steps}
+use Rattle.std.proofs.Common.{◌≡◌, ◌++◌, [], ◌∷◌, ap, sym, ◌∙◌, arith}
 use Rattle.std.specs.Prelude.{filter, take}
 use Rattle.std.specs.List.{flat_map}
 use Rattle.std.specs.FinMap as map
@@ -29,3 +30,6 @@ loop-key-preserved-then-is_within g c =
     (ap (is_within c.args.from.now c.args.to.now) (sym key) ∙ sym c.if-is_within.ensures) c.if-left-eq0.false
     (second ∙ ap (λ t. t ++ Bulk c.in-Some.version.now.value ∷ []) first)
     (sym (ap (λ rest. c.loop-key.items ++ flat_map row_items (take c.loop-key.left (filter (λ row. is_within c.args.from.now c.args.to.now row.0) (entries_of (λ k. k.items) rest)))) c.in-Some.ensures.steps) ∙ c.loop-key.invariant)
+
+pub returns : goal.returns
+returns g c = grind (arith, common_steps)

@@ -1,8 +1,8 @@
 //! That a line is spelled as the RESP specification spells an array of bulk strings.
-use crate::many::{reads, writes};
-use crate::random::Random;
-use crate::rows::{asked, told};
 use std::test::Fail;
+use stow_testing::many::{reads, writes};
+use stow_testing::random::Random;
+use stow_testing::rows::{asked, told};
 
 #[test]
 fn rows_are_spelled(rt: HostRuntime) -> Result<(), Fail> {

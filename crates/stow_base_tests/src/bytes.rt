@@ -1,6 +1,6 @@
 //! What no clause says: that the calls succeed where there is memory.
-use crate::byte_string::ByteString;
 use std::test::Fail;
+use stow_bytes::byte_string::ByteString;
 
 #[test]
 fn byte_strings(rt: HostRuntime) -> Result<(), Fail> {

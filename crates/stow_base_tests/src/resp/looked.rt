@@ -1,18 +1,8 @@
 //! What is known of an unfinished message.
-use crate::input::Input;
-use crate::known::Known;
-use crate::next::Next;
 use std::alloc::{AllocError, Allocator};
 use std::test::Fail;
-
-/// How many bytes of an unfinished message aren't looked at again.
-fn looked<A: Allocator>(input: &Input<A>) -> usize {
-    match &input.known {
-        Known::Nothing => 0,
-        Known::Array(progress) => progress.scanned,
-        Known::Line(looked) => *looked,
-    }
-}
+use stow_resp::input::Input;
+use stow_resp::next::Next;
 
 /// Takes the messages off that are whole, of which there is one at most.
 fn take_whole<A: Allocator + Copy>(input: &mut Input<A>, alloc: A) {
@@ -39,7 +29,7 @@ fn are_looked_at_once<A: Allocator + Copy>(alloc: A) -> Result<bool, AllocError>
     for (piece, known) in PIECES {
         input.feed(piece)?;
         take_whole(&mut input, alloc);
-        if looked(&input) != known {
+        if input.looked() != known {
             return Ok(false);
         }
     }
