@@ -1,4 +1,5 @@
-use Rattle.std.proofs.Common.{◌≡◌, ◌∙◌, sym, subst, true, false, rules}
+use Rattle.std.proofs.lemmas.Grind.{common_steps}
+use Rattle.std.proofs.Common.{◌≡◌, ◌∙◌, sym, subst, true, false, rules, arith}
 use Rattle.stow_tree_model.specs.Value.{IsValue}
 use Rattle.stow_tree_model.specs.Version.{Version}
 use Rattle.stow_merge.specs.Pages.{HaveShortValues}
@@ -17,3 +18,9 @@ returns-then-not-is_short g c =
           (subst (λ ks. HaveShortValues (versions_in survey ks)) (sym c.as_slice-kept.ensures.value) all) c.loop-i-test.true c.index-kept-i.is in
           let z : false ≡ true = sym long ∙ c.is_short.ensures.1 short in absurd (cc),
     )
+
+pub loop-i-preserved : goal.loop-i-preserved
+loop-i-preserved g c = grind (arith, common_steps)
+
+pub returns : goal.returns
+returns g c = grind (arith, common_steps)

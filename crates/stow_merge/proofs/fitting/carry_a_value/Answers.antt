@@ -1,3 +1,4 @@
+use Rattle.std.proofs.lemmas.Grind.{common_steps}
 use Rattle.std.proofs.Common.{◌≡◌, ◌∙◌, ◌+◌, length, ap, sym, arith, true, false}
 use Rattle.stow_tree_model.specs.Op.{op_of, bytes_in}
 use Rattle.stow_tree_model.specs.declared.message.Message as messages
@@ -20,3 +21,6 @@ loop-i-preserved c =
     let so_far = c.loop-i.invariant in
     let within = c.if-size-left.false in
     omega arith
+
+pub returns : goal.returns
+returns c = grind (arith, common_steps)

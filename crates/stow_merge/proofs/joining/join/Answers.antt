@@ -1,4 +1,5 @@
-use Rattle.std.proofs.Common.{◌≡◌, ◌∙◌, [], ◌++◌, drop, sym, subst, map}
+use Rattle.std.proofs.lemmas.Grind.{common_steps}
+use Rattle.std.proofs.Common.{◌≡◌, ◌∙◌, [], ◌++◌, drop, sym, subst, map, arith}
 use Rattle.std.specs.List.Sorted.{IsStrictlySortedBy}
 use Rattle.std.proofs.lemmas.List.{append-nil}
 use Rattle.stow_tree_model.specs.Order.{place_cmp}
@@ -22,3 +23,18 @@ returns g c =
     ∙ c.loop-i.invariant.2
     ∙ zipped_in_order (map row_message (map version_of rows)) (map message_of batch)
     (subst (IsStrictlySortedBy place_cmp) (sym (same_places (map version_of rows))) c.requires.rows) c.requires.batch
+
+pub loop-i-preserved-then-j-batch-2 : goal.loop-i-preserved-then-j-batch-2
+loop-i-preserved-then-j-batch-2 g c = grind (arith, common_steps)
+
+pub loop-i-preserved-then-i-rows-2 : goal.loop-i-preserved-then-i-rows-2
+loop-i-preserved-then-i-rows-2 g c = grind (arith, common_steps)
+
+pub loop-i-preserved-in-Less : goal.loop-i-preserved-in-Less
+loop-i-preserved-in-Less g c = grind (arith, common_steps)
+
+pub loop-i-preserved-in-Equal : goal.loop-i-preserved-in-Equal
+loop-i-preserved-in-Equal g c = grind (arith, common_steps)
+
+pub loop-i-preserved : goal.loop-i-preserved
+loop-i-preserved g c = grind (arith, common_steps)

@@ -1,3 +1,4 @@
+use Rattle.std.proofs.lemmas.Grind.{common_steps}
 use Rattle.std.proofs.Common.{◌∙◌, ◌<◌, ◌∷◌, [], ◌++◌, length, take, map, sym, ap, arith}
 use Rattle.std.proofs.lemmas.List.{map-append, take_more}
 use Rattle.stow_tree_model.specs.TreeMessage.{message_of}
@@ -13,3 +14,6 @@ loop-i-preserved g c =
     ∙ map-append message_of c.loop-i.lent.items _
     ∙ ap (λ ms. ms ++ m ∷ []) c.loop-i.invariant
     ∙ sym (take_more messages i m in_range ∙ ap (λ w. take i messages ++ w ∷ []) (sym c.message.ensures))
+
+pub returns-clause-all : goal.returns-clause-all
+returns-clause-all g c = grind (arith, common_steps)

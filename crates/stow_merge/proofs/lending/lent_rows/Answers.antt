@@ -1,3 +1,4 @@
+use Rattle.std.proofs.lemmas.Grind.{common_steps}
 use Rattle.std.proofs.Common.{◌∙◌, ◌<◌, ◌∷◌, [], ◌++◌, length, take, map, sym, ap, arith}
 use Rattle.std.proofs.lemmas.List.{map-append, take_more}
 use Rattle.std.proofs.lemmas.Option.{get_or_from_slice_get}
@@ -14,3 +15,6 @@ loop-i-preserved g c =
     ∙ map-append version_of c.loop-i.lent.items _
     ∙ ap (λ vs. vs ++ v ∷ []) c.loop-i.invariant
     ∙ sym (take_more rows i v in_range ∙ ap (λ w. take i rows ++ w ∷ []) (get_or_from_slice_get rows i v v c.get.ensures.version))
+
+pub returns-clause-all : goal.returns-clause-all
+returns-clause-all g c = grind (arith, common_steps)

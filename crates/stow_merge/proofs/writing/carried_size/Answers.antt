@@ -1,3 +1,4 @@
+use Rattle.std.proofs.lemmas.Grind.{common_steps}
 use Rattle.std.proofs.Common.{◌≡◌, ◌∙◌, ◌+◌, length, ap, sym, arith}
 use Rattle.stow_tree_model.specs.Op.{op_of, bytes_in}
 use Rattle.stow_tree_model.specs.declared.message.Message as messages
@@ -16,3 +17,9 @@ loop-i-preserved c =
     let more = carried_more c.args.messages.now c.loop-i.i c.index-messages-i.result c.loop-i-test.true c.index-messages-i.is in
     let here : length c.carried.result.now ≡ length (bytes_in (op_of c.index-messages-i.result.op)) = ap length c.carried.ensures ∙ ap (λ (m : messages.Message). length (bytes_in (op_of m.op))) (sym c.index-messages-i.is) in
     omega arith
+
+pub returns-clause-size : goal.returns-clause-size
+returns-clause-size c = grind (arith, common_steps)
+
+pub returns-clause-small : goal.returns-clause-small
+returns-clause-small c = grind (arith, common_steps)

@@ -1,4 +1,5 @@
-use Rattle.std.proofs.Common.{◌≡◌, ◌∷◌, [], true, false, sym, subst, rules}
+use Rattle.std.proofs.lemmas.Grind.{common_steps}
+use Rattle.std.proofs.Common.{◌≡◌, ◌∷◌, [], true, false, sym, subst, rules, arith}
 use Rattle.std.specs.List.{AllByRecursion}
 use Rattle.stow_merge.specs.declared.kept.Kept as coded
 use Rattle.stow_tree_model.specs.Merged.{same_key}
@@ -22,3 +23,6 @@ loop-i-preserved c =
     let same : same_key c.args.key.bytes.now c.index-kept-i.result.key.bytes.now ≡ true = search rules in
     subst (AllByRecursion (λ (k : coded.Kept). k.key.bytes.now ≡ c.args.key.bytes.now)) (sym (one_more c.args.kept.now c.loop-i.i c.index-kept-i.result c.loop-i-test.true c.index-kept-i.is))
     (all_join _ _ (c.index-kept-i.result ∷ []) c.loop-i.invariant (sym (same_from c.args.key.bytes.now c.index-kept-i.result.key.bytes.now same), tt))
+
+pub returns-clause-run : goal.returns-clause-run
+returns-clause-run c = grind (arith, common_steps)

@@ -1,4 +1,5 @@
-use Rattle.std.proofs.Common.{◌++◌, ◌∷◌, [], sym, subst}
+use Rattle.std.proofs.lemmas.Grind.{common_steps}
+use Rattle.std.proofs.Common.{◌++◌, ◌∷◌, [], sym, subst, arith}
 use Rattle.stow_tree_model.specs.Value.{IsValue}
 use Rattle.stow_tree_model.specs.Version.{Version}
 use Rattle.stow_merge.specs.Writing.{CanPack, version_in, versions_in}
@@ -15,3 +16,9 @@ pub write_version-requires-clause-value : goal.write_version-requires-clause-val
 write_version-requires-clause-value g c =
     all_mapped_at (λ (v : Version). IsValue v.value) (version_in c.args.survey.now) c.args.key.now c.loop-i.i c.index-key-i.result
     (all_split _ c.args.packed.now (versions_in c.args.survey.now c.args.key.now) c.requires.are_short).1 c.loop-i-test.true c.index-key-i.is
+
+pub loop-i-preserved : goal.loop-i-preserved
+loop-i-preserved g c = grind (arith, common_steps)
+
+pub returns : goal.returns
+returns g c = grind (arith, common_steps)

@@ -1,4 +1,5 @@
-use Rattle.std.proofs.Common.{◌≡◌, ◌∙◌, ◌+◌, ◌∷◌, [], ◌++◌, List, drop, take, get_or, sym, ap, subst, append_assoc}
+use Rattle.std.proofs.lemmas.Grind.{common_steps}
+use Rattle.std.proofs.Common.{◌≡◌, ◌∙◌, ◌+◌, ◌∷◌, [], ◌++◌, List, drop, take, get_or, sym, ap, subst, append_assoc, arith}
 use Rattle.std.specs.List.{AllByRecursion}
 use Rattle.std.proofs.lemmas.List.{take-map, drop-map}
 use Rattle.stow_tree_model.specs.Version.{Version}
@@ -36,3 +37,6 @@ loop-i-preserved g c =
           ∙ c.loop-i.invariant.0,
       (subst (λ es. AllByRecursion CanPack (pages_at all from es)) next c.loop-i.invariant.1).1,
     )
+
+pub returns : goal.returns
+returns g c = grind (arith, common_steps)
