@@ -1,3 +1,5 @@
+use Rattle.std.proofs.Common.{arith}
+use Rattle.std.proofs.lemmas.Grind.{common_steps}
 use Rattle.stow_merge.specs.Pins.{pins_in}
 use Rattle.stow_flush.specs.Rooms.{Stands}
 use Rattle.stow_flush.proofs.Making.{IsMaking, making_first, squeezed_then, moved_then, keeps_stands, raised_then, by_answer}
@@ -33,3 +35,9 @@ returns-in_err-step-clause-cache g c =
 
 pub returns-clause-stands : goal.returns-clause-stands
 returns-clause-stands g c = (squeezed_then (pins_in c.args.pins.now) c.args.root.now c.loop-alloc.root c.makes_room.new.self c.args.cache.now c.loop-alloc.cache c.args.spare.now.capacity c.loop-alloc.spare.capacity c.makes_room.new.spare.capacity c.loop-alloc.invariant c.makes_room.ensures.same c.makes_room.ensures.spare).stands
+
+pub returns-then-shape-width-clause-cache : goal.returns-then-shape-width-clause-cache
+returns-then-shape-width-clause-cache g c = grind (arith, common_steps)
+
+pub step-requires-clause-some : goal.step-requires-clause-some
+step-requires-clause-some g c = grind (arith, common_steps)

@@ -1,4 +1,5 @@
-use Rattle.std.proofs.Common.{◌∙◌, subst}
+use Rattle.std.proofs.lemmas.Grind.{elements}
+use Rattle.std.proofs.Common.{◌∙◌, subst, arith}
 use Rattle.stow_merge.specs.Pins.{pins_in}
 use Rattle.stow_node.specs.Absorbs.{IsReplacedBy}
 use Rattle.stow_node.proofs.Absorbed.{absorbs, low_of_leaf}
@@ -14,3 +15,6 @@ returns-clause-ok g c =
     c.drop_range.ensures
     (c.low.ensures ∙ low_of_leaf c.args.children.now.items c.args.index c.index.result.now replaced.leaf replaced.at (rw c.in_ok-reserve.ensures.items at c.index.ensures))
     c.as_key.ensures
+
+pub index-requires : goal.index-requires
+index-requires g c = grind (arith, elements)

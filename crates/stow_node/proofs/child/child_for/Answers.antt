@@ -1,3 +1,4 @@
+use Rattle.std.proofs.lemmas.Grind.{common_steps}
 use Rattle.std.proofs.Common.{◌+◌, ◌-◌, ◌/◌, arith, ap, ◌∙◌, sym}
 use Rattle.std.proofs.lemmas.List.{length-map}
 use Rattle.stow_node.specs.Nodes.{part_of, parts_of}
@@ -22,3 +23,9 @@ loop-end-preserved g c =
 
 pub returns : goal.returns
 returns g c = is_for (parts_of c.args.children.now) c.args.key.bytes.now c.loop-end.at c.loop-end.end c.loop-end.invariant (let t = c.loop-end-test.false in omega arith) (low_spans (parts_of c.args.children.now) c.args.key.bytes.now c.requires.within)
+
+pub offset_bounds-children-middle : goal.offset_bounds-children-middle
+offset_bounds-children-middle g c = grind (arith, common_steps)
+
+pub bounds-children-middle : goal.bounds-children-middle
+bounds-children-middle g c = grind (arith, common_steps)

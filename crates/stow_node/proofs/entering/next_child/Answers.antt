@@ -1,3 +1,4 @@
+use Rattle.std.proofs.lemmas.Grind.{common_steps}
 use Rattle.std.proofs.Common.{◌+◌, length, ap, refl, inl, inr, arith}
 use Rattle.stow_node.proofs.Entered.{two_places_of, inside_lent, enters_whole, wide_child, one_more, enters_half}
 use Rattle.stow_node.proofs.entering.next_child.Goals as goal
@@ -52,3 +53,6 @@ returns-clause-ok g c =
     enters_half c.args.children.now.items c.split_at.new.children.items c.as_slice.result.now c.as_slice-2.result.now c.as_slice-3.result.now c.args.buffer.now c.args.fan_out c.heaviest-index.result c.heaviest-index.result c.bytes_for-lower.result c.bytes_for-upper.result
     c.as_slice.ensures.value c.heaviest-index.ensures c.in_ok-split_at.ensures.ok c.as_slice-2.ensures.value c.as_slice-3.ensures.value c.bytes_for-lower.ensures c.bytes_for-upper.ensures
     (inl (refl, let t = c.if-lower-upper.false in omega (arith, t)))
+
+pub index-child-requires : goal.index-child-requires
+index-child-requires g c = grind (arith, common_steps)

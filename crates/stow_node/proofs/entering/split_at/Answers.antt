@@ -1,4 +1,5 @@
-use Rattle.std.proofs.Common.{set, refl}
+use Rattle.std.proofs.lemmas.Grind.{elements, common_steps}
+use Rattle.std.proofs.Common.{set, refl, arith}
 use Rattle.stow_leaf.proofs.Steps.{inside_of}
 use Rattle.stow_node.specs.declared.child.Child.TheVariants as in_child
 use Rattle.stow_node.proofs.Entered.{split_is, not_leaf}
@@ -18,3 +19,18 @@ returns-in_ok-upper-clause-ok g c =
 pub returns-in_default-clause-ok : goal.returns-in_default-clause-ok
 returns-in_default-clause-ok g c =
     absurd (not_leaf c.args.children.now.items c.args.index c.index_mut.result.now c.in_default.field-0 c.requires.wide.node c.requires.wide.at (rw c.in_ok-reserve.ensures.items at c.index_mut.ensures.value) c.in_default.is)
+
+pub index_mut-requires : goal.index_mut-requires
+index_mut-requires g c = grind (arith, elements)
+
+pub split-requires : goal.split-requires
+split-requires g c = grind (arith, elements)
+
+pub returns-in_err-upper-clause-err : goal.returns-in_err-upper-clause-err
+returns-in_err-upper-clause-err g c = grind (arith, common_steps)
+
+pub overflow_add-index : goal.overflow_add-index
+overflow_add-index g c = grind (arith, elements)
+
+pub insert-requires : goal.insert-requires
+insert-requires g c = grind (arith, elements)

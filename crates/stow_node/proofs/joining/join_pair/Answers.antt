@@ -1,4 +1,5 @@
-use Rattle.std.proofs.Common.{◌+◌, refl, ap, ◌∙◌}
+use Rattle.std.proofs.lemmas.Grind.{common_steps}
+use Rattle.std.proofs.Common.{◌+◌, refl, ap, ◌∙◌, arith}
 use Rattle.std.specs.Prelude.{slice_get}
 use Rattle.stow_leaf.specs.declared.leaf.Leaf.{Leaf}
 use Rattle.stow_node.specs.Joins.{Pair}
@@ -38,3 +39,6 @@ returns-clause-cache g c =
     (to_join pair c.args.target c.leaf_at-lower.result.now c.leaf_at-upper.result.now c.in_ok-rows.field-0 c.in-Some.rows c.put_joined.new.children.items same c.in_ok-rows.ensures c.in-Some.is (c.put_joined.ensures pair)).1
     (c.as_key.ensures ∙ ap (λ (l : Leaf g.row.A.Denot). l.low) same.0) (c.as_key-2.ensures ∙ ap (λ (l : Leaf g.row.A.Denot). l.low) same.1)
     c.forget.ensures.limit c.forget.ensures.leaves c.forget.ensures.gone c.forget-2.ensures.limit c.forget-2.ensures.leaves c.forget-2.ensures.gone
+
+pub overflow_add-index : goal.overflow_add-index
+overflow_add-index g c = grind (arith, common_steps) steps 4000000

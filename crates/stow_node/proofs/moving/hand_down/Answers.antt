@@ -1,3 +1,5 @@
+use Rattle.std.proofs.Common.{arith}
+use Rattle.std.proofs.lemmas.Grind.{elements}
 use Rattle.stow_node.specs.declared.child.Child.TheVariants as in_child
 use Rattle.stow_node.proofs.HandedDown.{opened, can_accept, handed_down, not_leaf}
 use Rattle.stow_node.proofs.moving.hand_down.Goals as goal
@@ -16,3 +18,9 @@ pub returns-in_default : goal.returns-in_default
 returns-in_default g c =
     let o = opened c.args.children.now c.split_at_mut-front.result.0.now c.split_at_mut-child.result.0.now c.split_at_mut-child.result.1.now c.split_at_mut-front.result.1.now c.args.index (in_child.Leaf c.in_default.field-0) c.split_at_mut-front.ensures.value c.split_at_mut-child.ensures.value c.split_at_mut-front.ensures.front_len c.split_at_mut-child.ensures.front_len c.index-child-0.result c.in_default.is in
     absurd (not_leaf c.args.children.now c.split_at_mut-child.result.0.now c.split_at_mut-child.result.1.now c.split_at_mut-front.result.1.now c.args.index c.args.buffer.now c.in_default.field-0 o c.requires)
+
+pub overflow_add-index : goal.overflow_add-index
+overflow_add-index g c = grind (arith, elements)
+
+pub split_at_mut-front-requires : goal.split_at_mut-front-requires
+split_at_mut-front-requires g c = grind (arith, elements)

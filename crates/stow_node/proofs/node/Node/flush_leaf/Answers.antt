@@ -1,3 +1,4 @@
+use Rattle.std.proofs.lemmas.Grind.{common_steps}
 use Rattle.std.proofs.Common.{◌+◌, ◌-◌, ◌<◌, length, sym, ap, ◌∙◌, subst, arith}
 use Rattle.std.specs.Prelude.{Contains}
 use Rattle.stow_merge.specs.Pins.{pins_in}
@@ -90,3 +91,6 @@ returns-clause-cache g c =
     (forgets_one c.low.result.bytes.now (leaves_of c.self.inside.children.items) (leaves_of c.absorb.new.children.items) c.args.cache.now c.forget.new.self c.forget.ensures.limit c.forget.ensures.leaves c.forget.ensures.gone
     (λ leaf o ne. f.others leaf o (λ e. ne (e ∙ sym (c.low.ensures ∙ low_of_leaf c.self.inside.children.items c.heaviest-index.result c.index.result.now f.leaf f.at c.index.ensures)))))
     c.join_small.ensures.cache)
+
+pub join_small-requires-clause-some : goal.join_small-requires-clause-some
+join_small-requires-clause-some g c = grind (arith, common_steps)
