@@ -62,7 +62,7 @@ fn numbers_of_lines(rt: HostRuntime) -> Result<(), Fail> {
 
 // The printing characters and the four escapes are let in; nothing else is.
 #[test]
-fn bytes_of_texts(rt: HostRuntime) -> Result<(), Fail> {
+fn texts_of_lines(rt: HostRuntime) -> Result<(), Fail> {
     for byte in 0..=255u8 {
         let is_printing = (b' '..=b'~').contains(&byte) && byte != b'\\';
         let mut line = *b"piece 1 x";
@@ -108,7 +108,7 @@ piece 65536 a => 2
 ";
 
 #[test]
-fn words_and_texts_of_lines(rt: HostRuntime) -> Result<(), Fail> {
+fn words_of_lines(rt: HostRuntime) -> Result<(), Fail> {
     for row in &rows_of(&rt, LINES)? {
         lets_in(&rt, row.given.as_bytes(), row.told.as_str() == "0")?;
     }

@@ -93,7 +93,7 @@ serve --tenants missing.toml => 4 input or output failed
 ";
 
 #[test]
-fn addresses_and_files_may_be_refused(rt: HostRuntime) -> Result<(), Fail> {
+fn the_status_tells_why_it_ended(rt: HostRuntime) -> Result<(), Fail> {
     for row in &rows_of(&rt, REFUSED)? {
         let (status, text) = row.told.split_once(" ").expect(&rt, "a status");
         let status = status.parse().expect(&rt, "a number");
