@@ -3,8 +3,8 @@
 
 use std::alloc::Global;
 use std::process::ExitCode;
-use stow_program::failure::MEMORY;
-use stow_program::folder::System;
+use stow_command_line::failure::MEMORY;
+use stow_command_line::folder::System;
 use stow_program::program::program;
 use stow_workers::counted::Counted;
 

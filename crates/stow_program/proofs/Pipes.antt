@@ -10,9 +10,9 @@ use Rattle.stow_workers.specs.declared.served.Served.{Served}
 use Rattle.stow_workers.specs.declared.served.Served.TheVariants as how
 use Rattle.stow_workers.specs.Failures.{CountsFailure}
 use Rattle.stow_workers.specs.Sent.{Written}
-use Rattle.stow_program.specs.declared.failure.Failure.{Failure}
-use Rattle.stow_program.specs.declared.failure.Place.TheVariants as place
-use Rattle.stow_program.specs.Statuses.{failure_at}
+use Rattle.stow_command_line.specs.declared.failure.Failure.{Failure}
+use Rattle.stow_command_line.specs.declared.failure.Place.TheVariants as place
+use Rattle.stow_command_line.specs.Statuses.{failure_at}
 use Rattle.stow_program.specs.Pipes.{IsEnd, IsFlushed, IsPiped}
 
 -- a good end is told as what came of the flush

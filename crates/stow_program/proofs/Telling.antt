@@ -19,14 +19,14 @@ use Rattle.stow_house.specs.StepResult.{StepResult, step_result_of, Done, Answer
 use Rattle.stow_house.specs.Steps.{HouseState, IsStepOf}
 use Rattle.stow_workers.specs.Failures.{CountsFailure, HasFailed}
 use Rattle.stow_workers.specs.Sent.{Begins, WritesAll, Written}
-use Rattle.stow_program.specs.declared.failure.Failure.{Failure}
-use Rattle.stow_program.specs.declared.failure.Failure.TheVariants as failure
-use Rattle.stow_program.specs.declared.failure.Place.TheVariants as place
+use Rattle.stow_command_line.specs.declared.failure.Failure.{Failure}
+use Rattle.stow_command_line.specs.declared.failure.Failure.TheVariants as failure
+use Rattle.stow_command_line.specs.declared.failure.Place.TheVariants as place
 use Rattle.stow_program.specs.Ends.{IsOfOutput}
 use Rattle.stow_program.specs.Lines.{IsText, WritesLine}
 use Rattle.stow_program.specs.Read.{IsScriptRead}
 use Rattle.stow_script.specs.Text.{text_of}
-use Rattle.stow_program.specs.Statuses.{failure_at, failure_of_kind}
+use Rattle.stow_command_line.specs.Statuses.{failure_at, failure_of_kind}
 use Rattle.stow_script.specs.declared.script_line.ScriptLine as script_line
 use Rattle.stow_script.specs.Script.{Line, line_of}
 use Rattle.stow_program.specs.Told.{CarriesOut, CarriesOutPart, EndsTelling, IsCarriedOut, IsDone, IsIdle, IsScript, IsScripted, IsToldLine, Leads, LineLeads, Progress}

@@ -4,9 +4,9 @@ use Rattle.stow_workers.specs.declared.counted.Counted.{Counted}
 use Rattle.stow_workers.specs.Counted.{inner_of, failures_of}
 use Rattle.stow_workers.specs.Failures.{HasFailed}
 use Rattle.stow_workers.specs.Sent.{Written, written_of}
-use Rattle.stow_program.specs.declared.failure.Failure.{Failure}
-use Rattle.stow_program.specs.declared.failure.Failure.TheVariants.{InputOutput, Memory}
-use Rattle.stow_program.specs.declared.failure.Place.TheVariants as place
+use Rattle.stow_command_line.specs.declared.failure.Failure.{Failure}
+use Rattle.stow_command_line.specs.declared.failure.Failure.TheVariants.{InputOutput, Memory}
+use Rattle.stow_command_line.specs.declared.failure.Place.TheVariants as place
 
 -- what a reader still gives, where that is known, and how many of its reads have failed
 pub record Unread : Type 0 where

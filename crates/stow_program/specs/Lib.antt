@@ -1,7 +1,6 @@
 pub mod Read
 pub mod Lines
 pub mod Written
-pub mod Statuses
 pub mod Ends
 pub mod Pipes
 pub mod Told

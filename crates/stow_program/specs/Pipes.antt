@@ -9,11 +9,11 @@ use Rattle.stow_workers.specs.declared.served.Served.TheVariants as served
 use Rattle.stow_workers.specs.Failures.{HasFailed}
 use Rattle.stow_workers.specs.Sent.{Written}
 use Rattle.stow_workers.specs.Talks.{ServesConnection}
-use Rattle.stow_program.specs.declared.failure.Failure.{Failure}
-use Rattle.stow_program.specs.declared.failure.Failure.TheVariants.{Memory}
-use Rattle.stow_program.specs.declared.failure.Place.{Place}
-use Rattle.stow_program.specs.declared.failure.Place.TheVariants as place
-use Rattle.stow_program.specs.Statuses.{failure_at}
+use Rattle.stow_command_line.specs.declared.failure.Failure.{Failure}
+use Rattle.stow_command_line.specs.declared.failure.Failure.TheVariants.{Memory}
+use Rattle.stow_command_line.specs.declared.failure.Place.{Place}
+use Rattle.stow_command_line.specs.declared.failure.Place.TheVariants as place
+use Rattle.stow_command_line.specs.Statuses.{failure_at}
 
 -- reading or writing failed there, for some reason
 abbrev pub FailsAt : Place → Result (Unit {0}) Failure → Type 0

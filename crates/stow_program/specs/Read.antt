@@ -3,8 +3,8 @@ use Rattle.std.specs.Prelude.{ℕ, List, map, Result, Ok, Err}
 use Rattle.std.specs.declared.vec.Vec.{Vec}
 use Rattle.stow_script.specs.declared.script_line.ScriptLine as script_line
 use Rattle.stow_script.specs.Script.{AskFor, IsFirstBad, line_of, lines_of}
-use Rattle.stow_program.specs.declared.failure.Failure.{Failure}
-use Rattle.stow_program.specs.declared.failure.Failure.TheVariants as failure
+use Rattle.stow_command_line.specs.declared.failure.Failure.{Failure}
+use Rattle.stow_command_line.specs.declared.failure.Failure.TheVariants as failure
 
 -- what a script's lines ask for, or the number of its first bad line
 abbrev pub IsScriptRead : {A Z : Type 0} → List ℕ

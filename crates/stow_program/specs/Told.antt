@@ -7,12 +7,12 @@ use Rattle.stow_house.specs.Steps.{HouseState, IsStepOf, Stands, state_of}
 use Rattle.stow_core.specs.State.{CoreState, IsNewCore}
 use Rattle.stow_workers.specs.Failures.{HasFailed}
 use Rattle.stow_workers.specs.Sent.{Begins, Written, written_of}
-use Rattle.stow_program.specs.declared.failure.Failure.{Failure}
-use Rattle.stow_program.specs.declared.failure.Failure.TheVariants.{BadLine, InputOutput, Memory}
-use Rattle.stow_program.specs.declared.failure.Place.TheVariants as place
+use Rattle.stow_command_line.specs.declared.failure.Failure.{Failure}
+use Rattle.stow_command_line.specs.declared.failure.Failure.TheVariants.{BadLine, InputOutput, Memory}
+use Rattle.stow_command_line.specs.declared.failure.Place.TheVariants as place
 use Rattle.stow_model.specs.Login.{Entry}
-use Rattle.stow_program.specs.declared.arguments.Task.{Task}
-use Rattle.stow_program.specs.declared.arguments.Task.TheVariants as task
+use Rattle.stow_command_line.specs.declared.arguments.Task.{Task}
+use Rattle.stow_command_line.specs.declared.arguments.Task.TheVariants as task
 use Rattle.stow_tree.specs.declared.shape_report.ShapeReport.{ShapeReport}
 use Rattle.stow_tree.specs.Reports.{IsReport}
 use Rattle.stow_program.specs.Ends.{Unread}

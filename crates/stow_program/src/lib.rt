@@ -6,15 +6,11 @@
 //! says; of a reader and a writer that tell their bytes, what is written are the lines of its events' results
 //! (`specs/Told.antt`), all of them where it ends well; of a pipe over these, the bytes are served and answered as
 //! `serve_connection` says (`specs/Pipes.antt`); input or output is said to have failed only where one of its calls did
-//! (`specs/Ends.antt`, `specs/Told.antt`); each failure has its status and its line (`specs/Statuses.antt`), and
-//! status 0 stands for no failure, each with what had been read and written by then (`specs/Outcomes.antt`). Not
-//! proved of it: which words of the command line ask for what, what the file of the tenants holds, and that help is
-//! the argument parser's text. What the service answers is proved in the crates below.
+//! (`specs/Ends.antt`, `specs/Told.antt`); the status is that of the failure that it came to, and 0 stands for no failure,
+//! each with what had been read and written by then (`specs/Outcomes.antt`). Not proved of it: what the file of the
+//! tenants holds. What the service answers is proved in the crates below.
 #![tactic(auto)]
 
-pub mod arguments;
-pub mod failure;
-pub mod folder;
 pub mod line;
 pub mod network;
 pub mod new_core;
@@ -22,4 +18,3 @@ pub mod pipe;
 pub mod program;
 pub mod script;
 pub mod serve;
-pub mod serving;

@@ -2,14 +2,14 @@
 ghost use Rattle.std.specs.Prelude.{◌≡◌, IfErr};
 ghost use Rattle.stow_program.specs.Outcomes.{EndsServing};
 
-use crate::failure::{Failure, Place};
 use crate::serve::serve_connections;
-use crate::serving::Serving;
 use std::alloc::Global;
 use std::io::Write;
 use std::net::{Net, TcpListener, TcpStream};
 use std::sync::Wait;
 use std::thread::Threads;
+use stow_command_line::failure::{Failure, Place};
+use stow_command_line::serving::Serving;
 use stow_login::tenants::Tenants;
 use stow_tree::tree_shape::TreeShape;
 use stow_workers::sink::Sink;

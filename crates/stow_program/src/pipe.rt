@@ -3,12 +3,12 @@ ghost use Rattle.std.specs.Prelude.{◌≡◌, ◌<◌};
 ghost use Rattle.std.specs.declared.io.Error.{Error};
 ghost use Rattle.stow_workers.specs.Counted.{borrow_of, failures_of, inner_of};
 ghost use Rattle.stow_program.specs.Ends.{InputFails, held_by};
-ghost use Rattle.stow_program.specs.Statuses.{failure_at};
+ghost use Rattle.stow_command_line.specs.Statuses.{failure_at};
 ghost use Rattle.stow_program.specs.Pipes.{IsPiped};
 
-use crate::failure::{Failure, Place};
 use std::alloc::Allocator;
 use std::io::{Read, Write};
+use stow_command_line::failure::{Failure, Place};
 use stow_core::Core;
 use stow_login::tenants::Tenants;
 use stow_workers::counted::Counted;

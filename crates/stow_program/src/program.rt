@@ -2,13 +2,10 @@
 ghost use Rattle.std.specs.Prelude.{◌≡◌, IfErr};
 ghost use Rattle.stow_workers.specs.Counted.{borrow_of, failures_of};
 ghost use Rattle.stow_program.specs.Ends.{InputFails, held_by, unread_of};
-ghost use Rattle.stow_program.specs.Statuses.{status_of};
+ghost use Rattle.stow_command_line.specs.Statuses.{status_of};
 ghost use Rattle.stow_program.specs.Told.{IsTaskServed};
 ghost use Rattle.stow_program.specs.Outcomes.{EndsWith, IsRun, RefusesTenants, status_after, streams_of};
 
-use crate::arguments::{Arguments, Job, Task, Wish, read_arguments};
-use crate::failure::{Failure, Place};
-use crate::folder::Folder;
 use crate::network::listen;
 use crate::new_core::new_core;
 use crate::pipe::pipe;
@@ -19,6 +16,9 @@ use std::io::{Read, Write};
 use std::net::{Net, TcpListener, TcpStream};
 use std::sync::{Arc, Wait};
 use std::thread::Threads;
+use stow_command_line::arguments::{Arguments, Job, Task, Wish, read_arguments};
+use stow_command_line::failure::{Failure, Place};
+use stow_command_line::folder::Folder;
 use stow_house::house::House;
 use stow_login::explaining::explain;
 use stow_login::tenants::Tenants;

@@ -10,9 +10,9 @@ ghost use Rattle.stow_program.specs.Told.{IsCarriedOut, IsDone, IsScripted, IsTo
 ghost use Rattle.stow_house.specs.Steps.{state_of};
 ghost use Rattle.stow_house.specs.StepResult.{step_result_of, CanAnswer};
 
-use crate::failure::{Failure, Place};
 use crate::line::{write_result, write_shape};
 use std::alloc::{AllocError, Allocator};
+use stow_command_line::failure::{Failure, Place};
 use stow_house::house::House;
 use stow_house::step_result::StepResult;
 use stow_model::event::Event;

@@ -2,10 +2,8 @@
 ghost use Rattle.std.specs.Prelude.{◌≡◌, IfErr};
 ghost use Rattle.stow_program.specs.Outcomes.{EndsServing};
 
-use crate::failure::{Failure, Place};
 use crate::new_core::new_core;
 use crate::script::finish;
-use crate::serving::Serving;
 use log::info;
 use log::sink::Writer;
 use std::alloc::{AllocError, Allocator};
@@ -13,6 +11,8 @@ use std::io::Write;
 use std::net::{SocketAddr, TcpListener};
 use std::sync::{Arc, Wait};
 use std::thread::Threads;
+use stow_command_line::failure::{Failure, Place};
+use stow_command_line::serving::Serving;
 use stow_login::tenants::Tenants;
 use stow_shared::open_fault::OpenFault;
 use stow_shared::seat::Seat;

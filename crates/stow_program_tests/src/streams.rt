@@ -7,8 +7,8 @@ use std::cell::Cell;
 use std::io;
 use std::io::{Read, Write};
 use std::test::Fail;
+use stow_command_line::arguments::Task;
 use stow_login::tenants::Tenants;
-use stow_program::arguments::Task;
 use stow_refusing::{Plan, Refusing};
 use stow_testing::tenants::THREE;
 

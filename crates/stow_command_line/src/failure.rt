@@ -1,6 +1,6 @@
 //! Why the program ends early.
 ghost use Rattle.std.specs.Prelude.{◌≡◌, ◌≢◌, IfOk, MatchResult, string_bytes};
-ghost use Rattle.stow_program.specs.Statuses.{failure_at, status_of, text_of_failure};
+ghost use Rattle.stow_command_line.specs.Statuses.{failure_at, status_of, text_of_failure};
 
 use std::alloc::{AllocError, Global};
 use std::io;
@@ -135,7 +135,7 @@ impl<'a> Place<'a> {
 
 impl From<AllocError> for Failure<'_> {
     ghost use Rattle.std.specs.Prelude.{◌≡◌};
-    ghost use Rattle.stow_program.specs.declared.failure.Failure.TheVariants.{Memory};
+    ghost use Rattle.stow_command_line.specs.declared.failure.Failure.TheVariants.{Memory};
 
     ghost from_gives = { λ _ failure. failure ≡ Memory };
 

@@ -7,9 +7,9 @@ use Rattle.std.specs.declared.io.Error.{Error}
 use Rattle.std.specs.declared.io.ErrorKind.{ErrorKind}
 use Rattle.std.specs.declared.io.ErrorKind.TheVariants as kind
 use Rattle.stow_login.specs.TenantFile.{fault_number}
-use Rattle.stow_program.specs.declared.failure.Failure.{Failure}
-use Rattle.stow_program.specs.declared.failure.Failure.TheVariants.{Arguments, BadAddress, Tenants, BadLine, InputOutput, Memory}
-use Rattle.stow_program.specs.declared.failure.Place.{Place}
+use Rattle.stow_command_line.specs.declared.failure.Failure.{Failure}
+use Rattle.stow_command_line.specs.declared.failure.Failure.TheVariants.{Arguments, BadAddress, Tenants, BadLine, InputOutput, Memory}
+use Rattle.stow_command_line.specs.declared.failure.Place.{Place}
 
 abbrev pub status_of : Failure → ℕ
 status_of (Arguments text) = 2

@@ -1,6 +1,6 @@
 //! The command line.
 ghost use Rattle.std.specs.Prelude.{IfErr, IfSome};
-ghost use Rattle.stow_program.specs.Outcomes.{RefusesWords};
+ghost use Rattle.stow_command_line.specs.Words.{RefusesWords};
 
 use crate::failure::Failure;
 use crate::serving::Serving;
@@ -62,109 +62,103 @@ pub fn read_arguments(alloc: Global, words: &[String]) -> Result<Wish<'_>, Failu
 }
 
 fn matched(alloc: Global, words: &[String]) -> Result<ArgMatches<'_>, Error> {
-    let pipe = Command::new(alloc, "pipe").about(
-        "Answers the requests on standard input, as one connection",
-    );
-    let script = Command::new(alloc, "script").about(
-        "Carries out the events of a script on standard input",
-    );
     let command = Command::new(alloc, "stow")
         .about("An ordered key-value service for many tenants, spoken to in RESP2")
-        .subcommand_required(true)
-        .subcommand(with_service(alloc, pipe)?)?
-        .subcommand(with_service(alloc, script)?)?
-        .subcommand(serve(alloc)?)?;
+        .subcommand_required(true);
+    let pipe = "Answers the requests on standard input, as one connection";
+    let command = command.subcommand(subcommand(alloc, "pipe", pipe)?)?;
+    let script = "Carries out the events of a script on standard input";
+    let command = command.subcommand(subcommand(alloc, "script", script)?)?;
+    let command = command.subcommand(serve(alloc)?)?;
     command.try_get_matches_from(words)
 }
 
 /// The command that serves connections.
 fn serve<'a>(alloc: Global) -> Result<Command<'a>, Error> {
-    let listen = Arg::new(alloc, "listen")
-        .long("listen")
-        .value_name("ADDRESS")
-        .help("The IP address and port to listen at")
-        .default_value("127.0.0.1:6379");
-    let workers = Arg::new(alloc, "workers")
-        .long("workers")
-        .value_name("COUNT")
-        .help("How many connections are served at once: the others wait")
+    let about = "Serves connections over TCP, each by a thread of its own";
+    let command = subcommand(alloc, "serve", about)?;
+    let command = command.arg(listen(alloc))?;
+    let command = command.arg(workers(alloc))?;
+    let command = command.arg(connections(alloc))?;
+    let notices = "Tells the start and the end in a line each on standard error";
+    Ok(command.arg(flag(alloc, "notices", notices))?)
+}
+
+fn listen<'a>(alloc: Global) -> Arg<'a> {
+    let help = "The IP address and port to listen at";
+    named(alloc, "listen", "ADDRESS", help).default_value("127.0.0.1:6379")
+}
+
+fn workers<'a>(alloc: Global) -> Arg<'a> {
+    let help = "How many connections are served at once: the others wait";
+    named(alloc, "workers", "COUNT", help)
         .value_parser(value_parser!(u32).range(1..=256))
-        .default_value("4");
-    let connections = Arg::new(alloc, "connections")
-        .long("connections")
-        .value_name("COUNT")
-        .help("After how many connections the program ends; 0 for no end")
+        .default_value("4")
+}
+
+fn connections<'a>(alloc: Global) -> Arg<'a> {
+    let help = "After how many connections the program ends; 0 for no end";
+    named(alloc, "connections", "COUNT", help)
         .value_parser(value_parser!(u64).range(0..=65_535))
-        .default_value("0");
-    let notices = Arg::new(alloc, "notices")
-        .long("notices")
-        .help("Tells the start and the end in a line each on standard error")
-        .action(ArgAction::SetTrue);
-    let command = Command::new(alloc, "serve").about(
-        "Serves connections over TCP, each by a thread of its own",
-    );
-    Ok(
-        with_service(alloc, command)?
-            .arg(listen)?
-            .arg(workers)?
-            .arg(connections)?
-            .arg(notices)?,
-    )
+        .default_value("0")
 }
 
-/// The command with what each takes: the tenant file, the flag that asks for more of what goes wrong, and the sizes of
+/// A command with what each takes: the tenant file, the flag that asks for more of what goes wrong, and the sizes of
 /// the tree.
-fn with_service<'a>(alloc: Global, command: Command<'a>) -> Result<Command<'a>, Error> {
-    let buffer = Arg::new(alloc, "buffer")
-        .long("buffer")
-        .value_name("BYTES")
-        .help("How many bytes of messages a node of the tree holds")
-        .value_parser(value_parser!(u32).range(i64::from(LEAST_BUFFER)..=i64::from(MOST_BUFFER)))
-        .default_value("1048576");
-    let leaf = Arg::new(alloc, "leaf")
-        .long("leaf")
-        .value_name("BYTES")
-        .help("How many bytes the page of a leaf is cut by")
-        .value_parser(value_parser!(u32).range(i64::from(LEAST_LEAF)..=i64::from(MOST_LEAF)))
-        .default_value("65536");
-    let fanout = Arg::new(alloc, "fanout")
-        .long("fanout")
-        .value_name("COUNT")
-        .help("How many children a node of the tree may have")
-        .value_parser(value_parser!(u32).range(i64::from(LEAST_FAN_OUT)..=i64::from(MOST_FAN_OUT)))
-        .default_value("16");
-    let cache = Arg::new(alloc, "cache")
-        .long("cache")
-        .value_name("LEAVES")
-        .help("How many leaves are held unpacked; 0 for none")
-        .value_parser(value_parser!(u32).range(0..=i64::from(MOST_CACHE)))
-        .default_value("1024");
-    Ok(
-        command
-            .arg(tenants(alloc))?
-            .arg(explain(alloc))?
-            .arg(buffer)?
-            .arg(leaf)?
-            .arg(fanout)?
-            .arg(cache)?,
-    )
+fn subcommand<'a>(alloc: Global, name: &'a str, about: &'a str) -> Result<Command<'a>, Error> {
+    let command = Command::new(alloc, name).about(about);
+    let tenants = named(alloc, "tenants", "FILE", "The tenant file");
+    let command = command.arg(tenants.required(true).action(ArgAction::Set))?;
+    let explain = "Tells more of what goes wrong, in a second line on standard error";
+    let command = command.arg(flag(alloc, "explain", explain))?;
+    let command = command.arg(buffer(alloc))?;
+    let command = command.arg(leaf(alloc))?;
+    let command = command.arg(fan_out(alloc))?;
+    Ok(command.arg(cache(alloc))?)
 }
 
-/// The option that each task needs.
-fn tenants<'a>(alloc: Global) -> Arg<'a> {
-    Arg::new(alloc, "tenants")
-        .long("tenants")
-        .value_name("FILE")
-        .help("The tenant file")
-        .required(true)
-        .action(ArgAction::Set)
+fn buffer<'a>(alloc: Global) -> Arg<'a> {
+    let help = "How many bytes of messages a node of the tree holds";
+    let option = named(alloc, "buffer", "BYTES", help).default_value("1048576");
+    size(option, LEAST_BUFFER, MOST_BUFFER)
 }
 
-/// The flag that each task takes.
-fn explain<'a>(alloc: Global) -> Arg<'a> {
-    Arg::new(alloc, "explain")
-        .long("explain")
-        .help("Tells more of what goes wrong, in a second line on standard error")
+fn leaf<'a>(alloc: Global) -> Arg<'a> {
+    let help = "How many bytes the page of a leaf is cut by";
+    let option = named(alloc, "leaf", "BYTES", help).default_value("65536");
+    size(option, LEAST_LEAF, MOST_LEAF)
+}
+
+fn fan_out<'a>(alloc: Global) -> Arg<'a> {
+    let help = "How many children a node of the tree may have";
+    let option = named(alloc, "fanout", "COUNT", help).default_value("16");
+    size(option, LEAST_FAN_OUT, MOST_FAN_OUT)
+}
+
+fn cache<'a>(alloc: Global) -> Arg<'a> {
+    let help = "How many leaves are held unpacked; 0 for none";
+    let option = named(alloc, "cache", "LEAVES", help).default_value("1024");
+    size(option, 0, MOST_CACHE)
+}
+
+/// The option, of a size within these limits.
+fn size<'a>(option: Arg<'a>, least: u32, most: u32) -> Arg<'a> {
+    option.value_parser(value_parser!(u32).range(i64::from(least)..=i64::from(most)))
+}
+
+/// An option of this name, with a value.
+fn named<'a>(alloc: Global, name: &'a str, value: &'a str, help: &'a str) -> Arg<'a> {
+    Arg::new(alloc, name)
+        .long(name)
+        .value_name(value)
+        .help(help)
+}
+
+/// A flag of this name.
+fn flag<'a>(alloc: Global, name: &'a str, help: &'a str) -> Arg<'a> {
+    Arg::new(alloc, name)
+        .long(name)
+        .help(help)
         .action(ArgAction::SetTrue)
 }
 
