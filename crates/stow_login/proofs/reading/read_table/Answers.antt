@@ -1,4 +1,5 @@
-use Rattle.std.proofs.Common.{◌≡◌, ◌<◌, ◌⊎◌, ⊎_elim, inl, inr, sym, ap, subst, ◌∙◌, length, rules, Err}
+use Rattle.std.proofs.lemmas.Grind.{common_steps}
+use Rattle.std.proofs.Common.{◌≡◌, ◌<◌, ◌⊎◌, ⊎_elim, inl, inr, sym, ap, subst, ◌∙◌, length, rules, Err, arith}
 use mathlib.Core.Bool.{false≢true}
 use Rattle.std.proofs.lemmas.Bool.{eqb-true, eq-eqb}
 use Rattle.toml.specs.View.{table_view, items_view}
@@ -37,3 +38,9 @@ returns-in_err-tenant-clause-err g c =
     bad))
     c.in_err-tenant.ensures.err in
     search (rules, told)
+
+pub loop-item-preserved : goal.loop-item-preserved
+loop-item-preserved g c = grind (arith, common_steps)
+
+pub returns-clause-ok : goal.returns-clause-ok
+returns-clause-ok g c = grind (arith, common_steps)

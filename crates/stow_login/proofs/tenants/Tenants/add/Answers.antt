@@ -1,3 +1,4 @@
+use Rattle.std.proofs.lemmas.Grind.{common_steps}
 use Rattle.std.proofs.Common.{ap, sym, ◌∙◌, ◌≡◌, ◌<◌, map, ◌++◌, ◌∷◌, [], length, subst, arith, ◌+◌}
 use Rattle.stow_login.specs.TenantFile.{is_used}
 use Rattle.std.proofs.lemmas.List.{map-append}
@@ -16,3 +17,6 @@ invariant_of-self-2 g c =
     c.self.invariant more (subst (λ es. length es < 65535) (sym c.self.view_is) c.requires.few)
     (ap (λ es. is_used es c.args.tenant.name) c.self.view_is ∙ c.requires.unused)
     (ap (λ n. n + 1) (c.count-index.ensures.all ∙ ap length (sym c.self.view_is))) c.as_slice.ensures c.in_ok-add.ensures.ok
+
+pub returns : goal.returns
+returns g c = grind (arith, common_steps)

@@ -1,4 +1,5 @@
-use Rattle.std.proofs.Common.{◌≡◌, ◌≢◌, ◌<◌, length, map, ap, sym, ◌∙◌, rules}
+use Rattle.std.proofs.lemmas.Grind.{common_steps}
+use Rattle.std.proofs.Common.{◌≡◌, ◌≢◌, ◌<◌, length, map, ap, sym, ◌∙◌, rules, arith}
 use mathlib.Core.Bool.{false≢true}
 use Rattle.stow_login.specs.Entries.{entry_of}
 use Rattle.stow_login.proofs.Same.{take_same, differ_at, mapped_at, length_of_map}
@@ -29,3 +30,9 @@ loop-index-preserved g c =
     let in_y : i < length ys = search rules in
     let same : entry_of x ≡ entry_of y = search rules in
     take_same (map entry_of xs) (map entry_of ys) i (entry_of x) (entry_of y) (mapped_at entry_of xs i x in_x c.index.ensures) (mapped_at entry_of ys i y in_y c.index-in-loop-index.ensures) (length_of_map entry_of xs i in_x) (length_of_map entry_of ys i in_y) same c.loop-index.invariant
+
+pub returns-then-len : goal.returns-then-len
+returns-then-len g c = grind (arith, common_steps)
+
+pub returns : goal.returns
+returns g c = grind (arith, common_steps)

@@ -1,3 +1,4 @@
+use Rattle.std.proofs.lemmas.Grind.{common_steps}
 use Rattle.std.proofs.Common.{◌-◌, ◌≤◌, length, ap, sym, ◌∙◌, arith}
 use Rattle.stow_login.specs.Entries.{name_of, name_from}
 use Rattle.stow_login.proofs.Listed.{has_index, name_at}
@@ -14,3 +15,6 @@ returns g c =
     ∙ ap (λ t. t.name) c.index.ensures
     ∙ sym (name_at tenants 1 (index - 1) index c.index.result.now (omega arith) (omega arith))
     ∙ ap (λ entries. name_from 1 entries index) c.self.view_is
+
+pub index-requires : goal.index-requires
+index-requires g c = grind (arith, common_steps)

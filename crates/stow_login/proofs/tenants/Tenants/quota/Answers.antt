@@ -1,3 +1,4 @@
+use Rattle.std.proofs.lemmas.Grind.{common_steps}
 use Rattle.std.proofs.Common.{◌-◌, ◌≤◌, length, ap, sym, ◌∙◌, arith}
 use Rattle.stow_model.specs.Login.{quota_of, quota_from}
 use Rattle.stow_login.proofs.Listed.{has_index, quota_at}
@@ -13,3 +14,6 @@ returns g c =
     ap (λ t. t.quota) c.index.ensures
     ∙ sym (quota_at tenants 1 (index - 1) index c.index.result.now (omega arith) (omega arith))
     ∙ ap (λ entries. quota_from 1 entries index) c.self.view_is
+
+pub index-requires : goal.index-requires
+index-requires g c = grind (arith, common_steps)

@@ -9,7 +9,7 @@ pub loop-self-preserved : goal.loop-self-preserved
 loop-self-preserved g c = grind (arith, elements)
 
 pub invariant_of-self-2 : goal.invariant_of-self-2
-invariant_of-self-2 g c = grind (arith, elements)
+invariant_of-self-2 g c = grind (arith, elements) steps 2000000
 
 pub returns-clause-same : goal.returns-clause-same
 returns-clause-same g c = grind (arith, elements)
