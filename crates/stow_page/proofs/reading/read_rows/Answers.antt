@@ -13,3 +13,9 @@ returns-clause-ok g c =
     let done : c.in_ok-count.count ≤ length c.loop-rest.rows = let len = c.len.ensures.len in let test = c.loop-rest-test.false in omega arith in
     let none : length c.loop-rest.rest.now ≡ 0 = grind (arith, common_steps) in
     page_is_read _ _ _ _ c.loop-rest.invariant done (nil_from_length _ none) ∙ ap packed_page (sym c.in_ok-new.ensures)
+
+pub loop-rest-smaller : goal.loop-rest-smaller
+loop-rest-smaller g c = grind (arith, common_steps)
+
+pub loop-rest-preserved : goal.loop-rest-preserved
+loop-rest-preserved g c = grind (arith, common_steps)

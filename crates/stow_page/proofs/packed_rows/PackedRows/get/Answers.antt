@@ -1,3 +1,5 @@
+use Rattle.std.proofs.Common.{arith}
+use Rattle.std.proofs.lemmas.Grind.{common_steps}
 use Rattle.stow_page.proofs.Packing.{found, within_places}
 use Rattle.stow_page.proofs.packed_rows.PackedRows.get.Goals as goal
 
@@ -9,3 +11,6 @@ lent_version-requires g c = rw (c.split_at.ensures.back, c.as_slice.ensures.valu
 
 pub returns-clause-version : goal.returns-clause-version
 returns-clause-version g c = rw (c.lent_version.ensures, c.split_at.ensures.back, c.as_slice.ensures.value, ← c.self.view_is) (found _ _ _ _ c.self.invariant (within_places _ _ _ _ c.self.view_is c.requires) c.index.ensures).is_version
+
+pub index-requires : goal.index-requires
+index-requires g c = grind (arith, common_steps)
