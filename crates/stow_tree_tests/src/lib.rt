@@ -5,7 +5,7 @@
 #![tactic(auto)]
 
 #[cfg(test)]
-mod flush;
+mod keys;
 #[cfg(test)]
 mod leaf;
 #[cfg(test)]
@@ -15,12 +15,14 @@ mod merge;
 #[cfg(test)]
 mod message;
 #[cfg(test)]
-mod node;
-#[cfg(test)]
 mod page;
+#[cfg(test)]
+mod pins;
+#[cfg(test)]
+mod random;
 #[cfg(test)]
 mod raw;
 #[cfg(test)]
-mod read;
+mod refusals;
 #[cfg(test)]
 mod tree;
