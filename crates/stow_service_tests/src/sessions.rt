@@ -1,83 +1,65 @@
-//! A session over a door of the tests' own, which keeps what it is asked.
-ghost use Rattle.std.specs.Prelude.{◌≡◌, ◌⊎◌, ◌++◌, ◌∷◌, [], ℕ, List, IfOk, OnOk, OnErr, pos};
-ghost use Rattle.stow_model.specs.declared.refusal.Refusal.TheVariants as refusal;
-ghost use Rattle.stow_model.specs.Reply as told;
-ghost use Rattle.stow_model.specs.Reply.{reply_of};
-
+//! A session over a core, with memory and without.
+use crate::making::core_of;
 use std::alloc::{AllocError, Allocator, Global};
-use std::marker::Model;
+use std::sync::Arc;
 use std::test::Fail;
+use stow_core::Core;
 use stow_house::answer::Answer;
-use stow_house::door::Door;
 use stow_house::session::Session;
 use stow_login::tenants::Tenants;
-use stow_model::refusal::Refusal;
-use stow_model::reply::Reply;
 use stow_model::stream_fault::StreamFault;
-use stow_model::words::Words;
 use stow_refusing::{Plan, Refusing};
 use stow_resp::next::Next;
 use stow_testing::lines::words_of;
 use stow_testing::replies::is_text;
 use stow_testing::tenants::THREE;
+use stow_tree::tree_shape::TreeShape;
 
-/// A door over memory: it keeps each call, and tells the tenant its index.
-#[derive(Drop)]
-struct Fake<A: Allocator = Global> {
-    calls: Vec<(u32, Words<A>), A>,
-}
+/// What comes, what it is told, and whether the connection ends with it.
+type Row = (&'static str, &'static str, bool);
 
-impl<A: Allocator> Model for Fake<A> {
-    ghost Value = { List (ℕ × List (List ℕ)) };
+const LOG_IN: &str = "NOAUTH Authentication required.";
 
-    ghost view = { λ f. f.calls.items };
-}
+const WRONG: &str = "WRONGPASS invalid name or password";
 
-impl<A: Allocator + Copy> Fake<A> {
-    fn keep(&mut self, alloc: A, tenant: u32, words: &Words<A>) -> Result<(), AllocError>
-        ensures ok { OnOk result (self.new ≡ self.old ++ (tenant, words.now) ∷ []) }
-        ensures err { OnErr result (self.new ≡ self.old) }
-    {
-        self.calls.push((tenant, copied(alloc, words)?))?;
-        Ok(())
-    }
-}
+const COUNT: &str = "ERR wrong number of arguments";
 
-impl<A: Allocator + Copy> Door<A> for Fake<A> {
-    ghost answers = { λ old tenant words r new.
-        ((r ≡ told.Integer (pos tenant)) × (new ≡ old ++ (tenant, words) ∷ []))
-        ⊎ ((r ≡ told.Error refusal.OutOfMemory) × (new ≡ old)) };
+/// What comes on one connection: the words of a line, or what is named.
+const SERVED: [Row; 20] = [
+    ("a quoted line", LOG_IN, false),
+    ("GET k", LOG_IN, false),
+    ("FOO", LOG_IN, false),
+    ("AUTH ann c", WRONG, false),
+    ("GET k", LOG_IN, false),
+    ("AUTH ann bc", "OK", false),
+    ("SET k v", "OK", false),
+    ("AUTH ben bc", WRONG, false),
+    ("GET k", "$v", false),
+    ("auth ben c", "OK", false),
+    ("GET k", "nil", false),
+    ("SET k w", "OK", false),
+    ("AUTH ann c", WRONG, false),
+    ("AUTH ann", COUNT, false),
+    ("QUIT now", COUNT, false),
+    ("GET k", "$w", false),
+    (
+        "a quoted line",
+        "ERR quotes in an inline request are not served",
+        false,
+    ),
+    ("a blank", "nothing", false),
+    ("a fault", "expected '$'", true),
+    ("QUIT", "OK", true),
+];
 
-    fn call(&mut self, alloc: A, tenant: u32, words: &Words<A>) -> Reply<A>
-        ensures { ((reply_of result ≡ told.Integer (pos tenant)) × (self.new ≡ self.old ++ (tenant, words.now) ∷ []))
-            ⊎ ((reply_of result ≡ told.Error refusal.OutOfMemory) × (self.new ≡ self.old)) }
-    {
-        match self.keep(alloc, tenant, words) {
-            Ok(()) => Reply::Integer(i64::from(tenant)),
-            Err(_) => Reply::Error(Refusal::OutOfMemory),
-        }
-    }
-}
-
-fn copied<A: Allocator + Copy>(alloc: A, words: &Words<A>) -> Result<Words<A>, AllocError>
-    ensures { IfOk result (λ w. w ≡ words.now) }
-{
-    let mut copy = Words::new(alloc);
-    for index in 0..words.len() {
-        copy.push(words.lent().get(index))?;
-    }
-    Ok(copy)
-}
-
-/// What comes next on a connection: the words of a line, or what is named.
-fn next_of<A: Allocator + Copy>(alloc: A, line: &str) -> Result<Next<A>, AllocError> {
-    Ok(match line {
-        "a quoted line" => Next::Quoted,
-        "a blank" => Next::Blank,
-        "a fault" => Next::Fault(StreamFault::ExpectedBulk),
-        _ => Next::Message(words_of(alloc, line)?),
-    })
-}
+/// What a session answers to where every request for memory is refused.
+const WITHOUT_MEMORY: [Row; 5] = [
+    ("GET k", LOG_IN, false),
+    ("AUTH ann c", WRONG, false),
+    ("AUTH ann bc", "OK", false),
+    ("SET k v", "OOM memory was refused", false),
+    ("QUIT", "OK", true),
+];
 
 /// Whether an answer tells this, or nothing, and ends the connection just where it is to.
 fn is_answer<A: Allocator + Copy>(
@@ -95,100 +77,65 @@ fn is_answer<A: Allocator + Copy>(
     )
 }
 
-const LOG_IN: &str = "NOAUTH Authentication required.";
+/// What comes next on a connection: the words of a line, or what is named.
+fn next_of<A: Allocator + Copy>(alloc: A, line: &str) -> Result<Next<A>, AllocError> {
+    Ok(match line {
+        "a quoted line" => Next::Quoted,
+        "a blank" => Next::Blank,
+        "a fault" => Next::Fault(StreamFault::ExpectedBulk),
+        _ => Next::Message(words_of(alloc, line)?),
+    })
+}
 
-const WRONG: &str = "WRONGPASS invalid name or password";
-
-const COUNT: &str = "ERR wrong number of arguments";
-
-const QUOTES: &str = "ERR quotes in an inline request are not served";
-
-/// What comes on one connection: what it is told, whether it ends, and how many calls the door has had after it.
-const SERVED: [(&str, &str, bool, usize); 19] = [
-    ("a quoted line", LOG_IN, false, 0),
-    ("GET k", LOG_IN, false, 0),
-    ("FOO", LOG_IN, false, 0),
-    ("AUTH ann c", WRONG, false, 0),
-    ("GET k", LOG_IN, false, 0),
-    ("AUTH ann bc", "OK", false, 0),
-    ("SET k v", ":1", false, 1),
-    ("AUTH ben bc", WRONG, false, 1),
-    ("GET k", ":1", false, 2),
-    ("auth ben c", "OK", false, 2),
-    ("GET k", ":2", false, 3),
-    ("AUTH ann c", WRONG, false, 3),
-    ("AUTH ann", COUNT, false, 3),
-    ("QUIT now", COUNT, false, 3),
-    ("FOO", ":2", false, 4),
-    ("a quoted line", QUOTES, false, 4),
-    ("a blank", "nothing", false, 4),
-    ("a fault", "expected '$'", true, 4),
-    ("QUIT", "OK", true, 4),
-];
-
-/// The first of these to which a session answers otherwise.
-fn first_other<A: Allocator + Copy>(
+/// What a session answers, by a plan of which requests for memory are refused to it.
+fn answer_of<A: Allocator + Copy>(
+    (heap, plan): (&Refusing<Global>, Plan),
     alloc: A,
-    global: Global,
-) -> Result<Option<&'static str>, AllocError> {
-    let tenants = Tenants::read(alloc, global, THREE).map_err(|_| AllocError)?;
-    let mut door = Fake {
-        calls: Vec::new(alloc),
-    };
+    session: &mut Session,
+    (tenants, core): (&Tenants<A>, &mut Core<A>),
+    next: Next<A>,
+) -> Answer<A> {
+    heap.set(plan);
+    let answer = session.serve(alloc, tenants, core, next);
+    heap.set(Plan::Grant);
+    answer
+}
+
+/// Whether a session over a core answers so.
+fn are_answered<A: Allocator + Copy>(
+    plan: (&Refusing<Global>, Plan),
+    alloc: A,
+    (tenants, core): (&Tenants<A>, &mut Core<A>),
+    rows: &[Row],
+) -> Result<bool, AllocError> {
     let mut session = Session::new();
-    for (line, want, ends, calls) in SERVED {
+    for (line, want, ends) in rows {
         let next = next_of(alloc, line)?;
-        let answer = session.serve(alloc, &tenants, &mut door, next);
-        if !is_answer(alloc, &answer, want, ends)? || door.calls.len() != calls {
-            return Ok(Some(line));
+        let answer = answer_of(plan, alloc, &mut session, (tenants, core), next);
+        if !is_answer(alloc, &answer, want, *ends)? {
+            return Ok(false);
         }
     }
-    Ok(None)
+    Ok(true)
 }
 
-#[test]
-fn a_door_is_asked_only_after_a_login(rt: HostRuntime) -> Result<(), Fail> {
-    let other = first_other(rt.alloc(), rt.alloc())?;
-    assert!(rt; other.is_none(), "{other:?}");
-    Ok(())
-}
-
-/// What a session answers to where every request for memory is refused.
-const WITHOUT_MEMORY: [(&str, &str, bool); 5] = [
-    ("GET k", LOG_IN, false),
-    ("AUTH ann c", WRONG, false),
-    ("AUTH ann bc", "OK", false),
-    ("GET k", "OOM memory was refused", false),
-    ("QUIT", "OK", true),
-];
-
-/// The first of these to which a session answers otherwise.
-fn first_other_without_memory<A: Allocator + Copy, B: Allocator>(
-    heap: &Refusing<B>,
+/// Whether one over a new core does.
+fn are_answered_anew<A: Allocator + Copy>(
+    plan: (&Refusing<Global>, Plan),
     (alloc, global): (A, Global),
-) -> Result<Option<&'static str>, AllocError> {
-    let tenants = Tenants::read(alloc, global, THREE).map_err(|_| AllocError)?;
-    let mut door = Fake {
-        calls: Vec::new(alloc),
-    };
-    let mut session = Session::new();
-    for (line, want, ends) in WITHOUT_MEMORY {
-        let next = next_of(alloc, line)?;
-        heap.set(Plan::RefuseAll);
-        let answer = session.serve(alloc, &tenants, &mut door, next);
-        heap.set(Plan::Grant);
-        if !is_answer(alloc, &answer, want, ends)? || door.calls.len() != 0 {
-            return Ok(Some(line));
-        }
-    }
-    Ok(None)
+    rows: &[Row],
+) -> Result<bool, AllocError> {
+    let mut core = core_of(alloc, global, THREE, TreeShape::SMALLEST)?;
+    let tenants = Arc::try_clone(core.tenants())?;
+    are_answered(plan, alloc, (&tenants, &mut core), rows)
 }
 
-// Only the door asks for memory: a login, a refusal and a quit are told with none.
+// Only a door asks for memory: a login, a refusal and a quit are told with none.
 #[test]
-fn a_session_asks_for_no_memory(rt: HostRuntime) -> Result<(), Fail> {
+fn a_session_serves_who_is_logged_in(rt: HostRuntime) -> Result<(), Fail> {
     let heap = Refusing::new(rt.alloc());
-    let other = first_other_without_memory(&heap, (&heap, rt.alloc()))?;
-    assert!(rt; other.is_none(), "{other:?}");
+    let place = (&heap, rt.alloc());
+    assert!(rt; are_answered_anew((&heap, Plan::Grant), place, &SERVED)?);
+    assert!(rt; are_answered_anew((&heap, Plan::RefuseAll), place, &WITHOUT_MEMORY)?);
     Ok(())
 }

@@ -37,6 +37,4 @@ pub mod open_fault;
 pub mod seat;
 pub mod shared;
 pub mod step;
-#[cfg(test)]
-mod tests;
 pub mod unkept;
