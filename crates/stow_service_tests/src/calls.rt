@@ -72,20 +72,24 @@ const LAST: [Told; 12] = [
 ];
 
 /// Whether a new core of the three tenants, in the smallest shape, tells all this.
-fn are_told_anew(alloc: Global, lines: &[Told<'_>]) -> Result<bool, AllocError> {
-    let mut core = core_of(alloc, alloc, THREE, TreeShape::SMALLEST)?;
+fn are_told_anew<A: Allocator + Copy>(
+    alloc: A,
+    global: Global,
+    lines: &[Told<'_>],
+) -> Result<bool, AllocError> {
+    let mut core = core_of(alloc, global, THREE, TreeShape::SMALLEST)?;
     are_told(&mut core, alloc, lines)
 }
 
 #[test]
 fn each_tenant_has_its_own_keys(rt: HostRuntime) -> Result<(), Fail> {
-    assert!(rt; are_told_anew(rt.alloc(), &OWN_KEYS)?);
+    assert!(rt; are_told_anew(rt.alloc(), rt.alloc(), &OWN_KEYS)?);
     Ok(())
 }
 
 #[test]
 fn ranges_end_with_the_tenant(rt: HostRuntime) -> Result<(), Fail> {
-    assert!(rt; are_told_anew(rt.alloc(), &LAST)?);
+    assert!(rt; are_told_anew(rt.alloc(), rt.alloc(), &LAST)?);
     Ok(())
 }
 
@@ -110,14 +114,14 @@ fn tells_many<A: Allocator + Copy>(core: &mut Core<A>, alloc: A) -> Result<bool,
 }
 
 /// Whether a new core does both.
-fn has_limits(alloc: Global) -> Result<bool, AllocError> {
-    let mut core = core_of(alloc, alloc, THREE, TreeShape::SMALLEST)?;
+fn has_limits<A: Allocator + Copy>(alloc: A, global: Global) -> Result<bool, AllocError> {
+    let mut core = core_of(alloc, global, THREE, TreeShape::SMALLEST)?;
     Ok(keeps_limit(&mut core, alloc)? && tells_many(&mut core, alloc)?)
 }
 
 #[test]
 fn values_have_a_limit(rt: HostRuntime) -> Result<(), Fail> {
-    assert!(rt; has_limits(rt.alloc())?);
+    assert!(rt; has_limits(rt.alloc(), rt.alloc())?);
     Ok(())
 }
 
@@ -148,15 +152,18 @@ fn shape_of_appended<A: Allocator + Copy>(
 }
 
 /// The same of a new core.
-fn appended_shape(alloc: Global) -> Result<Option<ShapeReport>, AllocError> {
-    let mut core = core_of(alloc, alloc, THREE, TreeShape::SMALLEST)?;
+fn appended_shape<A: Allocator + Copy>(
+    alloc: A,
+    global: Global,
+) -> Result<Option<ShapeReport>, AllocError> {
+    let mut core = core_of(alloc, global, THREE, TreeShape::SMALLEST)?;
     shape_of_appended(&mut core, alloc)
 }
 
 // An APPEND's message has its suffix alone, so a buffer has room for many to one long value.
 #[test]
 fn appends_put_their_suffix_alone(rt: HostRuntime) -> Result<(), Fail> {
-    let shape = appended_shape(rt.alloc())?;
+    let shape = appended_shape(rt.alloc(), rt.alloc())?;
     let want = ShapeReport {
         height: 1,
         leaves: 1,

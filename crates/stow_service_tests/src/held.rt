@@ -234,16 +234,20 @@ fn rounds_hold_no_more_than_the_first(rt: HostRuntime) -> Result<(), Fail> {
 }
 
 /// A round of a new house of this shape, with values that are long enough for many flushes.
-fn round_of(alloc: Global, shape: TreeShape) -> Result<(), AllocError> {
-    let long = "y".repeat(alloc, 20_000)?;
-    let mut house = house_of(alloc, alloc, THREE, shape)?;
+fn round_of<A: Allocator + Copy>(
+    alloc: A,
+    global: Global,
+    shape: TreeShape,
+) -> Result<(), AllocError> {
+    let long = "y".repeat(global, 20_000)?;
+    let mut house = house_of(alloc, global, THREE, shape)?;
     let long = long.as_str();
     first_round(&mut house, alloc, Draw { first: 1_000, long })
 }
 
 #[test]
 fn random_requests_are_refused_no_memory(rt: HostRuntime) -> Result<(), Fail> {
-    round_of(rt.alloc(), TreeShape::SMALLEST)?;
-    round_of(rt.alloc(), LARGEST)?;
+    round_of(rt.alloc(), rt.alloc(), TreeShape::SMALLEST)?;
+    round_of(rt.alloc(), rt.alloc(), LARGEST)?;
     Ok(())
 }

@@ -221,8 +221,8 @@ fn brings_leaves<A: Allocator + Copy>(core: &mut Core<A>, alloc: A) -> Result<bo
 }
 
 /// Whether that is so after 14 of them.
-fn reaches_leaves(alloc: Global) -> Result<bool, AllocError> {
-    let mut core = started(alloc, alloc, 14)?;
+fn reaches_leaves<A: Allocator + Copy>(alloc: A, global: Global) -> Result<bool, AllocError> {
+    let mut core = started(alloc, global, 14)?;
     brings_leaves(&mut core, alloc)
 }
 
@@ -243,7 +243,7 @@ fn flushes_withstand_each_refusal(rt: HostRuntime) -> Result<(), Fail> {
     let heap = Refusing::new(global);
     let asked = refusals(&heap, global, 6, PUT)?;
     assert!(rt; asked.is_some_and(|asked| asked > 10), "{asked:?}");
-    assert!(rt; reaches_leaves(global)?);
+    assert!(rt; reaches_leaves(global, global)?);
     let asked = refusals(&heap, global, 14, PUT)?;
     assert!(rt; asked.is_some_and(|asked| asked > 10), "{asked:?}");
     Ok(())

@@ -38,11 +38,21 @@ fn is_right<A: Allocator + Copy>(
 }
 
 /// Whether the run of a new house of this shape is right.
-fn is_read(alloc: Global, shape: TreeShape, is_small: bool) -> Result<bool, AllocError> {
-    let heap = Refusing::new(alloc);
+fn is_read<A: Allocator + Copy>(
+    alloc: A,
+    global: Global,
+    shape: TreeShape,
+    is_small: bool,
+) -> Result<bool, AllocError> {
+    let heap = Refusing::new(global);
     let talk = rows_read_again(alloc)?;
     let events = talk.events.as_slice();
-    let ran = run_anew((&heap, Plan::Grant), (alloc, alloc), (THREE, shape), events)?;
+    let ran = run_anew(
+        (&heap, Plan::Grant),
+        (alloc, global),
+        (THREE, shape),
+        events,
+    )?;
     is_right(alloc, &ran, &talk, is_small)
 }
 
@@ -53,7 +63,7 @@ fn is_read_in_small(alloc: Global, fan_out: u32, cache: u32) -> Result<bool, All
         cache,
         ..TreeShape::SMALLEST
     };
-    is_read(alloc, shape, true)
+    is_read(alloc, alloc, shape, true)
 }
 
 #[test]
@@ -67,6 +77,6 @@ fn rows_are_read_in_each_shape(rt: HostRuntime) -> Result<(), Fail> {
         buffer: 4_194_304,
         ..TreeShape::USUAL
     };
-    assert!(rt; is_read(alloc, shape, false)?);
+    assert!(rt; is_read(alloc, alloc, shape, false)?);
     Ok(())
 }

@@ -250,15 +250,15 @@ fn are_three<J: Journal, A: Allocator>(seats: &[Seat<J, A>]) -> bool {
 
 /// Whether a pool that this request for memory is refused to gives all its seats back and tells so, or nothing where it asks
 /// for fewer; then it tells that nobody can be accepted.
-fn withstands<R: Threads + Wait + Sync>(
+fn withstands<R: Threads + Wait + Sync, A: Allocator + Copy + Send + Sync>(
     rt: &R,
     heap: &Refusing<Global>,
-    (listener, global): (&TcpListener, Global),
+    (alloc, listener, global): (A, &TcpListener, Global),
     at: u64,
 ) -> Result<Option<bool>, AllocError> {
-    let (shared, seats) = opened::<Unkept, _>(heap, global, 3)?;
+    let (shared, seats) = opened::<Unkept, A>(alloc, global, 3)?;
     heap.set(Plan::RefuseAt(at));
-    let (seats, fault) = serve(rt, (heap, listener, &OpenGate), (&shared, seats), 1, 0);
+    let (seats, fault) = serve(rt, (alloc, listener, &OpenGate), (&shared, seats), 1, 0);
     let is_refused = heap.asked() > at;
     heap.set(Plan::Grant);
     let is_told = match fault {
@@ -285,7 +285,7 @@ fn a_pool_withstands_each_refusal(rt: HostRuntime) -> Result<(), Fail> {
     listener.set_nonblocking(true)?;
     let mut refusals = 0u64;
     for at in 0..100u64 {
-        match withstands(&rt, &heap, (&listener, rt.alloc()), at)? {
+        match withstands(&rt, &heap, (&heap, &listener, rt.alloc()), at)? {
             Some(is_right) => assert!(rt; is_right, "request {at}"),
             None => break,
         }

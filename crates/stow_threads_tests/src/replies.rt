@@ -74,13 +74,13 @@ fn room_for_a_long_reply_is_not_kept(rt: HostRuntime) -> Result<(), Fail> {
 }
 
 /// How many requests for memory serving a login and so many PINGs makes.
-fn asked_by_pings(
+fn asked_by_pings<A: Allocator + Copy>(
     heap: &Refusing<Global>,
-    global: Global,
+    (alloc, global): (A, Global),
     count: usize,
 ) -> Result<u64, AllocError> {
     let pings = "*1\r\n$4\r\nPING\r\n".repeat(global, count)?;
-    let mut service = Service::new(heap, global)?;
+    let mut service = Service::new(alloc, global)?;
     let written = Cell::new(0);
     let pieces = [b"AUTH ann bc\n".as_slice(), pings.as_bytes()];
     let mut reader = Feed::new(&pieces, 4_096, &written);
@@ -99,7 +99,7 @@ fn asked_by_pings(
 #[test]
 fn used_words_serve_the_next_request(rt: HostRuntime) -> Result<(), Fail> {
     let heap = Refusing::new(rt.alloc());
-    let asked = asked_by_pings(&heap, rt.alloc(), 100)?;
+    let asked = asked_by_pings(&heap, (&heap, rt.alloc()), 100)?;
     assert!(rt; asked < 30, "{asked}");
     Ok(())
 }
