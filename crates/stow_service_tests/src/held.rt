@@ -16,8 +16,8 @@ use stow_testing::spelling::push_array;
 use stow_testing::tenants::THREE;
 use stow_tree::tree_shape::{MOST_BUFFER, MOST_CACHE, MOST_FAN_OUT, MOST_LEAF, TreeShape};
 
-/// Requests that are sent or served in a round.
-const ACTS: u32 = 10_000;
+/// More acts than a round has.
+const MOST: u32 = 10_000;
 
 /// Keys of a round, each tenant's as many.
 const KEYS: u32 = 100;
@@ -65,10 +65,11 @@ const LARGEST: TreeShape = TreeShape {
     cache: MOST_CACHE,
 };
 
-/// What a round's requests are drawn from: the first of its keys, and a value that is long.
+/// What a round's requests are drawn from: the first of its keys, how many are sent or served, and a value that is long.
 #[derive(Clone, Copy)]
 struct Draw<'a> {
     first: u32,
+    acts: u32,
     long: &'a str,
 }
 
@@ -131,7 +132,7 @@ fn serve<A: Allocator + Copy>(house: &mut House<A>, alloc: A, c: u32) -> Result<
 /// Serves what was sent on each connection and was not served yet.
 fn drain<A: Allocator + Copy>(house: &mut House<A>, alloc: A) -> Result<(), AllocError> {
     for c in 1..4u32 {
-        for _ in 0..ACTS {
+        for _ in 0..MOST {
             if !serve(house, alloc, c)? {
                 break;
             }
@@ -172,7 +173,7 @@ fn round<A: Allocator + Copy>(
     draw: Draw<'_>,
 ) -> Result<(), AllocError> {
     let mut random = Random::new(11);
-    for _ in 0..ACTS {
+    for _ in 0..draw.acts {
         act(house, alloc, &mut random, draw)?;
     }
     for place in 0..KEYS {
@@ -211,9 +212,25 @@ fn holds_no_more<A: Allocator + Copy>(
     (heap, alloc): (&LocalHeap, A),
     long: &str,
 ) -> Result<bool, AllocError> {
-    first_round(house, alloc, Draw { first: 1_000, long })?;
+    first_round(
+        house,
+        alloc,
+        Draw {
+            first: 1_000,
+            acts: 8_000,
+            long,
+        },
+    )?;
     let held = heap.used();
-    round(house, alloc, Draw { first: 2_000, long })?;
+    round(
+        house,
+        alloc,
+        Draw {
+            first: 2_000,
+            acts: 8_000,
+            long,
+        },
+    )?;
     Ok(heap.used() <= held)
 }
 
@@ -242,7 +259,15 @@ fn round_of<A: Allocator + Copy>(
     let long = "y".repeat(global, 20_000)?;
     let mut house = house_of(alloc, global, THREE, shape)?;
     let long = long.as_str();
-    first_round(&mut house, alloc, Draw { first: 1_000, long })
+    first_round(
+        &mut house,
+        alloc,
+        Draw {
+            first: 1_000,
+            acts: 3_000,
+            long,
+        },
+    )
 }
 
 #[test]
