@@ -18,8 +18,8 @@
 //!
 //! Not said: that a call returns, since it waits for the lock, nor in which order steps of different seats come. A
 //! body that answers want of memory, or a `close` that always gives all back, meets its contract; so does a `Shared::call`
-//! that does nothing under the lock and makes its receipt up, whose journal `close` then refuses. Tests
-//! (`stow_threads_tests`) call each with ample memory, from one seat and from two, and with each request for memory refused in turn.
+//! that does nothing under the lock and makes its receipt up, whose journal `close` then refuses. Tests call each with
+//! ample memory, from one seat and from two, and with each request for memory refused in turn.
 #![tactic(auto)]
 
 pub mod book;
@@ -37,4 +37,6 @@ pub mod open_fault;
 pub mod seat;
 pub mod shared;
 pub mod step;
+#[cfg(test)]
+mod tests;
 pub mod unkept;

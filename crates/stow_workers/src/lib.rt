@@ -54,6 +54,8 @@ pub mod serving;
 pub mod sink;
 pub mod source;
 mod stop;
+#[cfg(test)]
+mod tests;
 mod turn;
 pub mod worker;
 pub mod workplace;

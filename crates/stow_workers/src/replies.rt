@@ -9,6 +9,9 @@ use std::alloc::{AllocError, Allocator, Global};
 use stow_model::reply::Reply;
 use stow_resp::encode::Encode;
 
+#[cfg(test)]
+mod tests;
+
 /// More bytes than these are written at once, and more room than for these isn't kept.
 const KEPT: usize = 65_536;
 

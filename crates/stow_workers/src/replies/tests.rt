@@ -1,0 +1,35 @@
+//! What room replies keep.
+use crate::counted::Counted;
+use crate::replies::Replies;
+use std::test::Fail;
+use stow_bytes::byte_string::ByteString;
+use stow_model::reply::Reply;
+
+// A reply of 65,545 bytes is written at once, and its room given back.
+#[test]
+fn room_for_a_long_reply_is_not_kept(rt: HostRuntime) -> Result<(), Fail> {
+    let alloc = rt.alloc();
+    let value = ByteString::from_vec(vec![in alloc; b'v'; 65_535]?);
+    let mut output = Vec::new(alloc);
+    let mut writer = Counted::new(&mut output);
+    let mut replies = Replies::new(alloc);
+    replies.add(&mut writer, &Some(Reply::Bulk(value)))?;
+    assert!(rt; replies.bytes.is_empty() && replies.bytes.capacity() <= 65_536);
+    Ok(())
+}
+
+// Four replies of 16,384 bytes wait together, and a fifth has all of them written.
+#[test]
+fn replies_wait_up_to_a_limit(rt: HostRuntime) -> Result<(), Fail> {
+    let alloc = rt.alloc();
+    let value = ByteString::from_vec(vec![in alloc; b'v'; 16_374]?);
+    let reply = Some(Reply::Bulk(value));
+    let mut output = Vec::new(alloc);
+    let mut writer = Counted::new(&mut output);
+    let mut replies = Replies::new(alloc);
+    for waiting in [16_384, 32_768, 49_152, 65_536, 0usize] {
+        replies.add(&mut writer, &reply)?;
+        assert_eq!(rt; replies.bytes.len(), waiting);
+    }
+    Ok(())
+}
