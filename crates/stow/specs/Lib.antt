@@ -1,0 +1,10 @@
+pub mod Text
+pub mod Script
+pub mod Read
+pub mod Lines
+pub mod Written
+pub mod Statuses
+pub mod Ends
+pub mod Pipes
+pub mod Told
+pub mod Outcomes
