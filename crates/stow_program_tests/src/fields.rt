@@ -1,11 +1,24 @@
 //! The fields of a script's lines: what is let in, and what is not.
 use crate::given::Given;
-use crate::running::{Host, SCRIPT, run};
+use crate::running::{SCRIPT, run};
 use crate::table::rows_of;
+use std::alloc::Global;
+use std::net::{Net, TcpListener, TcpStream};
+use std::process::Abort;
+use std::sync::Wait;
 use std::test::Fail;
+use std::thread::Threads;
 
 /// Wants a script to be let in, or else refused.
-fn lets_in<H: Host>(rt: &H, script: &[u8], is_let_in: bool) -> Result<(), Fail> {
+fn lets_in<H>(rt: &H, script: &[u8], is_let_in: bool) -> Result<(), Fail>
+where
+    H: Abort
+        + Alloc<A = Global>
+        + Net<Listener = TcpListener, Stream = TcpStream>
+        + Threads
+        + Wait
+        + Sync,
+{
     let status = if is_let_in { 0 } else { 2 };
     let ended = run(rt, SCRIPT, &mut Given::all(script))?;
     assert!(rt; ended.status == status, "{script:?}");

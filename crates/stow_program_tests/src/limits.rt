@@ -29,6 +29,14 @@ fn longest(alloc: Global) -> Result<(String, String), AllocError> {
     Ok((value, bulk))
 }
 
+/// Two halves of the longest value are one, and a byte more is too long.
+fn ask_halves(talk: &mut Talk, value: &[u8], bulk: &str) -> Result<(), AllocError> {
+    let (front, back) = value.split_at(value.len() / 2);
+    talk.ask_two("SET", b"half", front, "+OK\r\n")?;
+    talk.ask_two("APPEND", b"half", back, ":65535\r\n")?;
+    talk.ask("GET", &[b"half"], bulk)
+}
+
 #[test]
 fn keys_and_values_have_limits(rt: HostRuntime) -> Result<(), Fail> {
     let alloc = rt.alloc();
@@ -37,16 +45,14 @@ fn keys_and_values_have_limits(rt: HostRuntime) -> Result<(), Fail> {
     let (value, bulk) = longest(alloc)?;
     let (value, bulk) = (value.as_bytes(), bulk.as_str());
     let mut talk = Talk::new(alloc)?;
-    talk.ask("SET", &[key, value], "+OK\r\n")?;
-    talk.ask("SET", &[long_key, b"v"], LONG_KEY)?;
+    talk.ask_two("SET", key, value, "+OK\r\n")?;
+    talk.ask_two("SET", long_key, b"v", LONG_KEY)?;
     talk.ask("GET", &[key], bulk)?;
     talk.ask("ECHO", &[value], bulk)?;
     talk.ask("STRLEN", &[key], ":65535\r\n")?;
-    talk.ask("APPEND", &[key, b""], ":65535\r\n")?;
-    talk.ask("APPEND", &[key, b"x"], LONG_VALUE)?;
-    talk.ask("SET", &[b"half", &value[..VALUE / 2]], "+OK\r\n")?;
-    talk.ask("APPEND", &[b"half", &value[..VALUE / 2 + 1]], ":65535\r\n")?;
-    talk.ask("GET", &[b"half"], bulk)?;
+    talk.ask_two("APPEND", key, b"", ":65535\r\n")?;
+    talk.ask_two("APPEND", key, b"x", LONG_VALUE)?;
+    ask_halves(&mut talk, value, bulk)?;
     talk.holds(&rt)
 }
 

@@ -27,24 +27,6 @@ pub const HELLO: &[u8] =
 
 pub const HELLO_REPLIES: &[u8] = b"+OK\r\n+OK\r\n$2\r\nv1\r\n";
 
-/// What a test has of the system.
-pub trait Host: Abort
-    + Alloc<A = Global>
-    + Net<Listener = TcpListener, Stream = TcpStream>
-    + Threads
-    + Wait
-    + Sync {}
-
-impl<T> Host for T
-where
-    T: Abort
-        + Alloc<A = Global>
-        + Net<Listener = TcpListener, Stream = TcpStream>
-        + Threads
-        + Wait
-        + Sync,
-{}
-
 /// Files over memory, of which one is the test's own.
 #[derive(Clone, Copy)]
 pub struct Shelf<'a> {
@@ -78,14 +60,22 @@ fn words_of(alloc: Global, line: &str) -> Result<Vec<String>, AllocError> {
 }
 
 /// Runs a command line over files, a reader and writers, and gives the status.
-pub fn run_over<H: Host, R: Read, W: Write>(
+pub fn run_over<H, R: Read, W: Write>(
     rt: &H,
     shelf: &Shelf<'_>,
     line: &str,
     input: &mut R,
     output: &mut W,
     errors: &mut Vec<u8>,
-) -> Result<u8, AllocError> {
+) -> Result<u8, AllocError>
+where
+    H: Abort
+        + Alloc<A = Global>
+        + Net<Listener = TcpListener, Stream = TcpStream>
+        + Threads
+        + Wait
+        + Sync,
+{
     let words = words_of(rt.alloc(), line)?;
     let mut reader = Counted::new(input);
     let mut writer = Counted::new(output);
@@ -124,7 +114,15 @@ pub struct Ended {
 }
 
 /// Runs a command line over a reader.
-pub fn run<H: Host>(rt: &H, line: &str, input: &mut Given<'_>) -> Result<Ended, AllocError> {
+pub fn run<H>(rt: &H, line: &str, input: &mut Given<'_>) -> Result<Ended, AllocError>
+where
+    H: Abort
+        + Alloc<A = Global>
+        + Net<Listener = TcpListener, Stream = TcpStream>
+        + Threads
+        + Wait
+        + Sync,
+{
     let alloc = rt.alloc();
     let mut output = Vec::new(alloc);
     let mut errors = Vec::new(alloc);
@@ -138,14 +136,22 @@ pub fn run<H: Host>(rt: &H, line: &str, input: &mut Given<'_>) -> Result<Ended, 
 }
 
 /// Wants a command line over a reader to end with this status, this output and these errors.
-pub fn wants<H: Host>(
+pub fn wants<H>(
     rt: &H,
     line: &str,
     input: &mut Given<'_>,
     status: u8,
     output: &str,
     errors: &str,
-) -> Result<(), Fail> {
+) -> Result<(), Fail>
+where
+    H: Abort
+        + Alloc<A = Global>
+        + Net<Listener = TcpListener, Stream = TcpStream>
+        + Threads
+        + Wait
+        + Sync,
+{
     let ended = run(rt, line, input)?;
     assert_eq!(rt; ended.errors.as_str(), errors, "{line}");
     assert_eq!(rt; ended.output.as_str(), output, "{line}");
@@ -154,6 +160,14 @@ pub fn wants<H: Host>(
 }
 
 /// Wants a command line to answer the text so, and to end with status 0.
-pub fn answers<H: Host>(rt: &H, line: &str, input: &str, output: &str) -> Result<(), Fail> {
+pub fn answers<H>(rt: &H, line: &str, input: &str, output: &str) -> Result<(), Fail>
+where
+    H: Abort
+        + Alloc<A = Global>
+        + Net<Listener = TcpListener, Stream = TcpStream>
+        + Threads
+        + Wait
+        + Sync,
+{
     wants(rt, line, &mut Given::all(input.as_bytes()), 0, output, "")
 }

@@ -1,8 +1,12 @@
 //! The tree's sizes by options and by a script's lines: what is answered is the same in each.
 use crate::given::Given;
-use crate::running::{Host, SCRIPT, answers, run};
+use crate::running::{SCRIPT, answers, run};
 use std::alloc::{AllocError, Global};
+use std::net::{Net, TcpListener, TcpStream};
+use std::process::Abort;
+use std::sync::Wait;
 use std::test::Fail;
+use std::thread::Threads;
 use stow_testing::many::{Exchange, login, reads, writes};
 
 /// A script, and what its lines are to be told, those aside that tell the tree's sizes.
@@ -74,7 +78,15 @@ fn sizes_of(line: &str) -> Option<[u64; 3]> {
 }
 
 /// The sizes that are told where the options are these; wants all else to be told as it is to be.
-fn told_with<H: Host>(rt: &H, options: &str, talk: &Talk) -> Result<Vec<[u64; 3]>, Fail> {
+fn told_with<H>(rt: &H, options: &str, talk: &Talk) -> Result<Vec<[u64; 3]>, Fail>
+where
+    H: Abort
+        + Alloc<A = Global>
+        + Net<Listener = TcpListener, Stream = TcpStream>
+        + Threads
+        + Wait
+        + Sync,
+{
     let alloc = rt.alloc();
     let line = format!(in alloc; "{SCRIPT} {options}")?;
     let ended = run(rt, line.as_str(), &mut Given::all(talk.script.as_bytes()))?;
@@ -125,7 +137,15 @@ fn rows_are_read_in_each_shape(rt: HostRuntime) -> Result<(), Fail> {
 }
 
 /// Wants these lines told to a script of ann's.
-fn tells<H: Host>(rt: &H, options: &str, script: &str, told: &str) -> Result<(), Fail> {
+fn tells<H>(rt: &H, options: &str, script: &str, told: &str) -> Result<(), Fail>
+where
+    H: Abort
+        + Alloc<A = Global>
+        + Net<Listener = TcpListener, Stream = TcpStream>
+        + Threads
+        + Wait
+        + Sync,
+{
     let alloc = rt.alloc();
     let line = format!(in alloc; "{SCRIPT} {options}")?;
     let script = format!(in alloc; "open 1\npiece 1 AUTH ann bc\\n\nserve 1\n{script}")?;

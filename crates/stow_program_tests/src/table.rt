@@ -1,6 +1,6 @@
 //! Tables: a row a line, in which `\r`, `\n` and `\t` stand for these bytes.
-use crate::running::Host;
 use std::alloc::{AllocError, Global};
+use std::process::Abort;
 use std::test::Fail;
 
 /// What is given, and what comes of it.
@@ -17,7 +17,10 @@ fn decoded(alloc: Global, text: &str) -> Result<String, AllocError> {
 }
 
 /// The rows of a table, each of two texts with an arrow between them.
-pub fn rows_of<H: Host>(rt: &H, table: &str) -> Result<Vec<Row>, Fail> {
+pub fn rows_of<H>(rt: &H, table: &str) -> Result<Vec<Row>, Fail>
+where
+    H: Abort + Alloc<A = Global>,
+{
     let alloc = rt.alloc();
     let mut rows = Vec::new(alloc);
     for line in table.trim_matches('\n').split('\n') {

@@ -1,8 +1,12 @@
 //! Requests of one connection, and the replies that they are to have.
 use crate::given::Given;
-use crate::running::{Host, PIPE, run};
+use crate::running::{PIPE, run};
 use std::alloc::{AllocError, Global};
+use std::net::{Net, TcpListener, TcpStream};
+use std::process::Abort;
+use std::sync::Wait;
 use std::test::Fail;
+use std::thread::Threads;
 
 /// Requests of a connection of ann's, and the replies that they are to have.
 #[derive(Drop)]
@@ -27,6 +31,20 @@ impl Talk {
         for word in words {
             self.word(word)?;
         }
+        self.told.push_str(told)
+    }
+
+    /// One more request of a name and two words.
+    pub fn ask_two(
+        &mut self,
+        name: &str,
+        first: &[u8],
+        second: &[u8],
+        told: &str,
+    ) -> Result<(), AllocError> {
+        self.begin(2, name)?;
+        self.word(first)?;
+        self.word(second)?;
         self.told.push_str(told)
     }
 
@@ -61,7 +79,15 @@ impl Talk {
     }
 
     /// Wants the replies of the requests, status 0, and nothing told of memory.
-    pub fn holds<H: Host>(&self, rt: &H) -> Result<(), Fail> {
+    pub fn holds<H>(&self, rt: &H) -> Result<(), Fail>
+    where
+        H: Abort
+            + Alloc<A = Global>
+            + Net<Listener = TcpListener, Stream = TcpStream>
+            + Threads
+            + Wait
+            + Sync,
+    {
         let ended = run(rt, PIPE, &mut Given::all(self.asked.as_slice()))?;
         let is_well = ended.status == 0 && ended.errors.is_empty();
         assert!(rt; is_well && ended.output.as_str() == self.told.as_str());
