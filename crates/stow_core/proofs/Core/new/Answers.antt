@@ -1,3 +1,4 @@
+use Rattle.std.proofs.lemmas.Grind.{common_steps}
 use Rattle.std.proofs.Common.{rules, ◌≡◌, ◌<◌, length, map, ap, ◌∙◌, arith, subst, sym}
 use Rattle.std.proofs.lemmas.List.{length-map}
 use Rattle.stow_core.specs.State.{new_account}
@@ -20,3 +21,12 @@ invariant_of-result g c = record {
   where
     each : length c.in_ok-accounts.accounts.items ≡ length c.args.tenants.value
     each = ap length (c.in_ok-accounts.ensures.each ∙ ap (map new_account) c.deref.ensures) ∙ length-map c.args.tenants.value new_account
+
+pub returns-in_err-tree-clause-entries : goal.returns-in_err-tree-clause-entries
+returns-in_err-tree-clause-entries g c = grind (arith, common_steps)
+
+pub returns-in_err-tree-clause-empty : goal.returns-in_err-tree-clause-empty
+returns-in_err-tree-clause-empty g c = grind (arith, common_steps)
+
+pub returns-in_err-tree-clause-tree : goal.returns-in_err-tree-clause-tree
+returns-in_err-tree-clause-tree g c = grind (arith, common_steps)

@@ -1,4 +1,5 @@
-use Rattle.std.proofs.Common.{rules, ◌≡◌, ◌<◌, ◌+◌, length, take, [], ◌∷◌, ◌++◌, true, false, is_some, inl, inr, ap, sym, ◌∙◌, subst}
+use Rattle.std.proofs.lemmas.Grind.{common_steps}
+use Rattle.std.proofs.Common.{rules, ◌≡◌, ◌<◌, ◌+◌, length, take, [], ◌∷◌, ◌++◌, true, false, is_some, inl, inr, ap, sym, ◌∙◌, subst, arith}
 use Rattle.std.specs.FinMap as finite
 use Rattle.std.specs.List.{list_any}
 use Rattle.std.specs.Str.{bytes_eq}
@@ -38,3 +39,6 @@ loop-index-preserved g c =
 
 pub returns : goal.returns
 returns g c = subst (λ ks. AreTaken c.args.tenant (store_of c.args.self.now c.args.tenant).rows ks c.loop-index.taken) (take_all (words_in c.args.keys) c.loop-index.index (search rules)) c.loop-index.invariant
+
+pub row-requires-clause-short : goal.row-requires-clause-short
+row-requires-clause-short g c = grind (arith, common_steps)

@@ -1,4 +1,5 @@
-use Rattle.std.proofs.Common.{refl, length, ◌<◌, rules, subst, ap, sym, ◌∙◌, map}
+use Rattle.std.proofs.lemmas.Grind.{common_steps}
+use Rattle.std.proofs.Common.{refl, length, ◌<◌, rules, subst, ap, sym, ◌∙◌, map, arith}
 use Rattle.stow_core.specs.Writes.{removal_of, removals_of}
 use Rattle.stow_model.specs.LentWords.{words_in}
 use Rattle.stow_tree_model.specs.Agreement.{TenantPins}
@@ -16,3 +17,12 @@ removal_message-requires g c =
 
 pub returns-clause-agrees : goal.returns-clause-agrees
 returns-clause-agrees g c = subst (λ (pins : TenantPins). AgreeUnder pins (tree_messages c.args.tree.now) (tree_messages c.reserve.new.self)) (λ i t. c.new.ensures t i) c.reserve.ensures.agrees
+
+pub loop-index-preserved : goal.loop-index-preserved
+loop-index-preserved g c = grind (arith, common_steps)
+
+pub reserve-requires : goal.reserve-requires
+reserve-requires g c = grind (arith, common_steps)
+
+pub returns-clause-reserved : goal.returns-clause-reserved
+returns-clause-reserved g c = grind (arith, common_steps)
