@@ -1,0 +1,4 @@
+pub mod Costs
+pub mod RowLemmas
+pub mod WriteLemmas
+pub mod DropLemmas

@@ -1,0 +1,4 @@
+pub mod Charges
+pub mod Accounts
+pub mod Shown
+pub mod Histories
