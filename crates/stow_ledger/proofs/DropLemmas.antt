@@ -14,7 +14,7 @@ use Rattle.stow_ledger.proofs.Costs.{Once, cost_by_once, contra, same_is}
 use Rattle.stow_ledger.proofs.RowLemmas.{once_rows, in_copies, any_values}
 
 -- the versions that a test keeps
-in_kept : (test : Shown → Bool) (v : Shown) (xs : List Shown) → is_in v (filter test xs) ≡ (is_in v xs && test v)
+pub in_kept : (test : Shown → Bool) (v : Shown) (xs : List Shown) → is_in v (filter test xs) ≡ (is_in v xs && test v)
 in_kept test v [] = refl
 in_kept test v (x ∷ xs) = ⊎_elim
     (λ (t : test x ≡ true).

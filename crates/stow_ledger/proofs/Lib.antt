@@ -2,3 +2,4 @@ pub mod Costs
 pub mod RowLemmas
 pub mod WriteLemmas
 pub mod DropLemmas
+pub mod HistoryLemmas

@@ -1,4 +1,5 @@
 //! Laws over the definitions: functions that do nothing, and whose contracts are the laws.
+ghost use Rattle.stow_ledger.specs.Histories.{PinsTellOfWrites, NextIsNew, PinsTellOfDrops, RowsAreCharged};
 ghost use Rattle.stow_ledger.specs.Shown.{CostByMembers, WriteIsCharged, DropIsCharged, DropInParts};
 
 /// What two lists of versions cost differs by what only one of them shows.
@@ -19,4 +20,24 @@ pub fn drop_is_charged()
 /// A drop in parts is charged as one.
 pub fn drop_in_parts()
     ensures { DropInParts }
+{}
+
+/// A snapshot shows the present version of a key just where a pin is at or above its number.
+pub fn pins_tell_of_writes()
+    ensures { PinsTellOfWrites }
+{}
+
+/// A version of the next number is new.
+pub fn next_is_new()
+    ensures { NextIsNew }
+{}
+
+/// The present or a snapshot shows a version just where its key's next number and the pins say so.
+pub fn pins_tell_of_drops()
+    ensures { PinsTellOfDrops }
+{}
+
+/// Each row is charged 16 bytes at least, so there are fewer rows than bytes.
+pub fn rows_are_charged()
+    ensures { RowsAreCharged }
 {}
