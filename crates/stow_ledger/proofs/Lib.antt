@@ -3,3 +3,4 @@ pub mod RowLemmas
 pub mod WriteLemmas
 pub mod DropLemmas
 pub mod HistoryLemmas
+pub mod KeptLemmas

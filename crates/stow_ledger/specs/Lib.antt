@@ -2,3 +2,4 @@ pub mod Charges
 pub mod Accounts
 pub mod Shown
 pub mod Histories
+pub mod Kept

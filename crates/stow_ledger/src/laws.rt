@@ -1,5 +1,6 @@
 //! Laws over the definitions: functions that do nothing, and whose contracts are the laws.
 ghost use Rattle.stow_ledger.specs.Histories.{PinsTellOfWrites, NextIsNew, PinsTellOfDrops, RowsAreCharged};
+ghost use Rattle.stow_ledger.specs.Kept.{NewAccountIsEmpty, PresentIsCharged, CommitIsCharged, TakeIsFree, ReportIsUsage};
 ghost use Rattle.stow_ledger.specs.Shown.{CostByMembers, WriteIsCharged, DropIsCharged, DropInParts};
 
 /// What two lists of versions cost differs by what only one of them shows.
@@ -40,4 +41,29 @@ pub fn pins_tell_of_drops()
 /// Each row is charged 16 bytes at least, so there are fewer rows than bytes.
 pub fn rows_are_charged()
     ensures { RowsAreCharged }
+{}
+
+/// A new account is that of a store with nothing but a quota.
+pub fn new_account_is_empty()
+    ensures { NewAccountIsEmpty }
+{}
+
+/// A change begins with the store's charge.
+pub fn present_is_charged()
+    ensures { PresentIsCharged }
+{}
+
+/// An account that takes over the charge of the store after a change is the account of that.
+pub fn commit_is_charged()
+    ensures { CommitIsCharged }
+{}
+
+/// A new snapshot costs nothing.
+pub fn take_is_free()
+    ensures { TakeIsFree }
+{}
+
+/// What an account reports is the store's usage.
+pub fn report_is_usage()
+    ensures { ReportIsUsage }
 {}
