@@ -1,0 +1,7 @@
+pub mod Read
+pub mod Lines
+pub mod Written
+pub mod Ends
+pub mod Pipes
+pub mod Told
+pub mod Outcomes
