@@ -3,9 +3,9 @@
 
 use std::alloc::Global;
 use std::process::ExitCode;
-use stow_command_line::failure::MEMORY;
-use stow_command_line::folder::System;
 use stow_program::program::program;
+use stow_run::failure::MEMORY;
+use stow_run::folder::System;
 use stow_workers::counted::Counted;
 
 fn main(rt: HostRuntime) -> ExitCode {

@@ -1,6 +1,6 @@
 -- Why the words of a command line ask for nothing.
-use Rattle.stow_command_line.specs.declared.failure.Failure.{Failure}
-use Rattle.stow_command_line.specs.declared.failure.Failure.TheVariants.{Arguments, BadAddress, Memory}
+use Rattle.stow_run.specs.declared.failure.Failure.{Failure}
+use Rattle.stow_run.specs.declared.failure.Failure.TheVariants.{Arguments, BadAddress, Memory}
 
 -- the words of the command line ask for nothing
 abbrev pub RefusesWords : Failure → Type 0

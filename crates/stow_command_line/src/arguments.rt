@@ -2,33 +2,83 @@
 ghost use Rattle.std.specs.Prelude.{IfErr, IfSome};
 ghost use Rattle.stow_command_line.specs.Words.{RefusesWords};
 
-use crate::failure::Failure;
-use crate::serving::Serving;
 use clap::error::ErrorKind;
 use clap::{Arg, ArgAction, ArgMatches, Command, Error, value_parser};
 use std::alloc::Global;
+use stow_run::failure::Failure;
+use stow_run::job::{Job, Task};
+use stow_run::serving::Serving;
 use stow_tree::tree_shape::{
     LEAST_BUFFER, LEAST_FAN_OUT, LEAST_LEAF, MOST_BUFFER, MOST_CACHE, MOST_FAN_OUT, MOST_LEAF,
     TreeShape,
 };
 
-/// What is done with standard input.
-#[derive(Clone, Copy, Debug, PartialEq, Eq)]
-pub enum Task {
-    /// Standard input is one connection.
-    Pipe,
-    /// Standard input is a script of events.
-    Script,
+/// An option whose value is a number, and the limits of that.
+struct Count {
+    name: &'static str,
+    value: &'static str,
+    help: &'static str,
+    /// The number where the option is left out.
+    usual: &'static str,
+    least: u32,
+    most: u32,
 }
 
-/// What the program is run for.
-#[derive(Clone, Copy, Debug, PartialEq, Eq)]
-pub enum Job {
-    /// Something is done with standard input.
-    Input(Task),
-    /// Connections are served.
-    Serve(Serving),
-}
+/// The sizes of the tree.
+const SIZES: [Count; 4] = [
+    Count {
+        name: "buffer",
+        value: "BYTES",
+        help: "How many bytes of messages a node of the tree holds",
+        usual: "1048576",
+        least: LEAST_BUFFER,
+        most: MOST_BUFFER,
+    },
+    Count {
+        name: "leaf",
+        value: "BYTES",
+        help: "How many bytes the page of a leaf is cut by",
+        usual: "65536",
+        least: LEAST_LEAF,
+        most: MOST_LEAF,
+    },
+    Count {
+        name: "fanout",
+        value: "COUNT",
+        help: "How many children a node of the tree may have",
+        usual: "16",
+        least: LEAST_FAN_OUT,
+        most: MOST_FAN_OUT,
+    },
+    Count {
+        name: "cache",
+        value: "LEAVES",
+        help: "How many leaves are held unpacked; 0 for none",
+        usual: "1024",
+        least: 0,
+        most: MOST_CACHE,
+    },
+];
+
+/// How many connections are served.
+const SERVING: [Count; 2] = [
+    Count {
+        name: "workers",
+        value: "COUNT",
+        help: "How many connections are served at once: the others wait",
+        usual: "4",
+        least: 1,
+        most: 256,
+    },
+    Count {
+        name: "connections",
+        value: "COUNT",
+        help: "After how many connections the program ends; 0 for no end",
+        usual: "0",
+        least: 0,
+        most: 65_535,
+    },
+];
 
 /// What the words of the command line say.
 #[derive(Drop)]
@@ -78,10 +128,37 @@ fn serve<'a>(alloc: Global) -> Result<Command<'a>, Error> {
     let about = "Serves connections over TCP, each by a thread of its own";
     let command = subcommand(alloc, "serve", about)?;
     let command = command.arg(listen(alloc))?;
-    let command = command.arg(workers(alloc))?;
-    let command = command.arg(connections(alloc))?;
+    let command = with_counts(alloc, command, &SERVING)?;
     let notices = "Tells the start and the end in a line each on standard error";
     Ok(command.arg(flag(alloc, "notices", notices))?)
+}
+
+/// A command with what each takes: the tenant file, the flag that asks for more of what goes wrong, and the sizes of
+/// the tree.
+fn subcommand<'a>(alloc: Global, name: &'a str, about: &'a str) -> Result<Command<'a>, Error> {
+    let command = Command::new(alloc, name).about(about);
+    let command = command.arg(tenants(alloc))?;
+    let explain = "Tells more of what goes wrong, in a second line on standard error";
+    let command = command.arg(flag(alloc, "explain", explain))?;
+    with_counts(alloc, command, &SIZES)
+}
+
+fn with_counts<'a>(
+    alloc: Global,
+    command: Command<'a>,
+    counts: &[Count],
+) -> Result<Command<'a>, Error> {
+    let mut command = command;
+    for count in counts {
+        command = command.arg(counted(alloc, count))?;
+    }
+    Ok(command)
+}
+
+fn tenants<'a>(alloc: Global) -> Arg<'a> {
+    named(alloc, "tenants", "FILE", "The tenant file")
+        .required(true)
+        .action(ArgAction::Set)
 }
 
 fn listen<'a>(alloc: Global) -> Arg<'a> {
@@ -89,61 +166,11 @@ fn listen<'a>(alloc: Global) -> Arg<'a> {
     named(alloc, "listen", "ADDRESS", help).default_value("127.0.0.1:6379")
 }
 
-fn workers<'a>(alloc: Global) -> Arg<'a> {
-    let help = "How many connections are served at once: the others wait";
-    named(alloc, "workers", "COUNT", help)
-        .value_parser(value_parser!(u32).range(1..=256))
-        .default_value("4")
-}
-
-fn connections<'a>(alloc: Global) -> Arg<'a> {
-    let help = "After how many connections the program ends; 0 for no end";
-    named(alloc, "connections", "COUNT", help)
-        .value_parser(value_parser!(u64).range(0..=65_535))
-        .default_value("0")
-}
-
-/// A command with what each takes: the tenant file, the flag that asks for more of what goes wrong, and the sizes of
-/// the tree.
-fn subcommand<'a>(alloc: Global, name: &'a str, about: &'a str) -> Result<Command<'a>, Error> {
-    let command = Command::new(alloc, name).about(about);
-    let tenants = named(alloc, "tenants", "FILE", "The tenant file");
-    let command = command.arg(tenants.required(true).action(ArgAction::Set))?;
-    let explain = "Tells more of what goes wrong, in a second line on standard error";
-    let command = command.arg(flag(alloc, "explain", explain))?;
-    let command = command.arg(buffer(alloc))?;
-    let command = command.arg(leaf(alloc))?;
-    let command = command.arg(fan_out(alloc))?;
-    Ok(command.arg(cache(alloc))?)
-}
-
-fn buffer<'a>(alloc: Global) -> Arg<'a> {
-    let help = "How many bytes of messages a node of the tree holds";
-    let option = named(alloc, "buffer", "BYTES", help).default_value("1048576");
-    size(option, LEAST_BUFFER, MOST_BUFFER)
-}
-
-fn leaf<'a>(alloc: Global) -> Arg<'a> {
-    let help = "How many bytes the page of a leaf is cut by";
-    let option = named(alloc, "leaf", "BYTES", help).default_value("65536");
-    size(option, LEAST_LEAF, MOST_LEAF)
-}
-
-fn fan_out<'a>(alloc: Global) -> Arg<'a> {
-    let help = "How many children a node of the tree may have";
-    let option = named(alloc, "fanout", "COUNT", help).default_value("16");
-    size(option, LEAST_FAN_OUT, MOST_FAN_OUT)
-}
-
-fn cache<'a>(alloc: Global) -> Arg<'a> {
-    let help = "How many leaves are held unpacked; 0 for none";
-    let option = named(alloc, "cache", "LEAVES", help).default_value("1024");
-    size(option, 0, MOST_CACHE)
-}
-
-/// The option, of a size within these limits.
-fn size<'a>(option: Arg<'a>, least: u32, most: u32) -> Arg<'a> {
-    option.value_parser(value_parser!(u32).range(i64::from(least)..=i64::from(most)))
+fn counted<'a>(alloc: Global, count: &Count) -> Arg<'a> {
+    let limits = i64::from(count.least)..=i64::from(count.most);
+    named(alloc, count.name, count.value, count.help)
+        .value_parser(value_parser!(u32).range(limits))
+        .default_value(count.usual)
 }
 
 /// An option of this name, with a value.
@@ -210,14 +237,14 @@ fn serving_of(matches: &ArgMatches<'_>) -> Option<Result<Serving, Failure<'stati
 {
     let listen = matches.get_str("listen")?;
     let workers = matches.get_one::<u32>("workers")?;
-    let connections = matches.get_one::<u64>("connections")?;
+    let connections = matches.get_one::<u32>("connections")?;
     let Ok(listen) = listen.parse() else {
         return Some(Err(Failure::BadAddress));
     };
     Some(Ok(Serving {
         listen,
         workers,
-        connections,
+        connections: u64::from(connections),
         notices: matches.get_flag("notices"),
     }))
 }

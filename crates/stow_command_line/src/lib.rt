@@ -1,11 +1,8 @@
-//! What the program is asked for by its words, where its files are, and why it ends early.
+//! What the program is asked for by its words.
 //!
-//! Proved: each failure has its status and its line (`specs/Statuses.antt`), and words are refused for no other reason than
-//! those that `specs/Words.antt` says. Not proved: which words of the command line ask for what, and that help is the argument
-//! parser's text. The parser's builders are dear to prove, so no must-fail edit and no test stands here.
+//! Proved: words are refused for no other reason than those that `specs/Words.antt` says. Not proved: which words of the command
+//! line ask for what, and that help is the argument parser's text. The parser's builders are dear to prove, so no must-fail edit
+//! and no test stands here.
 #![tactic(auto)]
 
 pub mod arguments;
-pub mod failure;
-pub mod folder;
-pub mod serving;

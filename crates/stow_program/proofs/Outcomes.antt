@@ -8,12 +8,12 @@ use Rattle.std.specs.declared.io.ErrorKind.TheVariants as kind
 use Rattle.std.specs.IoError.{error_kind}
 use Rattle.stow_workers.specs.Failures.{HasFailed}
 use Rattle.stow_workers.specs.Sent.{WritesAll, Written}
-use Rattle.stow_command_line.specs.declared.failure.Failure.{Failure}
-use Rattle.stow_command_line.specs.declared.failure.Failure.TheVariants as failure
-use Rattle.stow_command_line.specs.declared.failure.Place.{Place}
-use Rattle.stow_command_line.specs.declared.failure.Place.TheVariants as place
-use Rattle.stow_program.specs.Ends.{IsOfOutput}
-use Rattle.stow_command_line.specs.Statuses.{failure_at, failure_of_kind}
+use Rattle.stow_run.specs.declared.failure.Failure.{Failure}
+use Rattle.stow_run.specs.declared.failure.Failure.TheVariants as failure
+use Rattle.stow_run.specs.declared.failure.Place.{Place}
+use Rattle.stow_run.specs.declared.failure.Place.TheVariants as place
+use Rattle.stow_tasks.specs.Ends.{IsOfOutput}
+use Rattle.stow_run.specs.Statuses.{failure_at, failure_of_kind}
 use Rattle.stow_program.specs.Outcomes.{EndsServing}
 
 -- the failure is one of there

@@ -1,7 +1,1 @@
-pub mod Read
-pub mod Lines
-pub mod Written
-pub mod Ends
-pub mod Pipes
-pub mod Told
 pub mod Outcomes

@@ -1,23 +1,18 @@
 -- What the program came to, and what had been read and written by then.
 use Rattle.std.specs.Prelude.{◌≡◌, ◌⊎◌, ℕ, List, Result, Ok, Err, IfErr}
 use Rattle.stow_model.specs.Login.{Entry}
-use Rattle.stow_command_line.specs.declared.arguments.Task.{Task}
-use Rattle.stow_command_line.specs.declared.arguments.Job.{Job}
-use Rattle.stow_command_line.specs.declared.arguments.Job.TheVariants as job
-use Rattle.stow_command_line.specs.declared.failure.Failure.{Failure}
-use Rattle.stow_command_line.specs.declared.failure.Failure.TheVariants.{Tenants, InputOutput, Memory}
-use Rattle.stow_command_line.specs.declared.failure.Place.TheVariants as place
+use Rattle.stow_run.specs.declared.job.Task.{Task}
+use Rattle.stow_run.specs.declared.job.Job.{Job}
+use Rattle.stow_run.specs.declared.job.Job.TheVariants as job
+use Rattle.stow_run.specs.declared.failure.Failure.{Failure}
+use Rattle.stow_run.specs.declared.failure.Failure.TheVariants.{Tenants, InputOutput, Memory}
+use Rattle.stow_run.specs.declared.failure.Place.TheVariants as place
 use Rattle.stow_workers.specs.Failures.{HasFailed}
 use Rattle.stow_workers.specs.Sent.{Written, WritesAll}
-use Rattle.stow_program.specs.Ends.{InputFails, IsOfOutput, Unread}
-use Rattle.stow_command_line.specs.Statuses.{status_of}
-use Rattle.stow_program.specs.Told.{IsTaskServed}
+use Rattle.stow_tasks.specs.Ends.{InputFails, IsOfOutput, Unread}
+use Rattle.stow_run.specs.Statuses.{status_after}
+use Rattle.stow_tasks.specs.Told.{IsTaskServed}
 use Rattle.stow_command_line.specs.Words.{RefusesWords}
-
--- 0 stands for an outcome without failure
-abbrev pub status_after : Result (Unit {0}) Failure → ℕ
-status_after (Ok done) = 0
-status_after (Err failure) = status_of failure
 
 -- the tenant file gives no tenants
 abbrev pub RefusesTenants : Failure → Type 0

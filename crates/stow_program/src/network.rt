@@ -8,9 +8,9 @@ use std::io::Write;
 use std::net::{Net, TcpListener, TcpStream};
 use std::sync::Wait;
 use std::thread::Threads;
-use stow_command_line::failure::{Failure, Place};
-use stow_command_line::serving::Serving;
 use stow_login::tenants::Tenants;
+use stow_run::failure::{Failure, Place};
+use stow_run::serving::Serving;
 use stow_tree::tree_shape::TreeShape;
 use stow_workers::sink::Sink;
 

@@ -1,29 +1,26 @@
 //! What the program does, over any reader and writers.
 ghost use Rattle.std.specs.Prelude.{◌≡◌, IfErr};
-ghost use Rattle.stow_workers.specs.Counted.{borrow_of, failures_of};
-ghost use Rattle.stow_program.specs.Ends.{InputFails, held_by, unread_of};
-ghost use Rattle.stow_command_line.specs.Statuses.{status_of};
-ghost use Rattle.stow_program.specs.Told.{IsTaskServed};
-ghost use Rattle.stow_program.specs.Outcomes.{EndsWith, IsRun, RefusesTenants, status_after, streams_of};
+ghost use Rattle.stow_workers.specs.Counted.{borrow_of};
+ghost use Rattle.stow_tasks.specs.Ends.{held_by, unread_of};
+ghost use Rattle.stow_program.specs.Outcomes.{EndsWith, IsRun, RefusesTenants, streams_of};
 
 use crate::network::listen;
-use crate::new_core::new_core;
-use crate::pipe::pipe;
-use crate::script::{finish, script};
-use std::alloc::{AllocError, Allocator, Global};
+use std::alloc::Global;
 use std::io;
 use std::io::{Read, Write};
 use std::net::{Net, TcpListener, TcpStream};
-use std::sync::{Arc, Wait};
+use std::sync::Wait;
 use std::thread::Threads;
-use stow_command_line::arguments::{Arguments, Job, Task, Wish, read_arguments};
-use stow_command_line::failure::{Failure, Place};
-use stow_command_line::folder::Folder;
-use stow_house::house::House;
+use stow_command_line::arguments::{Arguments, Wish, read_arguments};
 use stow_login::explaining::explain;
 use stow_login::tenants::Tenants;
 use stow_login::tenants_fault::TenantsFault;
-use stow_tree::tree_shape::TreeShape;
+use stow_run::conclusion::conclude;
+use stow_run::failure::{Failure, Place};
+use stow_run::folder::Folder;
+use stow_run::job::Job;
+use stow_tasks::script::finish;
+use stow_tasks::service::serve;
 use stow_workers::counted::Counted;
 
 /// Does what the words ask for, the first being the program's own name, and gives the exit status: 0; 2
@@ -110,58 +107,4 @@ fn read_file<D: Folder>(alloc: Global, folder: &D, path: &str) -> io::Result<Vec
     let mut file = folder.open(path)?;
     file.read_to_end(&mut bytes)?;
     Ok(bytes)
-}
-
-/// Makes a new service of the tenants, over a tree of this shape, and does the task over it.
-pub fn serve<'a, A: Allocator + Copy, R: Read, W: Write>(
-    alloc: A,
-    tenants: Tenants<A>,
-    shape: TreeShape,
-    task: Task,
-    input: &mut Counted<'_, R>,
-    output: &mut Counted<'_, W>,
-) -> Result<(), Failure<'a>>
-    ensures served { IsTaskServed task tenants (unread_of R.remaining input.old)
-        (unread_of R.remaining input.new) (held_by W.contents output.old)
-        (held_by W.contents output.new) result }
-    ensures input { InputFails result (failures_of input.old) (failures_of input.new) }
-    ensures same_input { borrow_of input.new ≡ borrow_of input.old }
-    ensures same_output { borrow_of output.new ≡ borrow_of output.old }
-{
-    let tenants = Arc::new(alloc, tenants).map_err(AllocError::from)?;
-    let mut core = new_core(alloc, tenants.clone()?, shape)?;
-    match task {
-        Task::Pipe => pipe(alloc, &tenants, &mut core, input, output),
-        Task::Script => script(alloc, &mut House::new(alloc, core), input, output),
-    }
-}
-
-/// The status of what the program came to, which is told where it is a failure.
-fn conclude<E: Write>(
-    alloc: Global,
-    outcome: Result<(), Failure<'_>>,
-    explain: bool,
-    errors: &mut E,
-) -> u8
-    ensures { result ≡ status_after outcome.entry }
-{
-    match outcome {
-        Ok(()) => 0,
-        Err(failure) => tell(alloc, &failure, explain, errors),
-    }
-}
-
-/// Tells why the program ends early, and more of it where that was asked for. A text that can't be written is dropped.
-fn tell<E: Write>(alloc: Global, failure: &Failure<'_>, explain: bool, errors: &mut E) -> u8
-    ensures { result ≡ status_of failure.now }
-{
-    if let Ok(text) = failure.text(alloc) {
-        let _ = errors.write_all(text.as_bytes());
-    }
-    if explain {
-        if let Ok(Some(text)) = failure.explanation(alloc) {
-            let _ = errors.write_all(text.as_bytes());
-        }
-    }
-    failure.status()
 }

@@ -2,8 +2,6 @@
 ghost use Rattle.std.specs.Prelude.{◌≡◌, IfErr};
 ghost use Rattle.stow_program.specs.Outcomes.{EndsServing};
 
-use crate::new_core::new_core;
-use crate::script::finish;
 use log::info;
 use log::sink::Writer;
 use std::alloc::{AllocError, Allocator};
@@ -11,13 +9,15 @@ use std::io::Write;
 use std::net::{SocketAddr, TcpListener};
 use std::sync::{Arc, Wait};
 use std::thread::Threads;
-use stow_command_line::failure::{Failure, Place};
-use stow_command_line::serving::Serving;
 use stow_login::tenants::Tenants;
+use stow_run::failure::{Failure, Place};
+use stow_run::serving::Serving;
 use stow_shared::open_fault::OpenFault;
 use stow_shared::seat::Seat;
 use stow_shared::shared::Shared;
 use stow_shared::unkept::Unkept;
+use stow_tasks::new_core::new_core;
+use stow_tasks::script::finish;
 use stow_tree::tree_shape::TreeShape;
 use stow_workers::open_gate::OpenGate;
 use stow_workers::pool::Pool;

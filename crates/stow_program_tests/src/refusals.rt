@@ -4,8 +4,8 @@ use crate::running::{HELLO, PIPE, SCRIPT, Shelf, run, run_over, wants};
 use crate::table::rows_of;
 use crate::taken::{Breaks, Taken};
 use std::test::Fail;
-use stow_command_line::failure::Failure;
 use stow_login::tenants_fault::TenantsFault;
+use stow_run::failure::Failure;
 
 const FAILED: &str = "stow: input or output failed\n";
 

@@ -4,12 +4,12 @@ use crate::running::{HELLO, HELLO_REPLIES, PIPE, Shelf, answers, ends_well, run,
 use crate::taken::{Breaks, Taken};
 use std::alloc::{AllocError, Allocator, Global};
 use std::cell::Cell;
-use std::io;
 use std::io::{Read, Write};
+use std::io;
 use std::test::Fail;
-use stow_command_line::arguments::Task;
 use stow_login::tenants::Tenants;
 use stow_refusing::{Plan, Refusing};
+use stow_run::job::Task;
 use stow_testing::tenants::THREE;
 
 #[test]

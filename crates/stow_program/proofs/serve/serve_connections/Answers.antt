@@ -1,5 +1,5 @@
 use Rattle.std.proofs.Common.{subst, sym}
-use Rattle.stow_command_line.specs.declared.failure.Place.TheVariants as place
+use Rattle.stow_run.specs.declared.failure.Place.TheVariants as place
 use Rattle.stow_program.specs.Outcomes.{EndsServing}
 use Rattle.stow_program.proofs.Outcomes.{ends_at_network, failed_there, handed_on}
 use Rattle.stow_program.proofs.serve.serve_connections.Goals as goal
