@@ -116,27 +116,32 @@ fn matched(alloc: Global, words: &[String]) -> Result<ArgMatches<'_>, Error> {
         .about("An ordered key-value service for many tenants, spoken to in RESP2")
         .subcommand_required(true);
     let pipe = "Answers the requests on standard input, as one connection";
-    let command = command.subcommand(subcommand(alloc, "pipe", pipe)?)?;
+    let command = command.subcommand(task(alloc, "pipe", pipe)?)?;
     let script = "Carries out the events of a script on standard input";
-    let command = command.subcommand(subcommand(alloc, "script", script)?)?;
+    let command = command.subcommand(task(alloc, "script", script)?)?;
     let command = command.subcommand(serve(alloc)?)?;
     command.try_get_matches_from(words)
+}
+
+/// The command of a task over standard input.
+fn task<'a>(alloc: Global, name: &'a str, about: &'a str) -> Result<Command<'a>, Error> {
+    with_service(alloc, Command::new(alloc, name).about(about))
 }
 
 /// The command that serves connections.
 fn serve<'a>(alloc: Global) -> Result<Command<'a>, Error> {
     let about = "Serves connections over TCP, each by a thread of its own";
-    let command = subcommand(alloc, "serve", about)?;
+    let command = Command::new(alloc, "serve").about(about);
     let command = command.arg(listen(alloc))?;
     let command = with_counts(alloc, command, &SERVING)?;
     let notices = "Tells the start and the end in a line each on standard error";
-    Ok(command.arg(flag(alloc, "notices", notices))?)
+    let command = command.arg(flag(alloc, "notices", notices))?;
+    with_service(alloc, command)
 }
 
-/// A command with what each takes: the tenant file, the flag that asks for more of what goes wrong, and the sizes of
+/// The command with what each takes: the tenant file, the flag that asks for more of what goes wrong, and the sizes of
 /// the tree.
-fn subcommand<'a>(alloc: Global, name: &'a str, about: &'a str) -> Result<Command<'a>, Error> {
-    let command = Command::new(alloc, name).about(about);
+fn with_service<'a>(alloc: Global, command: Command<'a>) -> Result<Command<'a>, Error> {
     let command = command.arg(tenants(alloc))?;
     let explain = "Tells more of what goes wrong, in a second line on standard error";
     let command = command.arg(flag(alloc, "explain", explain))?;

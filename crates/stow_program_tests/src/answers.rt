@@ -1,7 +1,9 @@
 //! What connections and scripts are answered: worked examples, whose answers come from the service's description.
 use crate::given::Given;
-use crate::running::{HELLO, HELLO_REPLIES, PIPE, SCRIPT, answers, run};
-use crate::table::rows_of;
+use crate::running::{
+    HELLO, HELLO_REPLIES, PIPE, SCRIPT, answers, answers_all, answers_each, answers_scripts, run,
+};
+use std::alloc::{AllocError, Allocator};
 use std::test::Fail;
 use stow_testing::rows::{ROWS, asked, told};
 
@@ -37,16 +39,16 @@ FOO\r\n => -NOAUTH Authentication required.\r\n
 \r\nquit\nPING\n => +OK\r\n
 "#;
 
-/// What follows a login: lines, blanks, quoted lines, and lines among arrays.
+/// Lines behind a login: blanks, quoted lines, and lines among arrays.
 const LINES: &str = r#"
-set k v\r\nGET  k\n => +OK\r\n$1\r\nv\r\n
-\r\n*0\r\n*-1\r\n\n \t\r\n => 
-set k v\r\nSET k "w"\r\nGET k\r\n => +OK\r\n-ERR quotes in an inline request are not served\r\n$1\r\nv\r\n
-echo it's\r\n => -ERR quotes in an inline request are not served\r\n
-echo a\rb\r\n => $3\r\na\rb\r\n
-echo\ta\n*1\r\n$4\r\nPING\r\nping\n => $1\r\na\r\n+PONG\r\n+PONG\r\n
-$4\r\n => -ERR unknown command\r\n
-ping\r\npin => +PONG\r\n
+auth ann bc\r\nset k v\r\nGET  k\n => +OK\r\n+OK\r\n$1\r\nv\r\n
+auth ann bc\r\n\r\n*0\r\n*-1\r\n\n \t\r\n => +OK\r\n
+auth ann bc\r\nset k v\r\nSET k "w"\r\nGET k\r\n => +OK\r\n+OK\r\n-ERR quotes in an inline request are not served\r\n$1\r\nv\r\n
+auth ann bc\r\necho it's\r\n => +OK\r\n-ERR quotes in an inline request are not served\r\n
+auth ann bc\r\necho a\rb\r\n => +OK\r\n$3\r\na\rb\r\n
+auth ann bc\r\necho\ta\n*1\r\n$4\r\nPING\r\nping\n => +OK\r\n$1\r\na\r\n+PONG\r\n+PONG\r\n
+auth ann bc\r\n$4\r\n => +OK\r\n-ERR unknown command\r\n
+auth ann bc\r\nping\r\npin => +OK\r\n+PONG\r\n
 "#;
 
 /// Commands of one connection, one after another behind its login.
@@ -70,30 +72,28 @@ const COMMANDS: &str = r#"
 
 #[test]
 fn connections_are_answered(rt: HostRuntime) -> Result<(), Fail> {
-    let alloc = rt.alloc();
-    for row in &rows_of(&rt, CONNECTIONS)? {
-        answers(&rt, PIPE, row.given.as_str(), row.told.as_str())?;
-    }
-    for row in &rows_of(&rt, LINES)? {
-        let lines = format!(in alloc; "auth ann bc\r\n{}", row.given)?;
-        let told = format!(in alloc; "+OK\r\n{}", row.told)?;
-        answers(&rt, PIPE, lines.as_str(), told.as_str())?;
-    }
-    let (mut commands, mut replies) = (String::new(alloc), String::new(alloc));
-    for row in &rows_of(&rt, COMMANDS)? {
-        commands.push_str(row.given.as_str())?;
-        replies.push_str(row.told.as_str())?;
-    }
-    answers(&rt, PIPE, commands.as_str(), replies.as_str())
+    answers_each(&rt, CONNECTIONS)?;
+    answers_each(&rt, LINES)?;
+    answers_all(&rt, COMMANDS)
+}
+
+/// What a row of worked requests asks and is told, with a login before them.
+fn worked<A: Allocator + Copy>(
+    alloc: A,
+    index: usize,
+) -> Result<(String<A>, String<A>), AllocError> {
+    let mut replies = String::from_str(alloc, "+OK\r\n")?;
+    let row = ROWS[index];
+    let asked = String::from_utf8_lossy(alloc, asked(alloc, row)?.as_slice())?;
+    let told = String::from_utf8_lossy(alloc, told(alloc, row)?.as_slice())?;
+    replies.push_str(told.as_str())?;
+    Ok((asked, replies))
 }
 
 #[test]
 fn worked_requests(rt: HostRuntime) -> Result<(), Fail> {
-    let alloc = rt.alloc();
-    for row in &ROWS {
-        let asked = String::from_utf8_lossy(alloc, asked(alloc, row)?.as_slice())?;
-        let told = String::from_utf8_lossy(alloc, told(alloc, row)?.as_slice())?;
-        let told = format!(in alloc; "+OK\r\n{told}")?;
+    for index in 0..ROWS.len() {
+        let (asked, told) = worked(rt.alloc(), index)?;
         answers(&rt, PIPE, asked.as_str(), told.as_str())?;
     }
     Ok(())
@@ -101,33 +101,30 @@ fn worked_requests(rt: HostRuntime) -> Result<(), Fail> {
 
 /// Scripts, and what their lines are told. The third has two tenants with the same key; the fourth a blank, a byte with no
 /// other form, and a fault, after which the connection is closed.
-const SCRIPTS: [(&str, &str); 5] = [
-    (
-        r"open 1
+const SCRIPTS: &str = r"open 1
 piece 1 *3\r\n$4\r\nAUTH\r\n$3\r\nann\r\n$2\r\nbc\r\n
 serve 1
 serve 1
 plan 1
 serve 2
-",
-        r"open
+----
+open
 taken
 reply +OK\r\n
 more
 none
 refused
-",
-    ),
-    (
-        r"open 1
+====
+open 1
 open 1
 serve 1
 plan 1
 merge 1
 resize 5
 close 1
-open 1",
-        r"open
+open 1
+----
+open
 refused
 more
 none
@@ -135,10 +132,8 @@ refused
 resized
 closed
 refused
-",
-    ),
-    (
-        r"# two tenants with the same key
+====
+# two tenants with the same key
 
 open 1
 open 2
@@ -152,8 +147,8 @@ serve 1
 serve 2
 serve 1
 serve 2
-",
-        r"open
+----
+open
 open
 taken
 taken
@@ -165,10 +160,8 @@ reply $1\r\nA\r\n
 reply :1\r\n
 reply $1\r\nA\r\n
 reply $-1\r\n
-",
-    ),
-    (
-        r"open 7
+====
+open 7
 piece 7 *0\r\n*2\r\n$4\r\nPING\r\n$1\r\n\xE9\r\n*x
 serve 7
 serve 7
@@ -176,8 +169,8 @@ serve 7
 serve 7
 piece 7 
 close 7
-",
-        r"open
+----
+open
 taken
 blank
 reply -NOAUTH Authentication required.\r\n
@@ -185,30 +178,29 @@ reply -ERR Protocol error: invalid multibulk length\r\n
 refused
 refused
 refused
-",
-    ),
-    (
-        r"open 1
+====
+open 1
 piece 1 *3\r\n$4\r\nauth\r\n$3\r\ncap\r\n$3\r\nabc\r\n*2\r\n$4\r\nping\r\n$2\r\n\\\xe9\r\n
 serve 1
 serve 1
 resize 65536
 resize 0
-",
-        r"open
+----
+open
 taken
 reply +OK\r\n
 reply $2\r\n\\\xe9\r\n
 resized
 resized
-",
-    ),
-];
+";
 
 #[test]
 fn scripts_are_carried_out(rt: HostRuntime) -> Result<(), Fail> {
-    for (script, told) in &SCRIPTS {
-        answers(&rt, SCRIPT, script, told)?;
-    }
-    Ok(())
+    answers_scripts(&rt, SCRIPT, SCRIPTS)?;
+    answers(
+        &rt,
+        SCRIPT,
+        "open 1\nclose 1\nopen 1",
+        "open\nclosed\nrefused\n",
+    )
 }

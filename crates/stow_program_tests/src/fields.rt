@@ -48,27 +48,79 @@ const NO_NUMBERS: [&str; 19] = [
     "\u{663}",
 ];
 
-// Each kind of number has its two ends.
+/// Scripts of a number, with the statuses that they end with: each kind of number has its two ends.
+const NUMBERS: &str = "
+open 0 => 2
+open 1 => 0
+open 65535 => 0
+open 65536 => 2
+serve 0 => 2
+serve 1 => 0
+serve 65535 => 0
+serve 65536 => 2
+close 0 => 2
+close 1 => 0
+close 65535 => 0
+close 65536 => 2
+plan 0 => 2
+plan 1 => 0
+plan 64 => 0
+plan 65 => 2
+merge 0 => 2
+merge 1 => 0
+merge 64 => 0
+merge 65 => 2
+install 0 => 2
+install 1 => 0
+install 64 => 0
+install 65 => 2
+resize 0 => 0
+resize 65536 => 0
+resize 65537 => 2
+";
+
+const WORDS: [&str; 7] = [
+    "open", "serve", "close", "plan", "merge", "install", "resize",
+];
+
+/// Wants each script of a table to end with its status.
+fn ends_each<H>(rt: &H, table: &str) -> Result<(), Fail>
+where
+    H: Abort
+        + Alloc<A = Global>
+        + Net<Listener = TcpListener, Stream = TcpStream>
+        + Threads
+        + Wait
+        + Sync,
+{
+    for row in &rows_of(rt.alloc(), table)? {
+        lets_in(rt, row.given.as_bytes(), row.told.as_str() == "0")?;
+    }
+    Ok(())
+}
+
+/// Wants no line of this word to be let in with what is no number.
+fn takes_a_number<H>(rt: &H, word: &str) -> Result<(), Fail>
+where
+    H: Abort
+        + Alloc<A = Global>
+        + Net<Listener = TcpListener, Stream = TcpStream>
+        + Threads
+        + Wait
+        + Sync,
+{
+    for bad in &NO_NUMBERS {
+        let line = format!(in rt.alloc(); "{word} {bad}")?;
+        lets_in(rt, line.as_bytes(), false)?;
+    }
+    Ok(())
+}
+
 #[test]
 fn numbers_of_lines(rt: HostRuntime) -> Result<(), Fail> {
-    let alloc = rt.alloc();
-    for (word, low, high) in [
-        ("open", 1, 65_535),
-        ("serve", 1, 65_535),
-        ("close", 1, 65_535),
-        ("plan", 1, 64),
-        ("merge", 1, 64),
-        ("install", 1, 64),
-        ("resize", 0, 65_536u32),
-    ] {
-        for number in [0, low, high, high + 1] {
-            let line = format!(in alloc; "{word} {number}")?;
-            lets_in(&rt, line.as_bytes(), low <= number && number <= high)?;
-        }
-        for bad in &NO_NUMBERS {
-            let line = format!(in alloc; "{word} {bad}")?;
-            lets_in(&rt, line.as_bytes(), false)?;
-        }
+    ends_each(&rt, NUMBERS)?;
+    for word in &WORDS {
+        takes_a_number(&rt, word)?;
     }
     Ok(())
 }
@@ -122,8 +174,5 @@ piece 65536 a => 2
 
 #[test]
 fn words_of_lines(rt: HostRuntime) -> Result<(), Fail> {
-    for row in &rows_of(&rt, LINES)? {
-        lets_in(&rt, row.given.as_bytes(), row.told.as_str() == "0")?;
-    }
-    Ok(())
+    ends_each(&rt, LINES)
 }

@@ -25,5 +25,3 @@ mod streams;
 mod table;
 #[cfg(test)]
 mod taken;
-#[cfg(test)]
-mod talk;

@@ -1,9 +1,14 @@
 //! Why the program ends early: its statuses, and what it tells on standard error.
 use crate::given::Given;
 use crate::running::{HELLO, PIPE, SCRIPT, Shelf, run, run_over, wants};
-use crate::table::rows_of;
+use crate::table::{lines_of, rows_of};
 use crate::taken::{Breaks, Taken};
+use std::alloc::Global;
+use std::net::{Net, TcpListener, TcpStream};
+use std::process::Abort;
+use std::sync::Wait;
 use std::test::Fail;
+use std::thread::Threads;
 use stow_login::tenants_fault::TenantsFault;
 use stow_run::failure::Failure;
 
@@ -29,12 +34,25 @@ piece 1 a\xe\n => 1
 open 1\npiece 1 a\tb => 2
 ";
 
+/// Wants a script to be refused at the line of this number.
+fn is_bad_at<H>(rt: &H, script: &str, number: &str) -> Result<(), Fail>
+where
+    H: Abort
+        + Alloc<A = Global>
+        + Net<Listener = TcpListener, Stream = TcpStream>
+        + Threads
+        + Wait
+        + Sync,
+{
+    let told = format!(in rt.alloc(); "stow: bad line {number}\n")?;
+    let mut input = Given::all(script.as_bytes());
+    wants(rt, SCRIPT, &mut input, 2, "", told.as_str())
+}
+
 #[test]
 fn bad_lines_are_told_by_their_number(rt: HostRuntime) -> Result<(), Fail> {
-    for row in &rows_of(&rt, BAD_LINES)? {
-        let told = format!(in rt.alloc(); "stow: bad line {}\n", row.told)?;
-        let mut script = Given::all(row.given.as_bytes());
-        wants(&rt, SCRIPT, &mut script, 2, "", told.as_str())?;
+    for row in &rows_of(rt.alloc(), BAD_LINES)? {
+        is_bad_at(&rt, row.given.as_str(), row.told.as_str())?;
     }
     Ok(())
 }
@@ -55,21 +73,32 @@ serve
 serve --tenants three.toml --workers 0
 serve --tenants three.toml --workers 257
 serve --tenants three.toml --connections 65536
-serve --tenants three.toml --connections -1";
+serve --tenants three.toml --connections -1
+";
+
+/// Wants a text on one of the two outputs alone, and this status.
+fn tells_its_own<H>(rt: &H, line: &str, status: u8, is_help: bool) -> Result<(), Fail>
+where
+    H: Abort
+        + Alloc<A = Global>
+        + Net<Listener = TcpListener, Stream = TcpStream>
+        + Threads
+        + Wait
+        + Sync,
+{
+    let ended = run(rt, line, &mut Given::all(b""))?;
+    let is_told = ended.output.is_empty() != is_help && ended.errors.is_empty() == is_help;
+    assert!(rt; ended.status == status && is_told, "{line}");
+    Ok(())
+}
 
 #[test]
 fn the_parser_tells_its_own(rt: HostRuntime) -> Result<(), Fail> {
-    for line in BAD_WORDS.split('\n') {
-        let ended = run(&rt, line, &mut Given::all(b""))?;
-        let is_told = ended.output.is_empty() && !ended.errors.is_empty();
-        assert!(rt; ended.status == 2 && is_told, "{line}");
+    for line in lines_of(BAD_WORDS) {
+        tells_its_own(&rt, line, 2, false)?;
     }
-    for line in ["--help", "pipe --help"] {
-        let help = run(&rt, line, &mut Given::all(b""))?;
-        let is_told = !help.output.is_empty() && help.errors.is_empty();
-        assert!(rt; help.status == 0 && is_told, "{line}");
-    }
-    Ok(())
+    tells_its_own(&rt, "--help", 0, true)?;
+    tells_its_own(&rt, "pipe --help", 0, true)
 }
 
 /// Command lines whose address or file is refused, with the status and what is told. The arguments are looked at first,
@@ -92,56 +121,93 @@ serve --tenants empty.toml => 3 tenant file refused: fault 7
 serve --tenants missing.toml => 4 input or output failed
 ";
 
+/// The status at the front of a text, and what stands behind it.
+fn status_of(told: &str) -> Option<(u8, &str)> {
+    let (status, text) = told.split_once(" ")?;
+    Some((status.parse().ok()?, text))
+}
+
+/// Wants a command line to end with the status that a text begins with, and to tell what stands behind it.
+fn ends_with<H>(rt: &H, line: &str, told: &str) -> Result<(), Fail>
+where
+    H: Abort
+        + Alloc<A = Global>
+        + Net<Listener = TcpListener, Stream = TcpStream>
+        + Threads
+        + Wait
+        + Sync,
+{
+    let (status, text) = status_of(told).unwrap_or((0, ""));
+    let told = format!(in rt.alloc(); "stow: {text}\n")?;
+    wants(
+        rt,
+        line,
+        &mut Given::all(b"shape\n"),
+        status,
+        "",
+        told.as_str(),
+    )
+}
+
 #[test]
 fn the_status_tells_why_it_ended(rt: HostRuntime) -> Result<(), Fail> {
-    for row in &rows_of(&rt, REFUSED)? {
-        let (status, text) = row.told.split_once(" ").expect(&rt, "a status");
-        let status = status.parse().expect(&rt, "a number");
-        let told = format!(in rt.alloc(); "stow: {text}\n")?;
-        let mut input = Given::all(b"shape\n");
-        wants(
-            &rt,
-            row.given.as_str(),
-            &mut input,
-            status,
-            "",
-            told.as_str(),
-        )?;
+    for row in &rows_of(rt.alloc(), REFUSED)? {
+        ends_with(&rt, row.given.as_str(), row.told.as_str())?;
     }
     Ok(())
 }
 
-/// What is told first, and then, where that is asked for, in a second line: by files, and by scripts.
+/// Command lines with an input, a status, what is told first, and then, where that is asked for, in a second line.
 const EXPLAINED: &str = r#"
-pipe --tenants missing.toml =>  => input or output failed => missing.toml: entity not found
-pipe --tenants broken.toml =>  => input or output failed => broken.toml: other error
-pipe --tenants empty.toml =>  => tenant file refused: fault 7 => a file has 1 to 65,535 tenants
-pipe --tenants latin.toml =>  => tenant file refused: fault 1 => the file is no UTF-8 text
-script --tenants three.toml => open 1\nopne 1\n => bad line 2 => it stumbles on "opne"
-script --tenants three.toml => open => bad line 1 => it stumbles on "open"
-script --tenants three.toml => # 1\n\nserve 65536 => bad line 3 => it stumbles on "65536"
-script --tenants three.toml => resize 065536 => bad line 1 => it stumbles on "065536"
-script --tenants three.toml => piece 1 => bad line 1 => it stumbles on "1"
-script --tenants three.toml => piece 0 a => bad line 1 => it stumbles on "0"
-script --tenants three.toml => piece 1 PING\x0g* => bad line 1 => it stumbles on "\\x0g*"
-script --tenants three.toml => 0123456789012345678901234567890123456789  => bad line 1 => it stumbles on "0123456789012345678901234567890123456789"
-script --tenants three.toml => 0123456789012345678901234567890123456789x  => bad line 1 => it stumbles on "0123456789012345678901234567890123456789..."
+pipe --tenants missing.toml =>  => 4 input or output failed => missing.toml: entity not found
+pipe --tenants broken.toml =>  => 4 input or output failed => broken.toml: other error
+pipe --tenants empty.toml =>  => 3 tenant file refused: fault 7 => a file has 1 to 65,535 tenants
+pipe --tenants latin.toml =>  => 3 tenant file refused: fault 1 => the file is no UTF-8 text
+script --tenants three.toml => open 1\nopne 1\n => 2 bad line 2 => it stumbles on "opne"
+script --tenants three.toml => open => 2 bad line 1 => it stumbles on "open"
+script --tenants three.toml => # 1\n\nserve 65536 => 2 bad line 3 => it stumbles on "65536"
+script --tenants three.toml => resize 065536 => 2 bad line 1 => it stumbles on "065536"
+script --tenants three.toml => piece 1 => 2 bad line 1 => it stumbles on "1"
+script --tenants three.toml => piece 0 a => 2 bad line 1 => it stumbles on "0"
+script --tenants three.toml => piece 1 PING\x0g* => 2 bad line 1 => it stumbles on "\\x0g*"
+script --tenants three.toml => 0123456789012345678901234567890123456789  => 2 bad line 1 => it stumbles on "0123456789012345678901234567890123456789"
+script --tenants three.toml => 0123456789012345678901234567890123456789x  => 2 bad line 1 => it stumbles on "0123456789012345678901234567890123456789..."
 "#;
+
+/// Wants a command line over an input to tell the first text, and the second in a line of its own where that is asked for.
+fn explains<H>(rt: &H, line: &str, input: &str, status: u8, told: (&str, &str)) -> Result<(), Fail>
+where
+    H: Abort
+        + Alloc<A = Global>
+        + Net<Listener = TcpListener, Stream = TcpStream>
+        + Threads
+        + Wait
+        + Sync,
+{
+    let (first, second) = told;
+    let once = format!(in rt.alloc(); "stow: {first}\n")?;
+    let mut given = Given::all(input.as_bytes());
+    wants(rt, line, &mut given, status, "", once.as_str())?;
+    let asked = format!(in rt.alloc(); "{line} --explain")?;
+    let twice = format!(in rt.alloc(); "stow: {first}\nstow: {second}\n")?;
+    let mut given = Given::all(input.as_bytes());
+    wants(rt, asked.as_str(), &mut given, status, "", twice.as_str())
+}
+
+/// A command line's end, as a table's row tells it: an input, a status, and two texts.
+fn end_of(told: &str) -> Option<(&str, u8, (&str, &str))> {
+    let (input, told) = told.split_once(" => ")?;
+    let (end, second) = told.split_once(" => ")?;
+    let (status, first) = status_of(end)?;
+    Some((input, status, (first, second)))
+}
 
 #[test]
 fn what_went_wrong_is_explained(rt: HostRuntime) -> Result<(), Fail> {
-    let alloc = rt.alloc();
-    for row in &rows_of(&rt, EXPLAINED)? {
-        let (input, told) = row.told.split_once(" => ").expect(&rt, "an input");
-        let (first, second) = told.split_once(" => ").expect(&rt, "two lines");
-        let plain = run(&rt, row.given.as_str(), &mut Given::all(input.as_bytes()))?;
-        let once = format!(in alloc; "stow: {first}\n")?;
-        assert_eq!(rt; plain.errors.as_str(), once.as_str(), "{input}");
-        let asked = format!(in alloc; "{} --explain", row.given)?;
-        let twice = format!(in alloc; "{once}stow: {second}\n")?;
-        let mut input = Given::all(input.as_bytes());
-        let status = plain.status;
-        wants(&rt, asked.as_str(), &mut input, status, "", twice.as_str())?;
+    for row in &rows_of(rt.alloc(), EXPLAINED)? {
+        let end = end_of(row.told.as_str());
+        let (input, status, told) = end.unwrap_or(("", 0, ("", "")));
+        explains(&rt, row.given.as_str(), input, status, told)?;
     }
     Ok(())
 }
@@ -150,41 +216,39 @@ fn what_went_wrong_is_explained(rt: HostRuntime) -> Result<(), Fail> {
 #[test]
 fn a_reader_that_fails_is_told(rt: HostRuntime) -> Result<(), Fail> {
     let explained = "stow: input or output failed\nstow: standard input: other error\n";
-    for (line, told) in [
-        (PIPE, FAILED),
-        (SCRIPT, FAILED),
-        ("pipe --explain --tenants three.toml", explained),
-    ] {
-        wants(&rt, line, &mut Given::broken(), 4, "", told)?;
-    }
+    wants(&rt, PIPE, &mut Given::broken(), 4, "", FAILED)?;
+    wants(&rt, SCRIPT, &mut Given::broken(), 4, "", FAILED)?;
+    let line = "pipe --explain --tenants three.toml";
+    wants(&rt, line, &mut Given::broken(), 4, "", explained)
+}
+
+/// Wants a writer that fails to be told so.
+fn tells_of_a_writer<H>(rt: &H, line: &str, input: &[u8], told: &str) -> Result<(), Fail>
+where
+    H: Abort
+        + Alloc<A = Global>
+        + Net<Listener = TcpListener, Stream = TcpStream>
+        + Threads
+        + Wait
+        + Sync,
+{
+    let (mut input, mut errors) = (Given::all(input), Vec::new(rt.alloc()));
+    let mut output = Taken::new(rt.alloc(), Breaks::AtWrite);
+    let shelf = Shelf { own: b"" };
+    let status = run_over(rt, &shelf, line, &mut input, &mut output, &mut errors)?;
+    let is_told = errors.as_slice() == told.as_bytes();
+    assert!(rt; status == 4 && is_told, "{line}");
     Ok(())
 }
 
 // Standard output that fails, of a task and of a help.
 #[test]
 fn a_writer_that_fails_is_told(rt: HostRuntime) -> Result<(), Fail> {
-    let alloc = rt.alloc();
-    let explained = "stow: input or output failed\nstow: standard output: other error\n";
-    for (line, input, told) in [
-        (PIPE, HELLO, FAILED),
-        ("--help", HELLO, FAILED),
-        (
-            "script --tenants three.toml --explain",
-            b"open 1\n",
-            explained,
-        ),
-    ] {
-        let mut errors = Vec::new(alloc);
-        let mut output = Taken::new(alloc, Breaks::AtWrite);
-        let mut input = Given::all(input);
-        let shelf = Shelf { own: b"" };
-        let status = run_over(&rt, &shelf, line, &mut input, &mut output, &mut errors)?;
-        assert!(rt;
-            status == 4 && errors.as_slice() == told.as_bytes(),
-            "{line}"
-        );
-    }
-    Ok(())
+    tells_of_a_writer(&rt, PIPE, HELLO, FAILED)?;
+    tells_of_a_writer(&rt, "--help", HELLO, FAILED)?;
+    let line = "script --tenants three.toml --explain";
+    let told = "stow: input or output failed\nstow: standard output: other error\n";
+    tells_of_a_writer(&rt, line, b"open 1\n", told)
 }
 
 // A tenant file that couldn't be read for want of memory is told as any want of memory.

@@ -1,5 +1,6 @@
 //! Runs of the program over memory.
 use crate::given::Given;
+use crate::table::{Row, rows_of, scripts_of};
 use std::alloc::{AllocError, Allocator, Global};
 use std::io;
 use std::io::{Read, Write};
@@ -154,13 +155,13 @@ where
         + Sync,
 {
     let ended = run(rt, line, input)?;
-    assert_eq!(rt; ended.errors.as_str(), errors, "{line}");
-    assert_eq!(rt; ended.output.as_str(), output, "{line}");
-    assert_eq!(rt; ended.status, status, "{line}");
+    let is_told = ended.output.as_str() == output && ended.errors.as_str() == errors;
+    let is_ended = ended.status == status;
+    assert!(rt; is_ended && is_told, "{line}");
     Ok(())
 }
 
-/// Wants a command line to answer the text so, and to end with status 0.
+/// Wants a command line to answer the text so, and to end with status 0 and no error.
 pub fn answers<H>(rt: &H, line: &str, input: &str, output: &str) -> Result<(), Fail>
 where
     H: Abort
@@ -171,4 +172,84 @@ where
         + Sync,
 {
     wants(rt, line, &mut Given::all(input.as_bytes()), 0, output, "")
+}
+
+/// Wants each row to be answered so.
+fn answers_rows<H>(rt: &H, line: &str, rows: &[Row]) -> Result<(), Fail>
+where
+    H: Abort
+        + Alloc<A = Global>
+        + Net<Listener = TcpListener, Stream = TcpStream>
+        + Threads
+        + Wait
+        + Sync,
+{
+    for row in rows {
+        answers(rt, line, row.given.as_str(), row.told.as_str())?;
+    }
+    Ok(())
+}
+
+/// Wants each row of a table to be a connection that is answered so.
+pub fn answers_each<H>(rt: &H, table: &str) -> Result<(), Fail>
+where
+    H: Abort
+        + Alloc<A = Global>
+        + Net<Listener = TcpListener, Stream = TcpStream>
+        + Threads
+        + Wait
+        + Sync,
+{
+    let rows = rows_of(rt.alloc(), table)?;
+    answers_rows(rt, PIPE, rows.as_slice())
+}
+
+/// Wants each script of a table to be told so.
+pub fn answers_scripts<H>(rt: &H, line: &str, table: &str) -> Result<(), Fail>
+where
+    H: Abort
+        + Alloc<A = Global>
+        + Net<Listener = TcpListener, Stream = TcpStream>
+        + Threads
+        + Wait
+        + Sync,
+{
+    let rows = scripts_of(rt.alloc(), table)?;
+    answers_rows(rt, line, rows.as_slice())
+}
+
+/// What ann's login asks and is told, and then all rows of a table; `~` stands for the byte 255 in what is asked.
+fn joined<A: Allocator + Copy>(
+    alloc: A,
+    table: &str,
+) -> Result<(Vec<u8, A>, String<A>), AllocError> {
+    let mut asked = Vec::from_slice(alloc, b"AUTH ann bc\n")?;
+    let mut told = String::from_str(alloc, "+OK\r\n")?;
+    for row in &rows_of(alloc, table)? {
+        push_bytes(row.given.as_bytes(), &mut asked)?;
+        told.push_str(row.told.as_str())?;
+    }
+    Ok((asked, told))
+}
+
+fn push_bytes<A: Allocator>(bytes: &[u8], all: &mut Vec<u8, A>) -> Result<(), AllocError> {
+    for byte in bytes {
+        all.push(if *byte == b'~' { 255 } else { *byte })?;
+    }
+    Ok(())
+}
+
+/// Wants the rows of a table to be answered so as one connection, behind ann's login.
+pub fn answers_all<H>(rt: &H, table: &str) -> Result<(), Fail>
+where
+    H: Abort
+        + Alloc<A = Global>
+        + Net<Listener = TcpListener, Stream = TcpStream>
+        + Threads
+        + Wait
+        + Sync,
+{
+    let (asked, told) = joined(rt.alloc(), table)?;
+    let mut input = Given::all(asked.as_slice());
+    wants(rt, PIPE, &mut input, 0, told.as_str(), "")
 }

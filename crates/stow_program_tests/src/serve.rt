@@ -1,20 +1,24 @@
 //! `stow serve` over loopback: one client, and an address that is taken.
 use crate::given::Given;
 use crate::running::{Shelf, run_over, wants};
+use std::alloc::Global;
 use std::io;
 use std::io::{Read, Write};
 use std::net::{Net, SocketAddr, TcpListener, TcpStream};
+use std::process::Abort;
+use std::sync::Wait;
 use std::test::Fail;
+use std::thread::Threads;
 
 /// An output that, once it tells an address, makes a client's requests there.
 #[derive(Drop)]
-struct Client<'a> {
-    rt: &'a HostRuntime,
+struct Client<'a, R> {
+    rt: &'a R,
     told: Vec<u8>,
     stream: Option<TcpStream>,
 }
 
-impl Write for Client<'_> {
+impl<R: Net<Stream = TcpStream>> Write for Client<'_, R> {
     fn write(&mut self, bytes: &[u8]) -> io::Result<usize> {
         self.told.extend_from_slice(bytes)?;
         Ok(bytes.len())
@@ -34,30 +38,55 @@ impl Write for Client<'_> {
     }
 }
 
-#[test]
-fn a_client_is_served(rt: HostRuntime) -> Result<(), Fail> {
+/// What a client is told, and what is told of the serving.
+fn served<H>(rt: &H) -> Result<(u8, Vec<u8>, Vec<u8>), Fail>
+where
+    H: Abort
+        + Alloc<A = Global>
+        + Net<Listener = TcpListener, Stream = TcpStream>
+        + Threads
+        + Wait
+        + Sync,
+{
     let alloc = rt.alloc();
     let line = "serve --tenants three.toml --listen 127.0.0.1:0 --connections 1 --notices";
+    let (mut input, mut errors) = (Given::all(b""), Vec::new(alloc));
     let mut output = Client {
-        rt: &rt,
+        rt,
         told: Vec::new(alloc),
         stream: None,
     };
-    let mut errors = Vec::new(alloc);
-    let mut input = Given::all(b"");
     let shelf = Shelf { own: b"" };
-    let status = run_over(&rt, &shelf, line, &mut input, &mut output, &mut errors)?;
-    assert_eq!(rt; status, 0);
+    let status = run_over(rt, &shelf, line, &mut input, &mut output, &mut errors)?;
     let mut replies = Vec::new(alloc);
-    let mut stream = output.stream.expect(&rt, "a client");
-    stream.read_to_end(&mut replies)?;
-    assert!(rt; replies.as_slice() == b"+OK\r\n+OK\r\n$1\r\nv\r\n+OK\r\n".as_slice());
-    let notices = std::str::from_utf8(errors.as_slice()).expect(&rt, "text");
-    let (first, second) = notices.split_once("\n").expect(&rt, "two lines");
-    for (notice, word) in [(first, "start"), (second, "end")] {
-        let is_told = notice.contains("INFO") && notice.contains(word);
-        assert!(rt; is_told, "{notice}");
+    if let Some(mut stream) = output.stream {
+        stream.read_to_end(&mut replies)?;
     }
+    Ok((status, replies, errors))
+}
+
+/// Whether two notices are told, of the start and of the end.
+fn are_notices(text: &str) -> bool {
+    match text.split_once("\n") {
+        Some((first, second)) => {
+            first.contains("INFO")
+                && first.contains("start")
+                && second.contains("INFO")
+                && second.contains("end")
+        }
+        None => false,
+    }
+}
+
+#[test]
+fn a_client_is_served(rt: HostRuntime) -> Result<(), Fail> {
+    let (status, replies, errors) = served(&rt)?;
+    let is_answered = replies.as_slice() == b"+OK\r\n+OK\r\n$1\r\nv\r\n+OK\r\n".as_slice();
+    let notices = std::str::from_utf8(errors.as_slice()).unwrap_or("");
+    assert!(rt;
+        status == 0 && is_answered && are_notices(notices),
+        "{notices}"
+    );
     Ok(())
 }
 

@@ -1,7 +1,8 @@
 //! The tree's sizes by options and by a script's lines: what is answered is the same in each.
 use crate::given::Given;
-use crate::running::{SCRIPT, answers, run};
-use std::alloc::{AllocError, Global};
+use crate::running::{SCRIPT, answers_scripts, run};
+use crate::table::rows_of;
+use std::alloc::{AllocError, Allocator, Global};
 use std::net::{Net, TcpListener, TcpStream};
 use std::process::Abort;
 use std::sync::Wait;
@@ -11,13 +12,13 @@ use stow_testing::many::{Exchange, login, reads, writes};
 
 /// A script, and what its lines are to be told, those aside that tell the tree's sizes.
 #[derive(Drop)]
-struct Talk {
-    alloc: Global,
-    script: String,
-    told: String,
+struct Talk<A: Allocator> {
+    alloc: A,
+    script: String<A>,
+    told: String<A>,
 }
 
-impl Talk {
+impl<A: Allocator + Copy> Talk<A> {
     fn line(&mut self, line: &str, told: &str) -> Result<(), AllocError> {
         self.script.push_str(line)?;
         self.script.push_str("\n")?;
@@ -25,30 +26,47 @@ impl Talk {
     }
 
     /// One more request and its reply, as a script's text has them.
-    fn ask(&mut self, exchange: &Exchange<Global>) -> Result<(), AllocError> {
-        let asked = text(self.alloc, exchange.asked.as_slice())?;
-        let told = text(self.alloc, exchange.told.as_slice())?;
-        self.line(
-            format!(in self.alloc; "piece 1 {asked}\nserve 1")?.as_str(),
-            format!(in self.alloc; "taken\nreply {told}\n")?.as_str(),
-        )
+    fn ask(&mut self, exchange: &Exchange<A>) -> Result<(), AllocError> {
+        self.script.push_str("piece 1 ")?;
+        push_text(self.alloc, exchange.asked.as_slice(), &mut self.script)?;
+        self.script.push_str("\nserve 1\n")?;
+        self.told.push_str("taken\nreply ")?;
+        push_text(self.alloc, exchange.told.as_slice(), &mut self.told)?;
+        self.told.push_str("\n")
     }
 
-    fn ask_all(&mut self, exchanges: &[Exchange<Global>]) -> Result<(), AllocError> {
+    fn ask_all(&mut self, exchanges: &[Exchange<A>]) -> Result<(), AllocError> {
         for exchange in exchanges {
             self.ask(exchange)?;
         }
         self.line("shape", "")
     }
+
+    /// The rows are read with each size of the cache: that of the options, 0, 1 and 1000.
+    fn read_again(&mut self) -> Result<(), AllocError> {
+        let reads = reads(self.alloc)?;
+        self.ask_all(reads.as_slice())?;
+        for line in ["resize 0", "resize 1", "resize 1000"] {
+            self.line(line, "resized\n")?;
+            self.ask_all(reads.as_slice())?;
+        }
+        Ok(())
+    }
 }
 
-/// Bytes as a script's text has them.
-fn text(alloc: Global, bytes: &[u8]) -> Result<String, AllocError> {
-    String::from_utf8_lossy(alloc, bytes)?.replace(alloc, "\r\n", "\\r\\n")
+/// Adds bytes as a script's text has them.
+fn push_text<A: Allocator + Copy>(
+    alloc: A,
+    bytes: &[u8],
+    text: &mut String<A>,
+) -> Result<(), AllocError> {
+    let bytes = String::from_utf8_lossy(alloc, bytes)?;
+    let bytes = bytes.replace(alloc, "\r\n", "\\r\\n")?;
+    text.push_str(bytes.as_str())
 }
 
-/// Rows that are written, and then read with each size of the cache: that of the options, 0, 1 and 1000.
-fn rows_read_again(alloc: Global) -> Result<Talk, AllocError> {
+/// Rows that are written, and then read again.
+fn rows_read_again<A: Allocator + Copy>(alloc: A) -> Result<Talk<A>, AllocError> {
     let mut talk = Talk {
         alloc,
         script: String::from_str(alloc, "open 1\n")?,
@@ -56,12 +74,7 @@ fn rows_read_again(alloc: Global) -> Result<Talk, AllocError> {
     };
     talk.ask(&login(alloc)?)?;
     talk.ask_all(writes(alloc)?.as_slice())?;
-    let reads = reads(alloc)?;
-    talk.ask_all(reads.as_slice())?;
-    for line in ["resize 0", "resize 1", "resize 1000"] {
-        talk.line(line, "resized\n")?;
-        talk.ask_all(reads.as_slice())?;
-    }
+    talk.read_again()?;
     Ok(talk)
 }
 
@@ -77,22 +90,14 @@ fn sizes_of(line: &str) -> Option<[u64; 3]> {
     ])
 }
 
-/// The sizes that are told where the options are these; wants all else to be told as it is to be.
-fn told_with<H>(rt: &H, options: &str, talk: &Talk) -> Result<Vec<[u64; 3]>, Fail>
-where
-    H: Abort
-        + Alloc<A = Global>
-        + Net<Listener = TcpListener, Stream = TcpStream>
-        + Threads
-        + Wait
-        + Sync,
-{
-    let alloc = rt.alloc();
-    let line = format!(in alloc; "{SCRIPT} {options}")?;
-    let ended = run(rt, line.as_str(), &mut Given::all(talk.script.as_bytes()))?;
+/// The sizes that lines tell, and the other lines.
+fn parted<A: Allocator + Copy>(
+    alloc: A,
+    told: &str,
+) -> Result<(Vec<[u64; 3], A>, String<A>), AllocError> {
     let mut sizes = Vec::new(alloc);
     let mut others = String::new(alloc);
-    for line in ended.output.as_str().lines() {
+    for line in told.lines() {
         match sizes_of(line) {
             Some(told) => sizes.push(told)?,
             None => {
@@ -101,43 +106,11 @@ where
             }
         }
     }
-    let is_told = ended.status == 0 && others.as_str() == talk.told.as_str();
-    assert!(rt; is_told, "{options}");
-    Ok(sizes)
+    Ok((sizes, others))
 }
 
-// A cache of so many leaves holds those that a RANGE of all rows offered, which is each one.
-#[test]
-fn rows_are_read_in_each_shape(rt: HostRuntime) -> Result<(), Fail> {
-    let alloc = rt.alloc();
-    let talk = rows_read_again(alloc)?;
-    for (fan_out, cache) in [
-        (4, 0),
-        (4, 1),
-        (4, 1000),
-        (256, 0),
-        (256, 1),
-        (256, 1000u64),
-    ] {
-        let options = format!(in alloc;
-            "--buffer 131072 --leaf 4096 --fanout {fan_out} --cache {cache}"
-        )?;
-        let told = told_with(&rt, options.as_str(), &talk)?;
-        assert!(rt;
-            told.len() == 5 && told[0][0] >= 2 && told[0][1] >= 1,
-            "{options}"
-        );
-        for (index, size) in [cache, 0, 1, 1000].iter().enumerate() {
-            let [leaves, _, cached] = told[index + 1];
-            assert!(rt; cached == leaves.min(*size), "{options}: {size}");
-        }
-    }
-    told_with(&rt, "--buffer 4194304", &talk)?;
-    Ok(())
-}
-
-/// Wants these lines told to a script of ann's.
-fn tells<H>(rt: &H, options: &str, script: &str, told: &str) -> Result<(), Fail>
+/// The sizes that are told where the options are these; wants all else to be told as it is to be.
+fn told_with<H>(rt: &H, options: &str, talk: &Talk<Global>) -> Result<Vec<[u64; 3]>, Fail>
 where
     H: Abort
         + Alloc<A = Global>
@@ -146,53 +119,152 @@ where
         + Wait
         + Sync,
 {
-    let alloc = rt.alloc();
-    let line = format!(in alloc; "{SCRIPT} {options}")?;
-    let script = format!(in alloc; "open 1\npiece 1 AUTH ann bc\\n\nserve 1\n{script}")?;
-    let told = format!(in alloc; "open\ntaken\nreply +OK\\r\\n\n{told}")?;
-    answers(rt, line.as_str(), script.as_str(), told.as_str())
+    let line = format!(in rt.alloc(); "{SCRIPT} {options}")?;
+    let ended = run(rt, line.as_str(), &mut Given::all(talk.script.as_bytes()))?;
+    let (sizes, others) = parted(rt.alloc(), ended.output.as_str())?;
+    let is_told = ended.status == 0 && others.as_str() == talk.told.as_str();
+    assert!(rt; is_told, "{options}");
+    Ok(sizes)
 }
 
-// A removal stays in the tree as one more message.
+/// Whether the rows take more than a leaf and wait in a node, and a cache of so many leaves, and then of 0, 1 and 1000,
+/// holds those that a RANGE of all rows offered, which is each one.
+fn are_held(told: &[[u64; 3]], cache: u64) -> bool {
+    match told {
+        [written, first, second, third, fourth] => {
+            written[0] >= 2
+                && written[1] >= 1
+                && first[2] == first[0].min(cache)
+                && second[2] == 0
+                && third[2] == third[0].min(1)
+                && fourth[2] == fourth[0].min(1000)
+        }
+        _ => false,
+    }
+}
+
+/// Wants the rows to be read again in a tree of so many children, over a cache of so many leaves.
+fn reads_again<H>(rt: &H, talk: &Talk<Global>, fan_out: u32, cache: u64) -> Result<(), Fail>
+where
+    H: Abort
+        + Alloc<A = Global>
+        + Net<Listener = TcpListener, Stream = TcpStream>
+        + Threads
+        + Wait
+        + Sync,
+{
+    let options = format!(in rt.alloc();
+        "--buffer 131072 --leaf 4096 --fanout {fan_out} --cache {cache}"
+    )?;
+    let told = told_with(rt, options.as_str(), talk)?;
+    assert!(rt; are_held(told.as_slice(), cache), "{options}");
+    Ok(())
+}
+
+#[test]
+fn rows_are_read_in_each_shape(rt: HostRuntime) -> Result<(), Fail> {
+    let talk = rows_read_again(rt.alloc())?;
+    for cache in [0, 1, 1000] {
+        reads_again(&rt, &talk, 4, cache)?;
+        reads_again(&rt, &talk, 256, cache)?;
+    }
+    told_with(&rt, "--buffer 4194304", &talk)?;
+    Ok(())
+}
+
+/// A removal stays in the tree as one more message.
+const REMOVED: &str = r"open 1
+piece 1 AUTH ann bc\n
+serve 1
+shape
+piece 1 SET k v\nDEL k\n
+serve 1
+serve 1
+shape
+----
+open
+taken
+reply +OK\r\n
+height 1 leaves 1 buffered 0 cached 0
+taken
+reply +OK\r\n
+reply :1\r\n
+height 1 leaves 1 buffered 2 cached 0
+";
+
 #[test]
 fn a_script_tells_the_shape(rt: HostRuntime) -> Result<(), Fail> {
-    let script = "shape\npiece 1 SET k v\\nDEL k\\n\nserve 1\nserve 1\nshape\n";
-    let told =
-        "height 1 leaves 1 buffered 0 cached 0\ntaken\nreply +OK\\r\\n\nreply :1\\r\\n\nheight 1 leaves 1 buffered 2 cached 0\n";
-    tells(&rt, "--cache 0", script, told)
+    let line = "script --tenants three.toml --cache 0";
+    answers_scripts(&rt, line, REMOVED)
 }
 
-// An APPEND takes as much of a node as its suffix, not as the value that it leads to.
+/// An APPEND takes as much of a node as its suffix, not as the value that it leads to.
+const APPENDED: &str = r"open 1
+piece 1 AUTH ann bc\n
+serve 1
+piece 1 SET k {0..60000|v}\n
+serve 1
+{60001..60101|piece 1 APPEND k x\n
+serve 1
+}shape
+----
+open
+taken
+reply +OK\r\n
+taken
+reply +OK\r\n
+{60001..60101|taken
+reply :%\r\n
+}height 1 leaves 1 buffered 101 cached 0
+";
+
 #[test]
 fn appends_take_the_room_of_their_suffix(rt: HostRuntime) -> Result<(), Fail> {
-    let alloc = rt.alloc();
-    let value = "v".repeat(alloc, 60_000)?;
-    let mut script = format!(in alloc; "piece 1 SET k {value}\\n\nserve 1\n")?;
-    let mut told = String::from_str(alloc, "taken\nreply +OK\\r\\n\n")?;
-    for length in 60_001..60_101u32 {
-        script.push_str("piece 1 APPEND k x\\n\nserve 1\n")?;
-        told.push_str(format!(in alloc; "taken\nreply :{length}\\r\\n\n")?.as_str())?;
-    }
-    script.push_str("shape\n")?;
-    told.push_str("height 1 leaves 1 buffered 101 cached 0\n")?;
-    let options = "--buffer 131072 --cache 0";
-    tells(&rt, options, script.as_str(), told.as_str())
+    let line = "script --tenants three.toml --buffer 131072 --cache 0";
+    answers_scripts(&rt, line, APPENDED)
 }
 
-// Each option has two ends.
+/// Options with the statuses that a run ends with: each has two ends.
+const SIZES: &str = "
+buffer 131072 => 0
+buffer 4194304 => 0
+buffer 131071 => 2
+buffer 4194305 => 2
+leaf 4096 => 0
+leaf 1048576 => 0
+leaf 4095 => 2
+leaf 1048577 => 2
+fanout 4 => 0
+fanout 256 => 0
+fanout 3 => 2
+fanout 257 => 2
+cache 0 => 0
+cache 65536 => 0
+cache -1 => 2
+cache 65537 => 2
+";
+
+/// Wants a run with this option to end with status 0, or else 2, and to tell nothing.
+fn takes_option<H>(rt: &H, option: &str, is_taken: bool) -> Result<(), Fail>
+where
+    H: Abort
+        + Alloc<A = Global>
+        + Net<Listener = TcpListener, Stream = TcpStream>
+        + Threads
+        + Wait
+        + Sync,
+{
+    let line = format!(in rt.alloc(); "pipe --tenants three.toml --{option}")?;
+    let ended = run(rt, line.as_str(), &mut Given::all(b""))?;
+    let status = if is_taken { 0 } else { 2 };
+    assert!(rt; ended.status == status && ended.output.is_empty(), "{line}");
+    Ok(())
+}
+
 #[test]
 fn sizes_have_limits(rt: HostRuntime) -> Result<(), Fail> {
-    for (name, least, most) in [
-        ("buffer", 131_072, 4_194_304),
-        ("leaf", 4_096, 1_048_576),
-        ("fanout", 4, 256),
-        ("cache", 0, 65_536i64),
-    ] {
-        for (size, status) in [(least, 0), (most, 0), (least - 1, 2), (most + 1, 2)] {
-            let line = format!(in rt.alloc(); "pipe --tenants three.toml --{name} {size}")?;
-            let ended = run(&rt, line.as_str(), &mut Given::all(b""))?;
-            assert!(rt; ended.status == status && ended.output.is_empty(), "{line}");
-        }
+    for row in &rows_of(rt.alloc(), SIZES)? {
+        takes_option(&rt, row.given.as_str(), row.told.as_str() == "0")?;
     }
     Ok(())
 }

@@ -1,12 +1,19 @@
 //! Readers and writers that are slow, interrupted, full or broken, and memory that is refused.
 use crate::given::Given;
-use crate::running::{HELLO, HELLO_REPLIES, PIPE, Shelf, answers, ends_well, run, run_over};
+use crate::running::{
+    HELLO, HELLO_REPLIES, PIPE, SCRIPT, Shelf, answers_each, ends_well, run, run_over, wants,
+};
+use crate::table::spread;
 use crate::taken::{Breaks, Taken};
 use std::alloc::{AllocError, Allocator, Global};
 use std::cell::Cell;
-use std::io::{Read, Write};
 use std::io;
+use std::io::{Read, Write};
+use std::net::{Net, TcpListener, TcpStream};
+use std::process::Abort;
+use std::sync::Wait;
 use std::test::Fail;
+use std::thread::Threads;
 use stow_login::tenants::Tenants;
 use stow_refusing::{Plan, Refusing};
 use stow_run::job::Task;
@@ -28,23 +35,31 @@ fn bytes_may_come_and_go_one_by_one(rt: HostRuntime) -> Result<(), Fail> {
     Ok(())
 }
 
+/// Wants a slow reader that breaks at its end to end a run with this status, when so much is told.
+fn ends_slowly<H>(rt: &H, input: &str, status: u8, told: &str) -> Result<(), Fail>
+where
+    H: Abort
+        + Alloc<A = Global>
+        + Net<Listener = TcpListener, Stream = TcpStream>
+        + Threads
+        + Wait
+        + Sync,
+{
+    let mut input = Given::slow(input.as_bytes(), true);
+    let ended = run(rt, PIPE, &mut input)?;
+    let is_told = ended.output.as_str() == told;
+    assert!(rt; ended.status == status && is_told, "{told}");
+    Ok(())
+}
+
 // After a QUIT and after a fault nothing more is read: a reader that would break there doesn't.
 #[test]
 fn a_reader_may_break_after_the_end(rt: HostRuntime) -> Result<(), Fail> {
-    for (input, status, told) in [
-        (
-            "PING\nQUIT\n",
-            0,
-            "-NOAUTH Authentication required.\r\n+OK\r\n",
-        ),
-        ("*x", 0, "-ERR Protocol error: invalid multibulk length\r\n"),
-        ("QUIT", 4, ""),
-    ] {
-        let ended = run(&rt, PIPE, &mut Given::slow(input.as_bytes(), true))?;
-        let is_told = ended.output.as_str() == told;
-        assert!(rt; ended.status == status && is_told, "{input}");
-    }
-    Ok(())
+    let told = "-NOAUTH Authentication required.\r\n+OK\r\n";
+    ends_slowly(&rt, "PING\nQUIT\n", 0, told)?;
+    let fault = "-ERR Protocol error: invalid multibulk length\r\n";
+    ends_slowly(&rt, "*x", 0, fault)?;
+    ends_slowly(&rt, "QUIT", 4, "")
 }
 
 /// Gives a request a call, and counts the calls at which the replies of all requests before it were not yet written.
@@ -109,18 +124,20 @@ fn replies_do_not_wait(rt: HostRuntime) -> Result<(), Fail> {
     Ok(())
 }
 
+const BLANKS: &str = "
+{0..4096|\\n}QUIT\\n => +OK\\r\\n
+";
+
 #[test]
 fn pieces_may_be_small_and_blank(rt: HostRuntime) -> Result<(), Fail> {
-    let alloc = rt.alloc();
-    let value = "e".repeat(alloc, 65_535)?;
-    let bulk = format!(in alloc; "$65535\r\n{value}\r\n")?;
-    let input = format!(in alloc; "AUTH ann bc\n*2\r\n$4\r\nECHO\r\n{bulk}")?;
-    let output = format!(in alloc; "+OK\r\n{bulk}")?;
-    let ended = run(&rt, PIPE, &mut Given::pieces(input.as_bytes(), 1, 1))?;
-    assert!(rt; ended.status == 0 && ended.output.as_str() == output.as_str());
-    let blanks = "\n".repeat(alloc, 4_096)?;
-    let blanks = format!(in alloc; "{blanks}QUIT\n")?;
-    answers(&rt, PIPE, blanks.as_str(), "+OK\r\n")
+    let input = spread(
+        rt.alloc(),
+        "AUTH ann bc\n*2\r\n$4\r\nECHO\r\n$65535\r\n@\r\n",
+    )?;
+    let told = spread(rt.alloc(), "+OK\r\n$65535\r\n@\r\n")?;
+    let mut pieces = Given::pieces(input.as_bytes(), 1, 1);
+    wants(&rt, PIPE, &mut pieces, 0, told.as_str(), "")?;
+    answers_each(&rt, BLANKS)
 }
 
 /// What a task tells where one request for memory is refused, and whether it ends well, or nothing where it asks for
@@ -187,29 +204,33 @@ fn each_task_withstands_each_refusal(rt: HostRuntime) -> Result<(), Fail> {
     Ok(())
 }
 
-/// A script of one line.
-const OPEN: (&str, &[u8]) = (crate::running::SCRIPT, b"open 1\n");
+/// Wants a run to end with this status when so many bytes are flushed, over a writer whose flush may fail.
+fn flushes<H>(rt: &H, line: &str, input: &[u8], breaks: Breaks, flushed: usize) -> Result<(), Fail>
+where
+    H: Abort
+        + Alloc<A = Global>
+        + Net<Listener = TcpListener, Stream = TcpStream>
+        + Threads
+        + Wait
+        + Sync,
+{
+    let (mut input, mut errors) = (Given::all(input), Vec::new(rt.alloc()));
+    let mut output = Taken::new(rt.alloc(), breaks);
+    let shelf = Shelf { own: b"" };
+    let status = run_over(rt, &shelf, line, &mut input, &mut output, &mut errors)?;
+    let wanted = if breaks == Breaks::Never { 0 } else { 4 };
+    assert!(rt; status == wanted && output.flushed == flushed, "{line}");
+    Ok(())
+}
 
 // All of it is flushed where it ends well, and a flush that fails is told.
 #[test]
 fn what_is_told_is_flushed(rt: HostRuntime) -> Result<(), Fail> {
-    let alloc = rt.alloc();
-    let fault: &[u8] = b"-ERR Protocol error: invalid multibulk length\r\n";
-    for (line, input, breaks, flushed) in [
-        (PIPE, HELLO, Breaks::Never, HELLO_REPLIES.len()),
-        (PIPE, b"QUIT\n", Breaks::Never, 5),
-        (PIPE, b"*x", Breaks::Never, fault.len()),
-        (OPEN.0, OPEN.1, Breaks::Never, 5),
-        (PIPE, HELLO, Breaks::AtFlush, 0),
-        (OPEN.0, OPEN.1, Breaks::AtFlush, 0),
-    ] {
-        let mut input = Given::all(input);
-        let mut output = Taken::new(alloc, breaks);
-        let mut errors = Vec::new(alloc);
-        let shelf = Shelf { own: b"" };
-        let status = run_over(&rt, &shelf, line, &mut input, &mut output, &mut errors)?;
-        let wanted = if breaks == Breaks::Never { 0 } else { 4 };
-        assert!(rt; status == wanted && output.flushed == flushed, "{line}");
-    }
-    Ok(())
+    let fault = "-ERR Protocol error: invalid multibulk length\r\n";
+    flushes(&rt, PIPE, HELLO, Breaks::Never, HELLO_REPLIES.len())?;
+    flushes(&rt, PIPE, b"QUIT\n", Breaks::Never, 5)?;
+    flushes(&rt, PIPE, b"*x", Breaks::Never, fault.len())?;
+    flushes(&rt, SCRIPT, b"open 1\n", Breaks::Never, 5)?;
+    flushes(&rt, PIPE, HELLO, Breaks::AtFlush, 0)?;
+    flushes(&rt, SCRIPT, b"open 1\n", Breaks::AtFlush, 0)
 }
