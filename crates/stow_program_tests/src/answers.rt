@@ -2,10 +2,11 @@
 use crate::given::Given;
 use crate::running::{
     HELLO, HELLO_REPLIES, PIPE, SCRIPT, answers, answers_all, answers_each, answers_scripts, run,
+    wants,
 };
 use std::alloc::{AllocError, Allocator};
 use std::test::Fail;
-use stow_testing::rows::{ROWS, asked, told};
+use stow_testing::rows::{ROWS, Told, asked, told};
 
 #[test]
 fn a_connection_is_answered_in_every_cutting(rt: HostRuntime) -> Result<(), Fail> {
@@ -77,24 +78,20 @@ fn connections_are_answered(rt: HostRuntime) -> Result<(), Fail> {
     answers_all(&rt, COMMANDS)
 }
 
-/// What a row of worked requests asks and is told, with a login before them.
-fn worked<A: Allocator + Copy>(
-    alloc: A,
-    index: usize,
-) -> Result<(String<A>, String<A>), AllocError> {
-    let mut replies = String::from_str(alloc, "+OK\r\n")?;
-    let row = ROWS[index];
-    let asked = String::from_utf8_lossy(alloc, asked(alloc, row)?.as_slice())?;
-    let told = String::from_utf8_lossy(alloc, told(alloc, row)?.as_slice())?;
-    replies.push_str(told.as_str())?;
-    Ok((asked, replies))
+/// What a login and a row of worked requests are told.
+fn replies<A: Allocator + Copy>(alloc: A, row: &[Told]) -> Result<String<A>, AllocError> {
+    let told = told(alloc, row)?;
+    let told = String::from_utf8_lossy(alloc, told.as_slice())?;
+    format!(in alloc; "+OK\r\n{told}")
 }
 
 #[test]
 fn worked_requests(rt: HostRuntime) -> Result<(), Fail> {
-    for index in 0..ROWS.len() {
-        let (asked, told) = worked(rt.alloc(), index)?;
-        answers(&rt, PIPE, asked.as_str(), told.as_str())?;
+    for row in &ROWS {
+        let asked = asked(rt.alloc(), row)?;
+        let told = replies(rt.alloc(), row)?;
+        let mut input = Given::all(asked.as_slice());
+        wants(&rt, PIPE, &mut input, 0, told.as_str(), "")?;
     }
     Ok(())
 }
