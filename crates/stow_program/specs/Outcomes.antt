@@ -1,0 +1,70 @@
+-- What the program came to, and what had been read and written by then.
+use Rattle.std.specs.Prelude.{◌≡◌, ◌⊎◌, ℕ, List, Result, Ok, Err, IfErr}
+use Rattle.stow_model.specs.Login.{Entry}
+use Rattle.stow_run.specs.declared.job.Task.{Task}
+use Rattle.stow_run.specs.declared.job.Job.{Job}
+use Rattle.stow_run.specs.declared.job.Job.TheVariants as job
+use Rattle.stow_run.specs.declared.failure.Failure.{Failure}
+use Rattle.stow_run.specs.declared.failure.Failure.TheVariants.{Tenants, InputOutput, Memory}
+use Rattle.stow_run.specs.declared.failure.Place.TheVariants as place
+use Rattle.stow_workers.specs.Failures.{HasFailed}
+use Rattle.stow_workers.specs.Sent.{Written, WritesAll}
+use Rattle.stow_tasks.specs.Ends.{InputFails, IsOfOutput, Unread}
+use Rattle.stow_run.specs.Statuses.{status_after}
+use Rattle.stow_tasks.specs.Told.{IsTaskServed}
+use Rattle.stow_command_line.specs.Words.{RefusesWords}
+
+-- the tenant file gives no tenants
+abbrev pub RefusesTenants : Failure → Type 0
+RefusesTenants (Tenants fault reason) = Unit {0}
+RefusesTenants (InputOutput (place.File path) error) = Unit {0}
+RefusesTenants Memory = Unit {0}
+RefusesTenants _ = ⊥
+
+-- connections are served no further; a call of the output failed where it is told so
+abbrev pub EndsServing : ℕ → ℕ → Failure → Type 0
+EndsServing old new (InputOutput place.Network error) = Unit {0}
+EndsServing old new (InputOutput place.Output error) = HasFailed old new
+EndsServing old new Memory = Unit {0}
+EndsServing old new _ = ⊥
+
+-- the program's input and output, before and after
+pub record Streams : Type 0 where
+  pub unread : Unread
+  pub left : Unread
+  pub before : Written
+  pub after : Written
+
+abbrev pub streams_of : Unread → Unread → Written → Written → Streams
+streams_of unread left before after =
+    record { unread = unread; left = left; before = before; after = after }
+
+-- it failed for such a reason before anything was read or written
+abbrev pub FailsBefore : (Failure → Type 0) → Streams → Result (Unit {0}) Failure → Type 0
+FailsBefore Is s (Ok done) = ⊥
+FailsBefore Is s (Err failure) = Is failure × (s.left ≡ s.unread) × (s.after ≡ s.before)
+
+-- the job was done over the tenants of the file, or ended so
+abbrev pub IsDone : Job → Streams → Result (Unit {0}) Failure → Type 0
+IsDone (job.Input task) s r = (entries : List Entry)
+    × IsTaskServed task entries s.unread s.left s.before s.after r
+    × InputFails r s.unread.failures s.left.failures
+IsDone (job.Serve serving) s r =
+    IfErr r (EndsServing s.before.failures s.after.failures) × (s.left ≡ s.unread)
+
+abbrev pub IsRun : Job → Streams → Result (Unit {0}) Failure → Type 0
+IsRun asked s r = FailsBefore RefusesTenants s r ⊎ IsDone asked s r
+
+-- a text was written, and nothing was read
+abbrev pub IsHelp : Streams → Result (Unit {0}) Failure → Type 0
+IsHelp s r = (text : List ℕ) × WritesAll r text s.before s.after × IfErr r IsOfOutput
+    × (s.left ≡ s.unread)
+
+-- the words asked for help or for a job, or they are refused
+abbrev pub IsOutcome : Streams → Result (Unit {0}) Failure → Type 0
+IsOutcome s r = FailsBefore RefusesWords s r ⊎ IsHelp s r ⊎ ((asked : Job) × IsRun asked s r)
+
+-- the status is that of what the program came to
+abbrev pub EndsWith : Streams → ℕ → Type 0
+EndsWith s status = (outcome : Result (Unit {0}) Failure) × IsOutcome s outcome
+    × (status ≡ status_after outcome)

@@ -1,0 +1,126 @@
+-- What a script's lines lead to, and what is written of it.
+use Rattle.std.specs.Prelude.{◌≡◌, ℕ, List, [], ◌∷◌, ◌++◌, Option, Result, Ok, Err, IfSome, ◌⊎◌}
+use Rattle.std.specs.Io.KnownBytes.{Appends}
+use Rattle.stow_house.specs.declared.house.House.{House}
+use Rattle.stow_house.specs.StepResult.{StepResult}
+use Rattle.stow_house.specs.Steps.{HouseState, IsStepOf, Stands, state_of}
+use Rattle.stow_core.specs.State.{CoreState, IsNewCore}
+use Rattle.stow_workers.specs.Failures.{HasFailed}
+use Rattle.stow_workers.specs.Sent.{Begins, Written, written_of}
+use Rattle.stow_run.specs.declared.failure.Failure.{Failure}
+use Rattle.stow_run.specs.declared.failure.Failure.TheVariants.{BadLine, InputOutput, Memory}
+use Rattle.stow_run.specs.declared.failure.Place.TheVariants as place
+use Rattle.stow_model.specs.Login.{Entry}
+use Rattle.stow_run.specs.declared.job.Task.{Task}
+use Rattle.stow_run.specs.declared.job.Task.TheVariants as task
+use Rattle.stow_tree.specs.declared.shape_report.ShapeReport.{ShapeReport}
+use Rattle.stow_tree.specs.Reports.{IsReport}
+use Rattle.stow_tasks.specs.Ends.{Unread}
+use Rattle.stow_tasks.specs.Lines.{IsText, shape_text}
+use Rattle.stow_tasks.specs.Pipes.{IsPiped}
+use Rattle.stow_script.specs.Script.{AskFor, Asks, IsFirstBad, Line, Shape, lines_of}
+
+-- an event is a step of the house, and its line is that of the answer; the other line tells how large the house's
+-- tree is, which stays as it is
+abbrev pub LineLeads : Line → HouseState → List ℕ → HouseState → Type 0
+LineLeads (Asks e) old text new = (r : StepResult) × IsStepOf old e r new × IsText e r text
+LineLeads Shape old text new = (report : ShapeReport) × IsReport old.core.tree report
+    × (text ≡ shape_text report) × (new ≡ old)
+
+-- what the lines ask for was done one after another, and these are the lines that were told of it
+abbrev pub Leads : HouseState → List Line → List ℕ → HouseState → Type 0
+Leads old [] lines new = (lines ≡ []) × (new ≡ old)
+Leads old (asked ∷ all) lines new = (next : HouseState) × (text : List ℕ) × (later : List ℕ)
+    × LineLeads asked old text next × (lines ≡ text ++ 10 ∷ later) × Leads next all later new
+
+-- what a line asks for was done
+abbrev pub IsDone : Line → HouseState → HouseState → Type 0
+IsDone asked old new = (text : List ℕ) × LineLeads asked old text new
+
+-- .. and was told behind what there was
+abbrev pub IsToldLine : Line → HouseState → HouseState → List ℕ → List ℕ → Type 0
+IsToldLine asked old new before after = (text : List ℕ) × LineLeads asked old text new
+    × (after ≡ before ++ (text ++ 10 ∷ []))
+
+-- a house, and its writer
+pub record Progress : Type 0 where
+  pub house : HouseState
+  pub written : Written
+
+abbrev pub progress_of : {A : Type 0} → House A → Option (List ℕ) → ℕ → Progress
+progress_of house contents failures =
+    record { house = state_of house; written = written_of contents failures }
+
+-- all was done, and all lines that tell it were written, at the first try
+pub record CarriesOut (asked : List Line) (old new : Progress) : Type 0 where
+  pub lines : List ℕ
+  pub leads : Leads old.house asked lines new.house
+  pub written : Appends old.written.contents new.written.contents lines
+  pub failures : new.written.failures ≡ old.written.failures
+
+-- what the first lines ask for was done, and a beginning of what tells it was written
+pub record CarriesOutPart (asked : List Line) (old new : Progress) : Type 0 where
+  pub done : List Line
+  pub later : List Line
+  pub split : asked ≡ done ++ later
+  pub lines : List ℕ
+  pub leads : Leads old.house done lines new.house
+  pub front : List ℕ
+  pub begins : Begins front lines
+  pub written : Appends old.written.contents new.written.contents front
+
+-- a call of the output failed where it is told so; where memory was refused one may have
+abbrev pub EndsTelling : Failure → ℕ → ℕ → Type 0
+EndsTelling (InputOutput place.Output error) old new = HasFailed old new
+EndsTelling Memory old new = (new ≡ old) ⊎ HasFailed old new
+EndsTelling _ old new = ⊥
+
+abbrev pub IsCarriedOut : List Line → Progress → Progress → Result (Unit {0}) Failure → Type 0
+IsCarriedOut asked old new (Ok done) = CarriesOut asked old new
+IsCarriedOut asked old new (Err failure) =
+    EndsTelling failure old.written.failures new.written.failures × CarriesOutPart asked old new
+
+-- nothing was done, and nothing was written
+abbrev pub IsIdle : Progress → Progress → Type 0
+IsIdle old new = (new.house ≡ old.house) × (new.written ≡ old.written)
+
+-- all of a reader's bytes are a script that asks for this
+abbrev pub IsScript : Option (List ℕ) → List Line → Type 0
+IsScript known asked = (text : List ℕ) × IfSome known (λ bytes. text ≡ bytes)
+    × AskFor (lines_of text) asked
+
+abbrev pub IsBadScript : Option (List ℕ) → ℕ → Type 0
+IsBadScript known number = (text : List ℕ) × IfSome known (λ bytes. text ≡ bytes)
+    × IsFirstBad (lines_of text) number
+
+-- what a reader's script leads to: nothing before the whole of it was read
+abbrev pub IsScripted : Option (List ℕ) → Progress → Progress → Result (Unit {0}) Failure → Type 0
+IsScripted known old new (Ok done) = (asked : List Line) × IsScript known asked
+    × CarriesOut asked old new
+IsScripted known old new (Err (BadLine number stumble)) = IsBadScript known number × IsIdle old new
+IsScripted known old new (Err (InputOutput place.Input error)) = IsIdle old new
+IsScripted known old new (Err failure) =
+    EndsTelling failure old.written.failures new.written.failures × (IsIdle old new
+    ⊎ ((asked : List Line) × IsScript known asked × CarriesOutPart asked old new))
+
+-- a connection through a new core of these tenants, which memory may be wanting for
+abbrev pub IsPipeServed : List Entry → Unread → Unread → Written → Written
+    → Result (Unit {0}) Failure → Type 0
+IsPipeServed entries unread left old new r = ((r ≡ Err Memory) × (left ≡ unread) × (new ≡ old))
+    ⊎ ((start : CoreState) × (end : CoreState) × IsNewCore start × (start.entries ≡ entries)
+    × IsPiped entries unread.bytes left.bytes start end old new r)
+
+-- a script over a new house of these tenants, which memory may be wanting for
+abbrev pub IsScriptServed : List Entry → Option (List ℕ) → Written → Written
+    → Result (Unit {0}) Failure → Type 0
+IsScriptServed entries known old new r = ((r ≡ Err Memory) × (new ≡ old))
+    ⊎ ((start : HouseState) × (end : HouseState) × Stands entries start []
+    × IsScripted known (record { house = start; written = old })
+    (record { house = end; written = new }) r)
+
+-- what was read, from what there was to what is left, was served as the task says
+abbrev pub IsTaskServed : Task → List Entry → Unread → Unread → Written → Written
+    → Result (Unit {0}) Failure → Type 0
+IsTaskServed task.Script entries unread left old new r =
+    IsScriptServed entries unread.bytes old new r
+IsTaskServed task.Pipe entries unread left old new r = IsPipeServed entries unread left old new r

@@ -1,0 +1,14 @@
+//! What the program does with standard input: a pipe, or a script.
+//!
+//! It makes a new service, and answers the bytes of one connection (`pipe`) or carries a script's events out (`script`).
+//! Proved of it: what it does (`service::serve`) returns; a script is read as `specs/Read.antt` says; of a reader and a writer
+//! that tell their bytes, what is written are the lines of its events' results (`specs/Told.antt`), all of them where it ends
+//! well; of a pipe over these, the bytes are served and answered as `serve_connection` says (`specs/Pipes.antt`); input or
+//! output is said to have failed only where one of its calls did (`specs/Ends.antt`, `specs/Told.antt`).
+#![tactic(auto)]
+
+pub mod line;
+pub mod new_core;
+pub mod pipe;
+pub mod script;
+pub mod service;

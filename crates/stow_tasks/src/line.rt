@@ -1,0 +1,127 @@
+//! What a script's lines led to, a line each.
+ghost use Rattle.std.specs.Prelude.{◌≡◌, ◌++◌, ◌∷◌, [], OnErr, OnOk, codes};
+ghost use Rattle.std.specs.Fmt.{decimal};
+ghost use Rattle.std.specs.Io.{StartsWith};
+ghost use Rattle.stow_model.specs.Event.{event_of};
+ghost use Rattle.stow_model.specs.Reply.{encoding, reply_of};
+ghost use Rattle.stow_house.specs.StepResult.{step_result_of, CanAnswer};
+ghost use Rattle.stow_tasks.specs.Lines.{WritesLine, shape_text};
+ghost use Rattle.stow_tasks.specs.Written.{done_text, written};
+ghost use Rattle.stow_script.specs.Text.{text_of};
+
+use itoa::Buffer;
+use std::alloc::{AllocError, Allocator};
+use stow_house::step_result::StepResult;
+use stow_model::event::Event;
+use stow_model::reply::Reply;
+use stow_resp::encode::Encode;
+use stow_script::text::escape;
+use stow_tree::shape_report::ShapeReport;
+
+/// Adds the line that tells what the event led to, which is something that it can lead to.
+pub fn write_result<A: Allocator + Copy>(
+    alloc: A,
+    event: &Event<A>,
+    outcome: &StepResult<A>,
+    out: &mut Vec<u8, A>,
+) -> Result<(), AllocError>
+    requires { CanAnswer (event_of event.now) (step_result_of outcome.now) }
+    ensures ok { OnOk result (WritesLine event.now outcome.now out.old.items out.new.items) }
+    ensures front { StartsWith out.new.items out.old.items }
+{
+    write_outcome(alloc, event, outcome, out)?;
+    out.push(b'\n')?;
+    Ok(())
+}
+
+fn write_outcome<A: Allocator + Copy>(
+    alloc: A,
+    event: &Event<A>,
+    outcome: &StepResult<A>,
+    out: &mut Vec<u8, A>,
+) -> Result<(), AllocError>
+    ensures ok { OnOk result (out.new.items ≡ out.old.items ++ written event.now outcome.now) }
+    ensures front { StartsWith out.new.items out.old.items }
+{
+    match outcome {
+        StepResult::Done => out.extend_from_slice(done(event)),
+        StepResult::Answered(reply) => write_reply(alloc, reply, out),
+        StepResult::More => out.extend_from_slice(b"more"),
+        StepResult::Blank => out.extend_from_slice(b"blank"),
+        StepResult::Job => out.extend_from_slice(b"job"),
+        StepResult::NoJob => out.extend_from_slice(b"none"),
+        StepResult::Installed => out.extend_from_slice(b"done"),
+        StepResult::Stale => out.extend_from_slice(b"stale"),
+        StepResult::Refused => out.extend_from_slice(b"refused"),
+        StepResult::NoMemory => out.extend_from_slice(b"memory"),
+    }
+}
+
+fn write_reply<A: Allocator + Copy>(
+    alloc: A,
+    reply: &Reply<A>,
+    out: &mut Vec<u8, A>,
+) -> Result<(), AllocError>
+    ensures ok { OnOk result (out.new.items
+        ≡ out.old.items ++ codes "reply " ++ text_of (encoding (reply_of reply.now))) }
+    ensures front { StartsWith out.new.items out.old.items }
+{
+    let mut bytes = Vec::new(alloc);
+    reply.write(&mut bytes)?;
+    out.extend_from_slice(b"reply ")?;
+    escape(bytes.as_slice(), out)
+}
+
+/// Adds the line that tells how large a tree is, or nothing where memory is refused.
+pub fn write_shape<A: Allocator>(
+    report: ShapeReport,
+    out: &mut Vec<u8, A>,
+) -> Result<(), AllocError>
+    ensures ok { OnOk result (out.new.items ≡ out.old.items ++ (shape_text report ++ 10 ∷ [])) }
+    ensures err { OnErr result (out.new.items ≡ out.old.items) }
+{
+    let whole = out.len();
+    let told = push_shape(report, out);
+    if told.is_err() {
+        out.truncate(whole);
+    }
+    told
+}
+
+fn push_shape<A: Allocator>(report: ShapeReport, out: &mut Vec<u8, A>) -> Result<(), AllocError>
+    ensures ok { OnOk result (out.new.items ≡ out.old.items ++ (shape_text report ++ 10 ∷ [])) }
+    ensures front { StartsWith out.new.items out.old.items }
+{
+    push_count(b"height ", report.height, out)?;
+    push_count(b" leaves ", report.leaves, out)?;
+    push_count(b" buffered ", report.buffered, out)?;
+    push_count(b" cached ", report.cached, out)?;
+    out.push(b'\n')?;
+    Ok(())
+}
+
+/// Adds a name, and a count in decimal.
+fn push_count<A: Allocator>(name: &[u8], count: u64, out: &mut Vec<u8, A>) -> Result<(), AllocError>
+    ensures ok { OnOk result (out.new.items ≡ out.old.items ++ name.now ++ decimal count) }
+    ensures front { StartsWith out.new.items out.old.items }
+{
+    let mut buffer = Buffer::new();
+    out.extend_from_slice(name)?;
+    out.extend_from_slice(buffer.format(count).as_bytes())
+}
+
+/// What is told of an event that was carried out and gives nothing.
+fn done<A: Allocator>(event: &Event<A>) -> &'static [u8]
+    ensures { result.now ≡ done_text (event_of event.now) }
+{
+    match event {
+        Event::Open(_) => b"open",
+        Event::Piece(_, _) => b"taken",
+        Event::Serve(_) => b"blank",
+        Event::Close(_) => b"closed",
+        Event::Plan(_) => b"job",
+        Event::Merge(_) => b"merged",
+        Event::Install(_) => b"done",
+        Event::Resize(_) => b"resized",
+    }
+}
