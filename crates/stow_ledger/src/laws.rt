@@ -1,5 +1,5 @@
 //! Laws over the definitions: functions that do nothing, and whose contracts are the laws.
-ghost use Rattle.stow_ledger.specs.Histories.{PinsTellOfWrites, NextIsNew, PinsTellOfDrops, RowsAreCharged};
+ghost use Rattle.stow_ledger.specs.Histories.{PinsTellOfWrites, NextIsNew, PinsTellOfDrops, RowsAreCharged, RowsAreHistory};
 ghost use Rattle.stow_ledger.specs.Kept.{NewAccountIsEmpty, PresentIsCharged, CommitIsCharged, TakeIsFree, ReportIsUsage};
 ghost use Rattle.stow_ledger.specs.Shown.{CostByMembers, WriteIsCharged, DropIsCharged, DropInParts};
 
@@ -36,6 +36,11 @@ pub fn next_is_new()
 /// The present or a snapshot shows a version just where its key's next number and the pins say so.
 pub fn pins_tell_of_drops()
     ensures { PinsTellOfDrops }
+{}
+
+/// A tenant's rows at the numbers of one set of messages are a history.
+pub fn rows_are_history()
+    ensures { RowsAreHistory }
 {}
 
 /// Each row is charged 16 bytes at least, so there are fewer rows than bytes.
