@@ -1,5 +1,5 @@
 -- What a key has by its operations stays until the next of them.
-use Rattle.std.proofs.Common.{◌≡◌, ℕ, zero, suc, ◌<◌, ◌≤◌, List, Option, Some, None, is_some, refl, ap, ◌∙◌, sym, subst, arith, ⊎_elim}
+use Rattle.std.proofs.Common.{◌≡◌, ℕ, zero, suc, ◌<◌, ◌≤◌, List, Option, Some, None, refl, ap, ◌∙◌, sym, subst, arith, ⊎_elim}
 use Rattle.std.specs.Prelude.{IfSome}
 use Rattle.std.specs.Option.{unwrap_or}
 use Rattle.std.specs.FinMap as finite
@@ -8,7 +8,7 @@ use Rattle.stow_model.specs.Store.{Version}
 use Rattle.stow_tree_model.specs.Keys.{packed}
 use Rattle.stow_tree_model.specs.Op.{Op}
 use Rattle.stow_tree_model.specs.Operations.{NumberedValue, Operations, numbered, outcome, value_in, applied, latest}
-use Rattle.stow_tree_model.specs.Messages.{Messages, ops_of, value}
+use Rattle.stow_tree_model.specs.Messages.{ops_of, value}
 use Rattle.stow_state.specs.Rows.{rows_at, version_of}
 use Rattle.stow_state.proofs.Rows.{rows_by_value_law}
 use Rattle.stow_state.proofs.Changes.{rows_are_below_law}
