@@ -1,5 +1,5 @@
 //! Tests of the crates that stand below the tree and the core: the meaning of requests, requests in and replies out,
-//! tenant files, words as commands, and the tenant's own run.
+//! tenant files, words as commands, the tenant's own run, versions, and accounts.
 //!
 //! They stand in a crate of their own for the gate's time: it proves a crate again with its tests. A module is named after
 //! the crate that it tests.
@@ -9,6 +9,8 @@
 mod bytes;
 #[cfg(test)]
 mod commands;
+#[cfg(test)]
+mod ledger;
 #[cfg(test)]
 mod login;
 #[cfg(test)]
@@ -23,3 +25,5 @@ mod resp;
 mod testing;
 #[cfg(test)]
 mod tree_model;
+#[cfg(test)]
+mod versions;

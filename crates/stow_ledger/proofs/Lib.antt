@@ -4,3 +4,4 @@ pub mod WriteLemmas
 pub mod DropLemmas
 pub mod HistoryLemmas
 pub mod KeptLemmas
+pub mod TreeHistory

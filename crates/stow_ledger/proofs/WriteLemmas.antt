@@ -12,7 +12,7 @@ use Rattle.std.proofs.lemmas.List.Sums.{sum_by-cons}
 use Rattle.stow_bytes.specs.Bytes.{bytes_cmp}
 use Rattle.stow_model.specs.Store.{Version, Rows, Store, Shown, cost, is_same_version, charge}
 use Rattle.stow_ledger.specs.Charges.{version_cost, is_pinned, cost_brought, cost_freed, count_of}
-use Rattle.stow_ledger.specs.Shown.{is_in, cost_of_all, rows_with, with_row, sized_option, length_option, copied, IsNewRow, WriteIsCharged}
+use Rattle.stow_ledger.specs.Shown.{PinsTell, charge_after_removals, RemovalsAreCharged, is_in, cost_of_all, rows_with, with_row, sized_option, length_option, copied, IsNewRow, WriteIsCharged}
 use Rattle.stow_ledger.proofs.Costs.{Once, cost_by_once, contra, same_is, or_false}
 use Rattle.stow_ledger.proofs.RowLemmas.{is_row, in_rows, key_eq}
 
@@ -174,3 +174,19 @@ write_is_charged_law store key after pins new tells =
   where
     moved : (base before later f b freed brought : ℕ) → before ≡ base + f → later ≡ base + b → f ≡ freed → b ≡ brought → later ≡ (before + brought) - freed
     moved base before later f b freed brought p q r s = omega arith
+
+-- what pins tell of a key they tell once another key, or the same, lost its row
+still_told : (store : Store) (key other : List ℕ) (pins : List ℕ) → PinsTell store key pins → PinsTell (with_row store other None) key pins
+still_told store key other pins tells = subst (λ o. IfSome o (λ w. is_in (key, w) (copied store) ≡ is_pinned pins w.number))
+    (sym (finite.get-remove nat_list_cmp_total store.rows other key))
+    (unless (λ w. is_in (key, w) (copied store) ≡ is_pinned pins w.number) (eq_by_cmp bytes_cmp key other) (finite.get store.rows key) tells)
+  where
+    unless : (P : Version → Type 0) (b : Bool) (o : Option Version) → IfSome o P → IfSome (cond b None o) P
+    unless P true o h = tt
+    unless P false o h = h
+
+pub removals_are_charged_law : RemovalsAreCharged
+removals_are_charged_law store [] pins tell = refl
+removals_are_charged_law store (key ∷ keys) pins tell =
+    removals_are_charged_law (with_row store key None) keys pins (λ k. still_told store k key pins (tell k))
+    ∙ ap (λ so_far. charge_after_removals so_far (with_row store key None) keys pins) (write_is_charged_law store key None pins tt (tell key))

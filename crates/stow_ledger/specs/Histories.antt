@@ -3,6 +3,8 @@ use Rattle.std.specs.Prelude.{◌≡◌, ℕ, ◌+◌, ◌*◌, ◌<◌, ◌≤�
 use Rattle.std.specs.List.{AllByRecursion}
 use Rattle.std.specs.FinMap as map
 use Rattle.stow_model.specs.Store.{Version, Rows, Store, shown_by, charge}
+use Rattle.stow_tree_model.specs.Messages.{Messages}
+use Rattle.stow_state.specs.Rows.{rows_at}
 use Rattle.stow_ledger.specs.Charges.{shown_until}
 use Rattle.stow_ledger.specs.Shown.{is_in, PinsTell, IsNewRow}
 
@@ -60,3 +62,7 @@ PinsTellOfDrops =
 -- each row is charged 16 bytes at least
 abbrev pub RowsAreCharged : Type 0
 RowsAreCharged = (store : Store) → 16 * map.len store.rows ≤ charge store
+
+-- a tenant's rows at the numbers of one set of messages are such a history
+abbrev pub RowsAreHistory : Type 0
+RowsAreHistory = (messages : Messages) (tenant : ℕ) → IsHistory (rows_at messages tenant)

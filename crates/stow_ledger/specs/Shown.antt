@@ -1,8 +1,8 @@
 -- A tenant's charge, by what its rows and its copies show.
-use Rattle.std.specs.Prelude.{◌≡◌, ℕ, ◌+◌, Bool, List, ◌++◌, length, sum_by, Option, Some, None, IfSome, IsTrue, IsFalse, ◌||◌}
+use Rattle.std.specs.Prelude.{◌≡◌, ℕ, ◌+◌, Bool, List, ◌++◌, length, sum_by, Option, Some, None, IfSome, IsTrue, IsFalse, ◌||◌, [], ◌∷◌}
 use Rattle.std.specs.List.{list_any, flat_map, AllZip}
 use Rattle.std.specs.FinMap as map
-use Rattle.stow_model.specs.Store.{Version, Rows, Store, Shown, cost, is_same_version, distinct, shown_by, charge}
+use Rattle.stow_model.specs.Store.{Version, Rows, Store, Shown, cost, is_same_version, distinct, shown_by, charge, rows_without}
 use Rattle.stow_ledger.specs.Charges.{is_pinned, is_shown, charge_after_write, charge_after_drop}
 use Rattle.stow_ledger.specs.declared.charge.Charge.{Charge}
 use Rattle.stow_ledger.specs.declared.row_change.RowChange.{RowChange}
@@ -106,3 +106,17 @@ abbrev pub DropInParts : Type 0
 DropInParts = (so_far : Charge) (first later : List ShownRow) (pins : List ℕ)
     → charge_after_drop (charge_after_drop so_far first pins) later pins
     ≡ charge_after_drop so_far (first ++ later) pins
+
+-- a charge after some keys lose their rows, one after another
+abbrev pub charge_after_removals : Charge → Store → List (List ℕ) → List ℕ → Charge
+charge_after_removals so_far store [] pins = so_far
+charge_after_removals so_far store (key ∷ keys) pins =
+    charge_after_removals (charge_after_write so_far (change_of store key None) pins)
+    (with_row store key None) keys pins
+
+-- rows that are removed one after another are charged as one write
+abbrev pub RemovalsAreCharged : Type 0
+RemovalsAreCharged = (store : Store) (keys : List (List ℕ)) (pins : List ℕ)
+    → ((key : List ℕ) → PinsTell store key pins)
+    → charge_of (record store { rows = rows_without keys store.rows })
+    ≡ charge_after_removals (charge_of store) store keys pins

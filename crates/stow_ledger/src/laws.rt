@@ -1,7 +1,7 @@
 //! Laws over the definitions: functions that do nothing, and whose contracts are the laws.
-ghost use Rattle.stow_ledger.specs.Histories.{PinsTellOfWrites, NextIsNew, PinsTellOfDrops, RowsAreCharged};
+ghost use Rattle.stow_ledger.specs.Histories.{PinsTellOfWrites, NextIsNew, PinsTellOfDrops, RowsAreCharged, RowsAreHistory};
 ghost use Rattle.stow_ledger.specs.Kept.{NewAccountIsEmpty, PresentIsCharged, CommitIsCharged, TakeIsFree, ReportIsUsage};
-ghost use Rattle.stow_ledger.specs.Shown.{CostByMembers, WriteIsCharged, DropIsCharged, DropInParts};
+ghost use Rattle.stow_ledger.specs.Shown.{CostByMembers, WriteIsCharged, RemovalsAreCharged, DropIsCharged, DropInParts};
 
 /// What two lists of versions cost differs by what only one of them shows.
 pub fn cost_by_members()
@@ -11,6 +11,11 @@ pub fn cost_by_members()
 /// The charge after a write, as the account makes it, is that of the store after it.
 pub fn write_is_charged()
     ensures { WriteIsCharged }
+{}
+
+/// The charge after a write that removes rows, one after another, is that of the store after it.
+pub fn removals_are_charged()
+    ensures { RemovalsAreCharged }
 {}
 
 /// The charge after a drop, as the account makes it, is that of the store after it.
@@ -36,6 +41,11 @@ pub fn next_is_new()
 /// The present or a snapshot shows a version just where its key's next number and the pins say so.
 pub fn pins_tell_of_drops()
     ensures { PinsTellOfDrops }
+{}
+
+/// A tenant's rows at the numbers of one set of messages are a history.
+pub fn rows_are_history()
+    ensures { RowsAreHistory }
 {}
 
 /// Each row is charged 16 bytes at least, so there are fewer rows than bytes.
