@@ -247,10 +247,13 @@ can_take store =
 abbrev pub take_answer : Store → Answer
 take_answer store =
     if can_take store
-    then (record store {
-      snapshots = map.insert store.snapshots store.next store.rows;
-      next = store.next + 1;
-    }, reply.Integer (pos store.next))
+    then (
+      record store {
+        snapshots = map.insert store.snapshots store.next store.rows;
+        next = store.next + 1;
+      },
+      reply.Integer (pos store.next),
+    )
     else refused store refusal.TooManySnapshots
 
 -- the rows that a live snapshot shows; ids are numbers from 1 on
