@@ -1,0 +1,2 @@
+pub mod VersionsState
+pub mod VersionLists
