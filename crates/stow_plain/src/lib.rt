@@ -9,8 +9,11 @@
 #![tactic(auto)]
 
 pub mod own_run;
+pub mod plain_contents;
+pub mod plain_number;
 pub mod plain_request;
 pub mod plain_rows;
 pub mod plain_run;
+pub mod plain_snapshot;
 pub mod plain_store;
 pub mod plain_version;
