@@ -151,15 +151,29 @@ impl<A: Allocator + Copy> PlainContents<A> {
     /// Drops a snapshot. Whether it was live.
     pub fn drop_id(&mut self, id: i64) -> bool
         ensures live { result ≡ is_some (store.snapshot_rows (bare self.old) id) }
-        ensures dropped { self.new ≡ record self.old {
-          snapshots = (store.without_snapshot (bare self.old) id).snapshots;
-        } }
+        ensures dropped { self.new ≡ (if result
+            then record self.old {
+              snapshots = (store.without_snapshot (bare self.old) id).snapshots;
+            }
+            else self.old) }
     {
-        let is_live = self.snapshot(id).is_some();
-        if is_live {
-            remove_id(&mut self.copies, id as u64);
+        if id < 0 {
+            return false;
         }
-        is_live
+        self.drop_number(id as u64)
+    }
+
+    fn drop_number(&mut self, id: u64) -> bool
+        ensures live { result ≡ is_some (map.get self.old.snapshots id) }
+        ensures dropped { self.new ≡ (if result
+            then record self.old { snapshots = map.remove self.old.snapshots id }
+            else self.old) }
+    {
+        if copy_of(&self.copies, id).is_none() {
+            return false;
+        }
+        remove_id(&mut self.copies, id);
+        true
     }
 }
 
