@@ -1,5 +1,7 @@
 -- What versions cost, each once, list by list.
-use Rattle.std.proofs.Common.{◌≡◌, ℕ, ◌+◌, Bool, true, false, List, [], ◌∷◌, ◌++◌, refl, ap, ◌∙◌, sym, arith, cond, zero-add, map as each, eqb}
+use Rattle.std.specs.Option.{SomeIff}
+use Rattle.std.specs.Prelude.{Option}
+use Rattle.std.proofs.Common.{◌≡◌, ◌<◌, ◌^◌, ℕ, ◌+◌, Bool, true, false, List, [], ◌∷◌, ◌++◌, refl, ap, ◌∙◌, sym, subst, arith, cond, zero-add, map as each, eqb}
 use Rattle.std.specs.Prelude.{filter, not, sum_by, ◌&&◌, ◌||◌, Some, None}
 use Rattle.std.specs.List.{list_any, flat_map}
 use Rattle.std.specs.Str.{bytes_eq}
@@ -41,3 +43,15 @@ pub has_some : (rows : Rows) (key : List ℕ) (version own : Version) (same : Bo
 has_some rows key version own same found e =
     ap (λ b. eqb version.number own.number && b) e
     ∙ sym (in_rows rows (key, version) ∙ ap (λ o. is_row o version) found)
+
+-- ---- sums so far
+
+pub none_when : (r : Option ℕ) (P : Type 0) (v : ℕ) → r ≡ None → (P → ⊥) → SomeIff r P v
+none_when r P v e never = subst (λ o. SomeIff o P v) (sym e) never
+
+-- a part that doesn't fit makes the whole too much
+pub too_much : (so_far part later whole : ℕ) {left : ℕ} → (so_far + part < 2 ^ 64 → ⊥) → left ≡ part + later → so_far + left ≡ whole → whole < 2 ^ 64 → ⊥
+too_much so_far part later whole never e f l = never (omega arith)
+
+pub next_total : (so_far part later whole total : ℕ) {left : ℕ} → so_far + part < 2 ^ 64 → total ≡ so_far + part → left ≡ part + later → so_far + left ≡ whole → record { fits : total < 2 ^ 64; costs : total + later ≡ whole }
+next_total so_far part later whole total l t e f = record { fits = omega arith; costs = omega arith }

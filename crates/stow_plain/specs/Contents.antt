@@ -1,5 +1,5 @@
 -- What a plain store shows: its rows, and its snapshots' copies of them.
-use Rattle.std.specs.Prelude.{ℕ, ◌+◌, ◌<◌, ◌≤◌, Bool, List, ◌++◌, map as list_map, not, sum_by, filter, refl, IsTrue, nat_le, ◌||◌}
+use Rattle.std.specs.Prelude.{ℕ, ◌+◌, ◌<◌, ◌≤◌, Bool, List, ◌++◌, map as list_map, not, sum_by, filter, refl, IsTrue, nat_le, ◌||◌, ℤ, pos, negsuc, Option, Some, None}
 use Rattle.std.specs.List.{flat_map, AllByRecursion}
 use Rattle.std.specs.Ordering.{nat_cmp}
 use Rattle.std.specs.Coded.{Coded, code_by, coded×, coded_ℕ}
@@ -49,6 +49,11 @@ charge_of c = charge (bare c)
 -- not both above the quota and above the charge before
 abbrev pub is_allowed : ℕ → ℕ → ℕ → Bool
 is_allowed quota before after = nat_le after quota || nat_le after before
+
+-- the number that an id is, unless it is below 0
+abbrev pub number_in : ℤ → Option ℕ
+number_in (pos n) = Some n
+number_in (negsuc n) = None
 
 -- ---- a list of copies
 

@@ -1,13 +1,14 @@
 //! What a plain store shows, and what is charged for it.
-ghost use Rattle.std.specs.Prelude.{◌≡◌, ℕ, ◌+◌, ◌<◌, ◌≤◌, ◌^◌, pos, ◌++◌, not, ◌==◌, filter, Some, None, is_some, if◌then◌else◌, IfOk, OnOk, OnErr, IsTrue};
+ghost use Rattle.std.specs.Prelude.{◌≡◌, ℕ, ◌+◌, ◌<◌, ◌≤◌, ◌^◌, pos, ◌++◌, ◌∷◌, [], not, ◌==◌, filter, Some, None, is_some, if◌then◌else◌, IfOk, OnOk, OnErr, IsTrue};
 ghost use Rattle.std.specs.Option.{option_copied, SomeIff};
 ghost use Rattle.std.specs.Ordering.{nat_cmp};
 ghost use Rattle.std.specs.FinMap.{find};
 ghost use Rattle.std.specs.FinMap as map;
 ghost use Rattle.stow_bytes.specs.Limits.{number_limit};
 ghost use Rattle.stow_ledger.specs.Shown.{cost_of_all};
+ghost use Rattle.stow_model.specs.Item.{Integer};
 ghost use Rattle.stow_model.specs.Store as store;
-ghost use Rattle.stow_plain.specs.Contents.{Contents, new_contents, bare, charge_of, is_allowed, pairs_of, shown_in};
+ghost use Rattle.stow_plain.specs.Contents.{Contents, new_contents, bare, charge_of, is_allowed, number_in, pairs_of, shown_in};
 
 use crate::plain_number::PlainNumber;
 use crate::plain_rows::PlainRows;
@@ -69,10 +70,10 @@ impl<A: Allocator + Copy> PlainContents<A> {
     pub fn snapshot(&self, id: i64) -> Option<&PlainRows<A>>
         ensures { option_copied result ≡ store.snapshot_rows (bare self.now) id }
     {
-        if id < 0 {
-            return None;
+        match number_in(id) {
+            Some(number) => copy_of(&self.copies, number),
+            None => None,
         }
-        copy_of(&self.copies, id as u64)
     }
 
     /// How many snapshots are live.
@@ -89,7 +90,7 @@ impl<A: Allocator + Copy> PlainContents<A> {
     {
         let mut items = Items::new(alloc);
         for copy in &self.copies {
-            items.push_integer(copy.id as i64)?;
+            push_id(&mut items, copy.id)?;
         }
         Ok(items)
     }
@@ -113,14 +114,22 @@ impl<A: Allocator + Copy> PlainContents<A> {
         ensures replaced { self.new
             ≡ (if result then record self.old { rows = rows } else self.old) }
     {
-        let is_allowed = match total_cost(&rows, &self.copies) {
-            Some(charge) => charge <= quota.get() || charge <= self.charge(),
-            None => false,
-        };
-        if is_allowed {
-            self.rows = rows;
+        if !self.is_allowed(quota.get(), &rows) {
+            return false;
         }
-        is_allowed
+        self.rows = rows;
+        true
+    }
+
+    /// Whether what is charged with these rows is not both above the quota and above what is charged now.
+    fn is_allowed(&self, quota: u64, rows: &PlainRows<A>) -> bool
+        ensures { result ≡ is_allowed quota (charge_of self.now)
+            (charge_of (record self.now { rows = rows.now })) }
+    {
+        match total_cost(rows, &self.copies) {
+            Some(charge) => charge <= quota || charge <= self.charge(),
+            None => false,
+        }
     }
 
     /// Whether an id is left, and few enough snapshots are live.
@@ -157,10 +166,10 @@ impl<A: Allocator + Copy> PlainContents<A> {
             }
             else self.old) }
     {
-        if id < 0 {
-            return false;
+        match number_in(id) {
+            Some(number) => self.drop_number(number),
+            None => false,
         }
-        self.drop_number(id as u64)
     }
 
     fn drop_number(&mut self, id: u64) -> bool
@@ -175,6 +184,21 @@ impl<A: Allocator + Copy> PlainContents<A> {
         remove_id(&mut self.copies, id);
         true
     }
+}
+
+fn push_id<A: Allocator>(items: &mut Items<A>, id: u64) -> Result<(), AllocError>
+    requires { id ≤ number_limit }
+    ensures { OnOk result (items.new ≡ items.old ++ Integer (pos id) ∷ []) }
+{
+    items.push_integer(id as i64)?;
+    Ok(())
+}
+
+/// The number that an id is, unless it is below 0.
+fn number_in(id: i64) -> Option<u64>
+    ensures { result ≡ number_in id }
+{
+    if id < 0 { None } else { Some(id as u64) }
 }
 
 /// The copy of the rows that a snapshot has.
