@@ -1,5 +1,3 @@
 pub mod Alone
-pub mod Lone
-pub mod Readied
-pub mod Numbered
 pub mod Numbering
+pub mod Readied

@@ -1,6 +1,6 @@
-//! What no clause says: that the call succeeds where there is memory, and that each request for it may be refused.
-ghost use Rattle.std.specs.Prelude.{◌≤◌, length};
-
+//! What comes in a leaf's place.
+use crate::keys::key;
+use crate::message::put;
 use std::alloc::{AllocError, Allocator};
 use std::test::Fail;
 use stow_leaf::leaf::Leaf;
@@ -11,41 +11,15 @@ use stow_merge::pins::Pins;
 use stow_message::message_buf::MessageBuf;
 use stow_page::packed_rows::PackedRows;
 use stow_page::rows::Rows;
-use stow_refusing::{Plan, Refusing};
-use stow_tree_model::op::Op;
-use stow_tree_model::plain::message;
 use stow_tree_model::tenant_key::TenantKey;
 use stow_tree_model::tenant_key_buf::TenantKeyBuf;
 
-/// Puts a message that sets tenant 1's key into a buffer, if it fits there.
-fn put<A: Allocator + Copy>(
-    alloc: A,
-    buffer: &mut MessageBuf<A>,
-    key: &[u8],
-    value: &[u8],
-) -> Result<bool, AllocError>
-    requires { length key.now ≤ 1 }
-{
-    let key = TenantKeyBuf::new(alloc, 1, key)?;
-    let Some(put) = message(key.as_key(), 1, Op::Put(value)) else {
-        return Ok(false);
-    };
-    let fits = buffer.fits(put) && buffer.is_new(put);
-    if fits {
-        buffer.push(put);
-    }
-    Ok(fits)
-}
-
-/// What comes in the place of tenant 1's leaf without rows, within so many leaves: none where the buffer has no message
-/// for it.
+/// What comes in the place of tenant 1's leaf without rows, within three leaves. A buffer without messages for it is told
+/// as want of memory.
 fn replaced<A: Allocator + Copy>(
     alloc: A,
     buffer: &MessageBuf<A>,
-    most: usize,
-) -> Result<Option<Replacement<A>>, AllocError>
-    requires { 3 ≤ most }
-{
+) -> Result<Replacement<A>, AllocError> {
     let leaf = Leaf {
         low: TenantKeyBuf::new(alloc, 1, &[])?,
         rows: Rows::new(alloc, PackedRows::new(alloc)?)?,
@@ -55,30 +29,60 @@ fn replaced<A: Allocator + Copy>(
     let _len = buffer.len();
     let batch = lent_run(alloc, &buffer.in_range(leaf.low.as_key(), high))?;
     if batch.is_empty() || !has_short_values(alloc, &leaf.rows, batch.as_slice(), &pins)? {
-        return Ok(None);
+        return Err(AllocError);
     }
-    Ok(Some(leaf.replacement(alloc, buffer, high, &pins, 4096, most)?))
+    leaf.replacement(alloc, buffer, high, &pins, 4096, 3)
 }
 
-/// What comes in the leaf's place where these keys are set to values of so many bytes.
-fn replaced_with<A: Allocator + Copy>(
+/// What comes in the leaf's place where keys of one byte, and for a space the empty one, are set to values of so many
+/// bytes.
+pub(crate) fn replaced_with<A: Allocator + Copy>(
     alloc: A,
     keys: &[u8],
     bytes: usize,
-) -> Result<Option<Replacement<A>>, AllocError> {
+) -> Result<Replacement<A>, AllocError> {
     let mut buffer = MessageBuf::with_capacity(alloc, 131_072)?;
     let value = Vec::from_elem(alloc, b'x', bytes)?;
-    for i in 0..keys.len() {
-        let key = if keys[i] == b' ' {
-            &[]
+    for byte in keys {
+        let one = [*byte];
+        let own = if *byte == b' ' {
+            b"".as_slice()
         } else {
-            &keys[i..i + 1]
+            one.as_slice()
         };
-        if !put(alloc, &mut buffer, key, value.as_slice())? {
-            return Ok(None);
+        let key = key(alloc, 1, own)?;
+        if !put(&mut buffer, key.as_key(), 1, value.as_slice()) {
+            return Err(AllocError);
         }
     }
-    replaced(alloc, &buffer, 3)
+    replaced(alloc, &buffer)
+}
+
+/// Whether there are so many leaves, each with so many rows.
+fn have_rows<A: Allocator>(leaves: &[Leaf<A>], counts: &[usize]) -> bool {
+    for (i, leaf) in leaves.iter().enumerate() {
+        if counts.get(i) != Some(&leaf.rows.len()) {
+            return false;
+        }
+    }
+    leaves.len() == counts.len()
+}
+
+/// Whether these leaves come in its place, with so many rows, and the messages below this key are merged.
+fn is_replaced_by<A: Allocator + Copy>(
+    alloc: A,
+    (keys, bytes): (&[u8], usize),
+    (rows, end): (&[usize], &[u8]),
+) -> Result<bool, AllocError> {
+    let replacement = replaced_with(alloc, keys, bytes)?;
+    let Some(first) = replacement.leaves.first() else {
+        return Ok(false);
+    };
+    Ok(
+        first.low.as_key().bytes == b"\x00\x00\x00\x01".as_slice()
+            && replacement.end.as_key().bytes == end
+            && have_rows(replacement.leaves.as_slice(), rows),
+    )
 }
 
 #[test]
@@ -89,36 +93,8 @@ fn messages_are_merged_as_far_as_there_are_places(rt: HostRuntime) -> Result<(),
         (b" bcdefgh", 3_000, &[1, 1, 0], &[0, 0, 0, 1, b'c']),
     ];
     for (keys, bytes, rows, end) in cases {
-        let replacement = replaced_with(rt.alloc(), keys, bytes)?.ok_or(AllocError)?;
-        assert!(rt; replacement.end.as_key().bytes == end);
-        assert!(rt; replacement.leaves.len() == rows.len());
-        for i in 0..rows.len() {
-            assert!(rt;
-                replacement.leaves[i].rows.len() == rows[i],
-                "leaf {i} of {keys:?}"
-            );
-        }
-        assert!(rt; replacement.leaves[0].low.as_key().bytes == [0, 0, 0, 1].as_slice());
-    }
-    Ok(())
-}
-
-/// Whether there are leaves in the place of one whose messages have more pages than places.
-fn is_replaced<A: Allocator + Copy>(alloc: A) -> bool {
-    match replaced_with(alloc, b"abcdefgh", 3_000) {
-        Ok(replaced) => replaced.is_some(),
-        Err(_) => false,
-    }
-}
-
-#[test]
-fn each_request_may_be_refused(rt: HostRuntime) -> Result<(), Fail> {
-    let heap = Refusing::new(rt.alloc());
-    assert!(rt; is_replaced(&heap));
-    let asked = heap.asked();
-    for n in 0..asked {
-        heap.set(Plan::RefuseAt(n));
-        assert!(rt; !is_replaced(&heap), "request {n}");
+        let is_right = is_replaced_by(rt.alloc(), (keys, bytes), (rows, end))?;
+        assert!(rt; is_right, "{keys:?}");
     }
     Ok(())
 }

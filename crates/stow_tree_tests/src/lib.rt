@@ -7,6 +7,8 @@
 #[cfg(test)]
 mod flush;
 #[cfg(test)]
+mod keys;
+#[cfg(test)]
 mod leaf;
 #[cfg(test)]
 mod leaf_cache;
@@ -17,10 +19,18 @@ mod message;
 #[cfg(test)]
 mod node;
 #[cfg(test)]
+mod numbered_root;
+#[cfg(test)]
 mod page;
+#[cfg(test)]
+mod pins;
+#[cfg(test)]
+mod random;
 #[cfg(test)]
 mod raw;
 #[cfg(test)]
 mod read;
+#[cfg(test)]
+mod refusals;
 #[cfg(test)]
 mod tree;

@@ -1,329 +1,326 @@
 //! What no clause says: that the calls succeed where there is memory, that each request for it may be refused, and
 //! that random merges are those of the plain program.
-ghost use Rattle.std.specs.Prelude.{◌<◌};
-
-mod jobs;
-
-use std::alloc::{AllocError, Allocator, Global};
-use std::process::Abort;
+use crate::keys::key;
+use crate::merge::cases::{Case, are_same, packed, pins_of, random_case, three_keys};
+use crate::message::push;
+use crate::random::below;
+use std::alloc::{AllocError, Allocator};
 use std::test::Fail;
 use stow_merge::cutting::cut;
-use stow_merge::fitting::has_short_values;
+use stow_merge::fitting::{has_short_values, is_mergeable};
+use stow_merge::flush_job::FlushJob;
+use stow_merge::flush_result::FlushResult;
+use stow_merge::flush_target::{FlushTarget, LEAST_LEAF_TARGET};
 use stow_merge::merging::merge_into_pages;
 use stow_merge::pins::Pins;
-use stow_page::packed_rows::PackedRows;
+use stow_message::message_buf::MessageBuf;
 use stow_page::rows::Rows;
 use stow_refusing::{Plan, Refusing};
 use stow_tree_model::message::Message;
 use stow_tree_model::op::Op;
-use stow_tree_model::pin::Pin;
-use stow_tree_model::plain::{merge, message, messages_rise, version, versions_rise};
+use stow_tree_model::plain::{message, messages_rise, version};
 use stow_tree_model::tenant_key_buf::TenantKeyBuf;
-use stow_tree_model::version::Version;
-use stow_tree_model::version_buf::VersionBuf;
 
-/// Adds a pin, if it may be added.
-fn pinned<A: Allocator + Copy>(
-    pins: &mut Pins<A>,
-    tenant: u32,
-    number: u64,
+mod cases;
+
+/// Whether pages end there.
+fn is_cut<A: Allocator + Copy>(
+    alloc: A,
+    sizes: &[u32],
+    ends: &[usize],
 ) -> Result<bool, AllocError> {
-    pins.room(tenant)?;
-    let held = pins.of(tenant);
-    let fits = held.len() < 64 && held.iter().all(|p| *p < number);
-    if fits {
-        pins.add(tenant, number);
-    }
-    Ok(fits)
-}
-
-#[test]
-fn pins_come_and_go(rt: HostRuntime) -> Result<(), Fail> {
-    let heap = Refusing::new(rt.alloc());
-    let mut pins = Pins::new(&heap);
-    assert!(rt; pins.of(7).is_empty() && heap.asked() == 0);
-    assert!(rt; pinned(&mut pins, 2, 5)? && pinned(&mut pins, 2, 9)? && pinned(&mut pins, 1, 3)?);
-    assert!(rt; !pinned(&mut pins, 2, 9)?);
-    assert!(rt; pins.of(2) == [5, 9].as_slice() && pins.of(1) == [3].as_slice());
-    assert!(rt; pins.of(0).is_empty() && pins.of(3).is_empty());
-    heap.set(Plan::RefuseAll);
-    pins.remove(2, 6);
-    pins.remove(7, 5);
-    pins.remove(1, 5);
-    assert!(rt; pins.of(2) == [5, 9].as_slice() && pins.of(1) == [3].as_slice());
-    pins.remove(2, 5);
-    assert!(rt; pins.of(2) == [9].as_slice() && pins.of(1) == [3].as_slice());
-    assert!(rt; heap.asked() == 0);
-    Ok(())
-}
-
-#[test]
-fn sixty_four_pins_at_most(rt: HostRuntime) -> Result<(), Fail> {
-    let mut pins = Pins::new(rt.alloc());
-    for number in 1..65u64 {
-        assert!(rt; pinned(&mut pins, 1, number)?, "pin {number}");
-    }
-    assert!(rt; !pinned(&mut pins, 1, 65)? && pinned(&mut pins, 2, 65)?);
-    pins.remove(1, 7);
-    assert!(rt; pins.of(1).len() == 63 && pinned(&mut pins, 1, 65)?);
-    Ok(())
-}
-
-#[test]
-fn room_withstands_each_refusal(rt: HostRuntime) -> Result<(), Fail> {
-    let heap = Refusing::new(rt.alloc());
-    let mut refusals = 0u64;
-    for round in 0..100u64 {
-        heap.set(Plan::Grant);
-        let mut pins = Pins::new(&heap);
-        assert!(rt; pinned(&mut pins, 1, 5)?);
-        heap.set(Plan::RefuseAt(round));
-        let room = pins.room(9);
-        if heap.asked() <= round {
-            break;
-        }
-        refusals = round + 1;
-        assert!(rt; room.is_err(), "request {round}");
-        assert!(rt; pins.of(1) == [5].as_slice() && pins.of(9).is_empty());
-        heap.set(Plan::Grant);
-        assert!(rt; pinned(&mut pins, 9, 1)? && pins.of(9) == [1].as_slice());
-    }
-    assert!(rt; refusals >= 2, "{refusals} refusals");
-    Ok(())
+    Ok(cut(alloc, sizes, 10)?.as_slice() == ends)
 }
 
 #[test]
 fn leaves_are_cut_between_keys(rt: HostRuntime) -> Result<(), Fail> {
-    let alloc = rt.alloc();
-    assert!(rt; cut(alloc, &[], 10)?.is_empty());
-    assert!(rt; cut(alloc, [4, 4].as_slice(), 10)?.as_slice() == [2].as_slice());
-    let above = cut(alloc, [5, 5, 5, 5, 30, 1].as_slice(), 10)?;
-    assert!(rt; above.as_slice() == [2, 4, 5, 6].as_slice());
-    let even = cut(alloc, [6, 2, 2, 2].as_slice(), 10)?;
-    assert!(rt; even.as_slice() == [1, 4].as_slice());
+    let cases: [(&[u32], &[usize]); 4] = [
+        (&[], &[]),
+        (&[4, 4], &[2]),
+        (&[5, 5, 5, 5, 30, 1], &[2, 4, 5, 6]),
+        (&[6, 2, 2, 2], &[1, 4]),
+    ];
+    for (sizes, ends) in cases {
+        assert!(rt; is_cut(rt.alloc(), sizes, ends)?, "{sizes:?}");
+    }
     Ok(())
 }
 
-/// A number below `bound` that follows from the state.
-fn below(state: &mut u64, bound: u64) -> u64
-    requires { 0 < bound }
-{
-    *state = state
-        .wrapping_mul(6_364_136_223_846_793_005)
-        .wrapping_add(1_442_695_040_888_963_407);
-    (*state >> 33) % bound
+/// The pages of a leaf and a batch. What can't be merged is told as want of memory.
+fn merged<A: Allocator + Copy, B: Allocator, C: Allocator>(
+    alloc: A,
+    leaf: &Rows<C>,
+    case: &Case<'_, B>,
+    target: u32,
+) -> Result<Vec<Rows<A>, A>, AllocError> {
+    let pins = pins_of(alloc, case.pins.as_slice())?;
+    let batch = case.batch.as_slice();
+    if !messages_rise(batch) || !has_short_values(alloc, leaf, batch, &pins)? {
+        return Err(AllocError);
+    }
+    merge_into_pages(alloc, leaf, batch, &pins, target)
 }
 
-/// Nothing, a byte, or the long value.
-fn some_bytes<'v>(state: &mut u64, long: &'v [u8]) -> &'v [u8] {
-    match below(state, 3) {
-        0 => b"",
-        1 => b"x",
-        _ => long,
+/// How many pages there are, or none where they aren't those of the case.
+fn count_if_same<A: Allocator, B: Allocator>(pages: &[Rows<A>], case: &Case<'_, B>) -> usize {
+    if are_same(pages, case.merged.as_slice()) {
+        pages.len()
+    } else {
+        0
     }
 }
 
-fn random_rows<'a>(
-    alloc: Global,
-    keys: &'a [TenantKeyBuf],
-    long: &'a [u8],
-    state: &mut u64,
-) -> Result<Vec<Version<'a>>, AllocError> {
-    let mut rows = Vec::new(alloc);
-    for key in keys {
-        for number in 1..9u64 {
-            if below(state, 3) == 0 {
-                let value = if below(state, 3) == 0 {
-                    None
-                } else {
-                    Some(some_bytes(state, long))
-                };
-                if let Some(row) = version(key.as_key(), number, value) {
-                    rows.push(row)?;
-                }
-            }
-        }
-    }
-    Ok(rows)
-}
-
-fn random_batch<'a>(
-    alloc: Global,
-    keys: &'a [TenantKeyBuf],
-    long: &'a [u8],
-    state: &mut u64,
-) -> Result<Vec<Message<'a>>, AllocError> {
-    let mut batch = Vec::new(alloc);
-    for key in keys {
-        for number in 3..12u64 {
-            if below(state, 3) == 0 {
-                let op = match below(state, 4) {
-                    0 => Op::Put(some_bytes(state, long)),
-                    1 => Op::Gone,
-                    _ => Op::Append(some_bytes(state, long)),
-                };
-                if let Some(added) = message(key.as_key(), number, op) {
-                    batch.push(added)?;
-                }
-            }
-        }
-    }
-    Ok(batch)
-}
-
-fn random_pins(alloc: Global, state: &mut u64) -> Result<Vec<Pin>, AllocError> {
-    let mut pins = Vec::new(alloc);
-    for tenant in 1..3u32 {
-        for number in 1..13u64 {
-            if below(state, 4) == 0 {
-                pins.push(Pin { tenant, number })?;
-            }
-        }
-    }
-    Ok(pins)
-}
-
-/// The pins of a list, as far as they may be added.
-fn pins_of<A: Allocator + Copy>(alloc: A, listed: &[Pin]) -> Result<Pins<A>, AllocError> {
-    let mut pins = Pins::new(alloc);
-    for pin in listed {
-        pinned(&mut pins, pin.tenant, pin.number)?;
-    }
-    Ok(pins)
-}
-
-/// The rows in one block.
-fn packed<A: Allocator + Copy>(alloc: A, rows: &[Version<'_>]) -> Result<Rows<A>, AllocError> {
-    let mut packed = PackedRows::new(alloc)?;
-    for row in rows {
-        if packed.is_below(*row) && packed.has_room_for(*row) {
-            packed.push(*row)?;
-        }
-    }
-    Rows::new(alloc, packed)
-}
-
-fn is_version(row: Version<'_>, wanted: &VersionBuf) -> bool {
-    let same_value = match (row.value, &wanted.value) {
-        (None, None) => true,
-        (Some(bytes), Some(wanted)) => bytes == wanted.as_slice(),
-        _ => false,
-    };
-    same_value && row.key.bytes == wanted.key.as_key().bytes && row.number == wanted.number
-}
-
-/// Whether the pages, read in order, hold the versions of the plain merge.
-fn are_same<A: Allocator + Copy>(pages: &[Rows<A>], plain: &[VersionBuf]) -> bool {
-    let mut left = plain;
-    for page in pages {
-        let len = page.len();
-        for i in 0..len {
-            let row = page.get(i);
-            match left.split_first() {
-                None => return false,
-                Some((wanted, rest)) => {
-                    if !is_version(row, wanted) {
-                        return false;
-                    }
-                    left = rest;
-                }
-            }
-        }
-    }
-    left.is_empty()
-}
-
-/// How many pages a random merge has, or none where it isn't the plain one.
-fn pages_as_plain(
-    rt: &impl Abort,
-    alloc: Global,
-    keys: &[TenantKeyBuf],
+/// How many pages a random merge has, or none where they aren't those of the plain one.
+fn random_merge<A: Allocator + Copy>(
+    alloc: A,
+    keys: &[TenantKeyBuf<A>],
     state: &mut u64,
 ) -> Result<usize, AllocError> {
-    let rows = random_rows(alloc, keys, b"yz", state)?;
-    let batch = random_batch(alloc, keys, b"yz", state)?;
-    let listed = random_pins(alloc, state)?;
-    let pins = pins_of(alloc, listed.as_slice())?;
-    let plain = merge(alloc, rows.as_slice(), batch.as_slice(), listed.as_slice())?;
-    let leaf = packed(alloc, rows.as_slice())?;
-    assert!(rt; messages_rise(batch.as_slice()));
-    let short = has_short_values(alloc, &leaf, batch.as_slice(), &pins)?;
-    assert!(rt; short);
+    let case = random_case(alloc, keys, b"yz", false, state)?;
+    let leaf = packed(alloc, case.rows.as_slice())?;
     let target = u32::try_from(below(state, 200)).unwrap_or(30);
-    let pages = merge_into_pages(alloc, &leaf, batch.as_slice(), &pins, target)?;
-    if are_same(pages.as_slice(), plain.as_slice()) {
-        Ok(pages.len())
-    } else {
-        Ok(0)
+    let pages = merged(alloc, &leaf, &case, target)?;
+    Ok(count_if_same(pages.as_slice(), &case))
+}
+
+/// The fewest and the most pages of 200 random merges.
+fn merges<A: Allocator + Copy>(alloc: A) -> Result<(usize, usize), AllocError> {
+    let keys = three_keys(alloc)?;
+    let mut state = 1;
+    let (mut least, mut most) = (9, 0);
+    for _ in 0..200 {
+        let count = random_merge(alloc, keys.as_slice(), &mut state)?;
+        least = count.min(least);
+        most = count.max(most);
     }
+    Ok((least, most))
 }
 
 #[test]
 fn random_merges_are_plain_merges(rt: HostRuntime) -> Result<(), Fail> {
-    let alloc = rt.alloc();
-    let keys = [
-        TenantKeyBuf::new(alloc, 1, b"a")?,
-        TenantKeyBuf::new(alloc, 1, b"ab")?,
-        TenantKeyBuf::new(alloc, 2, b"a")?,
-    ];
-    let mut state = 1;
-    let mut most = 0;
-    for round in 0..200u64 {
-        let pages = pages_as_plain(&rt, alloc, keys.as_slice(), &mut state)?;
-        assert!(rt; pages > 0, "round {round}");
-        most = most.max(pages);
-    }
-    assert_eq!(rt; most, 3);
+    assert_eq!(rt; merges(rt.alloc())?, (1, 3));
     Ok(())
 }
 
-#[test]
-fn merge_withstands_each_refusal(rt: HostRuntime) -> Result<(), Fail> {
-    let alloc = rt.alloc();
-    let heap = Refusing::new(alloc);
-    let keys = [
-        TenantKeyBuf::new(alloc, 1, b"a")?,
-        TenantKeyBuf::new(alloc, 1, b"b")?,
-    ];
-    let mut state = 5;
-    let rows = random_rows(alloc, keys.as_slice(), b"yz", &mut state)?;
-    let batch = random_batch(alloc, keys.as_slice(), b"yz", &mut state)?;
-    let pins = Pins::new(alloc);
-    let plain = merge(alloc, rows.as_slice(), batch.as_slice(), &[])?;
-    let leaf = packed(alloc, rows.as_slice())?;
-    assert!(rt; messages_rise(batch.as_slice()));
-    let short = has_short_values(alloc, &leaf, batch.as_slice(), &pins)?;
-    assert!(rt; short);
-    let mut refusals = 0u64;
-    for round in 0..100u64 {
-        heap.set(Plan::RefuseAt(round));
-        let merged = merge_into_pages(&heap, &leaf, batch.as_slice(), &pins, 30);
-        if heap.asked() <= round {
-            break;
+/// How many requests a merge makes, where each is refused in turn, and the merge after it is the plain one. An end that is
+/// wrong is told as want of memory.
+fn merge_refusals<A: Allocator + Copy, B: Allocator + Copy, C: Allocator>(
+    heap: &Refusing<C>,
+    (lent, alloc): (A, B),
+) -> Result<u64, AllocError> {
+    let keys = three_keys(alloc)?;
+    let case = random_case(alloc, keys.as_slice(), b"yz", false, &mut 5)?;
+    let leaf = packed(alloc, case.rows.as_slice())?;
+    for n in 0..100u64 {
+        heap.set(Plan::RefuseAt(n));
+        let is_merged = merged(lent, &leaf, &case, 30).is_ok();
+        if is_merged || heap.asked() <= n {
+            return if is_merged { Ok(n) } else { Err(AllocError) };
         }
-        refusals = round + 1;
-        assert!(rt; merged.is_err(), "request {round}");
         heap.set(Plan::Grant);
-        let again = merge_into_pages(&heap, &leaf, batch.as_slice(), &pins, 30)?;
-        assert!(rt; are_same(again.as_slice(), plain.as_slice()));
+        if count_if_same(merged(lent, &leaf, &case, 30)?.as_slice(), &case) == 0 {
+            return Err(AllocError);
+        }
     }
-    assert!(rt; refusals >= 10, "{refusals} refusals");
-    Ok(())
+    Err(AllocError)
 }
 
 #[test]
-fn values_within_the_limit_alone_are_merged(rt: HostRuntime) -> Result<(), Fail> {
-    let alloc = rt.alloc();
-    let key = TenantKeyBuf::new(alloc, 1, b"a")?;
-    let longest = vec![in alloc; b'x'; 65_535]?;
-    let row = version(key.as_key(), 1, Some(longest.as_slice())).ok_or("range")?;
-    let leaf = packed(alloc, &[row])?;
-    let pins = Pins::new(alloc);
-    for suffix in [b"".as_slice(), b"y"] {
-        let batch = [message(key.as_key(), 2, Op::Append(suffix)).ok_or("range")?];
-        assert!(rt; messages_rise(batch.as_slice()));
-        let short = has_short_values(alloc, &leaf, batch.as_slice(), &pins)?;
-        assert!(rt; short == suffix.is_empty());
+fn a_merge_withstands_each_refusal(rt: HostRuntime) -> Result<(), Fail> {
+    let heap = Refusing::new(rt.alloc());
+    assert!(rt; merge_refusals(&heap, (&heap, rt.alloc()))? >= 10);
+    Ok(())
+}
+
+/// The messages in one buffer.
+fn buffered<A: Allocator + Copy>(
+    alloc: A,
+    messages: &[Message<'_>],
+) -> Result<MessageBuf<A>, AllocError> {
+    let mut buffer = MessageBuf::with_capacity(alloc, 131_072)?;
+    for message in messages {
+        push(&mut buffer, *message);
     }
+    Ok(buffer)
+}
+
+/// The job of a case, cut by the lowest target. What can't be merged is told by none.
+fn job<A: Allocator + Copy, B: Allocator>(
+    alloc: A,
+    case: &Case<'_, B>,
+) -> Result<Option<FlushJob<A>>, AllocError> {
+    let page = packed(alloc, case.rows.as_slice())?;
+    let batch = buffered(alloc, case.batch.as_slice())?;
+    let pins = pins_of(alloc, case.pins.as_slice())?;
+    let target = FlushTarget {
+        low_fence: key(alloc, 1, b"")?,
+        leaf_target: LEAST_LEAF_TARGET,
+    };
+    if is_mergeable(alloc, &page, &batch, &pins)? {
+        Ok(Some(FlushJob::new(page, batch, pins, target)))
+    } else {
+        Ok(None)
+    }
+}
+
+/// How many pages the job's merge has, or none where they aren't those of the case.
+fn pages_of<A: Allocator + Copy, B: Allocator>(
+    merged: &FlushResult<A>,
+    case: &Case<'_, B>,
+) -> usize {
+    if merged.job.batch.len() == case.batch.len() {
+        count_if_same(merged.pages.as_slice(), case)
+    } else {
+        0
+    }
+}
+
+/// How a job ends, with how many pages.
+#[derive(Drop)]
+enum End {
+    NotMade,
+    CameBackWhole(usize),
+    Merged(usize),
+}
+
+/// Makes the case's job and merges it, and where that is refused merges it again with ample memory.
+fn end_of<A: Allocator + Copy, B: Allocator, C: Allocator>(
+    heap: &Refusing<C>,
+    alloc: A,
+    case: &Case<'_, B>,
+) -> Result<End, AllocError> {
+    let Ok(Some(job)) = job(alloc, case) else {
+        return Ok(End::NotMade);
+    };
+    let whole = match job.merge(alloc) {
+        Ok(merged) => return Ok(End::Merged(pages_of(&merged, case))),
+        Err((whole, _)) => whole,
+    };
+    heap.set(Plan::Grant);
+    match whole.merge(alloc) {
+        Ok(merged) => Ok(End::CameBackWhole(pages_of(&merged, case))),
+        Err((_, refused)) => Err(refused),
+    }
+}
+
+/// The fewest and the most pages of 100 random jobs' merges. A job that can't be merged has none.
+fn jobs<A: Allocator + Copy, C: Allocator>(
+    heap: &Refusing<C>,
+    alloc: A,
+) -> Result<(usize, usize), AllocError> {
+    let keys = three_keys(alloc)?;
+    let long = Vec::from_elem(alloc, b'v', 1_000)?;
+    let mut state = 7;
+    let (mut least, mut most) = (9, 0);
+    for _ in 0..100 {
+        let case = random_case(alloc, keys.as_slice(), long.as_slice(), true, &mut state)?;
+        let count = match end_of(heap, alloc, &case)? {
+            End::Merged(count) => count,
+            End::NotMade | End::CameBackWhole(_) => 0,
+        };
+        least = count.min(least);
+        most = count.max(most);
+    }
+    Ok((least, most))
+}
+
+#[test]
+fn random_jobs_are_plain_merges(rt: HostRuntime) -> Result<(), Fail> {
+    let heap = Refusing::new(rt.alloc());
+    assert_eq!(rt; jobs(&heap, &heap)?, (1, 3));
+    Ok(())
+}
+
+/// How many jobs came back whole, as each request for memory is refused in turn. An end that is wrong is told as want of
+/// memory.
+fn come_back<A: Allocator + Copy, B: Allocator + Copy, C: Allocator>(
+    heap: &Refusing<C>,
+    (lent, alloc): (A, B),
+) -> Result<u64, AllocError> {
+    let keys = three_keys(alloc)?;
+    let long = Vec::from_elem(alloc, b'v', 1_000)?;
+    let case = random_case(alloc, keys.as_slice(), long.as_slice(), true, &mut 7)?;
+    let mut whole = 0u64;
+    for n in 0..300u64 {
+        heap.set(Plan::RefuseAt(n));
+        match end_of(heap, lent, &case)? {
+            End::NotMade if heap.asked() > n => {}
+            End::CameBackWhole(pages) if pages > 0 => whole = whole.saturating_add(1),
+            End::Merged(pages) if pages > 0 && heap.asked() <= n => return Ok(whole),
+            _ => return Err(AllocError),
+        }
+    }
+    Err(AllocError)
+}
+
+#[test]
+fn refused_jobs_come_back_whole(rt: HostRuntime) -> Result<(), Fail> {
+    let heap = Refusing::new(rt.alloc());
+    assert!(rt; come_back(&heap, (&heap, rt.alloc()))? >= 10);
+    Ok(())
+}
+
+/// Whether values stay short as a batch is merged into a leaf.
+fn is_short<A: Allocator + Copy>(
+    alloc: A,
+    leaf: &Rows<A>,
+    case: &Case<'_, A>,
+) -> Result<bool, AllocError> {
+    let batch = case.batch.as_slice();
+    Ok(messages_rise(batch) && has_short_values(alloc, leaf, batch, &Pins::new(alloc))?)
+}
+
+/// A leaf of one version of a key, the first, and one message of it.
+fn case_of_one<'a, A: Allocator + Copy>(
+    alloc: A,
+    key: &'a TenantKeyBuf<A>,
+    value: &'a [u8],
+    number: u64,
+    op: Op<'a>,
+) -> Result<Case<'a, A>, AllocError> {
+    let mut rows = Vec::new(alloc);
+    if let Some(row) = version(key.as_key(), 1, Some(value)) {
+        rows.push(row)?;
+    }
+    let mut batch = Vec::new(alloc);
+    if let Some(added) = message(key.as_key(), number, op) {
+        batch.push(added)?;
+    }
+    Ok(Case {
+        rows,
+        batch,
+        pins: Vec::new(alloc),
+        merged: Vec::new(alloc),
+    })
+}
+
+/// Whether values stay short as a leaf of one version of tenant 1's `a`, the first, is merged with one message of it, its
+/// removal or bytes that are appended; and whether that can be a job.
+fn can_merge<A: Allocator + Copy>(
+    alloc: A,
+    len: usize,
+    number: u64,
+    appended: Option<&[u8]>,
+) -> Result<(bool, bool), AllocError> {
+    let key = key(alloc, 1, b"a")?;
+    let value = Vec::from_elem(alloc, b'x', len)?;
+    let op = match appended {
+        Some(suffix) => Op::Append(suffix),
+        None => Op::Gone,
+    };
+    let case = case_of_one(alloc, &key, value.as_slice(), number, op)?;
+    let leaf = packed(alloc, case.rows.as_slice())?;
+    Ok((is_short(alloc, &leaf, &case)?, job(alloc, &case)?.is_some()))
+}
+
+#[test]
+fn what_can_be_merged(rt: HostRuntime) -> Result<(), Fail> {
+    assert_eq!(rt; can_merge(rt.alloc(), 1, 2, None)?, (true, true));
+    assert_eq!(rt; can_merge(rt.alloc(), 1, 1, None)?, (true, false));
+    assert_eq!(rt; can_merge(rt.alloc(), 65_535, 2, Some(b""))?, (true, true));
+    assert_eq!(rt;
+        can_merge(rt.alloc(), 65_535, 2, Some(b"y"))?,
+        (false, false)
+    );
     Ok(())
 }

@@ -1,84 +1,37 @@
-//! What no clause says: that the calls succeed where there is memory, and which of them ask for none.
-ghost use Rattle.std.specs.Prelude.{◌≡◌, ℕ, ◌+◌, ◌<◌, ◌≤◌, [], length, IsTrue, IfOk};
-ghost use Rattle.stow_tree_model.specs.Keys.{packed};
-ghost use Rattle.stow_node.specs.Flushes.{AreShort};
-ghost use Rattle.stow_tree_tests.specs.Ready.{IsReadyAbove};
-ghost use Rattle.stow_node.specs.Subtree.{messages_of, places_at};
-
+//! Messages on their way down a root's nodes, and leaves that are emptied.
+use crate::keys::key;
+use crate::numbered_root::NumberedRoot;
 use std::alloc::{AllocError, Allocator};
 use std::test::Fail;
-use stow_leaf_cache::leaf_cache::LeafCache;
-use stow_merge::pins::Pins;
 use stow_node::child::Child;
 use stow_node::node::Node;
-use stow_node::shape::Shape;
-use stow_raw::raw_buf::RawBuf;
 use stow_refusing::{Plan, Refusing};
-use stow_tree_model::message::Message;
 use stow_tree_model::op::Op;
-use stow_tree_model::plain::message;
-use stow_tree_model::tenant_key::TenantKey;
 
-/// The smallest tree.
-fn smallest() -> Shape
-    ensures { (result.fan_out ≡ 4) × (result.buffer ≡ 131072) }
-{
-    Shape {
-        buffer: 131_072,
-        leaf: 4096,
-        fan_out: 4,
-    }
+/// Puts a message of tenant 1's key.
+pub(crate) fn put<A: Allocator + Copy>(
+    alloc: A,
+    root: &mut NumberedRoot<A>,
+    own: &[u8],
+    op: Op<'_>,
+) -> Result<(), AllocError> {
+    let key = key(alloc, 1, own)?;
+    root.put(alloc, key.as_key(), op)
 }
 
-/// Puts tenant 1's `a` into a node without messages.
-fn put_a<A: Allocator>(node: &mut Node<A>)
-    requires none { messages_of node.old ≡ [] }
-    requires low { node.old.low ≡ packed 0 [] }
-    requires room { node.old.buffer.used + 23 ≤ node.old.buffer.capacity }
-    ensures some { 0 < length node.new.buffer.messages }
-    ensures capacity { node.new.buffer.capacity ≡ node.old.buffer.capacity }
-    ensures short { AreShort (messages_of node.new) }
-    ensures height { node.new.height ≡ node.old.height }
-    ensures width { node.new.width ≡ node.old.width }
-    ensures shape { node.new.shape ≡ node.old.shape }
-{
-    node.push(Message {
-        key: TenantKey::from_packed(&[0, 0, 0, 1, b'a']),
-        number: 1,
-        op: Op::Put(b"x"),
-    });
+/// A root above a leaf into which the value `x` of `a` was merged.
+pub(crate) fn with_row<A: Allocator + Copy>(alloc: A) -> Result<NumberedRoot<A>, AllocError> {
+    let mut root = NumberedRoot::new(alloc, 4)?;
+    put(alloc, &mut root, b"a", Op::Put(b"x"))?;
+    root.step(alloc)?;
+    Ok(root)
 }
 
 /// A node above another.
-fn two_levels<A: Allocator + Copy>(alloc: A) -> Result<Node<A>, AllocError>
-    ensures none { IfOk result (λ n. messages_of n ≡ []) }
-    ensures low { IfOk result (λ n. n.low ≡ packed 0 []) }
-    ensures room { IfOk result (λ n. (n.buffer.used ≡ 0) × (n.buffer.capacity ≡ 131072)) }
-    ensures places { IfOk result (λ n. n.width + places_at n.height ≤ n.shape.fan_out) }
-    ensures shape { IfOk result (λ n. 4 ≤ n.shape.fan_out) }
-{
-    let mut node = Node::first(alloc, smallest())?;
-    node.raise(alloc)?;
-    Ok(node)
-}
-
-/// Puts a message into a node without any, and takes a step.
-fn put_and_step<A: Allocator + Copy>(
-    alloc: A,
-    node: &mut Node<A>,
-    pins: &Pins<A>,
-    spare: &mut RawBuf<A>,
-    cache: &mut LeafCache<A>,
-) -> Result<(), AllocError>
-    requires none { messages_of node.old ≡ [] }
-    requires low { node.old.low ≡ packed 0 [] }
-    requires room { node.old.buffer.used + 23 ≤ node.old.buffer.capacity }
-    requires places { node.old.width + places_at node.old.height ≤ node.old.shape.fan_out }
-    requires shape { 4 ≤ node.old.shape.fan_out }
-    requires spare { node.old.buffer.capacity ≤ spare.old.capacity }
-{
-    put_a(node);
-    node.step(alloc, pins, spare, cache)
+pub(crate) fn two_levels<A: Allocator + Copy>(alloc: A) -> Result<NumberedRoot<A>, AllocError> {
+    let mut root = NumberedRoot::new(alloc, 4)?;
+    root.raise(alloc)?;
+    Ok(root)
 }
 
 /// How many messages there are in the buffer of the first child.
@@ -91,169 +44,84 @@ fn buffered_below<A: Allocator>(node: &Node<A>) -> usize {
 
 /// Whether a node above one child for all keys has this height.
 fn is_above_one<A: Allocator>(node: &Node<A>, height: u64) -> bool {
-    node.height() == height && node.width() == 1 && node.low().bytes == [0; 4].as_slice()
+    node.height() == height && node.width() == 1 && node.low().bytes == b"\0\0\0\0".as_slice()
 }
 
-/// Whether a message moves out of the upper buffer of two into the lower one.
-fn moves_one_level<A: Allocator + Copy>(alloc: A) -> Result<bool, AllocError> {
-    let mut spare = RawBuf::with_capacity(alloc, 131_072)?;
-    let mut cache = LeafCache::new(alloc, 0)?;
-    let pins = Pins::new(alloc);
-    let mut node = two_levels(alloc)?;
-    let stands = is_above_one(&node, 2);
-    put_and_step(alloc, &mut node, &pins, &mut spare, &mut cache)?;
-    Ok(stands && node.buffer().len() == 0 && buffered_below(&node) == 1)
-}
-
-#[test]
-fn messages_move_one_level(rt: HostRuntime) -> Result<(), Fail> {
-    assert!(rt; moves_one_level(rt.alloc())?);
-    Ok(())
-}
-
-/// How many requests for memory a put and its way down make, if the nodes can be had.
-fn asked_below<B: Allocator>(heap: &Refusing<B>) -> Result<u64, AllocError> {
-    let mut spare = RawBuf::with_capacity(heap, 131_072)?;
-    let mut cache = LeafCache::new(heap, 0)?;
-    let pins = Pins::new(heap);
-    let mut node = two_levels(heap)?;
-    heap.set(Plan::RefuseAll);
-    put_and_step(heap, &mut node, &pins, &mut spare, &mut cache)?;
-    Ok(heap.asked())
-}
-
-#[test]
-fn moving_asks_for_no_memory(rt: HostRuntime) -> Result<(), Fail> {
-    let heap = Refusing::new(rt.alloc());
-    assert_eq!(rt; asked_below(&heap)?, 0);
-    Ok(())
-}
-
-/// Whether two levels can be had.
-fn is_made<A: Allocator + Copy>(alloc: A) -> bool {
-    two_levels(alloc).is_ok()
-}
-
-#[test]
-fn making_withstands_each_refusal(rt: HostRuntime) -> Result<(), Fail> {
-    let heap = Refusing::new(rt.alloc());
-    assert!(rt; is_made(&heap));
-    let asked = heap.asked();
-    for n in 0..asked {
-        heap.set(Plan::RefuseAt(n));
-        assert!(rt; !is_made(&heap), "request {n}");
+/// How many messages are in the upper and in the lower buffer of two once a message was put and took a step, and how many
+/// requests for memory that makes: each is refused.
+fn moved<A: Allocator + Copy, B: Allocator>(
+    heap: &Refusing<B>,
+    alloc: A,
+) -> Result<Option<(usize, usize, u64)>, AllocError> {
+    let key = key(alloc, 1, b"a")?;
+    let mut root = two_levels(alloc)?;
+    if !is_above_one(&root.root, 2) {
+        return Ok(None);
     }
-    assert!(rt; asked >= 9, "{asked} requests");
+    heap.set(Plan::RefuseAll);
+    root.put(alloc, key.as_key(), Op::Put(b"x"))?;
+    root.step(alloc)?;
+    let asked = heap.asked();
+    Ok(Some((root.root.buffer().len(), buffered_below(&root.root), asked)))
+}
+
+#[test]
+fn messages_move_one_level_without_memory(rt: HostRuntime) -> Result<(), Fail> {
+    let heap = Refusing::new(rt.alloc());
+    assert_eq!(rt; moved(&heap, &heap)?, Some((0, 1, 0)));
     Ok(())
 }
 
-/// Whether a first node, a spare block and a cache can be had, and a message is merged into the leaf.
-fn is_flushed<A: Allocator + Copy>(alloc: A) -> Result<bool, AllocError> {
-    let mut spare = RawBuf::with_capacity(alloc, 131_072)?;
-    let mut cache = LeafCache::new(alloc, 0)?;
-    let pins = Pins::new(alloc);
-    let mut node = Node::first(alloc, smallest())?;
-    put_and_step(alloc, &mut node, &pins, &mut spare, &mut cache)?;
-    Ok(node.buffer().len() == 0)
+/// How many messages are in the buffer of a root above a leaf that took one.
+fn left_above_leaf<A: Allocator + Copy>(alloc: A) -> Result<usize, AllocError> {
+    Ok(with_row(alloc)?.root.buffer().len())
 }
 
 #[test]
 fn a_leaf_takes_messages(rt: HostRuntime) -> Result<(), Fail> {
-    let heap = Refusing::new(rt.alloc());
-    assert_eq!(rt; is_flushed(&heap), Ok(true));
-    let asked = heap.asked();
-    for n in 0..asked {
-        heap.set(Plan::RefuseAt(n));
-        assert!(rt; is_flushed(&heap).is_err(), "request {n}");
+    assert_eq!(rt; left_above_leaf(rt.alloc())?, 0);
+    Ok(())
+}
+
+/// Gives twelve keys a value, or removes them.
+fn put_all<A: Allocator + Copy>(
+    alloc: A,
+    root: &mut NumberedRoot<A>,
+    op: Op<'_>,
+) -> Result<(), AllocError> {
+    for own in b"abcdefghijkl" {
+        put(alloc, root, &[*own], op)?;
     }
     Ok(())
 }
 
-/// Puts tenant 1's key of one byte into a node, or removes it, if the message fits there. Its number follows the last.
-fn put<A: Allocator>(node: &mut Node<A>, key: u8, last: u64, value: Option<&[u8]>) -> bool
-    requires few { last < 1000 }
-    requires ready { IsReadyAbove last node.old }
-    ensures { IsTrue result → IsReadyAbove (last + 1) node.new }
-{
-    let op = match value {
-        Some(value) => Op::Put(value),
-        None => Op::Gone,
-    };
-    let packed = [0, 0, 0, 1, key];
-    let Some(made) = message(TenantKey::from_packed(&packed), last + 1, op) else {
-        return false;
-    };
-    let fits = node.fits(made);
-    if fits {
-        node.push(made);
-    }
-    fits
-}
-
-/// The keys that the leaves are filled with.
-const KEYS: &[u8] = b"abcdefghijkl";
-
-/// Puts the keys into a node, or removes them, if all messages fit there.
-fn put_all<A: Allocator>(node: &mut Node<A>, last: u64, value: Option<&[u8]>) -> bool
-    requires few { last < 900 }
-    requires ready { IsReadyAbove last node.old }
-    ensures { IsTrue result → IsReadyAbove (last + 12) node.new }
-{
-    for i in 0..KEYS.len() {
-        if !put(node, KEYS[i], last + i as u64, value) {
-            return false;
-        }
-    }
-    true
-}
-
-/// Takes a step, if there are messages and places for it.
-fn flush<A: Allocator + Copy>(alloc: A, node: &mut Node<A>) -> Result<(), AllocError>
-    requires { AreShort (messages_of node.old) }
-    ensures short { AreShort (messages_of node.new) }
-    ensures ready { (last : ℕ) → IsReadyAbove last node.old → IsReadyAbove last node.new }
-{
-    let shape = node.shape();
-    let free = shape.fan_out as usize - node.width();
-    if node.buffer().len() == 0 || shape.fan_out < 4 || free < node.places() {
-        return Ok(());
-    }
-    let mut spare = RawBuf::with_capacity(alloc, shape.buffer as usize)?;
-    let mut cache = LeafCache::new(alloc, 0)?;
-    node.step(alloc, &Pins::new(alloc), &mut spare, &mut cache)
-}
-
 /// A node above leaves of four keys each, and messages that remove all of them.
-fn to_empty<A: Allocator + Copy>(alloc: A) -> Result<Node<A>, AllocError>
-    ensures { IfOk result (λ node. AreShort (messages_of node)) }
-{
-    let shape = Shape {
-        buffer: 131_072,
-        leaf: 4096,
-        fan_out: 16,
-    };
-    let mut node = Node::first(alloc, shape)?;
+fn to_empty<A: Allocator + Copy>(alloc: A) -> Result<NumberedRoot<A>, AllocError> {
+    let mut root = NumberedRoot::new(alloc, 16)?;
     let value = Vec::from_elem(alloc, b'x', 1000)?;
-    if !put_all(&mut node, 0, Some(value.as_slice())) {
-        return Err(AllocError);
-    }
-    flush(alloc, &mut node)?;
-    if !put_all(&mut node, 12, None) {
-        return Err(AllocError);
-    }
-    Ok(node)
+    put_all(alloc, &mut root, Op::Put(value.as_slice()))?;
+    root.step(alloc)?;
+    put_all(alloc, &mut root, Op::Gone)?;
+    Ok(root)
+}
+
+/// How many leaves there are after a step.
+fn width_after<A: Allocator + Copy>(
+    alloc: A,
+    root: &mut NumberedRoot<A>,
+) -> Result<usize, AllocError> {
+    root.step(alloc)?;
+    Ok(root.root.width())
 }
 
 /// How many leaves there are before and after each of three steps that empty one.
 fn widths<A: Allocator + Copy>(alloc: A) -> Result<[usize; 4], AllocError> {
-    let mut node = to_empty(alloc)?;
-    let full = node.width();
-    flush(alloc, &mut node)?;
-    let first = node.width();
-    flush(alloc, &mut node)?;
-    let second = node.width();
-    flush(alloc, &mut node)?;
-    Ok([full, first, second, node.width()])
+    let mut root = to_empty(alloc)?;
+    let full = root.root.width();
+    let first = width_after(alloc, &mut root)?;
+    let second = width_after(alloc, &mut root)?;
+    let third = width_after(alloc, &mut root)?;
+    Ok([full, first, second, third])
 }
 
 // A page of four keys with values of 1,000 bytes has 4,077 bytes: two of them are more than the target, and one fits
@@ -266,11 +134,15 @@ fn emptied_leaves_are_joined(rt: HostRuntime) -> Result<(), Fail> {
 
 /// The number of leaves once a step was refused its nth request, and three more steps were taken with memory. `None`
 /// where it asked for fewer, `Err` where it did not answer that it was refused.
-fn refused<B: Allocator>(heap: &Refusing<B>, n: u64) -> Result<Option<usize>, AllocError> {
+fn refused<A: Allocator + Copy, B: Allocator>(
+    heap: &Refusing<B>,
+    alloc: A,
+    n: u64,
+) -> Result<Option<usize>, AllocError> {
     heap.set(Plan::Grant);
-    let mut node = to_empty(heap)?;
+    let mut root = to_empty(alloc)?;
     heap.set(Plan::RefuseAt(n));
-    let is_done = flush(heap, &mut node).is_ok();
+    let is_done = root.step(alloc).is_ok();
     if heap.asked() <= n {
         return Ok(None);
     }
@@ -278,10 +150,9 @@ fn refused<B: Allocator>(heap: &Refusing<B>, n: u64) -> Result<Option<usize>, Al
         return Err(AllocError);
     }
     heap.set(Plan::Grant);
-    flush(heap, &mut node)?;
-    flush(heap, &mut node)?;
-    flush(heap, &mut node)?;
-    Ok(Some(node.width()))
+    width_after(alloc, &mut root)?;
+    width_after(alloc, &mut root)?;
+    Ok(Some(width_after(alloc, &mut root)?))
 }
 
 #[test]
@@ -289,11 +160,11 @@ fn joins_withstand_each_refusal(rt: HostRuntime) -> Result<(), Fail> {
     let heap = Refusing::new(rt.alloc());
     let mut refusals = 0u64;
     for n in 0..100u64 {
-        let Some(width) = refused(&heap, n)? else {
+        let Some(width) = refused(&heap, &heap, n)? else {
             break;
         };
         assert_eq!(rt; width, 1, "request {n}");
-        refusals = n + 1;
+        refusals = refusals.saturating_add(1);
     }
     assert!(rt; refusals > 10, "{refusals} refusals");
     Ok(())

@@ -1,365 +1,170 @@
-//! What no clause says: that the calls succeed where there is memory, and withstand each refusal.
-ghost use Rattle.std.specs.Prelude.{◌≡◌, ◌+◌, ◌<◌, ◌∷◌, [], IfOk, OnOk};
-ghost use Rattle.stow_tree_model.specs.Keys.{IsOfTenant};
-ghost use Rattle.stow_tree_tests.specs.Numbered.{AreNumberedBelow};
-
+//! Look-ups of a key, of its versions and of a range, through two levels of nodes above a leaf.
+use crate::keys::key;
+use crate::node::{put, with_row};
+use crate::numbered_root::NumberedRoot;
 use std::alloc::{AllocError, Allocator};
 use std::test::Fail;
-use stow_leaf_cache::leaf_cache::LeafCache;
-use stow_merge::pins::Pins;
-use stow_node::node::Node;
-use stow_node::shape::Shape;
-use stow_raw::raw_buf::RawBuf;
-use stow_read::descent::may_hold;
-use stow_read::found::Found;
 use stow_read::getting::get;
+use stow_read::lookup::Lookup;
 use stow_read::range::range;
 use stow_read::row::Row;
 use stow_read::versions::versions;
-use stow_refusing::{Plan, Refusing};
-use stow_tree_model::message::Message;
-use stow_tree_model::numbered_value::NumberedValue;
 use stow_tree_model::op::Op;
-use stow_tree_model::plain::{message, value_of_key};
-use stow_tree_model::tenant_key::TenantKey;
 use stow_tree_model::version_buf::VersionBuf;
-
-/// Tenant 1's `a`.
-fn key_a() -> TenantKey<'static>
-    ensures bytes { result.bytes.now ≡ 0 ∷ 0 ∷ 0 ∷ 1 ∷ 97 ∷ [] }
-    ensures tenant { IsOfTenant result.bytes.now }
-{
-    TenantKey::from_packed(&[0, 0, 0, 1, b'a'])
-}
-
-/// Tenant 1's `b`.
-fn key_b() -> TenantKey<'static> {
-    TenantKey::from_packed(&[0, 0, 0, 1, b'b'])
-}
-
-/// Tenant 1's `c`.
-fn key_c() -> TenantKey<'static> {
-    TenantKey::from_packed(&[0, 0, 0, 1, b'c'])
-}
-
-/// A key above those of all tenants.
-fn key_outside() -> TenantKey<'static> {
-    TenantKey::from_packed(&[0, 1, 0, 0, b'a'])
-}
-
-/// A node whose leaf has the value `x` of `a` at 1.
-fn with_row<A: Allocator + Copy>(alloc: A) -> Result<Node<A>, AllocError>
-    ensures below { IfOk result (λ node. AreNumberedBelow 2 node) }
-    ensures height { IfOk result (λ node. node.height ≡ 1) }
-{
-    let shape = Shape {
-        buffer: 131_072,
-        leaf: 4096,
-        fan_out: 4,
-    };
-    let mut spare = RawBuf::with_capacity(alloc, 131_072)?;
-    let mut cache = LeafCache::new(alloc, 0)?;
-    let mut node = Node::first(alloc, shape)?;
-    node.push(Message {
-        key: key_a(),
-        number: 1,
-        op: Op::Put(b"x"),
-    });
-    node.step(alloc, &Pins::new(alloc), &mut spare, &mut cache)?;
-    Ok(node)
-}
-
-/// Puts a message into a node whose messages are numbered below it. Answers whether it could.
-fn put<A: Allocator + Copy>(node: &mut Node<A>, key: TenantKey<'_>, number: u64, op: Op<'_>) -> bool
-    requires { AreNumberedBelow number node.old }
-    ensures below { AreNumberedBelow (number + 1) node.new }
-    ensures height { node.new.height ≡ node.old.height }
-{
-    let Some(made) = message(key, number, op) else {
-        return false;
-    };
-    if !node.fits(made) {
-        return false;
-    }
-    if !may_hold(node, key) {
-        return false;
-    }
-    node.push(made);
-    true
-}
 
 /// Two levels above a leaf. Of `a` the leaf has a value; the lower node has more of it, and the root its removal and
 /// more again.
-fn tree<A: Allocator + Copy>(alloc: A) -> Result<Node<A>, AllocError> {
-    let mut node = with_row(alloc)?;
-    let second = put(&mut node, key_a(), 2, Op::Append(b"y"));
-    node.raise(alloc)?;
-    let third = put(&mut node, key_a(), 3, Op::Gone);
-    let fourth = put(&mut node, key_a(), 4, Op::Append(b"z"));
-    if second && third && fourth {
-        Ok(node)
-    } else {
-        Err(AllocError)
+fn tree<A: Allocator + Copy>(alloc: A) -> Result<NumberedRoot<A>, AllocError> {
+    let mut root = with_row(alloc)?;
+    put(alloc, &mut root, b"a", Op::Append(b"y"))?;
+    root.raise(alloc)?;
+    put(alloc, &mut root, b"a", Op::Gone)?;
+    put(alloc, &mut root, b"a", Op::Append(b"z"))?;
+    Ok(root)
+}
+
+/// What those messages give `a` at a number, with the number of the write that made it, which is 0 where it has nothing.
+fn value_of_a(at: u64) -> (u64, &'static [u8]) {
+    match at {
+        0 | 3 => (0, b""),
+        1 => (1, b"x"),
+        2 => (2, b"xy"),
+        _ => (4, b"z"),
     }
 }
 
-/// The messages of that tree.
-fn messages() -> [Message<'static>; 4] {
-    let key = key_a();
-    [
-        Message {
-            key,
-            number: 1,
-            op: Op::Put(b"x"),
-        },
-        Message {
-            key,
-            number: 2,
-            op: Op::Append(b"y"),
-        },
-        Message {
-            key,
-            number: 3,
-            op: Op::Gone,
-        },
-        Message {
-            key,
-            number: 4,
-            op: Op::Append(b"z"),
-        },
-    ]
+/// Whether a look-up of `a` at a number found that, and was handed the leaf where it looked into it: below 3 alone.
+fn is_found<A: Allocator>(lookup: &Lookup<'_, A>, at: u64) -> bool {
+    let (number, bytes) = value_of_a(at);
+    let is_value = match &lookup.found {
+        Some(found) => found.number() == number && found.bytes() == bytes,
+        None => number == 0,
+    };
+    is_value && lookup.leaf.is_some() == (at < 3)
 }
 
-fn is_same<A: Allocator, B: Allocator>(
-    found: &Option<Found<'_, A>>,
-    wanted: &Option<NumberedValue<B>>,
-) -> bool {
-    match (found, wanted) {
-        (None, None) => true,
-        (Some(found), Some(wanted)) => {
-            found.number() == wanted.number && found.bytes() == wanted.value.as_slice()
-        }
-        _ => false,
-    }
-}
-
-/// What `a` has at a number by the plain program.
-fn plain_value<A: Allocator + Copy>(
-    alloc: A,
-    at: u64,
-) -> Result<Option<NumberedValue<A>>, AllocError> {
-    let all = messages();
-    value_of_key(alloc, all.as_slice(), key_a(), at)
-}
-
-/// Whether `a` has the plain value at a number, and a leaf was looked into below 3 alone.
-fn is_plain<A: Allocator + Copy>(alloc: A, at: u64) -> Result<bool, AllocError> {
-    let node = tree(alloc)?;
-    let lookup = get(alloc, &node, key_a(), at)?;
-    let wanted = plain_value(alloc, at)?;
-    Ok(is_same(&lookup.found, &wanted) && lookup.leaf.is_some() == (at < 3))
+/// Whether `a` is looked up at a number.
+pub(crate) fn is_value<A: Allocator + Copy>(alloc: A, at: u64) -> Result<bool, AllocError> {
+    let root = tree(alloc)?;
+    let key = key(alloc, 1, b"a")?;
+    Ok(is_found(&get(alloc, &root.root, key.as_key(), at)?, at))
 }
 
 #[test]
-fn a_key_has_the_plain_value(rt: HostRuntime) -> Result<(), Fail> {
-    let alloc = rt.alloc();
-    for at in 0..6 {
-        assert!(rt; is_plain(alloc, at)?, "at {at}");
+fn a_key_has_its_value_and_its_leaf(rt: HostRuntime) -> Result<(), Fail> {
+    for at in 0..6u64 {
+        assert!(rt; is_value(rt.alloc(), at)?, "at {at}");
     }
     Ok(())
 }
 
-fn is_version<A: Allocator>(version: &VersionBuf<A>, number: u64, value: Option<&[u8]>) -> bool {
-    let same = match (&version.value, value) {
-        (None, None) => true,
-        (Some(bytes), Some(wanted)) => bytes.as_slice() == wanted,
-        _ => false,
-    };
-    same && version.number == number
-}
-
-/// The versions of `a` in the tree.
-fn versions_of_a<A: Allocator + Copy>(alloc: A) -> Result<Vec<VersionBuf<A>, A>, AllocError> {
-    let node = tree(alloc)?;
-    versions(alloc, &node, key_a())
-}
-
-fn are_versions<A: Allocator>(all: &[VersionBuf<A>], wanted: &[(u64, Option<&[u8]>)]) -> bool {
-    if all.len() != wanted.len() {
-        return false;
+/// Whether a version of `a` has what its messages give it there.
+fn is_version<A: Allocator>(version: &VersionBuf<A>) -> bool {
+    let (number, bytes) = value_of_a(version.number);
+    match &version.value {
+        Some(value) => number == version.number && value.as_slice() == bytes,
+        None => number == 0,
     }
-    for i in 0..wanted.len() {
-        let (number, value) = wanted[i];
-        if !is_version(&all[i], number, value) {
+}
+
+/// Whether these are the four versions of `a`.
+fn are_four<A: Allocator>(all: &[VersionBuf<A>]) -> bool {
+    let mut last = 0u64;
+    for version in all {
+        last = last.saturating_add(1);
+        if version.number != last || !is_version(version) {
             return false;
         }
     }
-    true
+    last == 4
+}
+
+/// Whether `a` has each of its versions.
+pub(crate) fn are_versions<A: Allocator + Copy>(alloc: A) -> Result<bool, AllocError> {
+    let root = tree(alloc)?;
+    let key = key(alloc, 1, b"a")?;
+    Ok(are_four(versions(alloc, &root.root, key.as_key())?.as_slice()))
+}
+
+/// Whether a key above those of all tenants has nothing.
+fn is_outside<A: Allocator + Copy>(alloc: A) -> Result<bool, AllocError> {
+    let root = tree(alloc)?;
+    let key = key(alloc, 65_536, b"a")?;
+    let is_none = get(alloc, &root.root, key.as_key(), 9)?.found.is_none();
+    Ok(is_none && versions(alloc, &root.root, key.as_key())?.is_empty())
 }
 
 #[test]
 fn a_key_has_each_version(rt: HostRuntime) -> Result<(), Fail> {
-    let wanted: [(u64, Option<&[u8]>); 4] = [
-        (1, Some(b"x")),
-        (2, Some(b"xy")),
-        (3, None),
-        (4, Some(b"z")),
-    ];
-    let all = versions_of_a(rt.alloc())?;
-    assert!(rt; are_versions(all.as_slice(), wanted.as_slice()));
-    Ok(())
-}
-
-/// Whether a key that no node holds has nothing.
-fn is_outside<A: Allocator + Copy>(alloc: A) -> Result<bool, AllocError> {
-    let node = tree(alloc)?;
-    let key = key_outside();
-    Ok(get(alloc, &node, key, 9)?.found.is_none() && versions(alloc, &node, key)?.is_empty())
-}
-
-#[test]
-fn a_key_outside_has_nothing(rt: HostRuntime) -> Result<(), Fail> {
-    assert!(rt; is_outside(rt.alloc())?);
+    assert!(rt; are_versions(rt.alloc())? && is_outside(rt.alloc())?);
     Ok(())
 }
 
 /// Two levels above a leaf. The leaf has a value of `a`, the lower node has one of `b`, and the root one of `c` and the
 /// removal of `b`.
-fn tree_of_keys<A: Allocator + Copy>(alloc: A) -> Result<Node<A>, AllocError> {
-    let mut node = with_row(alloc)?;
-    let second = put(&mut node, key_b(), 2, Op::Put(b"y"));
-    node.raise(alloc)?;
-    let third = put(&mut node, key_c(), 3, Op::Put(b"z"));
-    let fourth = put(&mut node, key_b(), 4, Op::Gone);
-    if second && third && fourth {
-        Ok(node)
-    } else {
-        Err(AllocError)
+fn tree_of_keys<A: Allocator + Copy>(alloc: A) -> Result<NumberedRoot<A>, AllocError> {
+    let mut root = with_row(alloc)?;
+    put(alloc, &mut root, b"b", Op::Put(b"y"))?;
+    root.raise(alloc)?;
+    put(alloc, &mut root, b"c", Op::Put(b"z"))?;
+    put(alloc, &mut root, b"b", Op::Gone)?;
+    Ok(root)
+}
+
+/// The letter of a key that has its value: `x` of `a`, `y` of `b`, `z` of `c`.
+fn letter<A: Allocator>(row: &Row<A>) -> u8 {
+    let value = row.value.as_slice();
+    match row.key.as_key().bytes.last() {
+        Some(b'a') if value == b"x".as_slice() => b'a',
+        Some(b'b') if value == b"y".as_slice() => b'b',
+        Some(b'c') if value == b"z".as_slice() => b'c',
+        _ => b'?',
     }
 }
 
-fn are_rows<A: Allocator>(rows: &[Row<A>], wanted: &[(TenantKey<'_>, &[u8])]) -> bool {
-    if rows.len() != wanted.len() {
-        return false;
-    }
-    for i in 0..wanted.len() {
-        let (key, value) = wanted[i];
-        if rows[i].key.as_key().bytes != key.bytes || rows[i].value.as_slice() != value {
-            return false;
+/// The letters of three rows at most, in order.
+fn letters<A: Allocator>(rows: &[Row<A>]) -> [u8; 3] {
+    let mut letters = *b"---";
+    for (i, row) in rows.iter().enumerate() {
+        match letters.get_mut(i) {
+            Some(place) => *place = letter(row),
+            None => return *b"???",
         }
     }
-    true
+    letters
 }
 
-/// A range that is asked for.
-#[derive(Clone, Copy)]
-struct Query<'a> {
-    from: TenantKey<'a>,
-    to: TenantKey<'a>,
+/// The letters of the first rows from tenant 1's key of a letter on and below that of another, at a number. `~` is above
+/// all tenants.
+pub(crate) fn letters_in<A: Allocator + Copy>(
+    alloc: A,
+    (from, to): (u8, u8),
     at: u64,
     count: usize,
-}
-
-/// Whether the range has these keys and values.
-fn is_range<A: Allocator + Copy>(
-    alloc: A,
-    query: Query<'_>,
-    wanted: &[(TenantKey<'_>, &[u8])],
-) -> Result<bool, AllocError> {
-    let node = tree_of_keys(alloc)?;
-    let rows = range(alloc, &node, query.from, query.to, query.at, query.count)?;
-    Ok(are_rows(rows.as_slice(), wanted))
+) -> Result<[u8; 3], AllocError> {
+    let root = tree_of_keys(alloc)?;
+    let from = key(alloc, if from == b'~' { 65_536 } else { 1 }, &[from])?;
+    let to = key(alloc, if to == b'~' { 65_536 } else { 1 }, &[to])?;
+    let rows = range(alloc, &root.root, from.as_key(), to.as_key(), at, count)?;
+    Ok(letters(rows.as_slice()))
 }
 
 #[test]
 fn a_range_has_the_first_keys_with_a_value(rt: HostRuntime) -> Result<(), Fail> {
-    let alloc = rt.alloc();
-    let all: [(TenantKey<'_>, &[u8]); 3] = [(key_a(), b"x"), (key_b(), b"y"), (key_c(), b"z")];
-    let without_b: [(TenantKey<'_>, &[u8]); 2] = [(key_a(), b"x"), (key_c(), b"z")];
-    let all = all.as_slice();
-    let (a, b, c, top) = (key_a(), key_b(), key_c(), key_outside());
-    let cases: [(
-        TenantKey<'_>,
-        TenantKey<'_>,
-        u64,
-        usize,
-        &[(TenantKey<'_>, &[u8])],
-    ); 10] = [
-        (a, top, 3, 9, all),
-        (a, top, 3, 3, all),
-        (a, top, 3, 1, &all[..1]),
-        (a, top, 3, 0, &all[..0]),
-        (a, top, 4, 2, without_b.as_slice()),
-        (a, top, 2, 9, &all[..2]),
-        (a, c, 3, 9, &all[..2]),
-        (b, c, 3, 9, &all[1..2]),
-        (b, c, 4, 9, &all[..0]),
-        (top, top, 3, 9, &all[..0]),
-    ];
-    for i in 0..cases.len() {
-        let (from, to, at, count, wanted) = cases[i];
-        let query = Query {
-            from,
-            to,
-            at,
-            count,
-        };
-        assert!(rt; is_range(alloc, query, wanted)?, "case {i}");
-    }
-    Ok(())
-}
-
-/// Whether the tree can be had, and its range is read.
-fn is_range_read<A: Allocator + Copy>(alloc: A) -> bool {
-    match tree_of_keys(alloc) {
-        Ok(node) => range(alloc, &node, key_a(), key_outside(), 3, 9).is_ok(),
-        Err(_) => false,
-    }
-}
-
-#[test]
-fn a_range_withstands_each_refusal(rt: HostRuntime) -> Result<(), Fail> {
-    let heap = Refusing::new(rt.alloc());
-    assert!(rt; is_range_read(&heap));
-    let asked = heap.asked();
-    for n in 0..asked {
-        heap.set(Plan::RefuseAt(n));
-        assert!(rt; !is_range_read(&heap), "request {n}");
-    }
-    Ok(())
-}
-
-/// Whether the tree can be had, and `a` is read at 2.
-fn is_read<A: Allocator + Copy>(alloc: A) -> bool {
-    match tree(alloc) {
-        Ok(node) => get(alloc, &node, key_a(), 2).is_ok(),
-        Err(_) => false,
-    }
-}
-
-/// Whether the tree can be had, and the versions of `a` are read.
-fn are_read<A: Allocator + Copy>(alloc: A) -> bool {
-    match tree(alloc) {
-        Ok(node) => versions(alloc, &node, key_a()).is_ok(),
-        Err(_) => false,
-    }
-}
-
-#[test]
-fn reads_withstand_each_refusal(rt: HostRuntime) -> Result<(), Fail> {
-    let heap = Refusing::new(rt.alloc());
-    assert!(rt; is_read(&heap));
-    let asked = heap.asked();
-    for n in 0..asked {
-        heap.set(Plan::RefuseAt(n));
-        assert!(rt; !is_read(&heap), "request {n}");
-    }
-    heap.set(Plan::Grant);
-    assert!(rt; are_read(&heap));
-    let asked = heap.asked();
-    for n in 0..asked {
-        heap.set(Plan::RefuseAt(n));
-        assert!(rt; !are_read(&heap), "request {n}");
+    for (from, to, at, count, wanted) in [
+        (b'a', b'~', 3, 9, *b"abc"),
+        (b'a', b'~', 3, 3, *b"abc"),
+        (b'a', b'~', 3, 1, *b"a--"),
+        (b'a', b'~', 3, 0, *b"---"),
+        (b'a', b'~', 4, 2, *b"ac-"),
+        (b'a', b'~', 2, 9, *b"ab-"),
+        (b'a', b'c', 3, 9, *b"ab-"),
+        (b'b', b'c', 3, 9, *b"b--"),
+        (b'b', b'c', 4, 9, *b"---"),
+        (b'~', b'~', 3, 9, *b"---"),
+    ] {
+        let found = letters_in(rt.alloc(), (from, to), at, count)?;
+        assert!(rt; found == wanted, "{from} {to} {at} {count}");
     }
     Ok(())
 }

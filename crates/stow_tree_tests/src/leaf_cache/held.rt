@@ -1,5 +1,5 @@
 //! Memory is given back: a second equal round of calls leaves no more of it held than the first did.
-use crate::leaf_cache::rows_of;
+use crate::leaf_cache::leaf;
 use linked_list_allocator::LocalHeap;
 use std::alloc::{AllocError, Allocator};
 use std::test::Fail;
@@ -9,12 +9,14 @@ const FENCES: [&[u8]; 5] = [b"a", b"a_longer_fence", b"b", b"c", b""];
 
 /// Keeps, uses and forgets leaves under limits that change, and then forgets all.
 fn round<A: Allocator + Copy>(cache: &mut LeafCache<A>, alloc: A) -> Result<(), AllocError> {
-    for number in 0..2_000u32 {
+    let mut limit = 4;
+    for _ in 0..2_000 {
         for fence in FENCES {
-            cache.keep(fence, rows_of(alloc, 1)?);
+            cache.keep(fence, leaf(alloc, 1)?);
             let _used = cache.find(b"a");
         }
-        cache.resize(if number % 2 == 0 { 4 } else { 2 })?;
+        cache.resize(limit)?;
+        limit = if limit == 4 { 2 } else { 4 };
     }
     for fence in FENCES {
         cache.forget(fence);
@@ -42,7 +44,7 @@ fn a_second_round_holds_no_more(rt: HostRuntime) -> Result<(), Fail> {
 fn held_of<A: Allocator + Copy>(alloc: A, count: u32) -> Result<usize, AllocError> {
     let mut cache = LeafCache::new(alloc, 65_536)?;
     for number in 0..count {
-        cache.keep(&number.to_be_bytes(), rows_of(alloc, 1)?);
+        cache.keep(&number.to_be_bytes(), leaf(alloc, 1)?);
     }
     Ok(cache.len())
 }

@@ -1,33 +1,45 @@
 //! Random pages, as they are and with a byte changed, cut off or added, beside the plain reader.
+use crate::keys::key;
 use crate::page::plain::first_fault;
-use crate::page::{fault_of, pushed, rows_of};
+use crate::page::{fault_of, pushed, rows_of, version};
+use crate::random::{below, byte_below, index_below};
 use std::alloc::{AllocError, Allocator};
 use std::test::Fail;
 use stow_page::rows::Rows;
 use stow_tree_model::tenant_key::TenantKey;
-use stow_tree_model::tenant_key_buf::TenantKeyBuf;
 
-/// The next number of a fixed row of numbers that looks random.
-fn random(state: &mut u64) -> u64 {
-    *state = (*state)
-        .wrapping_mul(6_364_136_223_846_793_005)
-        .wrapping_add(1_442_695_040_888_963_407);
-    let value = *state;
-    value / 8_589_934_592
+/// Appends an entry of a key of one letter: a put of a value so long, or of none a removal.
+fn append<A: Allocator + Copy>(
+    page: &mut Vec<u8, A>,
+    (tenant, letter): (u8, u8),
+    number: u64,
+    length: u64,
+) -> Result<(), AllocError> {
+    page.extend_from_slice(&[0, 5, 0, 0, 0, tenant, letter])?;
+    page.extend_from_slice(&number.to_be_bytes())?;
+    page.extend_from_slice(match length {
+        0 => b"\x00\x00\x00",
+        1 => b"\x00\x00\x01v",
+        2 => b"\x00\x00\x02vw",
+        _ => b"\x01",
+    })
 }
 
 /// A page of versions that rise: tenants 1 to 3, keys of the letters a to c, and of each some numbers.
 fn random_page<A: Allocator + Copy>(alloc: A, state: &mut u64) -> Result<Vec<u8, A>, AllocError> {
     let mut entries = Vec::new(alloc);
     let mut count = 0u32;
-    for tenant in 1..4u32 {
-        for letter in b"abc" {
-            for number in 1..4u64 {
-                if random(state) % 3 == 0 {
-                    append(&mut entries, tenant, *letter, number, random(state) % 4)?;
-                    count = count.saturating_add(1);
-                }
-            }
+    for place in 0..27u8 {
+        if below(state, 3) == 0 {
+            let key = (place / 9, b'a'.saturating_add(place / 3 % 3));
+            let number = u64::from(place % 3).saturating_add(1);
+            append(
+                &mut entries,
+                (key.0.saturating_add(1), key.1),
+                number,
+                below(state, 4),
+            )?;
+            count = count.saturating_add(1);
         }
     }
     let mut page = Vec::from_slice(alloc, &[1])?;
@@ -36,72 +48,56 @@ fn random_page<A: Allocator + Copy>(alloc: A, state: &mut u64) -> Result<Vec<u8,
     Ok(page)
 }
 
-fn append<A: Allocator + Copy>(
-    page: &mut Vec<u8, A>,
-    tenant: u32,
-    letter: u8,
-    number: u64,
-    length: u64,
-) -> Result<(), AllocError> {
-    page.extend_from_slice(&[0, 5])?;
-    page.extend_from_slice(&tenant.to_be_bytes())?;
-    page.extend_from_slice(&[letter])?;
-    page.extend_from_slice(&number.to_be_bytes())?;
-    if length > 2 {
-        return page.extend_from_slice(&[1]);
-    }
-    page.extend_from_slice(&[0, 0, length as u8])?;
-    page.extend_from_slice(&b"vw"[..length as usize])
+/// Whether bytes are read as by the plain reader.
+fn is_read_plainly<A: Allocator + Copy>(alloc: A, bytes: &[u8]) -> Result<bool, AllocError> {
+    Ok(fault_of(alloc, bytes)? == first_fault(bytes))
 }
 
-/// The page with each byte changed to another, one at a time.
-fn agrees_on_changes<A: Allocator + Copy>(
+/// Whether a page is, with each byte changed to another, one at a time, and cut off before it.
+fn is_when_changed<A: Allocator + Copy>(
     alloc: A,
     page: &[u8],
     state: &mut u64,
 ) -> Result<bool, AllocError> {
+    let mut cut = Vec::new(alloc);
     for i in 0..page.len() {
         let mut bytes = Vec::from_slice(alloc, page)?;
         if let Some(byte) = bytes.get_mut(i) {
-            *byte = byte
-                .wrapping_add((random(state) % 255) as u8)
-                .wrapping_add(1);
+            cut.push(*byte)?;
+            *byte = byte.wrapping_add(byte_below(state, 255)).wrapping_add(1);
         }
-        if fault_of(alloc, bytes.as_slice())? != first_fault(bytes.as_slice()) {
-            return Ok(false);
-        }
-        if fault_of(alloc, &page[..i])? != first_fault(&page[..i]) {
+        if !is_read_plainly(alloc, &bytes)? || !is_read_plainly(alloc, &cut)? {
             return Ok(false);
         }
     }
     Ok(true)
 }
 
-/// Whether a random page is read as by the plain reader: as it is, with a byte changed or cut off, and with one more.
-fn is_read_plainly<A: Allocator + Copy>(alloc: A, state: &mut u64) -> Result<bool, AllocError> {
+/// Whether a random page is: as it is, changed, cut off, and with a byte more.
+fn is_page_read<A: Allocator + Copy>(alloc: A, state: &mut u64) -> Result<bool, AllocError> {
     let mut page = random_page(alloc, state)?;
-    let whole = fault_of(alloc, page.as_slice())? == 0 && first_fault(page.as_slice()) == 0;
-    let changed = agrees_on_changes(alloc, page.as_slice(), state)?;
+    let whole = fault_of(alloc, &page)? == 0 && first_fault(&page) == 0;
+    let changed = is_when_changed(alloc, &page, state)?;
     page.push(0)?;
-    Ok(whole && changed && fault_of(alloc, page.as_slice())? == 4)
+    Ok(whole && changed && fault_of(alloc, &page)? == 4 && first_fault(&page) == 4)
 }
 
 #[test]
 fn random_pages_are_read_as_by_the_plain_reader(rt: HostRuntime) -> Result<(), Fail> {
     let mut state = 11u64;
-    for _ in 0..30 {
-        assert!(rt; is_read_plainly(rt.alloc(), &mut state)?);
+    for turn in 0..30u32 {
+        assert!(rt; is_page_read(rt.alloc(), &mut state)?, "page {turn}");
     }
     Ok(())
 }
 
-/// The number of the last version of a key up to a number, by a walk over all.
-fn walked<A: Allocator>(rows: &Rows<A>, key: TenantKey<'_>, number: u64) -> Option<u64> {
-    let mut found = None;
+/// The number of the last version of a key up to a number, by a walk over all. There is none at 0.
+fn walked<A: Allocator>(rows: &Rows<A>, key: TenantKey<'_>, number: u64) -> u64 {
+    let mut found = 0;
     for i in 0..rows.len() {
-        let version = rows.get(i);
-        if version.key.bytes == key.bytes && version.number <= number {
-            found = Some(version.number);
+        match version(rows, i) {
+            Some(it) if it.key.bytes == key.bytes && it.number <= number => found = it.number,
+            _ => {}
         }
     }
     found
@@ -113,25 +109,22 @@ fn is_found<A: Allocator + Copy>(
     rows: &Rows<A>,
     state: &mut u64,
 ) -> Result<bool, AllocError> {
-    let letter = [b'a' + (random(state) % 4) as u8];
-    let key = TenantKeyBuf::new(alloc, (random(state) % 5) as u32, &letter)?;
-    let number = random(state) % 5;
-    let guess = (random(state) % 16) as usize;
-    let found = rows.version_at(key.as_key(), number, guess);
-    Ok(found.map(|version| version.number) == walked(rows, key.as_key(), number))
+    let letter = b'a'.saturating_add(byte_below(state, 4));
+    let key = key(alloc, u32::from(byte_below(state, 5)), &[letter])?;
+    let number = below(state, 5);
+    let guess = index_below(state, 16);
+    let found = match rows.version_at(key.as_key(), number, guess) {
+        Some(version) => version.number,
+        None => 0,
+    };
+    Ok(found == walked(rows, key.as_key(), number))
 }
 
-/// Whether so many random look-ups in a random page do.
-fn are_found<A: Allocator + Copy>(
-    alloc: A,
-    state: &mut u64,
-    count: u32,
-) -> Result<bool, AllocError> {
+/// Whether forty random look-ups in a random page do.
+fn are_found<A: Allocator + Copy>(alloc: A, state: &mut u64) -> Result<bool, AllocError> {
     let page = random_page(alloc, state)?;
-    let Some(rows) = rows_of(alloc, page.as_slice())? else {
-        return Ok(false);
-    };
-    for _ in 0..count {
+    let rows = rows_of(alloc, &page)?;
+    for _ in 0..40 {
         if !is_found(alloc, &rows, state)? {
             return Ok(false);
         }
@@ -143,33 +136,29 @@ fn are_found<A: Allocator + Copy>(
 fn random_look_ups(rt: HostRuntime) -> Result<(), Fail> {
     let mut state = 5u64;
     for turn in 0..20u32 {
-        assert!(rt; are_found(rt.alloc(), &mut state, 40)?, "page {turn}");
+        assert!(rt; are_found(rt.alloc(), &mut state)?, "page {turn}");
     }
     Ok(())
 }
 
-/// The page of a key's first 3,000 versions.
-fn long_page<A: Allocator + Copy>(alloc: A) -> Result<Vec<u8, A>, AllocError> {
+/// How many rows the page of a key's first 3,000 versions has, if it is made again in the same bytes.
+fn long_count<A: Allocator + Copy>(alloc: A) -> Result<usize, AllocError> {
     let mut page = Vec::from_slice(alloc, &[1])?;
     page.extend_from_slice(&3_000u32.to_be_bytes())?;
     for number in 1..3_001u64 {
-        append(&mut page, 1, b'a', number, 1)?;
+        append(&mut page, (1, b'a'), number, 1)?;
     }
-    Ok(page)
-}
-
-/// How many rows a long page has, if it is made again in the same bytes.
-fn rows_of_long<A: Allocator + Copy>(alloc: A) -> Result<Option<usize>, AllocError> {
-    let page = long_page(alloc)?;
-    let Some(rows) = rows_of(alloc, page.as_slice())? else {
-        return Ok(None);
-    };
-    let is_same = pushed(alloc, &rows)?.as_bytes() == page.as_slice();
-    Ok(if is_same { Some(rows.len()) } else { None })
+    let rows = rows_of(alloc, &page)?;
+    let again = pushed(alloc, &rows)?;
+    Ok(if again.as_bytes() == page.as_slice() {
+        rows.len()
+    } else {
+        0
+    })
 }
 
 #[test]
 fn a_long_page_is_read_and_made(rt: HostRuntime) -> Result<(), Fail> {
-    assert_eq!(rt; rows_of_long(rt.alloc())?, Some(3_000));
+    assert_eq!(rt; long_count(rt.alloc())?, 3_000);
     Ok(())
 }

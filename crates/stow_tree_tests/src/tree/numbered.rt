@@ -1,5 +1,5 @@
 //! A tree that is put messages of rising numbers, as the service puts them.
-ghost use Rattle.std.specs.Prelude.{◌≡◌, ◌<◌, ◌≤◌, [], ◌∷◌, IfOk, IfSome, IsTrue};
+ghost use Rattle.std.specs.Prelude.{◌≤◌, IfOk, IsTrue};
 ghost use Rattle.stow_tree_model.specs.Messages.{value};
 ghost use Rattle.stow_tree_model.specs.Operations.{outcome, value_in};
 ghost use Rattle.stow_tree_model.specs.TreeMessage.{message_of};
@@ -10,7 +10,7 @@ use std::alloc::{AllocError, Allocator};
 use stow_bytes::limits::VALUE_LIMIT;
 use stow_merge::pins::Pins;
 use stow_read::row::Row;
-use stow_refusing::{Plan, Refusing};
+use stow_refusing::Refusing;
 use stow_tree::tree::Tree;
 use stow_tree::tree_shape::{LEAST_BUFFER, TreeShape};
 use stow_tree_model::message::Message;
@@ -62,33 +62,11 @@ impl<A: Allocator + Copy> Numbered<A> {
         })
     }
 
-    /// Puts a message of the next number. What can't be put is told as want of memory.
-    pub(crate) fn put(
+    /// Puts a message of the next number. Answers how many requests for memory that makes once room was made. What can't be
+    /// put is told as want of memory.
+    pub(crate) fn put<B: Allocator>(
         &mut self,
-        alloc: A,
-        key: TenantKey<'_>,
-        op: Op<'_>,
-        pins: &Pins<A>,
-    ) -> Result<(), AllocError> {
-        let Some(made) = message(key, self.last.saturating_add(1), op) else {
-            return Err(AllocError);
-        };
-        if !self.is_short(alloc, made)? {
-            return Err(AllocError);
-        }
-        let messages = [made];
-        self.tree.reserve(alloc, messages.as_slice(), pins)?;
-        self.tree.put_all(messages.as_slice());
-        self.last = made.number;
-        Ok(())
-    }
-
-    /// Puts a message of the next number, and answers how many requests for memory that makes once room was made: the heap
-    /// refuses them all. What can't be put is told as want of memory.
-    pub(crate) fn put_without_memory<B: Allocator>(
-        &mut self,
-        alloc: A,
-        heap: &Refusing<B>,
+        (alloc, heap): (A, &Refusing<B>),
         key: TenantKey<'_>,
         op: Op<'_>,
         pins: &Pins<A>,
@@ -101,10 +79,10 @@ impl<A: Allocator + Copy> Numbered<A> {
         }
         let messages = [made];
         self.tree.reserve(alloc, messages.as_slice(), pins)?;
-        heap.set(Plan::RefuseAll);
+        let before = heap.asked();
         self.tree.put_all(messages.as_slice());
         self.last = made.number;
-        Ok(heap.asked())
+        Ok(heap.asked().saturating_sub(before))
     }
 
     /// Removes two keys with one number. What can't be put is told as want of memory.
