@@ -373,7 +373,7 @@ fn is_made<A: Allocator + Copy>(alloc: A) -> bool {
 }
 
 #[test]
-fn a_capacity_is_reached(rt: HostRuntime) -> Result<(), Fail> {
+fn one_message(rt: HostRuntime) -> Result<(), Fail> {
     let heap = Refusing::new(rt.alloc());
     heap.set(Plan::RefuseAt(0));
     assert!(rt; !is_made(&heap));

@@ -66,7 +66,7 @@ fn moved<A: Allocator + Copy, B: Allocator>(
 }
 
 #[test]
-fn messages_move_one_level_without_memory(rt: HostRuntime) -> Result<(), Fail> {
+fn messages_move_one_level(rt: HostRuntime) -> Result<(), Fail> {
     let heap = Refusing::new(rt.alloc());
     assert_eq!(rt; moved(&heap, &heap)?, Some((0, 1, 0)));
     Ok(())

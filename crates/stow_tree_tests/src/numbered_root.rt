@@ -46,12 +46,13 @@ impl<A: Allocator + Copy> NumberedRoot<A> {
             leaf: 4096,
             fan_out,
         };
-        let root = Node::first(alloc, shape)?;
         let spare = RawBuf::with_capacity(alloc, 131_072)?;
+        let cache = LeafCache::new(alloc, 0)?;
+        let root = Node::first(alloc, shape)?;
         Ok(NumberedRoot {
             root,
             spare,
-            cache: LeafCache::new(alloc, 0)?,
+            cache,
             pins: Pins::new(alloc),
             last: 0,
         })

@@ -210,7 +210,7 @@ fn is_read<A: Allocator + Copy>(alloc: A) -> Result<bool, AllocError> {
 }
 
 #[test]
-fn worked_pages(rt: HostRuntime) -> Result<(), Fail> {
+fn worked_page(rt: HostRuntime) -> Result<(), Fail> {
     assert!(rt; is_read(rt.alloc())? && are_made(rt.alloc())? && is_empty_packed(rt.alloc())?);
     Ok(())
 }

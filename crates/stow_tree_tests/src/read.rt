@@ -51,7 +51,7 @@ pub(crate) fn is_value<A: Allocator + Copy>(alloc: A, at: u64) -> Result<bool, A
 }
 
 #[test]
-fn a_key_has_its_value_and_its_leaf(rt: HostRuntime) -> Result<(), Fail> {
+fn a_key_has_the_plain_value(rt: HostRuntime) -> Result<(), Fail> {
     for at in 0..6u64 {
         assert!(rt; is_value(rt.alloc(), at)?, "at {at}");
     }
