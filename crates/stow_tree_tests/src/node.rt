@@ -47,28 +47,38 @@ fn is_above_one<A: Allocator>(node: &Node<A>, height: u64) -> bool {
     node.height() == height && node.width() == 1 && node.low().bytes == b"\0\0\0\0".as_slice()
 }
 
-/// How many messages are in the upper and in the lower buffer of two once a message was put and took a step, and how many
-/// requests for memory that makes: each is refused.
-fn moved<A: Allocator + Copy, B: Allocator>(
+/// How many requests a message that is put and takes a step down to the lower of two nodes makes: each is refused.
+fn asked_by_move<A: Allocator + Copy, B: Allocator>(
     heap: &Refusing<B>,
     alloc: A,
-) -> Result<Option<(usize, usize, u64)>, AllocError> {
+    root: &mut NumberedRoot<A>,
+) -> Result<u64, AllocError> {
     let key = key(alloc, 1, b"a")?;
-    let mut root = two_levels(alloc)?;
-    if !is_above_one(&root.root, 2) {
-        return Ok(None);
-    }
     heap.set(Plan::RefuseAll);
     root.put(alloc, key.as_key(), Op::Put(b"x"))?;
     root.step(alloc)?;
-    let asked = heap.asked();
-    Ok(Some((root.root.buffer().len(), buffered_below(&root.root), asked)))
+    Ok(heap.asked())
+}
+
+/// How many messages are in the upper and in the lower buffer then, and how many requests were made, if the node stands
+/// above another for all keys.
+fn moved<A: Allocator + Copy, B: Allocator>(
+    heap: &Refusing<B>,
+    alloc: A,
+) -> Result<(usize, usize, u64), AllocError> {
+    let mut root = two_levels(alloc)?;
+    if !is_above_one(&root.root, 2) {
+        return Err(AllocError);
+    }
+    let asked = asked_by_move(heap, alloc, &mut root)?;
+    let node = &root.root;
+    Ok((node.buffer().len(), buffered_below(node), asked))
 }
 
 #[test]
 fn messages_move_one_level(rt: HostRuntime) -> Result<(), Fail> {
     let heap = Refusing::new(rt.alloc());
-    assert_eq!(rt; moved(&heap, &heap)?, Some((0, 1, 0)));
+    assert_eq!(rt; moved(&heap, &heap)?, (0, 1, 0));
     Ok(())
 }
 

@@ -4,12 +4,14 @@ use crate::node::{put, with_row};
 use crate::numbered_root::NumberedRoot;
 use std::alloc::{AllocError, Allocator};
 use std::test::Fail;
+use stow_node::node::Node;
 use stow_read::getting::get;
 use stow_read::lookup::Lookup;
 use stow_read::range::range;
 use stow_read::row::Row;
 use stow_read::versions::versions;
 use stow_tree_model::op::Op;
+use stow_tree_model::tenant_key::TenantKey;
 use stow_tree_model::version_buf::VersionBuf;
 
 /// Two levels above a leaf. Of `a` the leaf has a value; the lower node has more of it, and the root its removal and
@@ -86,12 +88,23 @@ pub(crate) fn are_versions<A: Allocator + Copy>(alloc: A) -> Result<bool, AllocE
     Ok(are_four(versions(alloc, &root.root, key.as_key())?.as_slice()))
 }
 
+/// Whether a key has no value and no version.
+fn has_nothing<A: Allocator + Copy>(
+    alloc: A,
+    node: &Node<A>,
+    key: TenantKey<'_>,
+) -> Result<bool, AllocError> {
+    if get(alloc, node, key, 9)?.found.is_some() {
+        return Ok(false);
+    }
+    Ok(versions(alloc, node, key)?.is_empty())
+}
+
 /// Whether a key above those of all tenants has nothing.
 fn is_outside<A: Allocator + Copy>(alloc: A) -> Result<bool, AllocError> {
     let root = tree(alloc)?;
     let key = key(alloc, 65_536, b"a")?;
-    let is_none = get(alloc, &root.root, key.as_key(), 9)?.found.is_none();
-    Ok(is_none && versions(alloc, &root.root, key.as_key())?.is_empty())
+    has_nothing(alloc, &root.root, key.as_key())
 }
 
 #[test]
