@@ -34,6 +34,23 @@ fn replaced<A: Allocator + Copy>(
     leaf.replacement(alloc, buffer, high, &pins, 4096, 3)
 }
 
+/// Puts a value of tenant 1's key of one byte, and for a space of the empty one.
+fn put_letter<A: Allocator + Copy>(
+    alloc: A,
+    buffer: &mut MessageBuf<A>,
+    byte: u8,
+    value: &[u8],
+) -> Result<bool, AllocError> {
+    let one = [byte];
+    let own = if byte == b' ' {
+        b"".as_slice()
+    } else {
+        one.as_slice()
+    };
+    let key = key(alloc, 1, own)?;
+    Ok(put(buffer, key.as_key(), 1, value))
+}
+
 /// What comes in the leaf's place where keys of one byte, and for a space the empty one, are set to values of so many
 /// bytes.
 pub(crate) fn replaced_with<A: Allocator + Copy>(
@@ -44,14 +61,7 @@ pub(crate) fn replaced_with<A: Allocator + Copy>(
     let mut buffer = MessageBuf::with_capacity(alloc, 131_072)?;
     let value = Vec::from_elem(alloc, b'x', bytes)?;
     for byte in keys {
-        let one = [*byte];
-        let own = if *byte == b' ' {
-            b"".as_slice()
-        } else {
-            one.as_slice()
-        };
-        let key = key(alloc, 1, own)?;
-        if !put(&mut buffer, key.as_key(), 1, value.as_slice()) {
+        if !put_letter(alloc, &mut buffer, *byte, value.as_slice())? {
             return Err(AllocError);
         }
     }

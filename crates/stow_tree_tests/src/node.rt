@@ -124,6 +124,16 @@ fn width_after<A: Allocator + Copy>(
     Ok(root.root.width())
 }
 
+/// How many leaves there are after three steps.
+fn width_after_three<A: Allocator + Copy>(
+    alloc: A,
+    root: &mut NumberedRoot<A>,
+) -> Result<usize, AllocError> {
+    width_after(alloc, root)?;
+    width_after(alloc, root)?;
+    width_after(alloc, root)
+}
+
 /// How many leaves there are before and after each of three steps that empty one.
 fn widths<A: Allocator + Copy>(alloc: A) -> Result<[usize; 4], AllocError> {
     let mut root = to_empty(alloc)?;
@@ -160,9 +170,7 @@ fn refused<A: Allocator + Copy, B: Allocator>(
         return Err(AllocError);
     }
     heap.set(Plan::Grant);
-    width_after(alloc, &mut root)?;
-    width_after(alloc, &mut root)?;
-    Ok(Some(width_after(alloc, &mut root)?))
+    Ok(Some(width_after_three(alloc, &mut root)?))
 }
 
 #[test]

@@ -12,6 +12,7 @@ use stow_read::row::Row;
 use stow_read::versions::versions;
 use stow_tree_model::op::Op;
 use stow_tree_model::tenant_key::TenantKey;
+use stow_tree_model::tenant_key_buf::TenantKeyBuf;
 use stow_tree_model::version_buf::VersionBuf;
 
 /// Two levels above a leaf. Of `a` the leaf has a value; the lower node has more of it, and the root its removal and
@@ -147,8 +148,12 @@ fn letters<A: Allocator>(rows: &[Row<A>]) -> [u8; 3] {
     letters
 }
 
-/// The letters of the first rows from tenant 1's key of a letter on and below that of another, at a number. `~` is above
-/// all tenants.
+/// Tenant 1's key of a letter, and for `~` one above all tenants.
+fn key_of<A: Allocator>(alloc: A, letter: u8) -> Result<TenantKeyBuf<A>, AllocError> {
+    key(alloc, if letter == b'~' { 65_536 } else { 1 }, &[letter])
+}
+
+/// The letters of the first rows from one of these keys on and below another, at a number.
 pub(crate) fn letters_in<A: Allocator + Copy>(
     alloc: A,
     (from, to): (u8, u8),
@@ -156,8 +161,7 @@ pub(crate) fn letters_in<A: Allocator + Copy>(
     count: usize,
 ) -> Result<[u8; 3], AllocError> {
     let root = tree_of_keys(alloc)?;
-    let from = key(alloc, if from == b'~' { 65_536 } else { 1 }, &[from])?;
-    let to = key(alloc, if to == b'~' { 65_536 } else { 1 }, &[to])?;
+    let (from, to) = (key_of(alloc, from)?, key_of(alloc, to)?);
     let rows = range(alloc, &root.root, from.as_key(), to.as_key(), at, count)?;
     Ok(letters(rows.as_slice()))
 }

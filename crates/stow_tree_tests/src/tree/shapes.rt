@@ -150,17 +150,22 @@ fn keys_are_removed_together(rt: HostRuntime) -> Result<(), Fail> {
     Ok(())
 }
 
-/// How large a tree is in which a key was given 60,000 bytes and then, in a hundred appends, one byte more at a time; and
-/// how long its value is.
+/// Gives the first key 60,000 bytes and then, in a hundred appends, one byte more at a time.
+fn append<A: Allocator + Copy, B: Allocator>(run: &mut Run<'_, A, B>) -> Result<(), AllocError> {
+    run.put_at(0, Kind::Put, 60_000)?;
+    for _ in 0..100 {
+        run.put_at(0, Kind::Append, 1)?;
+    }
+    Ok(())
+}
+
+/// How large the tree is then, and how long the key's value is.
 fn appended<A: Allocator + Copy, B: Allocator>(
     alloc: A,
     heap: &Refusing<B>,
 ) -> Result<(ShapeReport, usize), AllocError> {
     let mut run = Run::new(alloc, heap, FEW)?;
-    run.put_at(0, Kind::Put, 60_000)?;
-    for _ in 0..100 {
-        run.put_at(0, Kind::Append, 1)?;
-    }
+    append(&mut run)?;
     let len = match run.value(0, 101)? {
         Some(value) => value.len(),
         None => 0,
