@@ -294,6 +294,12 @@ fn case_of_one<'a, A: Allocator + Copy>(
     })
 }
 
+/// Whether values stay short as a case is merged, and whether it can be a job.
+fn fits<A: Allocator + Copy>(alloc: A, case: &Case<'_, A>) -> Result<(bool, bool), AllocError> {
+    let leaf = packed(alloc, case.rows.as_slice())?;
+    Ok((is_short(alloc, &leaf, case)?, job(alloc, case)?.is_some()))
+}
+
 /// Whether values stay short as a leaf of one version of tenant 1's `a`, the first, is merged with one message of it, its
 /// removal or bytes that are appended; and whether that can be a job.
 fn can_merge<A: Allocator + Copy>(
@@ -308,9 +314,10 @@ fn can_merge<A: Allocator + Copy>(
         Some(suffix) => Op::Append(suffix),
         None => Op::Gone,
     };
-    let case = case_of_one(alloc, &key, value.as_slice(), number, op)?;
-    let leaf = packed(alloc, case.rows.as_slice())?;
-    Ok((is_short(alloc, &leaf, &case)?, job(alloc, &case)?.is_some()))
+    fits(
+        alloc,
+        &case_of_one(alloc, &key, value.as_slice(), number, op)?,
+    )
 }
 
 #[test]

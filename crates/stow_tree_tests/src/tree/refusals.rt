@@ -84,6 +84,17 @@ fn asked_by<A: Allocator + Copy, B: Allocator>(
     Ok(heap.asked())
 }
 
+/// Whether a tree tells what the list does, before and after a call.
+fn stands<A: Allocator + Copy, B: Allocator>(
+    run: &mut Run<'_, A, B>,
+    change: Change,
+    call: Call,
+) -> Result<bool, AllocError> {
+    let stood = run.agrees()?;
+    make(run, change, call)?;
+    Ok(stood && run.agrees()?)
+}
+
 /// Whether a call whose nth request is refused is refused, or holds no leaf where that was asked for; and changes nothing
 /// that is told, and then succeeds.
 fn withstands<A: Allocator + Copy, B: Allocator>(
@@ -96,9 +107,7 @@ fn withstands<A: Allocator + Copy, B: Allocator>(
     heap.set(Plan::RefuseAt(n));
     let is_refused = make(&mut run, change, call).is_err();
     heap.set(Plan::Grant);
-    let stands = run.agrees()?;
-    make(&mut run, change, call)?;
-    Ok((is_refused || grown.cache > 0) && stands && run.agrees()?)
+    Ok((is_refused || grown.cache > 0) && stands(&mut run, change, call)?)
 }
 
 // Among these changes are merges into leaves, a node above the root, and a child that is cut in two.

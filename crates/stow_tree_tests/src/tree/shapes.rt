@@ -249,6 +249,15 @@ fn offer_all<A: Allocator + Copy, B: Allocator>(run: &mut Run<'_, A, B>) -> Resu
     Ok(())
 }
 
+/// How many leaves are held with another limit.
+fn cached_at<A: Allocator + Copy, B: Allocator>(
+    run: &mut Run<'_, A, B>,
+    leaves: usize,
+) -> Result<u64, AllocError> {
+    run.tree.resize(leaves)?;
+    Ok(run.tree.tree.shape().cached)
+}
+
 /// How many leaves are held once each was offered: at first, with a limit of 1, of 0, and, offered again, of 3.
 fn held<A: Allocator + Copy, B: Allocator>(
     alloc: A,
@@ -261,11 +270,8 @@ fn held<A: Allocator + Copy, B: Allocator>(
     let mut run = filled(alloc, heap, shape)?;
     offer_all(&mut run)?;
     let first = run.tree.tree.shape().cached;
-    run.tree.resize(1)?;
-    let one = run.tree.tree.shape().cached;
-    run.tree.resize(0)?;
-    let none = run.tree.tree.shape().cached;
-    run.tree.resize(3)?;
+    let (one, none) = (cached_at(&mut run, 1)?, cached_at(&mut run, 0)?);
+    cached_at(&mut run, 3)?;
     offer_all(&mut run)?;
     Ok([first, one, none, run.tree.tree.shape().cached])
 }
