@@ -1,6 +1,6 @@
 -- A list of copies with rising ids, as a map.
-use Rattle.std.proofs.Common.{◌≡◌, ◌≢◌, ℕ, suc, ◌+◌, ◌<◌, ◌≤◌, Bool, true, false, List, [], ◌∷◌, ◌++◌, length, Option, Some, None, refl, ap, ◌∙◌, sym, subst, arith, cond, ⊎_elim, map as each}
-use Rattle.std.specs.Prelude.{T, filter, not, ◌&&◌, ◌||◌, ◌==◌, nat_lt, nat_le}
+use Rattle.std.proofs.Common.{◌≡◌, ◌≢◌, ℕ, ◌+◌, ◌<◌, Bool, true, false, List, [], ◌∷◌, ◌++◌, length, Option, Some, None, refl, ap, ◌∙◌, sym, subst, arith, cond, ⊎_elim, map as each}
+use Rattle.std.specs.Prelude.{T, filter, not, ◌&&◌, ◌==◌}
 use Rattle.std.specs.List.{flat_map, AllByRecursion}
 use Rattle.std.specs.declared.cmp.Ordering.{Ordering}
 use Rattle.std.specs.declared.cmp.Ordering.TheVariants.{Less, Equal, Greater}
@@ -12,7 +12,6 @@ use Rattle.std.specs.FinMap.Entries.{by_order, below_all, where_key, find-where_
 use Rattle.std.specs.FinMap as map
 use Rattle.std.proofs.lemmas.Bool.{cases_eq, eq-eqb, eqb-true, cases_Bool}
 use Rattle.std.proofs.lemmas.List.{length-map}
-use Rattle.stow_bytes.specs.Limits.{number_limit}
 use Rattle.stow_model.specs.Store.{Rows}
 use Rattle.stow_plain.specs.declared.plain_snapshot.PlainSnapshot.{PlainSnapshot}
 use Rattle.stow_plain.specs.Contents.{pairs_of, snapshots_of, shown_in}

@@ -1,15 +1,15 @@
 -- What the contents keep, and what that means of the store.
 use Rattle.std.proofs.lemmas.Bool.{lt-ltb, le-ltb, le-leb, lt-leb, leb-true, leb-false, cases_Bool, cases_lt, false≢true}
-use Rattle.std.proofs.Common.{◌≡◌, ◌≢◌, ⊎_elim, ◌^◌, ℕ, ◌+◌, ◌-◌, ◌<◌, ◌≤◌, Bool, true, false, List, [], ◌∷◌, ◌++◌, length, Option, Some, None, refl, ap, ◌∙◌, sym, subst, arith, cond}
+use Rattle.std.proofs.Common.{◌≡◌, ⊎_elim, ◌^◌, ℕ, ◌+◌, ◌-◌, ◌<◌, ◌≤◌, Bool, true, false, List, [], ◌∷◌, ◌++◌, length, Option, Some, None, refl, ap, ◌∙◌, sym, subst, arith, cond}
 use Rattle.std.specs.Prelude.{filter, not, sum_by, nat_lt, nat_le, ◌&&◌, ◌||◌, ◌==◌, pos, map as each}
 use Rattle.std.specs.List.{flat_map, AllByRecursion, AllZip}
 use Rattle.std.specs.Ordering.{nat_cmp}
-use Rattle.std.specs.FinMap.{FinMap, find, is_sorted}
+use Rattle.std.specs.FinMap.{find, is_sorted}
 use Rattle.std.specs.FinMap as map
 use Rattle.stow_bytes.specs.Bytes.{bytes_cmp}
 use Rattle.stow_bytes.specs.Limits.{number_limit}
 use Rattle.std.specs.Borrow.{Bor}
-use Rattle.std.specs.Option.{option_copied, unwrap_or}
+use Rattle.std.specs.Option.{option_copied}
 use Rattle.std.specs.Prelude.{is_some, ℤ, negsuc, if◌then◌else◌}
 use Rattle.stow_model.specs.Item as item
 use Rattle.stow_model.specs.Reply.{Reply}

@@ -1,4 +1,4 @@
-use Rattle.std.proofs.Common.{◌≡◌, ◌∷◌, ap, sym, ◌∙◌, zero-add}
+use Rattle.std.proofs.Common.{ap, ◌∙◌, zero-add}
 use Rattle.stow_ledger.specs.Shown.{cost_of_all}
 use Rattle.stow_plain.specs.Contents.{shown_in}
 use Rattle.stow_plain.proofs.Charged.{split_cost, none_when, too_much, next_total}

@@ -1,6 +1,5 @@
-use Rattle.std.proofs.Common.{◌≡◌, ◌≤◌, ◌<◌, ◌^◌, ◌∙◌, sym, ap, subst, arith}
-use Rattle.std.specs.Prelude.{nat_le}
-use Rattle.stow_plain.specs.Contents.{Contents, charge_of, is_allowed}
+use Rattle.std.proofs.Common.{◌≡◌, ◌∙◌, ap}
+use Rattle.stow_plain.specs.Contents.{charge_of, is_allowed}
 use Rattle.stow_plain.proofs.Kept.{charge_seen, allowed_then, allowed_by_charge, none_allowed}
 use Rattle.stow_plain.proofs.plain_contents.PlainContents.is_allowed.Goals as goal
 

@@ -1,6 +1,4 @@
-use Rattle.std.proofs.Common.{◌≡◌, ◌≤◌, true, sym, ap, subst, ◌∙◌}
-use Rattle.stow_bytes.specs.Limits.{number_limit}
-use Rattle.stow_plain.specs.Contents.{charge_of, is_allowed}
+use Rattle.std.proofs.Common.{sym, ◌∙◌}
 use Rattle.stow_plain.proofs.Kept.{contents_rows}
 use Rattle.stow_plain.proofs.plain_contents.PlainContents.replace.Goals as goal
 

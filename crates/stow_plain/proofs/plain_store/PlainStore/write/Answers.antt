@@ -1,4 +1,4 @@
-use Rattle.std.proofs.Common.{◌≡◌, true, false, sym, ap, ◌∙◌, if◌then◌else◌}
+use Rattle.std.proofs.Common.{sym, ap, ◌∙◌, if◌then◌else◌}
 use Rattle.stow_model.specs.Reply.{reply_of}
 use Rattle.stow_model.specs.Reply as reply
 use Rattle.stow_model.specs.declared.refusal.Refusal.TheVariants as refusal
