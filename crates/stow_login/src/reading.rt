@@ -157,7 +157,7 @@ pub(crate) fn number_at(table: &Table, key: &str) -> Option<i64>
     }
 }
 
-fn is_name(name: &[u8]) -> bool
+pub(crate) fn is_name(name: &[u8]) -> bool
     ensures { result ≡ is_name name.now }
 {
     !name.is_empty() && name.len() <= NAME_LIMIT && has_name_bytes(name)
@@ -199,7 +199,7 @@ fn digest_in(text: &str) -> Result<[u8; 32], TenantsFault>
 }
 
 /// A quota that isn't negative.
-fn quota_in(number: i64) -> Result<u64, TenantsFault>
+pub(crate) fn quota_in(number: i64) -> Result<u64, TenantsFault>
     ensures { result ≡ quota_in number }
 {
     match u64::try_from(number) {
