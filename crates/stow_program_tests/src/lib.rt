@@ -14,6 +14,8 @@ mod limits;
 #[cfg(test)]
 mod refusals;
 #[cfg(test)]
+mod operator;
+#[cfg(test)]
 mod running;
 #[cfg(test)]
 mod serve;
