@@ -11,12 +11,10 @@ use crate::name::is_named;
 use crate::number::number;
 use crate::update::Update;
 use std::alloc::Allocator;
+use stow_bytes::limits::KEY_LIMIT;
 use stow_model::lent_words::LentWords;
 use stow_model::refusal::Refusal;
 use stow_model::words::Words;
-
-/// Bytes of a key.
-const KEY_LIMIT: usize = 1024;
 
 /// Keys of one deletion.
 const DELETED_LIMIT: usize = 64;

@@ -12,10 +12,11 @@ use crate::tenants_fault::TenantsFault;
 use hex::{FromHex, FromHexError};
 use std::alloc::Allocator;
 use stow_bytes::byte_string::ByteString;
+use stow_bytes::limits;
 use toml::{Table, Value};
 
 /// The most tenants of a file.
-pub(crate) const TENANT_LIMIT: usize = 65_535;
+pub(crate) const TENANT_LIMIT: usize = limits::TENANT_LIMIT as usize;
 
 /// The most bytes of a name.
 const NAME_LIMIT: usize = 64;
