@@ -1,9 +1,15 @@
 -- Numbers of a script, by their texts.
 use Rattle.std.proofs.Common.{◌≡◌, ◌<◌, ◌≤◌, ◌^◌, ℕ, List, Some, None, ◌∙◌, sym, arith}
 use Rattle.std.proofs.lemmas.Fmt.{decimal_injective}
+use Rattle.std.proofs.lemmas.Str.Parse.{IsNumeralModel, numerals_by_value, tells_by_index}
+use Rattle.std.specs.Str.Parse.{digits_value}
 use Rattle.stow_commands.specs.Numbers.{IsMagnitude}
+use Rattle.stow_commands.proofs.Numbers.{AreDigits}
 use Rattle.stow_script.specs.Script.{IsNumber}
 use Rattle.stow_script.specs.Read.{IsNoNumber}
+
+pub own : IsNumeralModel AreDigits (digits_value 10)
+own = numerals_by_value AreDigits tells_by_index
 
 pub is_number : (text : List ℕ) (low high value : ℕ) → IsMagnitude text (Some value) → low ≤ value → value ≤ high → IsNumber low high text value
 is_number text low high value is from to = (from, to, sym is.1)
