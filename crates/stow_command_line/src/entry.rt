@@ -25,7 +25,8 @@ fn name<'a>(alloc: Global) -> Arg<'a> {
 }
 
 fn quota<'a>(alloc: Global) -> Arg<'a> {
-    named(alloc, "quota", "BYTES", "How many bytes its rows may be charged")
+    let help = "How many bytes its rows may be charged";
+    named(alloc, "quota", "BYTES", help)
         .required(true)
         .value_parser(value_parser!(i64).range(0..=i64::MAX))
 }

@@ -194,7 +194,7 @@ fn read_set(arguments: LentWords<'_>) -> Result<Command<'_>, Refusal>
 fn set<'a>(key: &'a [u8], value: &'a [u8], condition: Condition) -> Result<Command<'a>, Refusal>
     ensures { reading_of result
         ≡ meant.with_keys (key.now ∷ [])
-            (meant.Change key.now (meant.Set value.now (condition_of condition))) }
+        (meant.Change key.now (meant.Set value.now (condition_of condition))) }
 {
     let update = Update::Set(value, condition);
     with_key(key, Command::Change(key, update))

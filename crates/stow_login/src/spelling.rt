@@ -51,7 +51,11 @@ fn table_of(
 ) -> Result<Table, AllocError>
     requires { quota < 2 ^ 63 }
     ensures { IfOk result (λ table. table_view table ≡ table_of (record {
-        name = name.now; salt = salt.now; digest = digest.now; quota = quota })) }
+      name = name.now;
+      salt = salt.now;
+      digest = digest.now;
+      quota = quota;
+    })) }
 {
     let mut table = Table::new(alloc);
     add(alloc, &mut table, "digest", digits(alloc, digest)?)?;

@@ -64,7 +64,7 @@ impl<A: Allocator + Copy> Pins<A> {
     pub fn remove(&mut self, tenant: u32, number: u64)
         ensures { (t : ℕ) → pins_in self.new t
             ≡ with_pins (pins_in self.old) tenant
-                (filter (λ p. not (p == number)) (pins_in self.old tenant)) t }
+            (filter (λ p. not (p == number)) (pins_in self.old tenant)) t }
     {
         if let Some(numbers) = self.numbers.get_mut(tenant as usize) {
             take_out(numbers, number);

@@ -12,9 +12,9 @@ mod given;
 #[cfg(test)]
 mod limits;
 #[cfg(test)]
-mod refusals;
-#[cfg(test)]
 mod operator;
+#[cfg(test)]
+mod refusals;
 #[cfg(test)]
 mod running;
 #[cfg(test)]

@@ -56,12 +56,16 @@ where
     let made = run(rt, line, &mut Given::all(input.as_bytes()))?;
     let own = made.output.as_str();
     assert!(rt; made.status == 0 && made.errors.is_empty(), "{input}");
-    tells(rt, own, "check --tenants own.toml", "", "good, tenants: 1\n")?;
+    tells(
+        rt,
+        own,
+        "check --tenants own.toml",
+        "",
+        "good, tenants: 1\n",
+    )?;
     let login = "*3\r\n$4\r\nAUTH\r\n$4\r\ndora\r\n";
     let count = password.len();
-    let asked = format!(in rt.alloc();
-        "{login}${count}\r\n{password}\r\n{login}$6\r\nwordly\r\n"
-    )?;
+    let asked = format!(in rt.alloc(); "{login}${count}\r\n{password}\r\n{login}$6\r\nwordly\r\n")?;
     let replies = "+OK\r\n-WRONGPASS invalid name or password\r\n";
     let pipe = "pipe --tenants own.toml";
     tells(rt, own, pipe, asked.as_str(), replies)
@@ -94,7 +98,10 @@ fn a_salt_may_be_wanting(rt: HostRuntime) -> Result<(), Fail> {
         let (mut output, mut errors) = (Vec::new(alloc), Vec::new(alloc));
         let mut input = Given::all(b"word");
         let status = run_over(&rt, &shelf, line, &mut input, &mut output, &mut errors)?;
-        assert!(rt; status == wanted && output.is_empty() == (wanted == 4), "{line}");
+        assert!(rt;
+            status == wanted && output.is_empty() == (wanted == 4),
+            "{line}"
+        );
     }
     Ok(())
 }

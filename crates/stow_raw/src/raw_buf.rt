@@ -142,7 +142,7 @@ impl<A: Allocator> RawBuf<A> {
         requires { from + count ≤ length self.old.slots }
         ensures { self.new
             ≡ raw_lists self.old.front (remove_range self.old.slots from (from + count))
-                self.old.capacity }
+            self.old.capacity }
     {
         self.block.close(from, count);
         self.block.drop_slots(count);

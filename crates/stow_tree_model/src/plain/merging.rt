@@ -76,7 +76,7 @@ fn add<A: Allocator + Copy>(
     ensures { let old = map version_of_buf versions.old.items in
         let added = version_at (message_of message.entry) value.now in
         OnOk result (map version_of_buf versions.new.items
-            ≡ (if is_added then old ++ added ∷ [] else old)) }
+        ≡ (if is_added then old ++ added ∷ [] else old)) }
 {
     if is_added {
         versions.push(VersionBuf {
@@ -104,7 +104,7 @@ fn copy<A: Allocator + Copy>(
 fn keeps(pins: &[Pin], newer: Option<Message<'_>>, message: Message<'_>) -> bool
     ensures { result
         ≡ is_kept (pins_of pins.now) (option_map message_of newer.entry)
-            (message_of message.entry) }
+        (message_of message.entry) }
 {
     match newer {
         None => true,
@@ -125,7 +125,7 @@ fn pin_within(pins: &[Pin], tenant: u32, from: u64, to: u64) -> bool
 fn any_within(pins: &[Pin], tenant: u32, from: u64, to: u64) -> bool
     ensures { result
         ≡ list_any (λ p. (p.tenant == tenant)
-            && (nat_le from p.number && nat_lt p.number to)) pins.now }
+        && (nat_le from p.number && nat_lt p.number to)) pins.now }
 {
     pins.iter().any(|p| p.tenant == tenant && (from <= p.number && p.number < to))
 }
