@@ -9,7 +9,9 @@ ghost use Rattle.stow_read.specs.Found.{found_value};
 ghost use Rattle.stow_read.specs.Range.{IsRange, key_value};
 ghost use Rattle.stow_read.specs.Versions.{AreVersionsOf};
 ghost use Rattle.stow_tree_model.specs.Messages.{ops_of, value};
+ghost use Rattle.stow_tree_model.specs.Operations.{value_in};
 ghost use Rattle.stow_tree_model.specs.TreeMessage.{message_of};
+ghost use Rattle.stow_tree_model.specs.Value.{IsValue};
 ghost use Rattle.stow_tree_model.specs.VersionBuf.{version_of_buf};
 ghost use Rattle.stow_tree.specs.declared.tree_fault.TreeFault.TheVariants as fault;
 ghost use Rattle.stow_tree.specs.Putting.{bytes_of, CanReserve, IsReserved, Puts};
@@ -169,8 +171,9 @@ impl<A: Allocator + Copy> Tree<A> {
         key: TenantKey<'_>,
         at: u64,
     ) -> Result<Option<Found<'_, A>>, AllocError>
-        ensures { IfOk result (λ found. option_map found_value found
+        ensures value { IfOk result (λ found. option_map found_value found
             ≡ value (tree_messages self.now) key.entry.bytes.now at) }
+        ensures short { IfOk result (λ found. IsValue (value_in (option_map found_value found))) }
     {
         Ok(get(alloc, &self.root, key, at)?.found)
     }

@@ -70,6 +70,13 @@ impl<A: Allocator + Copy> Versions<A> {
         self.last
     }
 
+    /// The id of the next snapshot.
+    pub fn next(&self) -> u64
+        ensures { result ≡ self.now.next }
+    {
+        self.next
+    }
+
     /// The live snapshots' ids, rising.
     pub fn ids(&self) -> &[u64]
         ensures { result.now ≡ map.keys self.now.snapshots }

@@ -1,0 +1,100 @@
+//! What one tenant has beside its rows.
+ghost use Rattle.std.specs.Prelude.{◌≡◌, ◌+◌, ◌<◌, ◌≤◌, IsTrue, IfSome};
+ghost use Rattle.std.specs.FinMap as map;
+ghost use Rattle.stow_bytes.specs.Limits.{number_limit};
+ghost use Rattle.stow_core.specs.Tenancies.{counted_account, charged_account, refused_account, is_among, unless};
+ghost use Rattle.stow_ledger.specs.Accounts.{new_account, is_allowed, IsGivenBy};
+ghost use Rattle.stow_versions.specs.VersionsState.{new_versions, IsReady};
+
+use std::alloc::{Allocator, Global};
+use stow_ledger::account::Account;
+use stow_ledger::charge::Charge;
+use stow_versions::versions::Versions;
+
+/// A tenant's write numbers and snapshots, and what is charged and counted for it.
+#[derive(Drop)]
+pub struct Tenancy<A: Allocator = Global> {
+    pub versions: Versions<A>,
+    pub account: Account,
+}
+
+impl<A: Allocator + Copy> Tenancy<A> {
+    pub(crate) fn new(alloc: A, quota: u64) -> Tenancy<A>
+        requires { quota ≤ number_limit }
+        ensures versions { result.versions ≡ new_versions }
+        ensures account { result.account ≡ new_account quota }
+    {
+        Tenancy {
+            versions: Versions::new(alloc),
+            account: Account::new(quota),
+        }
+    }
+
+    /// One more request was answered.
+    pub(crate) fn count(&mut self)
+        ensures versions { self.new.versions ≡ self.old.versions }
+        ensures account { self.new.account ≡ counted_account self.old.account }
+    {
+        self.account.served();
+    }
+
+    /// One more request was answered, by refusing a write because of the quota.
+    pub(crate) fn refuse(&mut self)
+        ensures versions { self.new.versions ≡ self.old.versions }
+        ensures account { self.new.account ≡ refused_account self.old.account }
+    {
+        self.account.served();
+        self.account.refused();
+    }
+
+    /// One more request was answered, by a write that leads to this charge.
+    pub(crate) fn write(&mut self, charge: Charge)
+        requires last { self.old.versions.last < number_limit }
+        requires given { IsGivenBy self.old.account charge }
+        requires allowed { IsTrue (is_allowed self.old.account charge) }
+        ensures versions { self.new.versions
+            ≡ record self.old.versions { last = self.old.versions.last + 1 } }
+        ensures account { self.new.account ≡ charged_account charge self.old.account }
+    {
+        self.versions.advance();
+        self.account.commit(charge);
+        self.account.served();
+    }
+
+    /// One more request was answered, by a new snapshot.
+    pub(crate) fn take(&mut self)
+        requires { IsReady self.old.versions }
+        ensures versions { self.new.versions ≡ record self.old.versions {
+          snapshots = map.insert self.old.versions.snapshots self.old.versions.next self.old.versions.last;
+          next = self.old.versions.next + 1;
+          room = self.new.versions.room;
+        } }
+        ensures account { self.new.account ≡ counted_account self.old.account }
+    {
+        let _ = self.versions.take();
+        self.account.served();
+    }
+
+    /// One more request was answered, by dropping a live snapshot, which leads to this charge. Tells the snapshot's number,
+    /// unless another one has it.
+    pub(crate) fn drop_snapshot(&mut self, id: u64, charge: Charge) -> Option<u64>
+        requires given { IsGivenBy self.old.account charge }
+        requires allowed { IsTrue (is_allowed self.old.account charge) }
+        ensures versions { self.new.versions ≡ record self.old.versions {
+          snapshots = map.remove self.old.versions.snapshots id;
+          room = self.new.versions.room;
+        } }
+        ensures account { self.new.account ≡ charged_account charge self.old.account }
+        ensures number { IfSome (map.get self.old.versions.snapshots id)
+            (λ n. result ≡ unless (is_among n (map.values self.new.versions.snapshots)) n) }
+    {
+        self.account.commit(charge);
+        self.account.served();
+        let number = self.versions.drop_id(id).ok()?;
+        if self.versions.pins().contains(&number) {
+            None
+        } else {
+            Some(number)
+        }
+    }
+}
