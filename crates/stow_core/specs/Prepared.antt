@@ -1,20 +1,22 @@
 -- What a prepared answer does to its tenant's store, and where it has its room.
-use Rattle.std.specs.Prelude.{◌≡◌, ℕ, ◌+◌, ◌<◌, List, [], ◌∷◌, map, pos, Option, Some, None, IfSome, IsSome, IsTrue, IsFalse, Result, IfOk, IsOkAnd}
+use Rattle.std.specs.Prelude.{◌≡◌, ℕ, ◌+◌, ◌<◌, ◌≤◌, List, [], ◌∷◌, map, length, pos, Option, Some, None, IfSome, IsSome, IsTrue, IsFalse, Result, Ok, Err, IfOk, IsOkAnd}
 use Rattle.std.specs.List.{AllByRecursion}
 use Rattle.std.specs.declared.alloc.AllocError.{AllocError}
 use Rattle.std.specs.FinMap as rows
 use Rattle.stow_bytes.specs.Limits.{number_limit}
 use Rattle.stow_model.specs.declared.refusal.Refusal.TheVariants as refusal
-use Rattle.stow_model.specs.Command.{Command, Change, Range}
+use Rattle.stow_model.specs.Command.{Command, Change}
 use Rattle.stow_commands.specs.Commands.{update_of}
 use Rattle.stow_commands.specs.declared.update.Update.{Update}
 use Rattle.stow_model.specs.Reply.{Reply, reply_of}
 use Rattle.stow_model.specs.Reply as reply
+use Rattle.stow_model.specs.declared.reply.Reply as told
 use Rattle.stow_model.specs.Login.{IsTenant}
-use Rattle.stow_model.specs.Store.{Store, Rows, Answer, Written, counted, served, answer, change_answer, exceeds_quota, one_more, rows_without, value_in, without_snapshot}
+use Rattle.stow_model.specs.Store.{Store, Rows, Version, Answer, Written, counted, served, answer, change_answer, exceeds_quota, one_more, rows_without, value_in, without_snapshot}
 use Rattle.stow_ledger.specs.Accounts.{IsGivenBy, is_allowed}
-use Rattle.stow_ledger.specs.Shown.{charge_of}
+use Rattle.stow_ledger.specs.Shown.{charge_of, sized_option}
 use Rattle.stow_ledger.specs.declared.charge.Charge.{Charge}
+use Rattle.stow_ledger.specs.declared.sized_version.SizedVersion.{SizedVersion}
 use Rattle.stow_core.specs.declared.change.Change as coded
 use Rattle.stow_core.specs.declared.change.Change.TheVariants as change
 use Rattle.stow_core.specs.declared.content.Content.{Content}
@@ -27,7 +29,6 @@ use Rattle.stow_tree_model.specs.Keys.{own_key}
 use Rattle.stow_tree_model.specs.Operations.{outcome, bytes_or_none}
 use Rattle.stow_tree_model.specs.TreeMessage.{TreeMessage}
 use Rattle.stow_versions.specs.VersionsState.{IsReady}
-use Rattle.stow_core.specs.declared.interval.Interval.{Interval}
 use Rattle.stow_core.specs.State.{CoreState, store_of, row_at, Keeps}
 
 -- the store with these rows, by its next write
@@ -91,6 +92,10 @@ CanWrite core tenant = (store_of core tenant).last < number_limit
 abbrev pub next_number : CoreState → ℕ → ℕ
 next_number core tenant = (store_of core tenant).last + 1
 
+-- what the tenant's next write makes of a row
+abbrev pub next_version : CoreState → ℕ → List ℕ → Version
+next_version core tenant value = record { number = next_number core tenant; value = value }
+
 -- the charge is that of the store after a change, and the tenant's account gave it and allows it
 pub record IsCharged (core : CoreState) (tenant : ℕ) (charge : Charge) (after : Store) : Type 0 where
   pub is : charge ≡ charge_of after
@@ -103,6 +108,28 @@ abbrev pub IsPriced : CoreState → ℕ → Option Charge → Store → Type 0
 IsPriced core tenant (Some charge) after = IsCharged core tenant charge after
     × IsFalse (exceeds_quota (store_of core tenant) after)
 IsPriced core tenant None after = IsTrue (exceeds_quota (store_of core tenant) after)
+
+-- the store without the rows of some of its own keys
+abbrev pub store_without : List (List ℕ) → Store → Store
+store_without keys store = record store { rows = rows_without keys store.rows }
+
+-- the store has the row still once those are gone, and this is the length of its key and its version
+pub record IsRowWithout (store : Store) (keys : List (List ℕ)) (own : List ℕ) (key : ℕ)
+    (version : SizedVersion) : Type 0 where
+  pub key_is : key ≡ length own
+  pub version_is : Some version ≡ sized_option (rows.get (rows_without keys store.rows) own)
+
+-- the tenant's account gave the charge, and it is within the limits
+pub record IsWithin (core : CoreState) (tenant : ℕ) (charge : Charge) : Type 0 where
+  pub given : IfSome (tenancy_at tenant core.tenancies) (λ own. IsGivenBy own.account charge)
+  pub charge_within : charge.charge ≤ number_limit
+  pub rows_within : charge.rows ≤ number_limit
+
+-- the charge is that of the tenant's store without the rows of these keys, among the keys of all
+pub record IsChargedWithout (core : CoreState) (tenant : ℕ) (keys : List (List ℕ))
+    (charge : Charge) : Type 0 where
+  pub within : IsWithin core tenant charge
+  pub is : charge ≡ charge_of (store_without (map own_key keys) (store_of core tenant))
 
 -- the messages of the tenant's next write are of its own keys, and need no more memory
 pub record CanCommit (core : CoreState) (tenant : ℕ) (messages : List TreeMessage) : Type 0 where
@@ -202,11 +229,9 @@ abbrev pub CarriesOut : {A : Type 0} → CoreState → CoreState → Prepared A 
 CarriesOut old new prepared = store_of new prepared.tenant
     ≡ effect prepared (store_of old prepared.tenant)
 
--- the reply of the tenant's store to a command that reads
-abbrev pub read_reply : CoreState → ℕ → Command → Reply
-read_reply core tenant command = (served (store_of core tenant) command).1
-
--- the reply of the tenant's store to the command that reads the interval
-abbrev pub range_reply : CoreState → Interval → ℕ → Reply
-range_reply core interval count =
-    read_reply core interval.tenant (Range interval.from.now interval.to.now count)
+-- a reply, if there was memory for it, that changes nothing but the count
+abbrev pub OnlyCounts : {A : Type 0} → ℕ → Result (told.Reply A) AllocError
+    → Result (Prepared A) AllocError → Type 0
+OnlyCounts tenant (Ok r) result =
+    result ≡ Ok (record { tenant = tenant; change = change.Count; reply = r })
+OnlyCounts tenant (Err refused) result = result ≡ Err refused

@@ -16,6 +16,8 @@ use Rattle.stow_model.specs.Reply as reply
 use Rattle.stow_model.specs.Login.{Entry, IsTenant, quota_of}
 use Rattle.stow_model.specs.Store.{Store, Rows, Version, Answer, Request, OwnEvent, Asked, row_items, rows_within, empty_store, answer_with}
 use Rattle.stow_model.specs.Store.{step as own_step}
+use Rattle.stow_core.specs.declared.rows_at.RowsAt.{RowsAt}
+use Rattle.stow_state.specs.Rows.{rows_at}
 use Rattle.stow_state.specs.State.{SharedState, IsSound, pins_in, store_in, new_state}
 use Rattle.stow_state.specs.Steps.{SharedStep, LeadsTo, Call, Maintenance}
 use Rattle.stow_tree.specs.Shapes.{AreInRange}
@@ -47,6 +49,10 @@ store_at messages tenant (Some own) = store_in messages tenant (own_state (Some 
 unfoldable pub store_of : CoreState → ℕ → Store
 store_of core tenant =
     store_at (tree_messages core.tree) tenant (tenancy_at tenant core.tenancies)
+
+-- a tenant's rows at a number
+abbrev pub rows_in : CoreState → RowsAt → Rows
+rows_in core rows = rows_at (tree_messages core.tree) rows.tenant rows.number
 
 -- What the core's type keeps: each tenant has its part, there are few, the shared state is sound, each
 -- account is that of its store, the pins are the numbers of live snapshots, and the tree's sizes are

@@ -1,0 +1,163 @@
+//! Snapshots: taking and dropping them, and what they show.
+ghost use Rattle.std.specs.Prelude.{◌≡◌, IfOk, IfSome, option_map};
+ghost use Rattle.stow_model.specs.Command.{DropSnapshot, GetInSnapshot, RangeInSnapshot, TakeSnapshot};
+ghost use Rattle.stow_model.specs.Login.{IsTenant};
+ghost use Rattle.stow_model.specs.Reply.{reply_of};
+ghost use Rattle.stow_model.specs.Reply as reply;
+ghost use Rattle.stow_model.specs.Store.{id_items, snapshot_rows};
+ghost use Rattle.stow_state.specs.State.{IsSound};
+ghost use Rattle.stow_core.specs.Legal.{IsShortKey};
+ghost use Rattle.stow_core.specs.Prepared.{IsPrepared, serves};
+ghost use Rattle.stow_core.specs.State.{rows_in, shared_of, store_of};
+
+use crate::Core;
+use crate::change::Change;
+use crate::interval::Interval;
+use crate::prepared::Prepared;
+use crate::preparing::{counted, only_counted};
+use crate::rows_at::RowsAt;
+use std::alloc::{AllocError, Allocator};
+use stow_model::items::Items;
+use stow_model::refusal::Refusal;
+use stow_model::reply::Reply;
+use stow_model::simple_string::SimpleString;
+use stow_versions::snapshot_fault::SnapshotFault;
+
+impl<A: Allocator + Copy> Core<A> {
+    /// The rows that a snapshot of the tenant's shows, if it is live.
+    fn snapshot(&self, tenant: u32, id: i64) -> Option<RowsAt>
+        requires { IsTenant self.now.entries tenant }
+        ensures tenant { IfSome result (λ rows. rows.tenant ≡ tenant) }
+        ensures rows { option_map (rows_in self.now) result ≡ snapshot_rows (store_of self.now tenant) id }
+    {
+        if id < 0 {
+            return None;
+        }
+        match self.tenancy(tenant).versions.number_of(id as u64) {
+            None => None,
+            Some(number) => Some(RowsAt { tenant, number }),
+        }
+    }
+
+    /// Finds what taking a snapshot says, and makes room for it and its pin.
+    pub(crate) fn prepare_take(&mut self, tenant: u32) -> Result<Prepared<A>, AllocError>
+        requires is_tenant { IsTenant self.old.entries tenant }
+        requires sound { IsSound (shared_of self.old) }
+        ensures { IsPrepared self.old tenant (serves TakeSnapshot) self.new result }
+    {
+        match self.tenancies[tenant as usize - 1].versions.ready() {
+            Ok(()) => {
+                self.make_pin_room(tenant)?;
+                let id = self.tenancy(tenant).versions.next();
+                Ok(Prepared {
+                    tenant,
+                    change: Change::Take,
+                    reply: Reply::Integer(id as i64),
+                })
+            }
+            Err(SnapshotFault::OutOfMemory) => Err(AllocError),
+            Err(SnapshotFault::TooMany | SnapshotFault::IdsUsedUp) => {
+                Ok(only_counted(tenant, Reply::Error(Refusal::TooManySnapshots)))
+            }
+        }
+    }
+
+    /// Makes room for the tenant's next pin.
+    fn make_pin_room(&mut self, tenant: u32) -> Result<(), AllocError>
+    {
+        self.pin_room = 0;
+        self.pins.room(tenant)?;
+        self.pin_room = tenant;
+        Ok(())
+    }
+
+    /// The live snapshots' ids.
+    pub(crate) fn snapshot_ids(&self, alloc: A, tenant: u32) -> Result<Reply<A>, AllocError>
+        requires { IsTenant self.now.entries tenant }
+        ensures { IfOk result (λ r. reply_of r ≡ reply.Array (id_items (store_of self.now tenant))) }
+    {
+        let ids = self.tenancy(tenant).versions.ids();
+        let mut items = Items::with_capacity(alloc, ids.len(), 0)?;
+        for id in ids {
+            items.push_integer(*id as i64)?;
+        }
+        Ok(Reply::Array(items))
+    }
+
+    /// Finds what a GET in a snapshot says.
+    pub(crate) fn prepare_get(
+        &mut self,
+        buffer: &mut Vec<u8, A>,
+        alloc: A,
+        tenant: u32,
+        id: i64,
+        key: &[u8],
+    ) -> Result<Prepared<A>, AllocError>
+        requires is_tenant { IsTenant self.old.entries tenant }
+        requires sound { IsSound (shared_of self.old) }
+        requires short { IsShortKey key.now }
+        ensures { IsPrepared self.old tenant (serves (GetInSnapshot id key.now)) self.new result }
+    {
+        match self.snapshot(tenant, id) {
+            None => Ok(no_such_snapshot(tenant)),
+            Some(rows) => counted(tenant, self.value(buffer, alloc, rows, key)),
+        }
+    }
+
+    /// Finds what a RANGE in a snapshot says.
+    pub(crate) fn prepare_range(
+        &mut self,
+        buffer: &mut Vec<u8, A>,
+        alloc: A,
+        interval: Interval<'_>,
+        id: i64,
+        count: u32,
+    ) -> Result<Prepared<A>, AllocError>
+        requires is_tenant { IsTenant self.old.entries interval.tenant }
+        requires sound { IsSound (shared_of self.old) }
+        requires from { IsShortKey interval.from.now }
+        requires to { IsShortKey interval.to.now }
+        ensures { IsPrepared self.old interval.entry.tenant
+            (serves (RangeInSnapshot id interval.entry.from.now interval.entry.to.now count))
+            self.new result }
+    {
+        let tenant = interval.tenant;
+        match self.snapshot(tenant, id) {
+            None => Ok(no_such_snapshot(tenant)),
+            Some(rows) => {
+                counted(tenant, self.rows_within(buffer, alloc, interval, rows.number, count))
+            }
+        }
+    }
+
+    /// Finds what dropping a snapshot says, and what stays charged.
+    pub(crate) fn prepare_drop(
+        &mut self,
+        alloc: A,
+        tenant: u32,
+        id: i64,
+    ) -> Result<Prepared<A>, AllocError>
+        requires is_tenant { IsTenant self.old.entries tenant }
+        requires sound { IsSound (shared_of self.old) }
+        ensures { IsPrepared self.old tenant (serves (DropSnapshot id)) self.new result }
+    {
+        match self.snapshot(tenant, id) {
+            None => Ok(no_such_snapshot(tenant)),
+            Some(rows) => {
+                let charge = self.charge_of_drop(alloc, rows, id as u64)?;
+                Ok(Prepared {
+                    tenant,
+                    change: Change::Drop(id as u64, charge),
+                    reply: Reply::Simple(SimpleString::Ok),
+                })
+            }
+        }
+    }
+}
+
+/// The answer to a request for a snapshot that isn't live.
+fn no_such_snapshot<A: Allocator>(tenant: u32) -> Prepared<A>
+    ensures { result ≡ record { tenant = tenant; change = Change.Count; reply = told.Error refusal.NoSuchSnapshot } }
+{
+    only_counted(tenant, Reply::Error(Refusal::NoSuchSnapshot))
+}
