@@ -1,0 +1,29 @@
+//! The keys of an interval that have a value, with what is told of it.
+ghost use Rattle.std.specs.Prelude.{IfOk};
+ghost use Rattle.stow_node.specs.Flushes.{AreShort};
+ghost use Rattle.stow_node.specs.Subtree.{messages_of};
+ghost use Rattle.stow_tree_model.specs.Messages.{ops_in};
+ghost use Rattle.stow_read.specs.Walk.{IsWalk};
+
+use crate::row_head::RowHead;
+use crate::start::Start;
+use std::alloc::{AllocError, Allocator};
+use stow_node::node::Node;
+use stow_tree_model::tenant_key::TenantKey;
+
+/// The first `count` keys from the start on and below `to` that have a value at a number by all messages of the node, in
+/// order, with what is told of it. No value is copied.
+pub fn walk<A: Allocator + Copy>(
+    alloc: A,
+    node: &Node<A>,
+    from: Start<'_>,
+    to: TenantKey<'_>,
+    at: u64,
+    count: usize,
+) -> Result<Vec<RowHead<A>, A>, AllocError>
+    requires short { AreShort (messages_of node.now) }
+    ensures { IfOk result (λ rows. IsWalk (ops_in (messages_of node.now)) from.entry.key.bytes.now
+        from.entry.after to.entry.bytes.now at count rows.items) }
+{
+    Err(AllocError)
+}
