@@ -7,6 +7,7 @@ use Rattle.stow_bytes.specs.Bytes.{bytes_cmp}
 use Rattle.stow_tree_model.specs.Operations.{NumberedValue, Operations, NoneAbove, latest}
 use Rattle.stow_read.specs.NextKey.{is_from}
 use Rattle.stow_read.specs.declared.row_head.RowHead.{RowHead}
+use Rattle.stow_read.specs.declared.value_head.ValueHead.{ValueHead}
 
 -- ---- which keys
 
@@ -40,13 +41,22 @@ abbrev pub IsNext : Operations → ℕ → Option ℕ → Type 0
 IsNext ops at None = NoneAbove at ops
 IsNext ops at (Some number) = IsLeastAbove ops at number
 
--- what is told of the key: its value's number and length, and its next number
-pub record IsHead {A : Type 0} (ops : List ℕ → Operations) (at : ℕ) (row : RowHead A) : Type 0 where
+-- what is told of a value: its number, and how many bytes it has
+abbrev pub head_of : NumberedValue → ValueHead
+head_of v = record { number = v.number; length = length v.value }
+
+-- what is told of a key, by the operations on it, is so
+pub record IsHead {A : Type 0} (ops : Operations) (at : ℕ) (row : RowHead A) : Type 0 where
   pub value : NumberedValue
-  pub has : latest (ops row.key) at ≡ Some value
+  pub has : latest ops at ≡ Some value
   pub number : row.number ≡ value.number
   pub size : row.length ≡ length value.value
-  pub next : IsNext (ops row.key) at row.next
+  pub next : IsNext ops at row.next
+
+-- nothing is told of a key that has no value
+abbrev pub IsHeadOf : {A : Type 0} → List ℕ → Operations → ℕ → Option (RowHead A) → Type 0
+IsHeadOf key ops at None = latest ops at ≡ None
+IsHeadOf key ops at (Some row) = (row.key ≡ key) × IsHead ops at row
 
 -- ---- the walk
 
@@ -56,4 +66,4 @@ head_keys rows = map (λ row. row.key) rows
 -- the first `count` keys of the interval that have a value at the number, in order, with what is told of each
 pub record IsWalk {A : Type 0} (ops : List ℕ → Operations) (start : List ℕ) (after : Bool) (to : List ℕ) (at count : ℕ) (rows : List (RowHead A)) : Type 0 where
   pub keys : AreFirst ops start after to at count (head_keys rows)
-  pub told : AllByRecursion (λ row. IsHead ops at row) rows
+  pub told : AllByRecursion (λ row. IsHead (ops row.key) at row) rows
