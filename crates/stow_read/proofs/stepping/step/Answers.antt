@@ -4,9 +4,9 @@ use Rattle.stow_node.specs.Subtree.{messages_of}
 use Rattle.stow_tree_model.specs.Messages.{ops_in}
 use Rattle.stow_read.specs.NextKey.{IsNextKey}
 use Rattle.stow_read.specs.Way.{key_in, way_ops, StandsAt}
-use Rattle.stow_read.proofs.Ranged.{held_inside}
+use Rattle.stow_read.proofs.FirstKeys.{held_inside}
 use Rattle.stow_read.proofs.Ways.{next_on_way, at_next}
-use Rattle.stow_read.proofs.range.step.Goals as goal
+use Rattle.stow_read.proofs.stepping.step.Goals as goal
 
 pub returns-then-is_below-clause-next : goal.returns-then-is_below-clause-next
 returns-then-is_below-clause-next g c =

@@ -1,0 +1,43 @@
+-- The heads of an interval's keys, one after another.
+use Rattle.std.proofs.Common.{◌≡◌, ℕ, ◌<◌, Bool, true, List, [], ◌∷◌, ◌++◌, length, Option, Some, None, ap, ◌∙◌, sym, subst, arith}
+use Rattle.std.specs.Prelude.{is_some}
+use Rattle.std.specs.List.{AllByRecursion}
+use Rattle.std.proofs.lemmas.List.{length-map, map-append}
+use Rattle.stow_tree_model.specs.Operations.{Operations, latest}
+use Rattle.stow_read.specs.NextKey.{IsNextKey}
+use Rattle.stow_read.specs.Walk.{IsHead, IsHeadOf, IsWalk, head_keys}
+use Rattle.stow_read.specs.declared.row_head.RowHead.{RowHead}
+use Rattle.stow_read.proofs.FirstKeys.{AreFirstSoFar, keys_first, keys_past, keys_more, keys_all, keys_enough}
+use Rattle.stow_read.proofs.Gathered.{all_join}
+
+-- the keys before the next one have been gone over, and the rows have their heads
+pub record IsWalkSoFar {A : Type 0} (ops : List ℕ → Operations) (start : List ℕ) (after : Bool) (to : List ℕ) (at count : ℕ) (rows : List (RowHead A)) (next : Option (List ℕ)) : Type 0 where
+  pub keys : AreFirstSoFar ops start after to at count (head_keys rows) next
+  pub told : AllByRecursion (λ (row : RowHead A). IsHead (ops row.key) at row) rows
+
+pub walk_first : {A : Type 0} (ops : List ℕ → Operations) (start : List ℕ) (after : Bool) (to : List ℕ) (at count : ℕ) (next : Option (List ℕ)) → IsNextKey ops start after to next → IsWalkSoFar {A = A} ops start after to at count [] next
+walk_first ops start after to at count next is = record { keys = keys_first ops start after to at count next is; told = tt }
+
+-- the key has no value
+pub walk_past : {A : Type 0} (ops : List ℕ → Operations) (start : List ℕ) (after : Bool) (to : List ℕ) (at count : ℕ) (rows : List (RowHead A)) (k : List ℕ) (next : Option (List ℕ)) → IsWalkSoFar ops start after to at count rows (Some k) → latest (ops k) at ≡ None → IsNextKey ops k true to next → IsWalkSoFar ops start after to at count rows next
+walk_past ops start after to at count rows k next r none is = record { keys = keys_past ops start after to at count (head_keys rows) k next r.keys none is; told = r.told }
+
+-- the key has a value
+pub walk_more : {A : Type 0} (ops : List ℕ → Operations) (start : List ℕ) (after : Bool) (to : List ℕ) (at count : ℕ) (rows : List (RowHead A)) (k : List ℕ) (row : RowHead A) (next : Option (List ℕ)) → IsWalkSoFar ops start after to at count rows (Some k) → IsHeadOf k (ops k) at (Some row) → length rows < count → IsNextKey ops k true to next
+    → IsWalkSoFar ops start after to at count (rows ++ row ∷ []) next
+walk_more {A} ops start after to at count rows k row next r has room is = record {
+  keys = subst (λ ks. AreFirstSoFar ops start after to at count ks next) (sym (map-append (λ (x : RowHead A). x.key) rows (row ∷ []) ∙ ap (λ x. head_keys rows ++ x ∷ []) has.0))
+      (keys_more ops start after to at count (head_keys rows) k next r.keys (ap is_some has.1.has) (omega (arith, room, length-map rows (λ (x : RowHead A). x.key))) is);
+  told = all_join (λ (x : RowHead A). IsHead (ops x.key) at x) rows (row ∷ []) r.told (subst (λ x. IsHead (ops x) at row) (sym has.0) has.1, tt);
+}
+
+-- no key is left
+pub walk_all : {A : Type 0} (ops : List ℕ → Operations) (start : List ℕ) (after : Bool) (to : List ℕ) (at count : ℕ) (rows : List (RowHead A)) → IsWalkSoFar ops start after to at count rows None → IsWalk ops start after to at count rows
+walk_all ops start after to at count rows r = record { keys = keys_all ops start after to at count (head_keys rows) r.keys; told = r.told }
+
+-- there are as many as were asked for
+pub walk_enough : {A : Type 0} (ops : List ℕ → Operations) (start : List ℕ) (after : Bool) (to : List ℕ) (at count : ℕ) (rows : List (RowHead A)) (k : List ℕ) → IsWalkSoFar ops start after to at count rows (Some k) → length rows ≡ count → IsWalk ops start after to at count rows
+walk_enough {A} ops start after to at count rows k r full = record {
+  keys = keys_enough ops start after to at count (head_keys rows) k r.keys (omega (arith, full, length-map rows (λ (x : RowHead A). x.key)));
+  told = r.told;
+}
