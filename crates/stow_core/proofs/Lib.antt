@@ -1,9 +1,10 @@
 pub mod Keyed
+pub mod Tenancies
 pub mod Stores
-pub mod Appended
-pub mod Moves
-pub mod Shared
 pub mod Kept
+pub mod Moved
+pub mod Appended
+pub mod Changed
 pub mod Room
 pub mod Within
 pub mod Told

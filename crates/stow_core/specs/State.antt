@@ -1,8 +1,8 @@
 -- What the core keeps for all tenants together, and one tenant's store in it.
-use Rattle.std.specs.Prelude.{◌≡◌, ◌≢◌, ℕ, ◌<◌, length, Bool, IfSome, List, Option, Some, None}
+use Rattle.std.specs.Prelude.{◌≡◌, ◌≢◌, ℕ, ℤ, pos, negsuc, ◌<◌, length, Bool, IfSome, List, Option, Some, None}
 use Rattle.std.specs.FinMap as map
 use Rattle.std.specs.List.{flat_map}
-use Rattle.stow_core.specs.Tenancies.{TenancyState, own_state, tenancy_at, is_among}
+use Rattle.stow_core.specs.Tenancies.{TenancyState, own_state, tenancy_at, versions_of, is_among}
 use Rattle.stow_core.specs.declared.interval.Interval.{Interval}
 use Rattle.stow_ledger.specs.Accounts.{IsAccountOf}
 use Rattle.stow_leaf_cache.specs.Cache.{cache_resized}
@@ -54,6 +54,16 @@ store_of core tenant =
 abbrev pub rows_in : CoreState → RowsAt → Rows
 rows_in core rows = rows_at (tree_messages core.tree) rows.tenant rows.number
 
+-- the tenant's snapshot of this id is live, and shows the rows at the number
+abbrev pub IsNumberOf : CoreState → ℕ → ℕ → ℕ → Type 0
+IsNumberOf core tenant id number = IfSome (tenancy_at tenant core.tenancies)
+    (λ own. map.get (versions_of own).snapshots id ≡ Some number)
+
+-- the same of an id as requests name it
+abbrev pub IsLiveId : CoreState → ℕ → ℤ → ℕ → Type 0
+IsLiveId core tenant (pos id) number = IsNumberOf core tenant id number
+IsLiveId core tenant (negsuc below) number = ⊥
+
 -- What the core's type keeps: each tenant has its part, there are few, the shared state is sound, each
 -- account is that of its store, the pins are the numbers of live snapshots, and the tree's sizes are
 -- within their limits.
@@ -104,6 +114,12 @@ pub record Moves (old : CoreState) (tenant : ℕ) (store : Store) (new : CoreSta
   pub others : OthersStay old new tenant
   pub entries : new.entries ≡ old.entries
   pub step : StepsTo old tenant store new
+
+-- the operator gave the tenant a quota; where the number is no tenant's, nothing changed
+pub record GivesQuota (old : CoreState) (tenant quota : ℕ) (new : CoreState) : Type 0 where
+  pub own : IsTenant old.entries tenant
+      → Moves old tenant (record (store_of old tenant) { quota = quota }) new
+  pub stranger : ¬ (IsTenant old.entries tenant) → new ≡ old
 
 -- the request was answered in the tenant's store, as it would be if the tenant had it alone; and that is a step
 -- of the state that all share

@@ -1,13 +1,13 @@
 -- What one tenant has beside its messages: its versions and its account.
-use Rattle.std.specs.Prelude.{ℕ, zero, suc, ◌==◌, Bool, List, [], Option, Some, None, slice_get, if◌then◌else◌}
+use Rattle.std.specs.Prelude.{ℕ, zero, suc, Bool, List, [], Option, Some, None, slice_get, if◌then◌else◌}
 use Rattle.std.specs.FinMap as map
-use Rattle.std.specs.List.{list_any}
 use Rattle.stow_core.specs.declared.tenancy.Tenancy.{Tenancy}
 use Rattle.stow_ledger.specs.Accounts.{AccountState, new_account}
 use Rattle.stow_ledger.specs.declared.charge.Charge.{Charge}
 use Rattle.stow_model.specs.Login.{Entry}
 use Rattle.stow_model.specs.Store.{one_more}
 use Rattle.stow_state.specs.State.{TenantState, new_tenant}
+pub use Rattle.stow_versions.specs.VersionsState.{is_among}
 use Rattle.stow_versions.specs.VersionsState.{VersionsState}
 
 pub record TenancyState : Type 0 where
@@ -47,10 +47,6 @@ versions_of own =
 abbrev pub new_tenancy : Entry → TenancyState
 new_tenancy entry =
     record { last = 0; snapshots = []; next = 1; room = 0; account = new_account entry.quota }
-
--- the number is one of these
-abbrev pub is_among : ℕ → List ℕ → Bool
-is_among n numbers = list_any (λ m. m == n) numbers
 
 -- the number, unless that is so
 abbrev pub unless : Bool → ℕ → Option ℕ

@@ -1,5 +1,8 @@
 //! Snapshots: taking and dropping them, and what they show.
-ghost use Rattle.std.specs.Prelude.{◌≡◌, IfOk, IfSome, option_map};
+ghost use Rattle.std.specs.Prelude.{◌≡◌, Some, IfOk, IfSome, OnOk, option_map};
+ghost use Rattle.std.specs.FinMap as map;
+ghost use Rattle.stow_model.specs.declared.refusal.Refusal.TheVariants as refusal;
+ghost use Rattle.stow_model.specs.declared.reply.Reply.TheVariants as told;
 ghost use Rattle.stow_model.specs.Command.{DropSnapshot, GetInSnapshot, RangeInSnapshot, TakeSnapshot};
 ghost use Rattle.stow_model.specs.Login.{IsTenant};
 ghost use Rattle.stow_model.specs.Reply.{reply_of};
@@ -7,8 +10,8 @@ ghost use Rattle.stow_model.specs.Reply as reply;
 ghost use Rattle.stow_model.specs.Store.{id_items, snapshot_rows};
 ghost use Rattle.stow_state.specs.State.{IsSound};
 ghost use Rattle.stow_core.specs.Legal.{IsShortKey};
-ghost use Rattle.stow_core.specs.Prepared.{IsPrepared, serves};
-ghost use Rattle.stow_core.specs.State.{rows_in, shared_of, store_of};
+ghost use Rattle.stow_core.specs.Prepared.{IsCharged, IsPrepared, after_drop, serves};
+ghost use Rattle.stow_core.specs.State.{rows_in, shared_of, store_of, IsLiveId, IsNumberOf};
 
 use crate::Core;
 use crate::change::Change;
@@ -17,6 +20,7 @@ use crate::prepared::Prepared;
 use crate::preparing::{counted, only_counted};
 use crate::rows_at::RowsAt;
 use std::alloc::{AllocError, Allocator};
+use stow_ledger::charge::Charge;
 use stow_model::items::Items;
 use stow_model::refusal::Refusal;
 use stow_model::reply::Reply;
@@ -28,6 +32,7 @@ impl<A: Allocator + Copy> Core<A> {
     fn snapshot(&self, tenant: u32, id: i64) -> Option<RowsAt>
         requires { IsTenant self.now.entries tenant }
         ensures tenant { IfSome result (λ rows. rows.tenant ≡ tenant) }
+        ensures number { IfSome result (λ rows. IsLiveId self.now tenant id rows.number) }
         ensures rows { option_map (rows_in self.now) result ≡ snapshot_rows (store_of self.now tenant) id }
     {
         if id < 0 {
@@ -64,6 +69,8 @@ impl<A: Allocator + Copy> Core<A> {
 
     /// Makes room for the tenant's next pin.
     fn make_pin_room(&mut self, tenant: u32) -> Result<(), AllocError>
+        ensures same { self.new ≡ record self.old { pin_room = self.new.pin_room } }
+        ensures room { OnOk result (self.new.pin_room ≡ tenant) }
     {
         self.pin_room = 0;
         self.pins.room(tenant)?;
@@ -128,6 +135,16 @@ impl<A: Allocator + Copy> Core<A> {
                 counted(tenant, self.rows_within(buffer, alloc, interval, rows.number, count))
             }
         }
+    }
+
+    /// The charge once the tenant's snapshot of this id is dropped, which shows these rows.
+    fn charge_of_drop(&self, alloc: A, rows: RowsAt, id: u64) -> Result<Charge, AllocError>
+        requires is_tenant { IsTenant self.now.entries rows.tenant }
+        requires shows { IsNumberOf self.now rows.tenant id rows.number }
+        ensures { IfOk result (λ charge. IsCharged self.now rows.tenant charge
+            (after_drop id (store_of self.now rows.tenant))) }
+    {
+        Err(AllocError)
     }
 
     /// Finds what dropping a snapshot says, and what stays charged.

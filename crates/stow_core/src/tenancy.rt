@@ -38,6 +38,15 @@ impl<A: Allocator + Copy> Tenancy<A> {
         self.account.served();
     }
 
+    /// The quota is another from now on, in bytes.
+    pub(crate) fn set_quota(&mut self, quota: u64)
+        requires { quota ≤ number_limit }
+        ensures versions { self.new.versions ≡ self.old.versions }
+        ensures account { self.new.account ≡ record self.old.account { quota = quota } }
+    {
+        self.account.set_quota(quota);
+    }
+
     /// One more request was answered, by refusing a write because of the quota.
     pub(crate) fn refuse(&mut self)
         ensures versions { self.new.versions ≡ self.old.versions }

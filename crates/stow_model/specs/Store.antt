@@ -1,5 +1,5 @@
 -- One tenant's store, alone: what a request means to it.
-use Rattle.std.specs.Prelude.{◌≡◌, ℕ, ℤ, pos, ◌+◌, ◌-◌, ◌+ℤ◌, negsuc, nat_le, codes, Bool, true, false, not, List, [], ◌∷◌, ◌++◌, length, filter, take, sum_by, Option, Some, None, is_some, if◌then◌else◌, nat_lt, ◌==◌, ◌&&◌, ◌||◌}
+use Rattle.std.specs.Prelude.{◌≤◌, ◌≡◌, ℕ, ℤ, pos, ◌+◌, ◌-◌, ◌+ℤ◌, negsuc, nat_le, codes, Bool, true, false, not, List, [], ◌∷◌, ◌++◌, length, filter, take, sum_by, Option, Some, None, is_some, if◌then◌else◌, nat_lt, ◌==◌, ◌&&◌, ◌||◌}
 use Rattle.std.specs.Prelude.{map as list_map}
 use Rattle.std.specs.Option.{unwrap_or}
 use Rattle.std.specs.List.{list_any, flat_map}
@@ -286,6 +286,16 @@ abbrev pub id_items : Store → List Item
 id_items store = list_map (λ id. item.Integer (pos id)) (map.keys store.snapshots)
 
 -- ---- the usage report
+
+-- each number is within the limit of numbers
+pub record AreWithin (u : Usage) : Type 0 where
+  pub rows : u.rows ≤ number_limit
+  pub charge : u.charge ≤ number_limit
+  pub quota : u.quota ≤ number_limit
+  pub writes : u.writes ≤ number_limit
+  pub commands : u.commands ≤ number_limit
+  pub refusals : u.refusals ≤ number_limit
+  pub snapshots : u.snapshots ≤ number_limit
 
 -- each number behind its name
 abbrev pub usage_items : Usage → List Item

@@ -30,13 +30,3 @@ store_of s =
 -- the store and the reply are this answer
 abbrev pub Tells : {A B : Type 0} → PlainStore A → Reply B → Answer → Type 0
 Tells store reply answer = ◌≡◌ {A = Answer} (store_of store, reply_of reply) answer
-
--- each number of the report fits a reply
-pub record AreWithin (u : Usage) : Type 0 where
-  pub rows : u.rows ≤ number_limit
-  pub charge : u.charge ≤ number_limit
-  pub quota : u.quota ≤ number_limit
-  pub writes : u.writes ≤ number_limit
-  pub commands : u.commands ≤ number_limit
-  pub refusals : u.refusals ≤ number_limit
-  pub snapshots : u.snapshots ≤ number_limit

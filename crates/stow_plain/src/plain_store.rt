@@ -8,7 +8,7 @@ ghost use Rattle.stow_model.specs.Item.{Bulk, Integer};
 ghost use Rattle.stow_model.specs.LentWords.{words_in};
 ghost use Rattle.stow_model.specs.Store as store;
 ghost use Rattle.stow_model.specs.Reply.{reply_of};
-ghost use Rattle.stow_plain.specs.OwnRun.{request_of, store_of, Tells, AreWithin};
+ghost use Rattle.stow_plain.specs.OwnRun.{request_of, store_of, Tells};
 
 use crate::plain_contents::PlainContents;
 use crate::plain_number::PlainNumber;
@@ -150,7 +150,7 @@ impl<A: Allocator + Copy> PlainStore<A> {
             Command::RangeInSnapshot(id, from, to, count) => {
                 self.range_in(alloc, id, from, to, count)
             }
-            Command::ReportUsage => Ok(Reply::Array(usage_items(alloc, &self.usage())?)),
+            Command::ReportUsage => Ok(Reply::Array(self.usage().items(alloc)?)),
             Command::Change(key, update) => self.change(alloc, key, update),
         }
     }
@@ -284,34 +284,4 @@ impl<A: Allocator + Copy> PlainStore<A> {
             Some(rows) => Ok(Reply::Array(rows.items_within(alloc, from, to, count)?)),
         }
     }
-}
-
-/// Each number of a usage report behind its name.
-fn usage_items<A: Allocator + Copy>(alloc: A, usage: &Usage) -> Result<Items<A>, AllocError>
-    requires { AreWithin usage.now }
-    ensures { IfOk result (λ items. items ≡ store.usage_items usage.now) }
-{
-    let mut items = Items::new(alloc);
-    push_number(&mut items, b"rows", usage.rows)?;
-    push_number(&mut items, b"charge", usage.charge)?;
-    push_number(&mut items, b"quota", usage.quota)?;
-    push_number(&mut items, b"writes", usage.writes)?;
-    push_number(&mut items, b"commands", usage.commands)?;
-    push_number(&mut items, b"refusals", usage.refusals)?;
-    push_number(&mut items, b"snapshots", usage.snapshots)?;
-    Ok(items)
-}
-
-fn push_number<A: Allocator>(
-    items: &mut Items<A>,
-    name: &[u8],
-    number: u64,
-) -> Result<(), AllocError>
-    requires { number ≤ number_limit }
-    ensures { OnOk result
-        (items.new ≡ items.old ++ Bulk name.now ∷ Integer (pos number) ∷ []) }
-{
-    items.push_bulk(name)?;
-    items.push_integer(number as i64)?;
-    Ok(())
 }

@@ -145,3 +145,10 @@ pins_push pins new numbers n are rise members = record {
   rise = rise;
   same_members = λ k. members k ∙ ap (λ b. b || (n == k)) (are.same_members k) ∙ sym (any_push numbers n k);
 }
+
+-- without the number at a place, that number is among the others or not, and each other as before
+pub any_removed : (xs : List ℕ) (i x : ℕ) → i < length xs → get_or xs i 0 ≡ x → (n : ℕ) → list_any (λ m. m == n) xs ≡ (list_any (λ m. m == n) (remove xs i) || (x == n))
+any_removed xs i x l e n = ⊎_elim
+    (λ (s : x ≡ n). any_here xs i n 0 l (e ∙ s) ∙ sym (ap (λ b. list_any (λ m. m == n) (remove xs i) || b) (eq-eqb x n s) ∙ or_true (list_any (λ m. m == n) (remove xs i))))
+    (λ (ne : x ≢ n). sym (any_remove_other xs i n l (λ same. ne (sym e ∙ same))) ∙ sym (ap (λ b. list_any (λ m. m == n) (remove xs i) || b) (ne_eqb x n ne) ∙ or_false (list_any (λ m. m == n) (remove xs i))))
+    (cases_eq x n)

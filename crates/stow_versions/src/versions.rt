@@ -1,12 +1,12 @@
 //! One tenant's write numbers, snapshots and pins.
-ghost use Rattle.std.specs.Prelude.{◌≡◌, ℕ, ◌+◌, ◌<◌, ◌≤◌, ◌==◌, ◌||◌, ◌↔◌, not, filter, length, Contains, All, OnOk, OnErr, IfErr, IfSome, IfNone, IsTrue, IsFalse, slice_index, [], ◌∷◌, ◌++◌, vec_len};
+ghost use Rattle.std.specs.Prelude.{◌≡◌, ℕ, ◌+◌, ◌<◌, ◌≤◌, ◌==◌, ◌||◌, ◌↔◌, not, filter, length, Contains, All, OnOk, OnErr, IfOk, IfErr, IfSome, IfNone, IsTrue, IsFalse, slice_index, [], ◌∷◌, ◌++◌, vec_len};
 ghost use Rattle.std.specs.List.{list_any, position, remove};
 ghost use Rattle.std.specs.List.Sorted.{IsStrictlyIncreasing};
 ghost use Rattle.std.specs.Vec.{vec_capacity};
 ghost use Rattle.std.specs.Result.{result_ok};
 ghost use Rattle.std.specs.FinMap as map;
 ghost use Rattle.stow_bytes.specs.Limits.{number_limit};
-ghost use Rattle.stow_versions.specs.VersionsState.{snapshot_limit, new_versions, AreVersions, IsReady};
+ghost use Rattle.stow_versions.specs.VersionsState.{snapshot_limit, new_versions, is_among, AreVersions, IsReady};
 ghost use Rattle.stow_versions.specs.VersionLists.{room_of, ArePins};
 ghost use Rattle.stow_versions.specs.declared.snapshot_fault.SnapshotFault.TheVariants.{TooMany, IdsUsedUp, OutOfMemory};
 
@@ -105,6 +105,7 @@ impl<A: Allocator + Copy> Versions<A> {
     pub fn pins(&self) -> &[u64]
         ensures rise { IsStrictlyIncreasing result.now }
         ensures members { (n : ℕ) → Contains result.now n ↔ Contains (map.values self.now.snapshots) n }
+        ensures among { (n : ℕ) → is_among n result.now ≡ is_among n (map.values self.now.snapshots) }
     {
         self.pins.as_slice()
     }
@@ -144,6 +145,8 @@ impl<A: Allocator + Copy> Versions<A> {
           next = self.old.next + 1;
           room = self.new.room;
         } }
+        ensures numbers { (n : ℕ) → is_among n (map.values self.new.snapshots)
+            ≡ (is_among n (map.values self.old.snapshots) || (self.old.last == n)) }
     {
         let id = self.next;
         self.next += 1;
@@ -161,6 +164,8 @@ impl<A: Allocator + Copy> Versions<A> {
           snapshots = map.remove self.old.snapshots id;
           room = self.new.room;
         }) }
+        ensures numbers { IfOk result (λ number. (n : ℕ) → is_among n (map.values self.old.snapshots)
+            ≡ (is_among n (map.values self.new.snapshots) || (number == n))) }
         ensures unchanged { OnErr result (self.new ≡ self.old) }
     {
         let place = match place_of(&self.ids, id) {
