@@ -1,13 +1,13 @@
 -- The heads of an interval's keys, one after another.
-use Rattle.std.proofs.Common.{◌≡◌, ℕ, ◌<◌, Bool, true, List, [], ◌∷◌, ◌++◌, length, Option, Some, None, ap, ◌∙◌, sym, subst, arith}
-use Rattle.std.specs.Prelude.{is_some}
+use Rattle.std.proofs.Common.{◌≡◌, ℕ, ◌+◌, ◌<◌, Bool, true, List, [], ◌∷◌, ◌++◌, length, Option, Some, None, ap, ◌∙◌, sym, subst, arith}
+use Rattle.std.specs.Prelude.{Contains, IsSome, is_some}
 use Rattle.std.specs.List.{AllByRecursion}
 use Rattle.std.proofs.lemmas.List.{length-map, map-append}
 use Rattle.stow_tree_model.specs.Operations.{Operations, latest}
 use Rattle.stow_read.specs.NextKey.{IsNextKey}
-use Rattle.stow_read.specs.Walk.{IsHead, IsHeadOf, IsWalk, head_keys}
+use Rattle.stow_read.specs.Walk.{is_inside, AreFirst, IsHead, IsHeadOf, IsWalk, head_keys}
 use Rattle.stow_read.specs.declared.row_head.RowHead.{RowHead}
-use Rattle.stow_read.proofs.FirstKeys.{AreFirstSoFar, keys_first, keys_past, keys_more, keys_all, keys_enough}
+use Rattle.stow_read.proofs.FirstKeys.{AreFirstSoFar, keys_first, keys_past, keys_more, keys_all, keys_enough, keys_join, keys_whole}
 use Rattle.stow_read.proofs.Gathered.{all_join}
 
 -- the keys before the next one have been gone over, and the rows have their heads
@@ -41,3 +41,23 @@ walk_enough {A} ops start after to at count rows k r full = record {
   keys = keys_enough ops start after to at count (head_keys rows) k r.keys (omega (arith, full, length-map rows (λ (x : RowHead A). x.key)));
   told = r.told;
 }
+
+-- a full walk, and then one after its last key, are one walk
+pub walks_join : {A : Type 0} (ops : List ℕ → Operations) (start : List ℕ) (after : Bool) (to : List ℕ) (at count more_count : ℕ) (rows : List (RowHead A)) (last : RowHead A) (more : List (RowHead A)) → IsWalk ops start after to at count (rows ++ last ∷ []) → length (rows ++ last ∷ []) ≡ count → IsWalk ops last.key true to at more_count more
+    → IsWalk ops start after to at (count + more_count) ((rows ++ last ∷ []) ++ more)
+walks_join {A} ops start after to at count more_count rows last more walk full next = record {
+  keys = subst (AreFirst ops start after to at (count + more_count)) (sym (map-append (λ (x : RowHead A). x.key) (rows ++ last ∷ []) more ∙ ap (λ ks. ks ++ head_keys more) same))
+      (keys_join ops start after to at count more_count (head_keys rows) last.key (head_keys more)
+      (subst (AreFirst ops start after to at count) same walk.keys)
+      (sym (ap length same) ∙ length-map (rows ++ last ∷ []) (λ (x : RowHead A). x.key) ∙ full)
+      next.keys);
+  told = all_join (λ (x : RowHead A). IsHead (ops x.key) at x) (rows ++ last ∷ []) more walk.told next.told;
+}
+  where
+    same : head_keys (rows ++ last ∷ []) ≡ head_keys rows ++ last.key ∷ []
+    same = map-append (λ (x : RowHead A). x.key) rows (last ∷ [])
+
+-- a walk of fewer rows than were asked for has all keys that have a value
+pub walk_whole : {A : Type 0} (ops : List ℕ → Operations) (start : List ℕ) (after : Bool) (to : List ℕ) (at count : ℕ) (rows : List (RowHead A)) → IsWalk ops start after to at count rows → length rows < count
+    → (key : List ℕ) → is_inside start after to key ≡ true → IsSome (latest (ops key) at) → Contains (head_keys rows) key
+walk_whole {A} ops start after to at count rows walk fewer = keys_whole ops start after to at count (head_keys rows) walk.keys (omega (arith, fewer, length-map rows (λ (x : RowHead A). x.key)))
