@@ -231,8 +231,9 @@ keys_join ops start after to at count more_count keys k more first full next = r
       (λ (c : (length (keys ++ k ∷ []) ≡ count) × AreBelow (keys ++ k ∷ []) key). ⊎_elim
       (λ (d : Contains more key). inl (Contains-append_right (keys ++ k ∷ []) more key d))
       (λ (d : (length more ≡ more_count) × AreBelow more key). inr (
-      (let e = d.0 in omega (arith, e, full, length-append (keys ++ k ∷ []) more)),
-      all_join (λ (x : List ℕ). lt x key ≡ true) (keys ++ k ∷ []) more c.1 d.1))
+        (let e = d.0 in omega (arith, e, full, length-append (keys ++ k ∷ []) more)),
+        all_join (λ (x : List ℕ). lt x key ≡ true) (keys ++ k ∷ []) more c.1 d.1,
+      ))
       (next.all key (insided k true to key (last_too (λ (x : List ℕ). lt x key ≡ true) keys k c.1) (inside_to start after to key s)) v))
       (first.all key s v);
 }
