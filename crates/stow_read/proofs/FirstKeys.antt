@@ -1,7 +1,8 @@
 -- The first keys of an interval that have a value, one after another.
-use Rattle.std.proofs.Common.{◌≡◌, ℕ, zero, suc, ◌<◌, ◌≤◌, Bool, true, false, cond, List, [], ◌∷◌, ◌++◌, length, Option, Some, None, refl, ap, ◌∙◌, sym, arith, ⊎_elim, inl, inr}
+use Rattle.std.proofs.Common.{◌≡◌, ℕ, zero, suc, ◌+◌, ◌<◌, ◌≤◌, Bool, true, false, cond, List, [], ◌∷◌, ◌++◌, length, Option, Some, None, refl, ap, ◌∙◌, sym, arith, ⊎_elim, inl, inr}
 use Rattle.std.specs.Prelude.{Contains, IsSome, not, ◌&&◌}
 use Rattle.std.specs.List.{AllByRecursion}
+use Rattle.std.specs.Ordering.{is_lt}
 use Rattle.std.specs.List.Sorted.{IsStrictlySortedBy}
 use Rattle.std.specs.declared.cmp.Ordering.TheVariants.{Less}
 use Rattle.std.proofs.lemmas.List.{length-append}
@@ -12,7 +13,7 @@ use Rattle.stow_tree_model.proofs.Histories.{latest_none}
 use Rattle.stow_message.proofs.RisingLists.{lt_is}
 use Rattle.stow_leaf.specs.Intervals.{spans, top_key}
 use Rattle.stow_leaf.proofs.Found.{found, none_some}
-use Rattle.stow_leaf.proofs.Intervals.{lt, by_test, lt_self, lt_not, lt_trans, lt_le, le_le, at_most, under, beyond, not_spanned}
+use Rattle.stow_leaf.proofs.Intervals.{lt, by_test, lt_self, lt_not, lt_trans, le_lt, lt_le, le_le, at_most, under, beyond, not_spanned}
 use Rattle.stow_node.specs.Nodes.{AreChildren}
 use Rattle.stow_node.specs.Subtree.{Subtree, messages_of}
 use Rattle.stow_node.specs.declared.child.Child.{Child}
@@ -180,6 +181,73 @@ keys_enough ops start after to at count keys k r full = record {
     below_all : (xs : List (List ℕ)) (key : List ℕ) → lt key k ≡ false → AreBelow xs k → AreBelow xs key
     below_all [] key e a = tt
     below_all (x ∷ xs) key e a = (lt_le x k key a.0 e, below_all xs key e a.1)
+
+-- ---- one call behind another
+
+last_too : {X : Type 0} (P : X → Type 0) (xs : List X) (x : X) → AllByRecursion P (xs ++ x ∷ []) → P x
+last_too P [] x a = a.0
+last_too P (y ∷ ys) x a = last_too P ys x a.1
+
+below_last : (keys : List (List ℕ)) (k : List ℕ) → IsStrictlySortedBy bytes_cmp (keys ++ k ∷ []) → AreBelow keys k
+unfolding IsStrictlySortedBy
+below_last [] k up = tt
+below_last (x ∷ xs) k up = (ap is_lt (last_too (λ q. bytes_cmp x q ≡ Less) xs k up.0), below_last xs k up.1)
+
+-- all of the first keys stand below all of the others
+AreApart : List (List ℕ) → List (List ℕ) → Type 0
+AreApart keys more = AllByRecursion (λ x. AllByRecursion (λ y. bytes_cmp x y ≡ Less) more) keys
+
+all_less : (x k : List ℕ) (to : List ℕ) (more : List (List ℕ)) → lt k x ≡ false → AllByRecursion (λ (y : List ℕ). is_inside k true to y ≡ true) more → AllByRecursion (λ y. bytes_cmp x y ≡ Less) more
+all_less x k to [] l a = tt
+all_less x k to (y ∷ ys) l a = (lt_is (bytes_cmp x y) (le_lt x k y l (inside_from k true to y a.0)), all_less x k to ys l a.1)
+
+are_apart : (keys : List (List ℕ)) (k to : List ℕ) (more : List (List ℕ)) → AreBelow keys k → AllByRecursion (λ (y : List ℕ). is_inside k true to y ≡ true) more → AreApart (keys ++ k ∷ []) more
+unfolding AreApart
+are_apart [] k to more b a = (all_less k k to more (lt_self k) a, tt)
+are_apart (x ∷ xs) k to more b a = (all_less x k to more (lt_not x k b.0) a, are_apart xs k to more b.1 a)
+
+rises_join : (keys more : List (List ℕ)) → IsStrictlySortedBy bytes_cmp keys → IsStrictlySortedBy bytes_cmp more → AreApart keys more → IsStrictlySortedBy bytes_cmp (keys ++ more)
+unfolding IsStrictlySortedBy AreApart
+rises_join [] more up up' a = up'
+rises_join (x ∷ xs) more up up' a = (all_join (λ q. bytes_cmp x q ≡ Less) xs more up.0 a.0, rises_join xs more up.1 up' a.1)
+
+still_inside : (start : List ℕ) (after : Bool) (to k : List ℕ) (more : List (List ℕ)) → is_inside start after to k ≡ true → AllByRecursion (λ (y : List ℕ). is_inside k true to y ≡ true) more → AllByRecursion (λ (y : List ℕ). is_inside start after to y ≡ true) more
+still_inside start after to k [] s a = tt
+still_inside start after to k (y ∷ ys) s a = (
+  insided start after to y (from_above start after k y (inside_from start after to k s) (lt_not k y (inside_from k true to y a.0))) (inside_to k true to y a.0),
+  still_inside start after to k ys s a.1,
+)
+
+-- as many keys as were asked for, and then those after the last one, are the first ones of both calls
+pub keys_join : (ops : List ℕ → Operations) (start : List ℕ) (after : Bool) (to : List ℕ) (at count more_count : ℕ) (keys : List (List ℕ)) (k : List ℕ) (more : List (List ℕ)) → AreFirst ops start after to at count (keys ++ k ∷ []) → length (keys ++ k ∷ []) ≡ count → AreFirst ops k true to at more_count more
+    → AreFirst ops start after to at (count + more_count) ((keys ++ k ∷ []) ++ more)
+keys_join ops start after to at count more_count keys k more first full next = record {
+  rise = rises_join (keys ++ k ∷ []) more first.rise next.rise (are_apart keys k to more (below_last keys k first.rise) next.inside);
+  inside = all_join (λ (x : List ℕ). is_inside start after to x ≡ true) (keys ++ k ∷ []) more first.inside (still_inside start after to k more own next.inside);
+  there = all_join (λ (x : List ℕ). IsSome (latest (ops x) at)) (keys ++ k ∷ []) more first.there next.there;
+  few = (let few = next.few in omega (arith, few, full, length-append (keys ++ k ∷ []) more));
+  all = λ key s v. ⊎_elim
+      (λ (c : Contains (keys ++ k ∷ []) key). inl (Contains-append_left (keys ++ k ∷ []) more key c))
+      (λ (c : (length (keys ++ k ∷ []) ≡ count) × AreBelow (keys ++ k ∷ []) key). ⊎_elim
+      (λ (d : Contains more key). inl (Contains-append_right (keys ++ k ∷ []) more key d))
+      (λ (d : (length more ≡ more_count) × AreBelow more key). inr (
+        (let e = d.0 in omega (arith, e, full, length-append (keys ++ k ∷ []) more)),
+        all_join (λ (x : List ℕ). lt x key ≡ true) (keys ++ k ∷ []) more c.1 d.1,
+      ))
+      (next.all key (insided k true to key (last_too (λ (x : List ℕ). lt x key ≡ true) keys k c.1) (inside_to start after to key s)) v))
+      (first.all key s v);
+}
+  where
+    own : is_inside start after to k ≡ true
+    own = last_too (λ (x : List ℕ). is_inside start after to x ≡ true) keys k first.inside
+
+-- fewer keys than were asked for are all that have a value
+pub keys_whole : (ops : List ℕ → Operations) (start : List ℕ) (after : Bool) (to : List ℕ) (at count : ℕ) (keys : List (List ℕ)) → AreFirst ops start after to at count keys → length keys < count
+    → (key : List ℕ) → is_inside start after to key ≡ true → IsSome (latest (ops key) at) → Contains keys key
+keys_whole ops start after to at count keys first fewer key s v = ⊎_elim
+    (λ (c : Contains keys key). c)
+    (λ (c : (length keys ≡ count) × AreBelow keys key). absurd (let full = c.0 in omega (arith, full, fewer)))
+    (first.all key s v)
 
 -- ---- the keys that are left
 

@@ -43,7 +43,8 @@ all_rows : (P : List ℕ → Type 0) (rows : List KeyValue) → AllByRecursion P
 all_rows P [] a = tt
 all_rows P (row ∷ rows) a = (a.0, all_rows P rows a.1)
 
-is_range : (ops : List ℕ → Operations) (from to : List ℕ) (at count : ℕ) (rows : List KeyValue) → AreFirst ops from false to at count (keys_of rows) → AllByRecursion (λ (row : KeyValue). value_in (latest (ops row.0) at) ≡ Some row.1) rows → IsRange ops from to at count rows
+-- the first keys of the interval, with their values
+pub is_range : (ops : List ℕ → Operations) (from to : List ℕ) (at count : ℕ) (rows : List KeyValue) → AreFirst ops from false to at count (keys_of rows) → AllByRecursion (λ (row : KeyValue). value_in (latest (ops row.0) at) ≡ Some row.1) rows → IsRange ops from to at count rows
 is_range ops from to at count rows first values = record {
   rise = first.rise;
   inside = all_rows (λ (k : List ℕ). spans from to k ≡ true) rows first.inside;

@@ -8,3 +8,4 @@ mod numbered;
 mod random;
 mod refusals;
 mod run;
+mod walking;

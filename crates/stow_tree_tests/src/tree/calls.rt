@@ -27,7 +27,7 @@ pub(crate) fn key_a() -> TenantKey<'static> {
 }
 
 /// Tenant 1's `b`.
-fn key_b() -> TenantKey<'static> {
+pub(crate) fn key_b() -> TenantKey<'static> {
     TenantKey::from_packed(&[0, 0, 0, 1, b'b'])
 }
 
