@@ -34,7 +34,7 @@ use Rattle.stow_state.specs.Steps.{LeadsTo, WritesOnce, KeepsRows, WritesRows, K
 use Rattle.stow_state.proofs.Changes.{rows_are_below_law, writes_are_written_law, writes_by_messages_law}
 use Rattle.stow_state.proofs.Snapshots.{copies_below, id_cases, numbers_stay, numbers_move_law}
 use Rattle.std.specs.Cmp.{nat_cmp_total}
-use Rattle.stow_tree.specs.TreeState.{TreeState, tree_messages}
+use Rattle.stow_tree.specs.TreeState.{TreeState, tree_messages, HasBound}
 use Rattle.stow_tree_model.specs.Agreement.{Agree, with_bound}
 use Rattle.stow_tree_model.specs.Keys.{packed, own_key}
 use Rattle.stow_tree_model.specs.Messages.{Messages, value, with_all}
@@ -85,8 +85,8 @@ account_charged s s' a a' c is charged counts of = subst (IsAccountOf s') (sym i
   quota = of.quota ∙ sym counts.0;
   charged = ap (λ (x : Charge). x.charge) charged;
   rows = ap (λ (x : Charge). x.rows) charged;
-  commands = ap one_more of.commands ∙ sym counts.1.0;
-  refusals = of.refusals ∙ sym counts.1.1;
+  commands = ap one_more of.commands ∙ sym counts.1;
+  refusals = of.refusals ∙ sym counts.2;
 })
 
 pub account_given : (s : Store) (a a' : AccountState) (quota : ℕ) → a' ≡ record a { quota = quota } → IsAccountOf s a → IsAccountOf (record s { quota = quota }) a'
@@ -281,12 +281,16 @@ module _ {A : Type 0} (core : CoreState) (pins : Pins A) (is_core : IsCore core 
 
   put_once : (key whole : List ℕ) → WritesOnce before (after_put key whole before)
   put_once key whole = written (after_put key whole before) refl
-      (next_is ∙ refl, subst (λ n. AreWritten n before.rows (finite.insert before.rows (own_key key) (record { number = v.last + 1; value = whole }))) (sym next_is) (writes_are_written_law.of_one before.rows (own_key key) whole (v.last + 1)))
+      (sym next_is, subst (λ n. AreWritten n before.rows (finite.insert before.rows (own_key key) (record { number = v.last + 1; value = whole }))) (sym next_is) (writes_are_written_law.of_one before.rows (own_key key) whole (v.last + 1)))
       refl refl
 
   last_is : lasts_in (shared_of core) t ≡ v.last
   unfolding shared_of
   last_is = ap (λ o. (own_state o).last) at
+
+  shared_below : HasBound m (lasts_in (shared_of core))
+  unfolding shared_of
+  shared_below = is_core.sound.messages_below
 
   -- the bounds after the tenant's write
   lasts_after : v'.last ≡ v.last + 1 → (u : ℕ) → with_bound (lasts_in (shared_of core)) t (v.last + 1) u ≡ lasts_in (shared_of after) u
@@ -334,7 +338,7 @@ module _ {A : Type 0} (core : CoreState) (pins : Pins A) (is_core : IsCore core 
       (subst (λ (x : Messages). Agree (with_all m (put_of (v.last + 1) key whole ∷ [])) x (pins_in (shared_of after)) (lasts_in (shared_of after))) (sym puts)
       (subst (λ (ps : ℕ → List ℕ). Agree (with_all m (put_of (v.last + 1) key whole ∷ [])) (with_all m (write_of (v.last + 1) key (content_op c) ∷ [])) ps (lasts_in (shared_of after))) (λ i u. pins_after (ap (λ (w : VersionsState). w.snapshots) versions) u i)
       (subst (λ (b : ℕ → ℕ). Agree (with_all m (put_of (v.last + 1) key whole ∷ [])) (with_all m (write_of (v.last + 1) key (content_op c) ∷ [])) (pins_in (shared_of core)) b) (λ i u. lasts_after (ap (λ (w : VersionsState). w.last) versions) u i)
-      (write_agrees m (pins_in (shared_of core)) (lasts_in (shared_of core)) t v.last (v.last + 1) key whole (content_op c) index next_is last_is is_core.sound.messages_below is_core.sound.pins_below own makes))))))
+      (write_agrees m (pins_in (shared_of core)) (lasts_in (shared_of core)) t v.last (v.last + 1) key whole (content_op c) index next_is last_is shared_below is_core.sound.pins_below own makes))))))
     where
       present : Option (List ℕ)
       present = stored_value.value_in (finite.get before.rows (own_key key))
@@ -357,7 +361,7 @@ module _ {A : Type 0} (core : CoreState) (pins : Pins A) (is_core : IsCore core 
   leads_removed keys ch versions account own there puts = leads_exactly core pins is_core t (tenancy_with v a) (tenancy_with v' a') low high at pin_room' tree' (after_remove keys (store_of core t))
       (subst (λ s. WritesOnce s (after_remove keys s)) (sym before_is)
       (written (after_remove keys before) refl
-      (next_is ∙ refl, subst (λ n. AreWritten n before.rows (rows_without (map own_key keys) before.rows)) (sym next_is) (writes_are_written_law.of_some before.rows (map own_key keys) (v.last + 1)))
+      (sym next_is, subst (λ n. AreWritten n before.rows (rows_without (map own_key keys) before.rows)) (sym next_is) (writes_are_written_law.of_some before.rows (map own_key keys) (v.last + 1)))
       refl refl))
       (by_parts (after_remove keys) ((λ i. own_with (versions i) (account i)) ∙ sym (moved_same (after_remove keys before) refl)))
       (puts

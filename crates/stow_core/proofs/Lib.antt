@@ -1,10 +1,12 @@
 pub mod Keyed
+pub mod Pinning
 pub mod Tenancies
 pub mod Stores
 pub mod Kept
 pub mod Moved
 pub mod Appended
 pub mod Changed
+pub mod Carried
 pub mod Room
 pub mod Within
 pub mod Told

@@ -12,7 +12,9 @@ use Rattle.stow_core.specs.declared.content.Content.{Content}
 use Rattle.stow_core.specs.declared.content.Content.TheVariants as content
 use Rattle.stow_core.specs.Writes.{content_op, row_of}
 use Rattle.stow_core.proofs.Keyed.{first_key}
-use Rattle.stow_core.proofs.Tenancies.{there, past}
+use Rattle.stow_core.proofs.Tenancies.{there, past, found_at}
+use Rattle.stow_core.specs.declared.tenancy.Tenancy.{Tenancy}
+use Rattle.std.proofs.lemmas.List.{length-map}
 use Rattle.stow_ledger.specs.Accounts.{IsAccountOf}
 use Rattle.stow_merge.specs.declared.pins.Pins.{Pins}
 use Rattle.stow_model.specs.Login.{Entry, IsTenant, quota_of}
@@ -136,3 +138,18 @@ row_short (Err e) is = is
 
 pub can_still_write : (core core' : CoreState) (t : ℕ) (b : Bool) → store_of core' t ≡ store_of core t → b ≡ nat_lt (store_of core t).last number_limit → b ≡ true → CanWrite core' t
 can_still_write core core' t b e is can = subst (λ n. n < number_limit) (ap (λ (s : Store). s.last) (sym e)) (ltb-true _ _ (sym is ∙ can))
+
+-- ---- what the code finds
+
+module _ {A : Type 0} (core core' : CoreState) (pins : Pins A) (items : List (Tenancy A)) (t : ℕ) (same : core ≡ core') (is_core : IsCore core pins) (seen : core.tenancies ≡ map tenancy_of items) (is : IsTenant core'.entries t) where
+  pub own_is : IsTenant core.entries t
+  own_is = subst (λ (c : CoreState). IsTenant c.entries t) (sym same) is
+
+  pub found_high : t ≤ length items
+  found_high = let h = within core pins t is_core own_is in let l = ap length seen ∙ length-map items tenancy_of in omega (arith, h, l)
+
+  pub found_own : (x : Tenancy A) → x ≡ get_or items (t - 1) x → tenancy_at t core.tenancies ≡ Some (tenancy_of x)
+  found_own x at = ap (tenancy_at t) seen ∙ found_at t items x is.0 found_high at
+
+  pub found_account : (x : Tenancy A) → x ≡ get_or items (t - 1) x → IsAccountOf (store_of core t) x.account
+  found_account x at = subst (λ (o : Option TenancyState). IfSome o (λ own. IsAccountOf (store_of core t) own.account)) (found_own x at) (is_core.accounts t)

@@ -72,16 +72,16 @@ found_at (suc p) items x low high is =
     (subst (λ k. tenancy_of x ≡ get_or (map tenancy_of items) k (tenancy_of x)) (place_of p)
     (ap tenancy_of is ∙ sym (get_or-map tenancy_of items (suc p - 1) x (tenancy_of x) (omega (arith, high)))))
 
+sorted_again : (m : FinMap nat_cmp ℕ) → finite.from_sorted (finite.entries m) ≡ m
+sorted_again m = finite.same_entries_map (finite.from_sorted (finite.entries m)) m (finite.entries-from_sorted nat_cmp (finite.entries m) (finite.entries_sorted m))
+
 pub same_versions : (v : VersionsState) (a : AccountState) → versions_of (tenancy_with v a) ≡ v
 same_versions v a = λ i. record {
   last = v.last;
-  snapshots = from_entries v.snapshots i;
+  snapshots = sorted_again v.snapshots i;
   next = v.next;
   room = v.room;
 }
-  where
-    from_entries : (m : FinMap nat_cmp ℕ) → finite.from_sorted (finite.entries m) ≡ m
-    from_entries m = finite.same_entries_map (finite.from_sorted (finite.entries m)) m (finite.entries-from_sorted (finite.entries m) (finite.entries_sorted m))
 
 -- the parts of a tenant's own state
 abbrev pub own_with : VersionsState → AccountState → TenantState
@@ -107,7 +107,7 @@ new_at (entry ∷ entries) index zero = first ∙ ap new_tenant (sym (cond-true 
   first : own_state (Some (new_tenancy entry)) ≡ new_tenant entry.quota
   first = λ i. record { last = 0; snapshots = none i; next = 1; quota = entry.quota; commands = 0; refusals = 0 } where
     none : finite.from_sorted [] ≡ finite.empty {X = ℕ} {R = nat_cmp}
-    none = ap finite.from_sorted (sym entries-empty) ∙ finite.same_entries_map (finite.from_sorted (finite.entries finite.empty)) finite.empty (finite.entries-from_sorted (finite.entries finite.empty) (finite.entries_sorted finite.empty))
+    none = ap finite.from_sorted (sym entries-empty) ∙ sorted_again finite.empty
 new_at (entry ∷ entries) index (suc i) =
     let next : (index + 1) + i ≡ index + suc i = omega arith in
     new_at entries (index + 1) i

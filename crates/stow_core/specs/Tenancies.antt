@@ -1,5 +1,5 @@
 -- What one tenant has beside its messages: its versions and its account.
-use Rattle.std.specs.Prelude.{ℕ, zero, suc, Bool, List, [], Option, Some, None, slice_get, if◌then◌else◌}
+use Rattle.std.specs.Prelude.{ℕ, zero, suc, ◌==◌, Bool, not, List, [], filter, Option, Some, None, slice_get, if◌then◌else◌}
 use Rattle.std.specs.FinMap as map
 use Rattle.stow_core.specs.declared.tenancy.Tenancy.{Tenancy}
 use Rattle.stow_ledger.specs.Accounts.{AccountState, new_account}
@@ -51,6 +51,11 @@ new_tenancy entry =
 -- the number, unless that is so
 abbrev pub unless : Bool → ℕ → Option ℕ
 unless is n = if is then None else Some n
+
+-- all but this number, if it is one
+abbrev pub without : Option ℕ → List ℕ → List ℕ
+without None numbers = numbers
+without (Some n) numbers = filter (λ m. not (m == n)) numbers
 
 -- one more request was counted
 abbrev pub counted_account : AccountState → AccountState

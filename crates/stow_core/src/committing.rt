@@ -6,6 +6,7 @@ ghost use Rattle.stow_core.specs.Prepared.{after_content, after_remove, after_re
 
 use crate::Core;
 use crate::content::Content;
+use crate::pinning::{add_pin, remove_pin};
 use crate::writes::{put_removals, put_row};
 use std::alloc::Allocator;
 use stow_bytes::byte_string::ByteString;
@@ -66,9 +67,7 @@ impl<A: Allocator + Copy> Core<A> {
     {
         let index = tenant as usize - 1;
         let last = self.tenancies[index].versions.last();
-        if !self.pins.of(tenant).contains(&last) {
-            self.pins.add(tenant, last);
-        }
+        add_pin(&mut self.pins, tenant, last);
         self.pin_room = 0;
         self.tenancies[index].take();
     }
@@ -78,9 +77,8 @@ impl<A: Allocator + Copy> Core<A> {
         requires { CanDrop self.old tenant id charge }
         ensures { Moves self.old tenant (after_drop id (store_of self.old tenant)) self.new }
     {
+        let number = self.tenancies[tenant as usize - 1].drop_snapshot(id, charge);
+        remove_pin(&mut self.pins, tenant, number);
         self.pin_room = 0;
-        if let Some(number) = self.tenancies[tenant as usize - 1].drop_snapshot(id, charge) {
-            self.pins.remove(tenant, number);
-        }
     }
 }

@@ -55,6 +55,7 @@ pub mod content;
 mod deleting;
 mod interval;
 mod keys;
+mod pinning;
 pub mod prepared;
 mod preparing;
 mod ranging;

@@ -1,5 +1,5 @@
 //! What one tenant has beside its rows.
-ghost use Rattle.std.specs.Prelude.{◌≡◌, ◌+◌, ◌<◌, ◌≤◌, IsTrue, IfSome};
+ghost use Rattle.std.specs.Prelude.{◌≡◌, ◌+◌, ◌<◌, ◌≤◌, IsTrue, IsSome, IfSome};
 ghost use Rattle.std.specs.FinMap as map;
 ghost use Rattle.stow_bytes.specs.Limits.{number_limit};
 ghost use Rattle.stow_core.specs.Tenancies.{counted_account, charged_account, refused_account, is_among, unless};
@@ -87,6 +87,7 @@ impl<A: Allocator + Copy> Tenancy<A> {
     /// One more request was answered, by dropping a live snapshot, which leads to this charge. Tells the snapshot's number,
     /// unless another one has it.
     pub(crate) fn drop_snapshot(&mut self, id: u64, charge: Charge) -> Option<u64>
+        requires live { IsSome (map.get self.old.versions.snapshots id) }
         requires given { IsGivenBy self.old.account charge }
         requires allowed { IsTrue (is_allowed self.old.account charge) }
         ensures versions { self.new.versions ≡ record self.old.versions {
@@ -99,11 +100,10 @@ impl<A: Allocator + Copy> Tenancy<A> {
     {
         self.account.commit(charge);
         self.account.served();
-        let number = self.versions.drop_id(id).ok()?;
-        if self.versions.pins().contains(&number) {
-            None
-        } else {
-            Some(number)
+        match self.versions.drop_id(id) {
+            Err(_) => None,
+            Ok(number) if self.versions.pins().contains(&number) => None,
+            Ok(number) => Some(number),
         }
     }
 }
