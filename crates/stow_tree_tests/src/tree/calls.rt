@@ -32,7 +32,7 @@ pub(crate) fn key_b() -> TenantKey<'static> {
 }
 
 /// All keys of tenant 1.
-fn own_keys() -> Interval<'static> {
+pub(crate) fn own_keys() -> Interval<'static> {
     Interval {
         from: TenantKey::from_packed(&[0, 0, 0, 1]),
         to: TenantKey::from_packed(&[0, 0, 0, 2]),

@@ -1,5 +1,5 @@
 //! The walk over a tenant's keys.
-use crate::tree::calls::{SMALLEST, key_a, key_b};
+use crate::tree::calls::{SMALLEST, key_a, key_b, own_keys};
 use crate::tree::numbered::Numbered;
 use std::alloc::{AllocError, Allocator};
 use std::test::Fail;
@@ -49,17 +49,25 @@ fn heads<A: Allocator + Copy>(
     at: u64,
     count: usize,
 ) -> Result<Vec<RowHead<A>, A>, AllocError> {
-    let to = TenantKey::from_packed(&[0, 0, 0, 2]);
-    tree.tree.walk(alloc, from, to, at, count)
+    tree.tree.walk(alloc, from, own_keys().to, at, count)
 }
 
-/// What is told of a key: its number, its length, and its next number.
+/// What is to be told of a key: its value's number and length, and its next number.
 #[derive(Clone, Copy)]
 struct Told {
     key: TenantKey<'static>,
     number: u64,
     length: u32,
     next: Option<u64>,
+}
+
+fn key_told(key: TenantKey<'static>, number: u64, length: u32, next: Option<u64>) -> Told {
+    Told {
+        key,
+        number,
+        length,
+        next,
+    }
 }
 
 /// Whether this is told of these keys.
@@ -83,19 +91,13 @@ fn are_told<A: Allocator>(heads: &[RowHead<A>], wanted: &[Told]) -> bool {
 #[test]
 fn a_walk_tells_the_first_keys_with_a_value(rt: HostRuntime) -> Result<(), Fail> {
     let (a, b, c) = (key_a(), key_b(), key_c());
-    let own = TenantKey::from_packed(&[0, 0, 0, 1]);
-    let told = |key, number, length, next| Told {
-        key,
-        number,
-        length,
-        next,
-    };
+    let own = own_keys().from;
     let all = [
-        told(a, 3, 60_001, None),
-        told(b, 2, 60_000, Some(5)),
-        told(c, 4, 60_000, Some(6)),
+        key_told(a, 3, 60_001, None),
+        key_told(b, 2, 60_000, Some(5)),
+        key_told(c, 4, 60_000, Some(6)),
     ];
-    let last = [told(a, 3, 60_001, None), told(c, 6, 60_001, None)];
+    let last = [key_told(a, 3, 60_001, None), key_told(c, 6, 60_001, None)];
     let (all, last) = (all.as_slice(), last.as_slice());
     let cases: [(TenantKey<'_>, bool, u64, usize, &[Told]); 10] = [
         (own, false, 4, 9, all),
