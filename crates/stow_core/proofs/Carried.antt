@@ -1,6 +1,6 @@
 -- The core once one tenant's part, its pins and the tree are others: what each way of carrying an answer out leads to.
 use Rattle.std.proofs.Common.{◌≡◌, ◌≢◌, ℕ, suc, ◌+◌, ◌-◌, ◌<◌, ◌≤◌, List, [], ◌∷◌, ◌++◌, length, map, get_or, set, Bool, true, false, Option, Some, None, refl, ap, sym, ◌∙◌, subst, arith, ⊎_elim}
-use Rattle.std.specs.Prelude.{IfSome, IsSome, ◌||◌, ◌==◌}
+use Rattle.std.specs.Prelude.{Contains, IfSome, IsSome, ◌||◌, ◌==◌}
 use Rattle.std.specs.FinMap as finite
 use Rattle.std.specs.List.{AllByRecursion}
 use Rattle.std.proofs.lemmas.Bool.{cases_eq}
@@ -10,7 +10,7 @@ use Rattle.stow_core.specs.declared.content.Content.{Content}
 use Rattle.stow_core.specs.declared.tenancy.Tenancy.{Tenancy}
 use Rattle.stow_core.specs.Prepared.{after_content, after_remove, after_refusal, after_take, after_drop, CanPut, CanRemove, CanTake, CanDrop, IsCharged}
 use Rattle.stow_core.specs.State.{CoreState, shared_of, store_of, IsCore, Moves, GivesQuota}
-use Rattle.stow_core.specs.Tenancies.{TenancyState, tenancy_of, tenancy_at, is_among, counted_account, refused_account, charged_account}
+use Rattle.stow_core.specs.Tenancies.{TenancyState, tenancy_of, tenancy_at, versions_of, is_among, counted_account, refused_account, charged_account}
 use Rattle.stow_core.specs.Writes.{content_op, write_of, removals_of}
 use Rattle.stow_core.proofs.Changed.{account_counted, account_refused, account_charged, account_given, account_taken, before_is, held_same, leads_counted, leads_refused, leads_given, leads_taken, leads_dropped, leads_put, leads_removed, next_is_free, pins_own, pins_before, pins_other}
 use Rattle.stow_core.proofs.Moved.{with_own, moves, core_moved}
@@ -23,12 +23,21 @@ use Rattle.stow_merge.specs.Pins.{room_in}
 use Rattle.stow_merge.specs.Pins as held
 use Rattle.stow_model.specs.Login.{Entry, IsTenant}
 use Rattle.stow_model.specs.Store.{Store, counted}
-use Rattle.stow_state.specs.State.{pins_in}
+use Rattle.std.specs.FinMap.{FinMap}
+use Rattle.std.specs.Ordering.{nat_cmp}
+use Rattle.std.specs.Prelude.{option_map}
+use Rattle.stow_model.specs.Store.{Rows}
+use Rattle.stow_state.specs.Rows.{rows_at}
+use Rattle.stow_state.proofs.Snapshots.{get-copies_of}
+use Rattle.stow_state.specs.State.{copies, pins_in}
 use Rattle.stow_state.specs.Steps.{LeadsTo}
 use Rattle.stow_tree.specs.TreeState.{TreeState, tree_messages}
 use Rattle.stow_tree_model.specs.Keys.{own_key}
 use Rattle.stow_tree_model.specs.Messages.{with_all}
-use Rattle.stow_versions.specs.VersionsState.{VersionsState}
+use Rattle.stow_versions.specs.VersionsState.{VersionsState, AreVersions, IsReady}
+use Rattle.stow_versions.proofs.PinLemmas.{same_contains}
+use Rattle.stow_core.proofs.PinNumbers.{no_more_pins}
+use Rattle.stow_core.proofs.Tenancies.{same_versions}
 
 -- the core of these parts
 abbrev pub core_of : {A : Type 0} → List Entry → List (Tenancy A) → ℕ → TreeState → CoreState
@@ -145,3 +154,36 @@ module _ {A : Type 0} (entries : List Entry) (items : List (Tenancy A)) (pin_roo
 
   pub last_of : (store_of core t).last ≡ x.versions.last
   last_of = ap (λ c. (store_of c t).last) (sym seen) ∙ ap (λ (s : Store). s.last) (before_is old pins is_core t x.versions x'.versions x.account x'.account is.0 high own_at pin_room tree)
+
+  pub ready_to : (P : VersionsState → Type 0) → IfSome (tenancy_at t core.tenancies) (λ own. P (versions_of own)) → P x.versions
+  ready_to P some = subst P (same_versions x.versions x.account)
+      (subst (λ (o : Option TenancyState). IfSome o (λ own. P (versions_of own))) (ap (λ (c : CoreState). tenancy_at t c.tenancies) (sym seen) ∙ own_at) some)
+
+  -- the tenant has room for its next pin, where the core says so
+  pub has_pin_room : core.pin_room ≡ t → 0 < room_in pins t
+  has_pin_room e =
+      let same : pin_room ≡ t = ap (λ (c : CoreState). c.pin_room) seen ∙ e in
+      let low = is.0 in
+      subst (λ u. 0 < room_in pins u) same (is_core.pin_room (λ z. omega (arith, z, same, low)))
+
+  -- its pins are no more than its snapshots, and none is above its last write
+  pub few_pins : IsReady x.versions → length (held.pins_in pins t) < 64
+  few_pins ready = let no_more = no_more_pins (held.pins_in pins t) (finite.values x.versions.snapshots) (pins.rising t) held_before in
+      let long = length-map (finite.entries x.versions.snapshots) (λ (e : ℕ × ℕ). e.1) ∙ sym (finite.len-entries x.versions.snapshots) in
+      let few = ready.few in
+      omega (arith, no_more, long, few)
+
+  pub low_pins : AreVersions x.versions → (p : ℕ) → Contains (held.pins_in pins t) p → p ≤ x.versions.last
+  low_pins kept p c = let there = same_contains (held.pins_in pins t) (finite.values x.versions.snapshots) p (held_before p) c in
+      subst (λ n. n ≤ x.versions.last) there.2 (kept.numbers_below there.0 p there.1)
+
+  -- a snapshot that the store shows has a number
+  pub live_in : (id : ℕ) → IsSome (finite.get (store_of core t).snapshots id) → IsSome (finite.get x.versions.snapshots id)
+  live_in id live =
+      let shown : (store_of core t).snapshots ≡ copies (tree_messages tree) t (finite.entries x.versions.snapshots) =
+      ap (λ c. (store_of c t).snapshots) (sym seen) ∙ ap (λ (s : Store). s.snapshots) (before_is old pins is_core t x.versions x'.versions x.account x'.account is.0 high own_at pin_room tree) in
+      known (finite.get x.versions.snapshots id) (subst IsSome (ap (λ (s : FinMap nat_cmp Rows). finite.get s id) shown ∙ get-copies_of (tree_messages tree) t x.versions.snapshots id) live)
+    where
+      known : (o : Option ℕ) → IsSome (option_map (rows_at (tree_messages tree) t) o) → IsSome o
+      known None some = some
+      known (Some n) some = refl

@@ -1,5 +1,5 @@
 pub mod Keyed
-pub mod Pinning
+pub mod PinNumbers
 pub mod Tenancies
 pub mod Stores
 pub mod Kept

@@ -1,5 +1,5 @@
 //! Pins that come with snapshots and go with them.
-ghost use Rattle.std.specs.Prelude.{◌≡◌, ◌≢◌, ◌<◌, ◌≤◌, ◌||◌, ◌==◌, ℕ, IsFalse, Contains, length};
+ghost use Rattle.std.specs.Prelude.{◌≡◌, ◌≢◌, ◌<◌, ◌≤◌, ◌||◌, ◌==◌, ℕ, Contains, length};
 ghost use Rattle.stow_core.specs.Tenancies.{is_among, without};
 ghost use Rattle.stow_merge.specs.PinLists.{pin_limit};
 ghost use Rattle.stow_merge.specs.Pins.{pins_in, room_in};
@@ -11,8 +11,7 @@ use stow_merge::pins::Pins;
 /// Adds a tenant's pin that is none below the others, unless it is there.
 pub(crate) fn add_pin<A: Allocator + Copy>(pins: &mut Pins<A>, tenant: u32, number: u64)
     requires room { 0 < room_in pins.old tenant }
-    requires few { IsFalse (is_among number (pins_in pins.old tenant))
-        → length (pins_in pins.old tenant) < pin_limit }
+    requires few { length (pins_in pins.old tenant) < pin_limit }
     requires above { (p : ℕ) → Contains (pins_in pins.old tenant) p → p ≤ number }
     ensures own { (n : ℕ) → is_among n (pins_in pins.new tenant)
         ≡ (is_among n (pins_in pins.old tenant) || (number == n)) }

@@ -1,8 +1,8 @@
 //! What one tenant has beside its rows.
-ghost use Rattle.std.specs.Prelude.{◌≡◌, ◌+◌, ◌<◌, ◌≤◌, IsTrue, IsSome, IfSome};
+ghost use Rattle.std.specs.Prelude.{◌≡◌, ◌+◌, ◌<◌, ◌≤◌, ◌||◌, ◌==◌, ℕ, List, IsTrue, IsSome};
 ghost use Rattle.std.specs.FinMap as map;
 ghost use Rattle.stow_bytes.specs.Limits.{number_limit};
-ghost use Rattle.stow_core.specs.Tenancies.{counted_account, charged_account, refused_account, is_among, unless};
+ghost use Rattle.stow_core.specs.Tenancies.{counted_account, charged_account, refused_account, is_among, without};
 ghost use Rattle.stow_ledger.specs.Accounts.{new_account, is_allowed, IsGivenBy};
 ghost use Rattle.stow_versions.specs.VersionsState.{new_versions, IsReady};
 
@@ -79,6 +79,8 @@ impl<A: Allocator + Copy> Tenancy<A> {
           room = self.new.versions.room;
         } }
         ensures account { self.new.account ≡ counted_account self.old.account }
+        ensures numbers { (n : ℕ) → is_among n (map.values self.new.versions.snapshots)
+            ≡ (is_among n (map.values self.old.versions.snapshots) || (self.old.versions.last == n)) }
     {
         let _ = self.versions.take();
         self.account.served();
@@ -95,15 +97,22 @@ impl<A: Allocator + Copy> Tenancy<A> {
           room = self.new.versions.room;
         } }
         ensures account { self.new.account ≡ charged_account charge self.old.account }
-        ensures number { IfSome (map.get self.old.versions.snapshots id)
-            (λ n. result ≡ unless (is_among n (map.values self.new.versions.snapshots)) n) }
+        ensures left { (numbers : List ℕ)
+            → ((n : ℕ) → is_among n numbers ≡ is_among n (map.values self.old.versions.snapshots))
+            → (n : ℕ) → is_among n (without result numbers)
+            ≡ is_among n (map.values self.new.versions.snapshots) }
     {
         self.account.commit(charge);
         self.account.served();
         match self.versions.drop_id(id) {
             Err(_) => None,
-            Ok(number) if self.versions.pins().contains(&number) => None,
-            Ok(number) => Some(number),
+            Ok(number) => {
+                if self.versions.pins().contains(&number) {
+                    None
+                } else {
+                    Some(number)
+                }
+            }
         }
     }
 }

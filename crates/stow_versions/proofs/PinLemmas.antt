@@ -62,7 +62,7 @@ any_here [] i n d l e = absurd (omega arith)
 any_here (x ∷ xs) zero n d l e = ap (λ b. b || list_any (λ m. m == n) xs) (eq-eqb x n e)
 any_here (x ∷ xs) (suc i) n d l e = ap (λ b. (x == n) || b) (any_here xs i n d (omega arith) e) ∙ or_true (x == n)
 
-contains_from : (n : ℕ) (xs : List ℕ) → list_any (λ m. m == n) xs ≡ true → Contains xs n
+pub contains_from : (n : ℕ) (xs : List ℕ) → list_any (λ m. m == n) xs ≡ true → Contains xs n
 contains_from n [] h = absurd (subst T (sym h) tt)
 contains_from n (x ∷ xs) h = ⊎_elim
     (λ (e : x ≡ n). (0, omega arith, e))
@@ -74,7 +74,7 @@ pub same_contains : (xs ys : List ℕ) (n : ℕ) → list_any (λ m. m == n) xs 
 same_contains xs ys n e (k, l, at) = contains_from n ys (sym e ∙ any_here xs k n n l at)
 
 -- without a number: it isn't there, and every other stays
-any_without : (xs : List ℕ) (x n : ℕ) → list_any (λ m. m == n) (filter (λ p. not (p == x)) xs) ≡ (list_any (λ m. m == n) xs && not (x == n))
+pub any_without : (xs : List ℕ) (x n : ℕ) → list_any (λ m. m == n) (filter (λ p. not (p == x)) xs) ≡ (list_any (λ m. m == n) xs && not (x == n))
 any_without [] x n = refl
 any_without (y ∷ xs) x n = ⊎_elim
     (λ (e : y ≡ x).
