@@ -54,7 +54,7 @@ id_differs a b ne = ⊎_elim (λ (h : (a ≡ b) × (eq_by_cmp nat_cmp a b ≡ tr
 -- ---- accounts
 
 -- what shows the same is charged the same
-same_charge : (s s' : Store) → s'.rows ≡ s.rows → s'.snapshots ≡ s.snapshots → charge s' ≡ charge s
+pub same_charge : (s s' : Store) → s'.rows ≡ s.rows → s'.snapshots ≡ s.snapshots → charge s' ≡ charge s
 unfolding charge
 same_charge s s' rows snapshots = λ i. charge (record s' { rows = rows i; snapshots = snapshots i })
 

@@ -7,6 +7,9 @@ pub mod Moved
 pub mod Appended
 pub mod Changed
 pub mod Carried
+pub mod Made
+pub mod Copies
+pub mod Charges
 pub mod Room
 pub mod Within
 pub mod Told

@@ -10,7 +10,8 @@ ghost use Rattle.stow_model.specs.Store.{count_rows, get_reply, item_or_null, le
 ghost use Rattle.stow_tree_model.specs.Keys.{packed, IsTenantKey};
 ghost use Rattle.stow_tree_model.specs.Value.{IsValue};
 ghost use Rattle.stow_core.specs.Legal.{IsShortKey, AreShortKeys};
-ghost use Rattle.stow_core.specs.State.{rows_in, store_of, Keeps};
+ghost use Rattle.stow_state.specs.State.{IsSound};
+ghost use Rattle.stow_core.specs.State.{rows_in, shared_of, store_of, Keeps};
 ghost use Rattle.stow_core.specs.Tenancies.{tenancy_at, tenancy_of};
 ghost use Rattle.stow_core.specs.Writes.{row_of};
 
@@ -34,6 +35,7 @@ impl<A: Allocator + Copy> Core<A> {
         requires { IsTenant self.now.entries tenant }
         ensures own { tenancy_at tenant self.now.tenancies ≡ Some (tenancy_of result.now) }
         ensures account { IsAccountOf (store_of self.now tenant) result.now.account }
+        ensures sound { IsSound (shared_of self.now) }
     {
         &self.tenancies[tenant as usize - 1]
     }
