@@ -7,6 +7,7 @@ use Rattle.stow_core.specs.Tenancies.{TenancyState, own_state, tenancy_at, is_am
 use Rattle.stow_core.proofs.Stores.{same_store}
 use Rattle.stow_ledger.specs.Accounts.{IsAccountOf}
 use Rattle.stow_merge.specs.declared.pins.Pins.{Pins}
+use Rattle.stow_merge.specs.Pins.{room_in}
 use Rattle.stow_merge.specs.Pins as held
 use Rattle.stow_node.specs.Subtree.{Subtree}
 use Rattle.stow_state.specs.State.{TenantState, SharedState, IsSound, pins_in, lasts_in, view}
@@ -83,3 +84,18 @@ module _ {A : Type 0} (core : CoreState) (pins : Pins A) (is_core : IsCore core 
 
   pub keeps_rooted : tree'.root ≡ core.tree.root → Keeps core new
   keeps_rooted same = keeps_agreed (rooted same)
+
+-- ---- pins with other room
+
+-- the same pins, with room for one more of some tenant
+pub core_repinned : {A : Type 0} (core : CoreState) (pins pins' : Pins A) (tenant : ℕ) → IsCore core pins → ((t : ℕ) → held.pins_in pins' t ≡ held.pins_in pins t) → (tenant ≢ 0 → 0 < room_in pins' tenant) → IsCore (record core { pin_room = tenant }) pins'
+unfolding shared_of store_of
+core_repinned core pins pins' tenant is_core same room = record {
+  each = is_core.each;
+  few = is_core.few;
+  sound = is_core.sound;
+  accounts = is_core.accounts;
+  pins_are = λ t n. ap (is_among n) (same t) ∙ is_core.pins_are t n;
+  pin_room = room;
+  sizes = is_core.sizes;
+}

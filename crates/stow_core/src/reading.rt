@@ -67,9 +67,10 @@ impl<A: Allocator + Copy> Core<A> {
         ensures buffer { OnOk result (buffer.new.items ≡ packed rows.tenant key.now) }
         ensures is_key { OnOk result (IsTenantKey buffer.new.items) }
     {
+        let tree = &self.tree;
         pack_into(buffer, rows.tenant, key)?;
         let key = TenantKey::from_packed(buffer.as_slice());
-        self.tree.get(alloc, key, rows.number)
+        tree.get(alloc, key, rows.number)
     }
 
     /// The value of a key, or null.

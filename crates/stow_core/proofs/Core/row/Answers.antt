@@ -5,7 +5,7 @@ use Rattle.std.specs.FinMap as finite
 use Rattle.stow_model.specs.Login.{IsTenant}
 use Rattle.stow_core.specs.Writes.{row_of}
 use Rattle.stow_core.specs.State.{CoreState, rows_in}
-use Rattle.stow_core.proofs.Stores.{index_of, row_found, row_short, on_ok}
+use Rattle.stow_core.proofs.Stores.{low_index, row_found, row_short, on_ok}
 use Rattle.stow_tree.specs.TreeState.{tree_messages}
 use Rattle.stow_tree_model.specs.Keys.{packed, IsTenantKey}
 use Rattle.stow_tree_model.proofs.Packed.{IsTenantKey-packed}
@@ -13,7 +13,7 @@ use Rattle.stow_core.proofs.Core.row.Goals as goal
 
 pub from_packed-key-requires : goal.from_packed-key-requires
 from_packed-key-requires g c =
-    let index = index_of _ c.self.inside.pins c.args.rows.tenant c.self.invariant (subst (λ (s : CoreState). IsTenant s.entries c.args.rows.tenant) (sym c.self.view_is) c.requires.is_tenant) in
+    let index = low_index _ c.self.inside.pins c.args.rows.tenant c.self.invariant (subst (λ (s : CoreState). IsTenant s.entries c.args.rows.tenant) (sym c.self.view_is) c.requires.is_tenant) in
     subst IsTenantKey (sym (c.as_slice.ensures.value ∙ c.in_ok-pack_into.ensures)) (IsTenantKey-packed c.args.rows.tenant c.args.key.now index c.requires.short)
 
 pub returns-clause-row : goal.returns-clause-row
@@ -27,5 +27,5 @@ returns-clause-short g c = row_short c.get.result c.get.ensures.short
 
 pub returns-clause-is_key : goal.returns-clause-is_key
 returns-clause-is_key g c =
-    let index = index_of _ c.self.inside.pins c.args.rows.tenant c.self.invariant (subst (λ (s : CoreState). IsTenant s.entries c.args.rows.tenant) (sym c.self.view_is) c.requires.is_tenant) in
+    let index = low_index _ c.self.inside.pins c.args.rows.tenant c.self.invariant (subst (λ (s : CoreState). IsTenant s.entries c.args.rows.tenant) (sym c.self.view_is) c.requires.is_tenant) in
     on_ok c.get.result (subst IsTenantKey (sym c.in_ok-pack_into.ensures) (IsTenantKey-packed c.args.rows.tenant c.args.key.now index c.requires.short))
