@@ -17,8 +17,8 @@ use stow_tree_model::tenant_key_buf::TenantKeyBuf;
 /// How many rows a part has, at most.
 const PART: usize = 1024;
 
-/// The charge once a snapshot is dropped that showed a tenant's rows at a number, under the pins that stay. The rows are
-/// walked in parts of at most 1,024, which is what memory is asked for.
+/// The charge, in bytes, once a snapshot is dropped that showed a tenant's rows at a number, under the pins that stay. The
+/// rows are walked in parts of at most 1,024. It is refused where memory for a part is.
 pub fn charge_of_drop<A: Allocator + Copy>(
     alloc: A,
     tree: &Tree<A>,
