@@ -43,7 +43,7 @@ use Rattle.stow_versions.specs.VersionsState.{VersionsState}
 
 -- ---- ids
 
-id_is : (a b : ℕ) → eq_by_cmp nat_cmp a b ≡ true → a ≡ b
+pub id_is : (a b : ℕ) → eq_by_cmp nat_cmp a b ≡ true → a ≡ b
 id_is a b e = ⊎_elim (λ (h : (a ≡ b) × (eq_by_cmp nat_cmp a b ≡ true)). h.0) (λ (h : eq_by_cmp nat_cmp a b ≡ false). absurd (apart (sym h ∙ e))) (id_cases a b) where
   apart : false ≡ true → ⊥
   apart f = cc

@@ -10,6 +10,7 @@ pub mod Carried
 pub mod Made
 pub mod Copies
 pub mod Charges
+pub mod Drops
 pub mod Room
 pub mod Reserving
 pub mod Within

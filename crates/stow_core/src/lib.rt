@@ -119,10 +119,11 @@ impl<A: Allocator + Copy> Core<A> {
     {
         let tree = Tree::new(alloc, shape)?;
         let tenancies = new_tenancies(alloc, &tenants)?;
+        let pins = Pins::new(alloc);
         Ok(Core {
             tenants,
             tenancies,
-            pins: Pins::new(alloc),
+            pins,
             pin_room: 0,
             tree,
             buffer: Vec::new(alloc),

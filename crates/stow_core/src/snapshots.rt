@@ -20,6 +20,7 @@ use crate::prepared::Prepared;
 use crate::preparing::{counted, only_counted};
 use crate::rows_at::RowsAt;
 use std::alloc::{AllocError, Allocator};
+use stow_dropping::dropping::charge_of_drop;
 use stow_ledger::charge::Charge;
 use stow_model::items::Items;
 use stow_model::refusal::Refusal;
@@ -137,14 +138,22 @@ impl<A: Allocator + Copy> Core<A> {
         }
     }
 
-    /// The charge once the tenant's snapshot of this id is dropped, which shows these rows.
+    /// The charge once the tenant's snapshot of this id is dropped, which shows these rows. It is the present one where
+    /// they are the present rows, or another snapshot shows them.
     fn charge_of_drop(&self, alloc: A, rows: RowsAt, id: u64) -> Result<Charge, AllocError>
         requires is_tenant { IsTenant self.now.entries rows.tenant }
         requires shows { IsNumberOf self.now rows.tenant id rows.number }
         ensures { IfOk result (λ charge. IsCharged self.now rows.tenant charge
             (after_drop id (store_of self.now rows.tenant))) }
     {
-        Err(AllocError)
+        let tree = &self.tree;
+        let tenancy = self.tenancy(rows.tenant);
+        let left = tenancy.versions.numbers_without(alloc, id)?;
+        if rows.number == tenancy.versions.last() || left.as_slice().contains(&rows.number) {
+            return Ok(tenancy.account.present());
+        }
+        let account = &tenancy.account;
+        charge_of_drop(alloc, tree, account, rows.tenant, rows.number, left.as_slice())
     }
 
     /// Finds what dropping a snapshot says, and what stays charged.

@@ -1,5 +1,5 @@
 //! One tenant's write numbers, snapshots and pins.
-ghost use Rattle.std.specs.Prelude.{◌≡◌, ℕ, ◌+◌, ◌<◌, ◌≤◌, ◌==◌, ◌||◌, ◌↔◌, not, filter, length, Contains, All, OnOk, OnErr, IfOk, IfErr, IfSome, IfNone, IsTrue, IsFalse, slice_index, [], ◌∷◌, ◌++◌, vec_len};
+ghost use Rattle.std.specs.Prelude.{◌≡◌, ℕ, ◌+◌, ◌<◌, ◌≤◌, ◌==◌, ◌||◌, ◌↔◌, not, filter, length, Contains, All, OnOk, OnErr, IfOk, IfErr, IfSome, IfNone, IsSome, IsTrue, IsFalse, slice_index, [], ◌∷◌, ◌++◌, vec_len};
 ghost use Rattle.std.specs.List.{list_any, position, remove};
 ghost use Rattle.std.specs.List.Sorted.{IsStrictlyIncreasing};
 ghost use Rattle.std.specs.Vec.{vec_capacity};
@@ -12,7 +12,7 @@ ghost use Rattle.stow_versions.specs.declared.snapshot_fault.SnapshotFault.TheVa
 
 use crate::no_such_snapshot::NoSuchSnapshot;
 use crate::snapshot_fault::SnapshotFault;
-use std::alloc::{Allocator, Global};
+use std::alloc::{AllocError, Allocator, Global};
 use std::marker::Model;
 use stow_bytes::limits::NUMBER_LIMIT;
 
@@ -108,6 +108,22 @@ impl<A: Allocator + Copy> Versions<A> {
         ensures among { (n : ℕ) → is_among n result.now ≡ is_among n (map.values self.now.snapshots) }
     {
         self.pins.as_slice()
+    }
+
+    /// The numbers of the live snapshots without one of them, in the order of their ids.
+    pub fn numbers_without(&self, alloc: A, id: u64) -> Result<Vec<u64, A>, AllocError>
+        requires { IsSome (map.get self.now.snapshots id) }
+        ensures { IfOk result (λ left. left.items ≡ map.values (map.remove self.now.snapshots id)) }
+    {
+        let mut left = Vec::new(alloc);
+        left.extend_from_slice(self.numbers.as_slice())?;
+        match place_of(&self.ids, id) {
+            None => Ok(left),
+            Some(place) => {
+                let _ = left.remove(place);
+                Ok(left)
+            }
+        }
     }
 
     /// One more write was made.

@@ -6,13 +6,13 @@ use Rattle.stow_core.proofs.Made.{is_new, new_kept}
 use Rattle.stow_core.proofs.Core.new.Goals as goal
 
 pub returns-clause-empty : goal.returns-clause-empty
-returns-clause-empty g c = is_new _ c.new.result (c.in_ok-tenancies.ensures.each ∙ ap (map new_tenancy) c.deref.ensures) c.in_ok-tree.ensures.empty
+returns-clause-empty g c = is_new _ c.new-pins.result (c.in_ok-tenancies.ensures.each ∙ ap (map new_tenancy) c.deref.ensures) c.in_ok-tree.ensures.empty
 
 pub invariant_of-result : goal.invariant_of-result
 invariant_of-result g c =
     let long = length-map c.in_ok-tenancies.tenancies.items tenancy_of in
     let few = c.in_ok-tenancies.ensures.few in
-    new_kept _ c.new.result (c.in_ok-tenancies.ensures.each ∙ ap (map new_tenancy) c.deref.ensures) c.in_ok-tree.ensures.empty (omega (arith, long, few)) c.new.ensures refl c.in_ok-tree.ensures.sizes
+    new_kept _ c.new-pins.result (c.in_ok-tenancies.ensures.each ∙ ap (map new_tenancy) c.deref.ensures) c.in_ok-tree.ensures.empty (omega (arith, long, few)) c.new-pins.ensures refl c.in_ok-tree.ensures.sizes
 
 pub returns-in_err-tree-clause-entries : goal.returns-in_err-tree-clause-entries
 returns-in_err-tree-clause-entries g c = grind (arith, common_steps)
