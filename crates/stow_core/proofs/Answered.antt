@@ -39,6 +39,10 @@ pub if_ok : {X E : Type 0} (r : Result X E) (P Q : X → Type 0) → ((x : X) �
 if_ok (Ok x) P Q f h = f x h
 if_ok (Err e) P Q f h = h
 
+pub if_all_ok : {X E : Type 0} (r : Result X E) (P Q R S : X → Type 0) → ((x : X) → P x → Q x → R x → S x) → IfOk r P → IfOk r Q → IfOk r R → IfOk r S
+if_all_ok (Ok x) P Q R S f p q s = f x p q s
+if_all_ok (Err e) P Q R S f p q s = p
+
 -- ---- quotas
 
 -- an outcome exceeds the quota of the store before, whether that was counted or not

@@ -3,7 +3,7 @@ use Rattle.std.proofs.Common.{◌≡◌, ◌≢◌, ℕ, zero, suc, ◌+◌, ◌
 use Rattle.std.proofs.Math.Bool.{◌||◌}
 use Rattle.std.proofs.lemmas.Bool.{le-leb}
 use Rattle.std.proofs.lemmas.List.{length-map}
-use Rattle.std.specs.Prelude.{Contains, IfSome, IsTrue, T, option_map}
+use Rattle.std.specs.Prelude.{Contains, IfSome, IsSome, IsTrue, T, option_map}
 use Rattle.std.specs.Cmp.{nat_cmp_total}
 use Rattle.std.specs.FinMap.{FinMap, find, is_sorted, nat_cmp-IsAntisymmetric}
 use Rattle.std.specs.FinMap as finite
@@ -171,3 +171,12 @@ module _ {A : Type 0} (core : CoreState) (t id number : ℕ) (x : Tenancy A) (at
       let found = value_found left number there in
       let other = stays found.0 number found.1 in
       free c is given (second_drop_is_free_law store id found.0 (rows_at m t number) other.0 (shown id number live) (shown found.0 number other.1))
+
+-- the number that a tenant's snapshot has
+pub number_at : {A : Type 0} (core : CoreState) (t id number : ℕ) (x : Tenancy A) → tenancy_at t core.tenancies ≡ Some (tenancy_of x) → IfSome (tenancy_at t core.tenancies) (λ own. finite.get (versions_of own).snapshots id ≡ Some number) → finite.get x.versions.snapshots id ≡ Some number
+number_at core t id number x at is =
+    ap (λ (v : VersionsState). finite.get v.snapshots id) (sym (same_versions x.versions x.account))
+    ∙ subst (λ (o : Option TenancyState). IfSome o (λ own. finite.get (versions_of own).snapshots id ≡ Some number)) at is
+
+pub some_at : {A : Type 0} (core : CoreState) (t id number : ℕ) (x : Tenancy A) → tenancy_at t core.tenancies ≡ Some (tenancy_of x) → IfSome (tenancy_at t core.tenancies) (λ own. finite.get (versions_of own).snapshots id ≡ Some number) → IsSome (finite.get x.versions.snapshots id)
+some_at core t id number x at is = subst IsSome (sym (number_at core t id number x at is)) refl

@@ -45,6 +45,9 @@ within core pins t is_core is = let each = is_core.each in let high = is.1 in om
 pub low_index : {A : Type 0} (core : CoreState) (pins : Pins A) (t : ℕ) → IsCore core pins → IsTenant core.entries t → t ≤ 65536
 low_index core pins t is_core is = let high = within core pins t is_core is in let few = is_core.few in omega (arith, high, few)
 
+pub tight_index : {A : Type 0} (core : CoreState) (pins : Pins A) (t : ℕ) → IsCore core pins → IsTenant core.entries t → t ≤ 65535
+tight_index core pins t is_core is = let high = within core pins t is_core is in let few = is_core.few in omega (arith, high, few)
+
 pub own_there : {A : Type 0} (core : CoreState) (pins : Pins A) (t : ℕ) → IsCore core pins → IsTenant core.entries t → (own : TenancyState) × (tenancy_at t core.tenancies ≡ Some own)
 own_there core pins t is_core is = there t core.tenancies is.0 (within core pins t is_core is)
 

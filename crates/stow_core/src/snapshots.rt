@@ -148,11 +148,14 @@ impl<A: Allocator + Copy> Core<A> {
     {
         let tree = &self.tree;
         let tenancy = self.tenancy(rows.tenant);
-        let left = tenancy.versions.numbers_without(alloc, id)?;
-        if rows.number == tenancy.versions.last() || left.as_slice().contains(&rows.number) {
-            return Ok(tenancy.account.present());
-        }
         let account = &tenancy.account;
+        if rows.number == tenancy.versions.last() {
+            return Ok(account.present());
+        }
+        let left = tenancy.versions.numbers_without(alloc, id)?;
+        if left.as_slice().contains(&rows.number) {
+            return Ok(account.present());
+        }
         charge_of_drop(alloc, tree, account, rows.tenant, rows.number, left.as_slice())
     }
 
