@@ -1,8 +1,9 @@
 -- What a prepared answer is, as the tenant's own step says it.
 use Rattle.std.proofs.Common.{◌≡◌, ◌≢◌, ℕ, ◌<◌, ◌^◌, Bool, true, false, cond, nat_lt, List, [], ◌++◌, Option, Some, None, map, refl, eqb, ap, sym, ◌∙◌, subst, pos, to_z, w64}
-use Rattle.std.proofs.Math.Bool.{◌&&◌}
+use Rattle.std.proofs.Math.Bool.{◌&&◌, false≢true}
 use Rattle.std.specs.declared.alloc.AllocError.{AllocError}
-use Rattle.std.specs.Prelude.{◌-◌, Result, Ok, Err, IfOk}
+use Rattle.std.specs.Result.{IsErr}
+use Rattle.std.specs.Prelude.{◌-◌, Result, Ok, Err, IfOk, IfSome, IsTrue}
 use Rattle.std.specs.FinMap as rows
 use Rattle.std.proofs.lemmas.Bool.{cond-true, cond-false, eq-eqb, ne_eqb}
 use Rattle.std.proofs.lemmas.Int.{to_z_pos}
@@ -18,7 +19,9 @@ use Rattle.stow_model.specs.Command.{Command, Change, Append, Understood, Refuse
 use Rattle.stow_model.specs.Login.{IsTenant}
 use Rattle.stow_model.specs.declared.reply.Reply.TheVariants as in_reply
 use Rattle.stow_model.specs.Store.{Store, Answer, Request, Asked, counted, served, answer, answer_to, answer_with, can_take, take_answer, del_answer, change_answer, append_outcome, written, refused, exceeds_quota, Written, Failed, outcome, value_in, rows_without}
-use Rattle.stow_ledger.specs.Shown.{with_row}
+use Rattle.stow_ledger.specs.Accounts.{IsGivenBy, is_allowed}
+use Rattle.stow_ledger.specs.Shown.{charge_of, with_row}
+use Rattle.stow_core.specs.Tenancies.{TenancyState, tenancy_at}
 use Rattle.stow_ledger.specs.declared.charge.Charge.{Charge}
 use Rattle.stow_core.specs.declared.change.Change.TheVariants as in_change
 use Rattle.stow_core.specs.declared.content.Content.{Content}
@@ -141,10 +144,23 @@ counts_prepared old new t f (Err e) result is keeps tenant says = subst (IsPrepa
 pub failed_prepared : {A : Type 0} (old new : CoreState) (t : ℕ) (f : Store → Answer) (e : AllocError) → Keeps old new → IsPrepared {A = A} old t f new (Err e)
 failed_prepared old new t f e keeps = record { keeps = keeps; room = tt; tenant_is = tt; answers = tt }
 
+-- the same where only that it failed is known
+pub error_prepared : {A : Type 0} (old new : CoreState) (t : ℕ) (f : Store → Answer) (result : Result (Prepared A) AllocError) → IsErr result → Keeps old new → IsPrepared {A = A} old t f new result
+error_prepared old new t f (Ok p) failed keeps = absurd (false≢true failed)
+error_prepared old new t f (Err e) failed keeps = failed_prepared old new t f e keeps
+
 -- a write that the quota refuses
 pub refused_prepared : {A : Type 0} (old new : CoreState) (t : ℕ) (f : Store → Answer) (p : Prepared A) → p ≡ record { tenant = t; change = in_change.Refuse; reply = in_reply.Error refusal.QuotaExceeded } → Keeps old new → IsTenant old.entries t
     → ◌≡◌ {A = Answer} (after_refusal (store_of old t), reply.Error refusal.QuotaExceeded) (f (store_of old t)) → IsPrepared {A = A} old t f new (Ok p)
 refused_prepared old new t f p e keeps is says = subst (λ q. IsPrepared old t f new (Ok q)) (sym e) (record { keeps = keeps; room = subst (λ entries. IsTenant entries t) (sym keeps.entries) is; tenant_is = refl; answers = says })
+
+-- a charge stays one where the store and the tenant's part do
+pub charged_kept : (old new : CoreState) (t : ℕ) (c : Charge) (f : Store → Store) → IsCharged old t c (f (store_of old t)) → store_of new t ≡ store_of old t → tenancy_at t new.tenancies ≡ tenancy_at t old.tenancies → IsCharged new t c (f (store_of new t))
+charged_kept old new t c f charged same own = record {
+  is = charged.is ∙ ap (λ s. charge_of (f s)) (sym same);
+  given = subst (λ (o : Option TenancyState). IfSome o (λ x. IsGivenBy x.account c)) (sym own) charged.given;
+  allowed = subst (λ (o : Option TenancyState). IfSome o (λ x. IsTrue (is_allowed x.account c))) (sym own) charged.allowed;
+}
 
 -- the same answer in other words
 pub prepared_as : {A : Type 0} (old new : CoreState) (t : ℕ) (f h : Store → Answer) (result : Result (Prepared A) AllocError) → f (store_of old t) ≡ h (store_of old t) → IsPrepared old t f new result → IsPrepared old t h new result

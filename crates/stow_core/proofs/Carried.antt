@@ -4,13 +4,15 @@ use Rattle.std.specs.Prelude.{Contains, IfSome, IsSome, ◌||◌, ◌==◌}
 use Rattle.std.specs.FinMap as finite
 use Rattle.std.specs.List.{AllByRecursion}
 use Rattle.std.proofs.lemmas.Bool.{cases_eq}
-use Rattle.std.proofs.lemmas.List.{length-map, map-set}
+use Rattle.std.proofs.lemmas.List.{length-map, length-set, map-set}
 use Rattle.stow_core.specs.Keys.{AreKeysOf}
 use Rattle.stow_core.specs.declared.content.Content.{Content}
 use Rattle.stow_core.specs.declared.tenancy.Tenancy.{Tenancy}
 use Rattle.stow_core.specs.Prepared.{after_content, after_remove, after_refusal, after_take, after_drop, CanPut, CanRemove, CanTake, CanDrop, IsCharged}
-use Rattle.stow_core.specs.State.{CoreState, shared_of, store_of, IsCore, Moves, GivesQuota}
-use Rattle.stow_core.specs.Tenancies.{TenancyState, tenancy_of, tenancy_at, versions_of, is_among, counted_account, refused_account, charged_account}
+use Rattle.stow_core.specs.State.{CoreState, shared_of, store_at, store_of, IsCore, Keeps, Moves, GivesQuota}
+use Rattle.stow_core.proofs.Kept.{idle}
+use Rattle.stow_core.proofs.Tenancies.{set_own, set_other}
+use Rattle.stow_core.specs.Tenancies.{TenancyState, tenancy_with, tenancy_of, tenancy_at, own_state, versions_of, is_among, counted_account, refused_account, charged_account}
 use Rattle.stow_core.specs.Writes.{content_op, write_of, removals_of}
 use Rattle.stow_core.proofs.Changed.{account_counted, account_refused, account_charged, account_given, account_taken, before_is, held_same, leads_counted, leads_refused, leads_given, leads_taken, leads_dropped, leads_put, leads_removed, next_is_free, pins_own, pins_before, pins_other}
 use Rattle.stow_core.proofs.Moved.{with_own, moves, core_moved}
@@ -29,8 +31,8 @@ use Rattle.std.specs.Prelude.{option_map}
 use Rattle.stow_model.specs.Store.{Rows}
 use Rattle.stow_state.specs.Rows.{rows_at}
 use Rattle.stow_state.proofs.Snapshots.{get-copies_of}
-use Rattle.stow_state.specs.State.{copies, pins_in}
-use Rattle.stow_state.specs.Steps.{LeadsTo}
+use Rattle.stow_state.specs.State.{SharedState, IsSound, copies, store_in, pins_in}
+use Rattle.stow_state.specs.Steps.{SharedStep, LeadsTo, Maintenance}
 use Rattle.stow_tree.specs.TreeState.{TreeState, tree_messages}
 use Rattle.stow_tree_model.specs.Keys.{own_key}
 use Rattle.stow_tree_model.specs.Messages.{with_all}
@@ -187,3 +189,64 @@ module _ {A : Type 0} (entries : List Entry) (items : List (Tenancy A)) (pin_roo
       known : (o : Option ℕ) → IsSome (option_map (rows_at (tree_messages tree) t) o) → IsSome o
       known None some = some
       known (Some n) some = refl
+
+  -- ---- room alone
+
+  -- the tenant has room for a snapshot: nothing else is other
+  module _ (versions : x'.versions ≡ record x.versions { room = x'.versions.room }) (account : x'.account ≡ x.account) where
+    abbrev roomy : CoreState
+    roomy = new_core pin_room tree
+
+    own_same : own_state (Some (tenancy_of x')) ≡ own_state (Some (tenancy_of x))
+    own_same = λ i. own_state (Some (tenancy_with (versions i) (account i)))
+
+    own_now : tenancy_at t roomy.tenancies ≡ Some (tenancy_of x')
+    own_now = ap (tenancy_at t) (map-set tenancy_of items (t - 1) x') ∙ set_own t (map tenancy_of items) (tenancy_of x') is.0 high
+
+    own_other : (u : ℕ) → u ≢ t → tenancy_at u roomy.tenancies ≡ tenancy_at u old.tenancies
+    own_other u ne = ap (tenancy_at u) (map-set tenancy_of items (t - 1) x') ∙ set_other t u (map tenancy_of items) (tenancy_of x') is.0 ne
+
+    owns_same : (u : ℕ) → own_state (tenancy_at u roomy.tenancies) ≡ own_state (tenancy_at u old.tenancies)
+    owns_same u = ⊎_elim
+        (λ (e : u ≡ t). ap (λ w. own_state (tenancy_at w roomy.tenancies)) e ∙ ap own_state own_now ∙ own_same ∙ sym (ap (λ w. own_state (tenancy_at w old.tenancies)) e ∙ ap own_state own_at))
+        (λ (ne : u ≢ t). ap own_state (own_other u ne))
+        (cases_eq u t)
+
+    pub roomy_shared : shared_of roomy ≡ shared_of old
+    unfolding shared_of
+    roomy_shared = λ i. record { messages = tree_messages tree; tenants = λ u. owns_same u i }
+
+    roomy_store : (u : ℕ) → store_of roomy u ≡ store_of old u
+    unfolding store_of
+    roomy_store u = ⊎_elim
+        (λ (e : u ≡ t). ap (λ w. store_at (tree_messages tree) w (tenancy_at w roomy.tenancies)) e ∙ ap (store_at (tree_messages tree) t) own_now ∙ ap (store_in (tree_messages tree) t) own_same
+        ∙ sym (ap (λ w. store_at (tree_messages tree) w (tenancy_at w old.tenancies)) e ∙ ap (store_at (tree_messages tree) t) own_at))
+        (λ (ne : u ≢ t). ap (store_at (tree_messages tree) u) (own_other u ne))
+        (cases_eq u t)
+
+    pub roomy_core : IsCore roomy pins
+    roomy_core = record {
+      each = ap length (map-set tenancy_of items (t - 1) x') ∙ length-set (map tenancy_of items) (t - 1) (tenancy_of x') ∙ is_core.each;
+      few = subst (λ n. n < 65536) (sym (ap length (map-set tenancy_of items (t - 1) x') ∙ length-set (map tenancy_of items) (t - 1) (tenancy_of x'))) is_core.few;
+      sound = subst IsSound (sym roomy_shared) is_core.sound;
+      accounts = λ u. ⊎_elim
+          (λ (e : u ≡ t). subst (λ w. IfSome (tenancy_at w roomy.tenancies) (λ own. IsAccountOf (store_of roomy w) own.account)) (sym e)
+          (subst (λ (o : Option TenancyState). IfSome o (λ own. IsAccountOf (store_of roomy t) own.account)) (sym own_now)
+          (subst (IsAccountOf (store_of roomy t)) (sym account) (subst (λ s. IsAccountOf s x.account) (sym (roomy_store t)) account_at))))
+          (λ (ne : u ≢ t). subst (λ (o : Option TenancyState). IfSome o (λ own. IsAccountOf (store_of roomy u) own.account)) (sym (own_other u ne))
+          (subst (λ s. IfSome (tenancy_at u old.tenancies) (λ own. IsAccountOf s own.account)) (sym (roomy_store u)) (is_core.accounts u)))
+          (cases_eq u t);
+      pins_are = λ u n. is_core.pins_are u n ∙ ap (λ (s : SharedState). is_among n (pins_in s u)) (sym roomy_shared);
+      pin_room = is_core.pin_room;
+      sizes = is_core.sizes;
+    }
+
+    pub roomy_keeps : Keeps core roomy
+    roomy_keeps = subst (λ c. Keeps c roomy) seen (record {
+      stores = roomy_store;
+      entries = refl;
+      gives_way = record { sound = is_core.sound; step = subst (λ s. SharedStep (shared_of old) Maintenance None s) (sym roomy_shared) (idle (shared_of old) is_core.sound) };
+    })
+
+    pub roomy_ready : IsReady x'.versions → IfSome (tenancy_at t roomy.tenancies) (λ own. IsReady (versions_of own))
+    roomy_ready ready = subst (λ (o : Option TenancyState). IfSome o (λ own. IsReady (versions_of own))) (sym own_now) (subst IsReady (sym (same_versions x'.versions x'.account)) ready)

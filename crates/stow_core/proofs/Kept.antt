@@ -11,8 +11,8 @@ use Rattle.stow_merge.specs.Pins.{room_in}
 use Rattle.stow_merge.specs.Pins as held
 use Rattle.stow_node.specs.Subtree.{Subtree}
 use Rattle.stow_state.specs.State.{TenantState, SharedState, IsSound, pins_in, lasts_in, view}
-use Rattle.stow_state.specs.Steps.{SharedStep, Maintenance}
-use Rattle.stow_state.proofs.Steps.{step_sound, step_is_there_law, steps_by_parts_law, other_views_stay_law}
+use Rattle.stow_state.specs.Steps.{SharedStep, Maintenance, moved, reply_to}
+use Rattle.stow_state.proofs.Steps.{step_sound, step_is_there_law, steps_by_parts_law, other_views_stay_law, maintenance_chains}
 use Rattle.stow_tree.specs.Shapes.{AreInRange}
 use Rattle.stow_tree.specs.TreeState.{TreeState, tree_messages, AgreeUnder, HasBound}
 use Rattle.stow_tree.proofs.Sets.{same_messages}
@@ -98,4 +98,16 @@ core_repinned core pins pins' tenant is_core same room = record {
   pins_are = λ t n. ap (is_among n) (same t) ∙ is_core.pins_are t n;
   pin_room = room;
   sizes = is_core.sizes;
+}
+
+pub keeps_repinned : (core new : CoreState) (tenant : ℕ) → IsSound (shared_of core) → new ≡ record core { pin_room = tenant } → Keeps core new
+unfolding shared_of store_of
+keeps_repinned core core2 tenant sound is = subst (Keeps core) (sym is) (record { stores = λ t. refl; entries = refl; gives_way = record { sound = sound; step = idle (shared_of core) sound } })
+
+-- one after another
+pub keeps_then : (a b c : CoreState) → Keeps a b → Keeps b c → Keeps a c
+keeps_then a b c first second = record {
+  stores = λ t. second.stores t ∙ first.stores t;
+  entries = second.entries ∙ first.entries;
+  gives_way = record { sound = first.gives_way.sound; step = maintenance_chains (shared_of a) (shared_of b) (shared_of c) first.gives_way.step second.gives_way.step };
 }

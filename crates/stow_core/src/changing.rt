@@ -107,6 +107,7 @@ impl<A: Allocator + Copy> Core<A> {
         reply: Reply<A>,
     ) -> Result<Prepared<A>, AllocError>
         requires is_tenant { IsTenant self.old.entries tenant }
+        requires sound { IsSound (shared_of self.old) }
         requires own_key { AreKeysOf tenant (buffer.old.items ∷ []) }
         requires is_key { IsTenantKey buffer.old.items }
         requires before { before ≡ sized_option (row_at self.old tenant (own_key buffer.old.items)) }

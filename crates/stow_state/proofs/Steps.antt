@@ -552,3 +552,14 @@ two_shared_runs_law quotas quotas' steps steps' last last' tenant tenant' index 
     let a = runs_alone_law quotas steps last tenant index run in
     let b = runs_alone_law quotas' steps' last' tenant' index' run' in
     (a.0 ∙ (λ i. store_after (quota i) (line i)) ∙ sym b.0, a.1 ∙ (λ i. replies_after (quota i) (line i)) ∙ sym b.1)
+
+-- messages that give way twice do so once
+pub maintenance_chains : (a b c : SharedState) → SharedStep a Maintenance None b → SharedStep b Maintenance None c → SharedStep a Maintenance None c
+unfolding moved reply_to
+maintenance_chains a b c first second = record {
+  has_index = tt;
+  reply_is = refl;
+  tenants_are = second.tenants_are ∙ first.tenants_are;
+  messages_agree = agreement_chains_law a.messages b.messages c.messages (pins_in a) (lasts_in a) first.messages_agree
+      (subst (λ (ts : ℕ → TenantState). Agree b.messages c.messages (λ t. finite.values (ts t).snapshots) (λ t. (ts t).last)) first.tenants_are second.messages_agree);
+}
