@@ -11,6 +11,7 @@ pub mod Made
 pub mod Copies
 pub mod Charges
 pub mod Drops
+pub mod Live
 pub mod Room
 pub mod Reserving
 pub mod Within

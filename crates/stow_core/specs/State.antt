@@ -14,9 +14,10 @@ use Rattle.stow_model.specs.declared.refusal.Refusal.TheVariants as refusal
 use Rattle.stow_model.specs.Reply.{Reply}
 use Rattle.stow_model.specs.Reply as reply
 use Rattle.stow_model.specs.Login.{Entry, IsTenant, quota_of}
-use Rattle.stow_model.specs.Store.{Store, Rows, Version, Answer, Request, OwnEvent, Asked, row_items, rows_within, empty_store, answer_with}
+use Rattle.stow_model.specs.Store.{Store, Rows, Version, Answer, Request, OwnEvent, Asked, row_items, rows_within, snapshot_rows, empty_store, answer_with}
 use Rattle.stow_model.specs.Store.{step as own_step}
 use Rattle.stow_core.specs.declared.rows_at.RowsAt.{RowsAt}
+use Rattle.stow_core.specs.declared.snapshot.Snapshot.{Snapshot}
 use Rattle.stow_state.specs.Rows.{rows_at}
 use Rattle.stow_state.specs.State.{SharedState, IsSound, pins_in, store_in, new_state}
 use Rattle.stow_state.specs.Steps.{SharedStep, LeadsTo, Call, Maintenance}
@@ -59,10 +60,22 @@ abbrev pub IsNumberOf : CoreState → ℕ → ℕ → ℕ → Type 0
 IsNumberOf core tenant id number = IfSome (tenancy_at tenant core.tenancies)
     (λ own. map.get (versions_of own).snapshots id ≡ Some number)
 
--- the same of an id as requests name it
-abbrev pub IsLiveId : CoreState → ℕ → ℤ → ℕ → Type 0
-IsLiveId core tenant (pos id) number = IsNumberOf core tenant id number
-IsLiveId core tenant (negsuc below) number = ⊥
+-- the number that an id is, unless it is below 0
+abbrev pub number_in : ℤ → Option ℕ
+number_in (pos id) = Some id
+number_in (negsuc below) = None
+
+-- the live snapshot that the tenant names by the id
+pub record IsLive (core : CoreState) (tenant : ℕ) (id : ℤ) (snapshot : Snapshot) : Type 0 where
+  pub id_is : id ≡ pos snapshot.id
+  pub tenant_is : snapshot.rows.tenant ≡ tenant
+  pub number : IsNumberOf core tenant snapshot.id snapshot.rows.number
+  pub rows : snapshot_rows (store_of core tenant) id ≡ Some (rows_in core snapshot.rows)
+
+-- it, or none where none is live
+abbrev pub IsSnapshotOf : CoreState → ℕ → ℤ → Option Snapshot → Type 0
+IsSnapshotOf core tenant id None = snapshot_rows (store_of core tenant) id ≡ None
+IsSnapshotOf core tenant id (Some snapshot) = IsLive core tenant id snapshot
 
 -- What the core's type keeps: each tenant has its part, there are few, the shared state is sound, each
 -- account is that of its store, the pins are the numbers of live snapshots, and the tree's sizes are

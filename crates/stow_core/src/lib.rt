@@ -61,6 +61,7 @@ mod preparing;
 mod ranging;
 mod reading;
 pub mod rows_at;
+pub mod snapshot;
 mod snapshots;
 pub mod tenancy;
 mod usage;

@@ -1,17 +1,16 @@
 //! Snapshots: taking and dropping them, and what they show.
-ghost use Rattle.std.specs.Prelude.{◌≡◌, Some, IfOk, IfSome, OnOk, option_map};
-ghost use Rattle.std.specs.FinMap as map;
+ghost use Rattle.std.specs.Prelude.{◌≡◌, IfOk, OnOk};
 ghost use Rattle.stow_model.specs.declared.refusal.Refusal.TheVariants as refusal;
 ghost use Rattle.stow_model.specs.declared.reply.Reply.TheVariants as told;
 ghost use Rattle.stow_model.specs.Command.{DropSnapshot, GetInSnapshot, RangeInSnapshot, TakeSnapshot};
 ghost use Rattle.stow_model.specs.Login.{IsTenant};
 ghost use Rattle.stow_model.specs.Reply.{reply_of};
 ghost use Rattle.stow_model.specs.Reply as reply;
-ghost use Rattle.stow_model.specs.Store.{id_items, snapshot_rows};
+ghost use Rattle.stow_model.specs.Store.{id_items};
 ghost use Rattle.stow_state.specs.State.{IsSound};
 ghost use Rattle.stow_core.specs.Legal.{IsShortKey};
 ghost use Rattle.stow_core.specs.Prepared.{IsCharged, IsPrepared, after_drop, serves};
-ghost use Rattle.stow_core.specs.State.{rows_in, shared_of, store_of, IsLiveId, IsNumberOf};
+ghost use Rattle.stow_core.specs.State.{rows_in, shared_of, store_of, number_in, IsNumberOf, IsSnapshotOf};
 
 use crate::Core;
 use crate::change::Change;
@@ -19,6 +18,7 @@ use crate::interval::Interval;
 use crate::prepared::Prepared;
 use crate::preparing::{counted, only_counted};
 use crate::rows_at::RowsAt;
+use crate::snapshot::Snapshot;
 use std::alloc::{AllocError, Allocator};
 use stow_dropping::dropping::charge_of_drop;
 use stow_ledger::charge::Charge;
@@ -29,20 +29,15 @@ use stow_model::simple_string::SimpleString;
 use stow_versions::snapshot_fault::SnapshotFault;
 
 impl<A: Allocator + Copy> Core<A> {
-    /// The rows that a snapshot of the tenant's shows, if it is live.
-    fn snapshot(&self, tenant: u32, id: i64) -> Option<RowsAt>
+    /// The snapshot of the tenant's that has the id, if it is live.
+    fn snapshot(&self, tenant: u32, id: i64) -> Option<Snapshot>
         requires { IsTenant self.now.entries tenant }
-        ensures tenant { IfSome result (λ rows. rows.tenant ≡ tenant) }
-        ensures number { IfSome result (λ rows. IsLiveId self.now tenant id rows.number) }
-        ensures rows { option_map (rows_in self.now) result ≡ snapshot_rows (store_of self.now tenant) id }
+        ensures { IsSnapshotOf self.now tenant id result }
     {
-        if id < 0 {
-            return None;
-        }
-        match self.tenancy(tenant).versions.number_of(id as u64) {
-            None => None,
-            Some(number) => Some(RowsAt { tenant, number }),
-        }
+        let id = number_in(id)?;
+        let number = self.tenancy(tenant).versions.number_of(id)?;
+        let rows = RowsAt { tenant, number };
+        Some(Snapshot { id, rows })
     }
 
     /// Finds what taking a snapshot says, and makes room for it and its pin.
@@ -108,7 +103,7 @@ impl<A: Allocator + Copy> Core<A> {
     {
         match self.snapshot(tenant, id) {
             None => Ok(no_such_snapshot(tenant)),
-            Some(rows) => counted(tenant, self.value(buffer, alloc, rows, key)),
+            Some(snapshot) => counted(tenant, self.value(buffer, alloc, snapshot.rows, key)),
         }
     }
 
@@ -132,8 +127,9 @@ impl<A: Allocator + Copy> Core<A> {
         let tenant = interval.tenant;
         match self.snapshot(tenant, id) {
             None => Ok(no_such_snapshot(tenant)),
-            Some(rows) => {
-                counted(tenant, self.rows_within(buffer, alloc, interval, rows.number, count))
+            Some(snapshot) => {
+                let number = snapshot.rows.number;
+                counted(tenant, self.rows_within(buffer, alloc, interval, number, count))
             }
         }
     }
@@ -172,11 +168,11 @@ impl<A: Allocator + Copy> Core<A> {
     {
         match self.snapshot(tenant, id) {
             None => Ok(no_such_snapshot(tenant)),
-            Some(rows) => {
-                let charge = self.charge_of_drop(alloc, rows, id as u64)?;
+            Some(snapshot) => {
+                let charge = self.charge_of_drop(alloc, snapshot.rows, snapshot.id)?;
                 Ok(Prepared {
                     tenant,
-                    change: Change::Drop(id as u64, charge),
+                    change: Change::Drop(snapshot.id, charge),
                     reply: Reply::Simple(SimpleString::Ok),
                 })
             }
@@ -189,4 +185,11 @@ fn no_such_snapshot<A: Allocator>(tenant: u32) -> Prepared<A>
     ensures { result ≡ record { tenant = tenant; change = Change.Count; reply = told.Error refusal.NoSuchSnapshot } }
 {
     only_counted(tenant, Reply::Error(Refusal::NoSuchSnapshot))
+}
+
+/// The number that an id is, unless it is below 0.
+fn number_in(id: i64) -> Option<u64>
+    ensures { result ≡ number_in id }
+{
+    if id < 0 { None } else { Some(id as u64) }
 }
