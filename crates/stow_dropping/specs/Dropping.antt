@@ -11,8 +11,8 @@ use Rattle.stow_ledger.specs.Histories.{ShowsHistory, SameNumbers}
 use Rattle.stow_ledger.specs.Shown.{charge_of, without_snapshot}
 use Rattle.stow_ledger.specs.declared.charge.Charge.{Charge}
 
--- whatever store of the tenant the messages show, whose account this is: the charge is that of the store
--- without the snapshot that shows the rows at the number
+-- whatever store of the tenant the messages show, whose account this is: the charge is that of the
+-- store without the snapshot that shows the rows at the number, where these pins are left
 abbrev pub IsChargeWithout : Messages → ℕ → ℕ → AccountState → List ℕ → Charge → Type 0
 IsChargeWithout messages tenant number account pins left =
     (store : Store) (id : ℕ) (numbers : List ℕ) → IsAccountOf store account

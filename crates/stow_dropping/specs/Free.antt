@@ -7,7 +7,8 @@ use Rattle.stow_ledger.specs.Shown.{is_in, charge_of, without_snapshot}
 
 -- each version that the rows show, the store shows too
 abbrev pub AreShown : Rows → Store → Type 0
-AreShown rows store = AllByRecursion (λ shown. IsTrue (is_in shown (shown_by store))) (map.entries rows)
+AreShown rows store =
+    AllByRecursion (λ shown. IsTrue (is_in shown (shown_by store))) (map.entries rows)
 
 -- a dropped snapshot frees nothing where each version that it shows is shown still
 abbrev pub DropIsFree : Type 0

@@ -4,7 +4,8 @@
 //! number of its key's next message: until then the row's version is the key's, so the pins that stay tell whether a
 //! snapshot shows it still. The rows come in parts, and no value is copied.
 //!
-//! A body that always answers `AllocError` meets the contract: tests of the service drop snapshots.
+//! A body that always answers `AllocError` meets the contract: tests over a tree call it with ample memory, and with requests
+//! refused.
 #![tactic(auto)]
 
 pub mod dropping;

@@ -2,6 +2,7 @@
 //! tree which grows through all its shapes tells what a plain list of its messages tells.
 mod calls;
 mod changes;
+mod dropping;
 mod few;
 mod grown;
 mod numbered;
