@@ -18,7 +18,7 @@ use Rattle.stow_node.specs.Subtree.{Subtree}
 use Rattle.stow_leaf.specs.LeafRows.{row_messages}
 use Rattle.stow_node.specs.Parts.{Part, low_or, high_of, TiledTo, messages_in, leaves_in, weight_in}
 use Rattle.stow_leaf.specs.Intervals.{top_key}
-use Rattle.stow_node.specs.Nodes.{part_of, node_part, parts_of, AreNewer, IsBelow, subtree_of, IsNode, AreLeafSizes}
+use Rattle.stow_node.specs.Nodes.{part_of, node_part, parts_of, nearest_in, deepest_in, AreNewer, IsBelow, subtree_of, IsNode, AreLeafSizes}
 use Rattle.stow_node.specs.Moves.{accepted, CanAccept, IsSqueezed, Stays, bytes_for, messages_for, HandsDown}
 use Rattle.stow_node.proofs.HandedDown.{same_node}
 use Rattle.stow_node.proofs.Lowered.{for_child, can_hand, Lowered, lowered, end_of-set}
@@ -81,6 +81,8 @@ same_children {A} a v node e = record {
     shape = a.shape;
     buffer = a.buffer;
     deeper = messages_in (parts_of l);
+    nearest = nearest_in l;
+    deepest = deepest_in l;
     leaves = leaves_in (parts_of l);
     weight = a.height * length a.buffer.messages + weight_in (parts_of l);
   }) e;

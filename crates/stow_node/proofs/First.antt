@@ -13,7 +13,7 @@ use Rattle.stow_node.specs.Subtree.{first_subtree}
 use Rattle.std.specs.List.{AllByRecursion}
 use Rattle.stow_node.specs.Parts.{TiledTo, low_or, messages_in, leaves_in, weight_in}
 use Rattle.stow_leaf.specs.Intervals.{top_key}
-use Rattle.stow_node.specs.Nodes.{parts_of, IsBelow, subtree_of, IsNode, AreLeafSizes}
+use Rattle.stow_node.specs.Nodes.{parts_of, nearest_in, deepest_in, IsBelow, subtree_of, IsNode, AreLeafSizes}
 
 pub record IsFirst {A : Type 0} (shape : Shape) (a : Inside A) : Type 0 where
   pub is_node : IsNode a
@@ -49,6 +49,8 @@ is_first {A} shape v wide e = record {
     shape = shape;
     buffer = message_list [] 0 shape.buffer;
     deeper = messages_in (parts_of l);
+    nearest = nearest_in l;
+    deepest = deepest_in l;
     leaves = leaves_in (parts_of l);
     weight = 1 * 0 + weight_in (parts_of l);
   }) e;

@@ -1,5 +1,5 @@
 -- A node above another.
-use Rattle.std.proofs.Common.{◌≡◌, ℕ, ◌+◌, ◌*◌, ◌≤◌, true, false, List, [], ◌∷◌, ◌++◌, length, None, refl, sym, ap, ◌∙◌, subst, arith, append-nil}
+use Rattle.std.proofs.Common.{◌≡◌, ℕ, ◌+◌, ◌*◌, ◌≤◌, true, false, List, [], ◌∷◌, ◌++◌, length, Option, None, Some, refl, sym, ap, ◌∙◌, subst, arith, append-nil}
 use Rattle.std.specs.List.{AllByRecursion, flat_map}
 use Rattle.std.proofs.lemmas.List.Sums.{sum_by-cons}
 use Rattle.std.specs.Ordering.{is_lt}
@@ -12,11 +12,11 @@ use Rattle.stow_node.specs.declared.child.Child.{Child}
 use Rattle.stow_node.specs.declared.child.Child.TheVariants as in_child
 use Rattle.stow_node.specs.declared.node.Node.TheInside.{Inside}
 use Rattle.stow_node.specs.declared.shape.Shape.{Shape}
-use Rattle.stow_node.specs.Subtree.{buffered}
+use Rattle.stow_node.specs.Subtree.{buffered, right_above_leaves, lower_height, deepest_buffer}
 use Rattle.stow_leaf.specs.LeafRows.{LeafRows, first_fence}
 use Rattle.stow_node.specs.Parts.{Part, low_or, IsTile, TiledTo, messages_in, leaves_in, weight_in}
 use Rattle.stow_leaf.specs.Intervals.{top_key, spans}
-use Rattle.stow_node.specs.Nodes.{part_of, node_part, parts_of, IsBelow, subtree_of, IsNode, AreLeafSizes}
+use Rattle.stow_node.specs.Nodes.{part_of, node_part, parts_of, nearest_in, deepest_in, IsBelow, subtree_of, IsNode, AreLeafSizes}
 use Rattle.std.proofs.lemmas.List.{length-map}
 use Rattle.stow_node.specs.Moves.{raised}
 use Rattle.stow_node.proofs.Lowered.{rows_by_part}
@@ -116,13 +116,25 @@ is_raised {A} a v node e = record {
     shape = a.shape;
     buffer = message_list [] 0 a.shape.buffer;
     deeper = messages_in (parts_of l);
+    nearest = nearest_in l;
+    deepest = deepest_in l;
     leaves = leaves_in (parts_of l);
     weight = (a.height + 1) * 0 + weight_in (parts_of l);
   }) e
-      ∙ ap (λ ms. record (raised (subtree_of a)) { deeper = ms; leaves = leaves_in (parts_of a.children.items) ++ []; weight = (a.height + 1) * 0 + weight_in (node_part (subtree_of a) ∷ []) }) (append-nil (buffered (subtree_of a)))
+      ∙ (λ i. record (raised (subtree_of a)) {
+        deeper = append-nil (buffered (subtree_of a)) i;
+        nearest = append-nil (right_above_leaves (subtree_of a)) i;
+        deepest = lower_none (deepest_buffer (subtree_of a)) i;
+        leaves = leaves_in (parts_of a.children.items) ++ [];
+        weight = (a.height + 1) * 0 + weight_in (node_part (subtree_of a) ∷ []);
+      })
       ∙ ap (λ ls. record (raised (subtree_of a)) { leaves = ls; weight = (a.height + 1) * 0 + weight_in (node_part (subtree_of a) ∷ []) }) (append-nil (leaves_in (parts_of a.children.items)))
       ∙ ap (λ w. record (raised (subtree_of a)) { weight = w }) weighed;
 }
   where
+    lower_none : (h : Option ℕ) → lower_height h None ≡ h
+    lower_none None = refl
+    lower_none (Some h) = refl
+
     weighed : (a.height + 1) * 0 + weight_in (node_part (subtree_of a) ∷ []) ≡ (subtree_of a).weight
     weighed = omega (arith, sum_by-cons (λ (p : Part). p.weight) (node_part (subtree_of a)) [])

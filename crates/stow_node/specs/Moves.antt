@@ -8,7 +8,7 @@ use Rattle.stow_tree_model.specs.Messages.{ops_in}
 use Rattle.stow_tree_model.specs.TreeMessage.{TreeMessage}
 use Rattle.stow_node.specs.declared.child.Child.{Child}
 use Rattle.stow_node.specs.declared.child.Child.TheVariants as in_child
-use Rattle.stow_node.specs.Subtree.{Subtree, buffered, messages_of}
+use Rattle.stow_node.specs.Subtree.{Subtree, buffered, right_above_leaves, deepest_buffer, messages_of}
 use Rattle.stow_node.specs.Parts.{Part, high_of}
 use Rattle.stow_leaf.specs.Intervals.{top_key, AreWithin}
 use Rattle.stow_node.specs.Nodes.{AreNewer, parts_of}
@@ -84,4 +84,6 @@ raised t =
       width = 1;
       buffer = message_list [] 0 t.shape.buffer;
       deeper = buffered t;
+      nearest = right_above_leaves t;
+      deepest = deepest_buffer t;
     }
