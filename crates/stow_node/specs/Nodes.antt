@@ -67,11 +67,11 @@ pub record AreNewer (upper lower : List TreeMessage) : Type 0 where
 abbrev pub AreLeafSizes : ℕ → List LeafRows → Type 0
 AreLeafSizes target leaves = AllByRecursion (λ leaf. IsLeafSize target leaf.1) leaves
 
--- a node grows as its parent does, and stands above leaves
+-- a node grows as its parent does, stands above leaves, and has no more children than it may
 abbrev pub HasShape : {A : Type 0} → Shape → Child A → Type 0
 HasShape shape (in_child.Leaf leaf) = Unit {0}
 HasShape shape (in_child.Node node) = (node.shape ≡ shape) × (node.buffer.capacity ≡ shape.buffer)
-    × (1 ≤ node.height)
+    × (1 ≤ node.height) × (node.width ≤ shape.fan_out)
 
 -- a child stands one level lower, and grows as its parent does
 pub record IsBelow {A : Type 0} (height : ℕ) (shape : Shape) (child : Child A) : Type 0 where
@@ -97,7 +97,7 @@ pub record IsNode {A : Type 0} (a : Inside A) : Type 0 where
   pub tiled : TiledTo top_key (parts_of a.children.items)
   pub first : low_or top_key (parts_of a.children.items) ≡ a.low
   pub level : AllByRecursion (IsBelow a.height a.shape) a.children.items
-  pub wide : (1 ≤ length a.children.items) × (length a.children.items ≤ a.shape.fan_out)
+  pub some : 1 ≤ length a.children.items
   pub fits : a.buffer.capacity ≡ a.shape.buffer
   pub from : AreWithin a.low top_key a.buffer.messages
   pub newer : AreNewer a.buffer.messages

@@ -27,12 +27,6 @@ pub record Subtree : Type 0 where
   -- over all its messages, how many levels above the leaves each stands, added up
   pub weight : ℕ
 
--- how many more children a step may bring to a node of this height: right above leaves two, and else one
-abbrev pub places_at : ℕ → ℕ
-places_at zero = 1
-places_at (suc zero) = 2
-places_at (suc (suc height)) = 1
-
 -- a node's own messages where it stands right above leaves, and else those below it
 abbrev pub nearest_at : ℕ → List TreeMessage → List TreeMessage → List TreeMessage
 nearest_at zero own below = below
