@@ -1,5 +1,5 @@
 -- A root as room is made in it.
-use Rattle.std.proofs.Common.{◌≡◌, ℕ, ◌≤◌, refl, sym, ap, ◌∙◌, subst, arith, List}
+use Rattle.std.proofs.Common.{◌≡◌, ℕ, ◌≤◌, refl, sym, ap, ◌∙◌, subst, List}
 use Rattle.stow_leaf.specs.LeafRows.{LeafRows, row_messages}
 use Rattle.stow_leaf_cache.specs.Cache.{Cache}
 use Rattle.stow_message.specs.MessageBuf.{message_list}

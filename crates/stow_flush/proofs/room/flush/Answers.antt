@@ -1,7 +1,6 @@
 use Rattle.std.proofs.Common.{ap, arith}
 use Rattle.std.proofs.lemmas.Grind.{common_steps}
 use Rattle.stow_merge.specs.Pins.{pins_in}
-use Rattle.stow_node.specs.Subtree.{Subtree}
 use Rattle.stow_node.specs.declared.shape.Shape.{Shape}
 use Rattle.stow_flush.proofs.Making.{IsMaking, making_first, squeezed_then, moved_then, flushes_stands, stays_stands, stays_few}
 use Rattle.stow_flush.proofs.room.flush.Goals as goal
