@@ -1,11 +1,11 @@
 -- What a prepared answer is, as the tenant's own step says it.
-use Rattle.std.proofs.Common.{◌≡◌, ◌≢◌, ℕ, ◌<◌, ◌^◌, Bool, true, false, cond, nat_lt, List, [], ◌++◌, Option, Some, None, map, refl, eqb, ap, sym, ◌∙◌, subst, pos, to_z, w64}
+use Rattle.std.proofs.Common.{◌≡◌, ◌≢◌, ◌⊎◌, ⊎_elim, inl, inr, ℕ, zero, suc, ◌<◌, ◌≤◌, ◌^◌, length, arith, Bool, true, false, cond, nat_lt, List, [], ◌++◌, Option, Some, None, map, refl, eqb, ap, sym, ◌∙◌, subst, pos, to_z, w64}
 use Rattle.std.proofs.Math.Bool.{◌&&◌, false≢true}
 use Rattle.std.specs.declared.alloc.AllocError.{AllocError}
 use Rattle.std.specs.Result.{IsErr}
 use Rattle.std.specs.Prelude.{◌-◌, Result, Ok, Err, IfOk, IfSome, IsTrue}
 use Rattle.std.specs.FinMap as rows
-use Rattle.std.proofs.lemmas.Bool.{cond-true, cond-false, eq-eqb, ne_eqb}
+use Rattle.std.proofs.lemmas.Bool.{cases_lt, cond-true, cond-false, eq-eqb, ne_eqb}
 use Rattle.std.proofs.lemmas.Int.{to_z_pos}
 use Rattle.std.specs.Option.{unwrap_or}
 use Rattle.stow_bytes.specs.Limits.{number_limit}
@@ -16,7 +16,7 @@ use Rattle.stow_model.specs.declared.reply.Reply as coded
 use Rattle.stow_model.specs.Reply.{Reply, reply_of}
 use Rattle.stow_model.specs.Reply as reply
 use Rattle.stow_model.specs.Command.{Command, Change, Append, Understood, Refused, reading}
-use Rattle.stow_model.specs.Login.{IsTenant}
+use Rattle.stow_model.specs.Login.{Entry, IsTenant}
 use Rattle.stow_model.specs.declared.reply.Reply.TheVariants as in_reply
 use Rattle.stow_model.specs.Store.{Store, Answer, Request, Asked, counted, served, answer, answer_to, answer_with, can_take, take_answer, del_answer, change_answer, append_outcome, written, refused, exceeds_quota, Written, Failed, outcome, value_in, rows_without}
 use Rattle.stow_ledger.specs.Accounts.{IsGivenBy, is_allowed}
@@ -30,8 +30,8 @@ use Rattle.stow_core.proofs.Changed.{same_charge}
 use Rattle.stow_state.specs.Rows.{IsIndex}
 use Rattle.stow_state.specs.State.{view}
 use Rattle.stow_core.specs.declared.content.Content.TheVariants as content
-use Rattle.stow_core.specs.Prepared.{after_write, after_content, after_remove, after_refusal, after_take, whole_value, next_version, store_without, writes_row, serves, IsPriced, IsCharged, IsPrepared, OnlyCounts}
-use Rattle.stow_core.specs.State.{CoreState, store_of, shared_of, Answers, Keeps, Moves}
+use Rattle.stow_core.specs.Prepared.{effect, prepared_answer, after_write, after_content, after_remove, after_refusal, after_take, whole_value, next_version, store_without, writes_row, serves, IsPriced, IsCharged, IsPrepared, OnlyCounts}
+use Rattle.stow_core.specs.State.{CoreState, store_of, shared_of, Answers, Calls, Keeps, Moves}
 use Rattle.stow_state.specs.Steps.{Maintenance}
 use Rattle.stow_state.proofs.Steps.{call_of_nothing, step_sound, steps_after_maintenance_law}
 use Rattle.stow_tree_model.specs.Keys.{packed, own_key}
@@ -225,3 +225,52 @@ out_of_memory old new t words index seen keeps =
             (call_of_nothing (shared_of new) t (Asked request) (Some (reply.Error refusal.OutOfMemory)) (step_sound (shared_of old) (shared_of new) Maintenance None keeps.gives_way.sound keeps.gives_way.step) index refl);
       },
     )
+
+-- ---- a whole call
+
+tenant_cases : (entries : List Entry) (t : ℕ) → IsTenant entries t ⊎ (IsTenant entries t → ⊥)
+tenant_cases entries zero = inr (λ is. let low = is.0 in absurd (omega (arith, low)))
+tenant_cases entries (suc p) = ⊎_elim
+    (λ (l : p < length entries). inl (omega arith, omega (arith, l)))
+    (λ (l : length entries ≤ p). inr (λ is. let high = is.1 in absurd (omega (arith, high, l))))
+    (cases_lt p (length entries))
+
+-- a prepared answer carried out is a call: of a tenant's by its own step, and of whom is no tenant's by nothing
+pub called : {A : Type 0} (old mid new : CoreState) (t : ℕ) (words : List (List ℕ)) (p : Prepared A) (told : Reply) → Keeps old mid → p.tenant ≡ t → told ≡ reply_of p.reply
+    → (IsTenant old.entries t → prepared_answer p (store_of old t) ≡ answer (store_of old t) words)
+    → ((IsTenant old.entries t → ⊥) → (reply_of p.reply ≡ reply.Error refusal.NotAuthenticated) × (mid ≡ old))
+    → (IsTenant mid.entries p.tenant → Moves mid p.tenant (effect p (store_of mid p.tenant)) new) → ((IsTenant mid.entries p.tenant → ⊥) → new ≡ mid) → Calls old t words told new
+called {A = A} old mid new t words p told keeps same says own stranger carried unmoved = record {
+  own = λ is. answered old mid new t words (effect p (store_of old t)) told keeps (moves is) ((λ i. (effect p (store_of old t), says i)) ∙ own is);
+  stranger = λ no. record { told_is = says ∙ (stranger no).0; unchanged = stays no };
+  others = λ other ne. ⊎_elim
+      (λ (is : IsTenant old.entries t). (moves is).others other ne ∙ keeps.stores other)
+      (λ (no : IsTenant old.entries t → ⊥). ap (λ c. store_of c other) (stays no))
+      (tenant_cases old.entries t);
+  entries = ⊎_elim
+      (λ (is : IsTenant old.entries t). (moves is).entries ∙ keeps.entries)
+      (λ (no : IsTenant old.entries t → ⊥). ap (λ (c : CoreState). c.entries) (stays no))
+      (tenant_cases old.entries t);
+}
+  where
+    to_mid : IsTenant old.entries t → IsTenant mid.entries p.tenant
+    to_mid is = subst (IsTenant mid.entries) (sym same) (subst (λ entries. IsTenant entries t) (sym keeps.entries) is)
+
+    from_mid : IsTenant mid.entries p.tenant → IsTenant old.entries t
+    from_mid is = subst (λ entries. IsTenant entries t) keeps.entries (subst (IsTenant mid.entries) same is)
+
+    moves : IsTenant old.entries t → Moves mid t (effect p (store_of old t)) new
+    moves is = subst (λ s. Moves mid t (effect p s) new) (keeps.stores t) (subst (λ u. Moves mid u (effect p (store_of mid u)) new) same (carried (to_mid is)))
+
+    stays : (IsTenant old.entries t → ⊥) → new ≡ old
+    stays no = unmoved (λ is. no (from_mid is)) ∙ (stranger no).1
+
+-- a call that was refused memory; of whom is no tenant's none is
+pub starved : (old new : CoreState) (t : ℕ) (words : List (List ℕ)) → (IsTenant old.entries t → IsIndex t) → (IsTenant old.entries t → store_of old t ≡ view (shared_of old) t) → Keeps old new → ((IsTenant old.entries t → ⊥) → ⊥)
+    → Calls old t words (reply.Error refusal.OutOfMemory) new
+starved old new t words index seen keeps some = record {
+  own = λ is. out_of_memory old new t words (index is) (seen is) keeps;
+  stranger = λ no. absurd (some no);
+  others = λ other ne. keeps.stores other;
+  entries = keeps.entries;
+}
