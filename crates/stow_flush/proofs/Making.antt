@@ -1,17 +1,19 @@
 -- A root as room is made in it.
-use Rattle.std.proofs.Common.{◌≡◌, ℕ, List, refl, sym, ap, ◌∙◌, subst}
-use Rattle.std.specs.Prelude.{Result, Ok, Err, OnOk, OnErr}
-use Rattle.stow_leaf.specs.LeafRows.{LeafRows}
+use Rattle.std.proofs.Common.{◌≡◌, ℕ, ◌≤◌, refl, sym, ap, ◌∙◌, subst, List}
+use Rattle.stow_leaf.specs.LeafRows.{LeafRows, row_messages}
 use Rattle.stow_leaf_cache.specs.Cache.{Cache}
 use Rattle.stow_message.specs.MessageBuf.{message_list}
 use Rattle.stow_tree_model.specs.Agreement.{TenantPins}
 use Rattle.stow_tree_model.specs.Keys.{tenant_of}
 use Rattle.stow_tree_model.specs.Messages.{ops_in}
-use Rattle.stow_node.specs.Flushes.{Keeps}
+use Rattle.stow_tree_model.specs.Operations.{or_else}
+use Rattle.stow_node.specs.Flushes.{Flushes}
 use Rattle.stow_node.specs.Forgets.{Forgets}
-use Rattle.stow_node.specs.Moves.{IsSqueezed, raised}
+use Rattle.stow_node.specs.Moves.{IsSqueezed, Stays}
 use Rattle.stow_node.specs.Subtree.{Subtree, messages_of}
-use Rattle.stow_node.proofs.Over.{same_itself, same_then}
+use Rattle.stow_node.specs.declared.shape.Shape.{Shape}
+use Rattle.stow_node.proofs.Over.{same_itself, same_pointwise, same_then}
+use Rattle.stow_node.proofs.Standing.{parts_ops}
 use Rattle.stow_flush.specs.Rooms.{Stands}
 
 pub stands_itself : (pins : TenantPins) (t : Subtree) → Stands pins t t
@@ -25,16 +27,24 @@ stands_then pins s t u a b = record {
   means = λ key. same_then (pins (tenant_of key)) (ops_in (messages_of s) key) (ops_in (messages_of t) key) (ops_in (messages_of u) key) (a.means key) (b.means key);
 }
 
-pub keeps_stands : (pins : TenantPins) (s t : Subtree) → Keeps pins s t → Stands pins s t
-keeps_stands pins s t k = record { low = k.low; shape = k.shape; capacity = k.capacity; means = k.means }
+pub flushes_stands : (pins : TenantPins) (s t : Subtree) → Flushes pins s t → Stands pins s t
+flushes_stands pins s t k = record { low = k.low; shape = k.shape; capacity = k.capacity; means = k.means }
+
+pub stays_stands : (pins : TenantPins) (s t : Subtree) → Stays s t → Stands pins s t
+stays_stands pins s t k = record {
+  low = k.low;
+  shape = k.shape;
+  capacity = k.capacity;
+  means = λ key. same_pointwise (pins (tenant_of key)) (ops_in (messages_of s) key) (ops_in (messages_of t) key) (λ n.
+      parts_ops t key n
+      ∙ (λ i. or_else (k.messages key n i) (ops_in (row_messages (k.leaves i)) key n))
+      ∙ sym (parts_ops s key n));
+}
 
 pub squeezed_stands : (pins : TenantPins) (s t : Subtree) → IsSqueezed s t → Stands pins s t
 squeezed_stands pins s t q = rw q.is (stands_squeezed q.used) where
   stands_squeezed : (used : ℕ) → Stands pins s (record s { buffer = message_list s.buffer.messages used s.buffer.capacity })
   stands_squeezed used = record { low = refl; shape = refl; capacity = refl; means = λ key. same_itself (pins (tenant_of key)) (ops_in (messages_of s) key) }
-
-raised_stands : (pins : TenantPins) (t : Subtree) → t.buffer.capacity ≡ t.shape.buffer → Stands pins t (raised t)
-raised_stands pins t block = record { low = refl; shape = refl; capacity = sym block; means = λ key. same_itself (pins (tenant_of key)) (ops_in (messages_of t) key) }
 
 forgets_then : (l m n : List LeafRows) (c d e : Cache) → Forgets l m c d → Forgets m n d e → Forgets l n c e
 forgets_then l m n c d e f g = record {
@@ -51,9 +61,10 @@ pub record IsMaking (pins : TenantPins) (old now : Subtree) (cache cache' : Cach
   pub stands : Stands pins old now
   pub forgets : Forgets old.leaves now.leaves cache cache'
   pub block : room' ≡ room
+  pub few : now.width ≤ now.shape.fan_out
 
-pub making_first : (pins : TenantPins) (old : Subtree) (cache : Cache) (spare : ℕ) → IsMaking pins old old cache cache spare spare
-making_first pins old cache spare = record { stands = stands_itself pins old; forgets = forgets_itself old.leaves cache; block = refl }
+pub making_first : (pins : TenantPins) (old : Subtree) (cache : Cache) (spare : ℕ) → old.width ≤ old.shape.fan_out → IsMaking pins old old cache cache spare spare
+making_first pins old cache spare few = record { stands = stands_itself pins old; forgets = forgets_itself old.leaves cache; block = refl; few = few }
 
 -- dead bytes were dropped
 pub squeezed_then : (pins : TenantPins) (old now new : Subtree) (cache cache' : Cache) (spare spare' last : ℕ) → IsMaking pins old now cache cache' spare spare' → IsSqueezed now new → last ≡ spare' → IsMaking pins old new cache cache' spare last
@@ -61,27 +72,17 @@ squeezed_then pins old now new cache cache' spare spare' last m q l = record {
   stands = stands_then pins old now new m.stands (squeezed_stands pins now new q);
   forgets = subst (λ ls. Forgets old.leaves ls cache cache') (sym (ap (λ (t : Subtree). t.leaves) q.is)) m.forgets;
   block = l ∙ m.block;
+  few = subst (λ (t : Subtree). t.width ≤ t.shape.fan_out) (sym q.is) m.few;
 }
 
 -- messages moved
-pub moved_then : (pins : TenantPins) (old mid new : Subtree) (cache cache' cache'' : Cache) (spare spare' last : ℕ) → IsMaking pins old mid cache cache' spare spare' → Stands pins mid new → Forgets mid.leaves new.leaves cache' cache'' → last ≡ spare' → IsMaking pins old new cache cache'' spare last
-moved_then pins old mid new cache cache' cache'' spare spare' last m k f l = record {
+pub moved_then : (pins : TenantPins) (old mid new : Subtree) (cache cache' cache'' : Cache) (spare spare' last : ℕ) → IsMaking pins old mid cache cache' spare spare' → Stands pins mid new → Forgets mid.leaves new.leaves cache' cache'' → last ≡ spare' → new.width ≤ new.shape.fan_out → IsMaking pins old new cache cache'' spare last
+moved_then pins old mid new cache cache' cache'' spare spare' last m k f l few = record {
   stands = stands_then pins old mid new m.stands k;
   forgets = forgets_then old.leaves mid.leaves new.leaves cache cache' cache'' m.forgets f;
   block = l ∙ m.block;
+  few = few;
 }
 
--- a node above the root
-pub raised_then : (pins : TenantPins) (old mid : Subtree) (cache cache' : Cache) (spare spare' : ℕ) → IsMaking pins old mid cache cache' spare spare' → mid.buffer.capacity ≡ mid.shape.buffer → IsMaking pins old (raised mid) cache cache' spare spare'
-raised_then pins old mid cache cache' spare spare' m block = record {
-  stands = stands_then pins old mid (raised mid) m.stands (raised_stands pins mid block);
-  forgets = m.forgets;
-  block = m.block;
-}
-
--- ---- what raising answers
-
--- what holds of the raised root and of the one before holds whatever was answered
-pub by_answer : {T E : Type 0} {mid new : Subtree} (r : Result T E) (P : Subtree → Type 0) → OnOk r (new ≡ raised mid) → OnErr r (new ≡ mid) → P (raised mid) → P mid → P new
-by_answer (Ok x) P ok err p q = subst P (sym ok) p
-by_answer (Err e) P ok err p q = subst P (sym err) q
+pub stays_few : (s t : Subtree) → Stays s t → s.width ≤ s.shape.fan_out → t.width ≤ t.shape.fan_out
+stays_few s t k few = subst (λ h. t.width ≤ h) (sym (ap (λ (h : Shape). h.fan_out) k.shape)) (subst (λ w. w ≤ s.shape.fan_out) (sym k.width) few)

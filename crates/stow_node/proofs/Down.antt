@@ -18,7 +18,7 @@ use Rattle.stow_node.specs.Subtree.{Subtree}
 use Rattle.stow_leaf.specs.LeafRows.{row_messages}
 use Rattle.stow_node.specs.Parts.{Part, low_or, high_of, TiledTo, messages_in, leaves_in, weight_in}
 use Rattle.stow_leaf.specs.Intervals.{top_key}
-use Rattle.stow_node.specs.Nodes.{part_of, node_part, parts_of, AreNewer, IsBelow, subtree_of, IsNode, AreLeafSizes}
+use Rattle.stow_node.specs.Nodes.{part_of, node_part, parts_of, nearest_in, deepest_in, AreNewer, IsBelow, subtree_of, IsNode, AreLeafSizes}
 use Rattle.stow_node.specs.Moves.{accepted, CanAccept, IsSqueezed, Stays, bytes_for, messages_for, HandsDown}
 use Rattle.stow_node.proofs.HandedDown.{same_node}
 use Rattle.stow_node.proofs.Lowered.{for_child, can_hand, Lowered, lowered, end_of-set}
@@ -68,7 +68,7 @@ same_children {A} a v node e = record {
     tiled = subst (λ (l : List (Child A)). TiledTo top_key (parts_of l)) (sym e) node.tiled;
     first = subst (λ (l : List (Child A)). low_or top_key (parts_of l) ≡ a.low) (sym e) node.first;
     level = subst (λ (l : List (Child A)). AllByRecursion (IsBelow a.height a.shape) l) (sym e) node.level;
-    wide = subst (λ (l : List (Child A)). (1 ≤ length l) × (length l ≤ a.shape.fan_out)) (sym e) node.wide;
+    some = subst (λ (l : List (Child A)). 1 ≤ length l) (sym e) node.some;
     fits = node.fits;
     from = node.from;
     sizes = subst (λ (l : List (Child A)). AreLeafSizes a.shape.leaf (leaves_in (parts_of l))) (sym e) node.sizes;
@@ -81,6 +81,8 @@ same_children {A} a v node e = record {
     shape = a.shape;
     buffer = a.buffer;
     deeper = messages_in (parts_of l);
+    nearest = nearest_in l;
+    deepest = deepest_in l;
     leaves = leaves_in (parts_of l);
     weight = a.height * length a.buffer.messages + weight_in (parts_of l);
   }) e;

@@ -83,3 +83,7 @@ forgets_two one two old new a b c limit without gone limit2 without2 gone2 other
   where
     before : (leaf : LeafRows) → Contains c.leaves leaf → Contains b.leaves leaf
     before leaf h = held_before two b.leaves leaf (subst (λ ls. Contains ls leaf) without2 h)
+
+-- where the leaves stayed after all, the cache holds no others
+pub forgets_kept : (old new leaves : List LeafRows) (cache cache' : Cache) → Forgets old new cache cache' → Forgets leaves leaves cache cache'
+forgets_kept old new leaves cache cache' f = record { limit = f.limit; held = f.held; stands = λ leaf c o. o }

@@ -13,15 +13,11 @@ use Rattle.stow_node.specs.declared.child.Child.TheVariants as in_child
 use Rattle.stow_node.specs.Forgets.{Forgets}
 use Rattle.stow_node.specs.Joins.{AreToJoin, AreJoined, NoneToJoin, leaves_of, AreLeaves, Pair, with_joined, IsJoinOf, JoinsPair}
 use Rattle.stow_node.specs.Subtree.{Subtree}
-use Rattle.stow_node.proofs.Absorbed.{same_leaf, not_node}
+use Rattle.stow_node.proofs.Absorbed.{leaves_are, same_leaf, not_node}
 use Rattle.stow_node.proofs.Forgotten.{forgets_two}
 use Rattle.stow_node.proofs.Joined.{both_tiles, keys_below, others_stay, joined_more, joined_none, Settled, none_to_join, settled_grown, settled_next}
 
 -- ---- a pair
-
-pub leaves_are : {A : Type 0} (leaves : List (Leaf A)) → leaves_of (map {B = Child A} in_child.Leaf leaves) ≡ map leaf_rows leaves
-leaves_are [] = refl
-leaves_are (l ∷ leaves) = ap (λ ls. leaf_rows l ∷ ls) (leaves_are leaves)
 
 middle_at : {X : Type 0} (before : List X) (x : X) (after : List X) → slice_get (before ++ (x ∷ after)) (length before) ≡ Some x
 middle_at [] x after = refl

@@ -1,4 +1,6 @@
 use Rattle.stow_merge.specs.Pins.{pins_in}
+use Rattle.stow_node.specs.Subtree.{Subtree}
+use Rattle.std.proofs.Common.{◌≤◌, sym, subst}
 use Rattle.stow_flush.proofs.Making.{squeezed_stands, stands_then}
 use Rattle.stow_flush.proofs.room.make_room.Goals as goal
 
@@ -7,3 +9,6 @@ flush-requires-clause-short g c = λ key. ((squeezed_stands (pins_in c.args.pins
 
 pub returns-clause-stands : goal.returns-clause-stands
 returns-clause-stands g c = stands_then (pins_in c.args.pins.now) c.args.root.now c.makes_room.new.self c.flush.new.root (squeezed_stands (pins_in c.args.pins.now) c.args.root.now c.makes_room.new.self c.makes_room.ensures.same) c.flush.ensures.stands
+
+pub flush-requires-clause-few : goal.flush-requires-clause-few
+flush-requires-clause-few g c = subst (λ (t : Subtree). t.width ≤ t.shape.fan_out) (sym c.makes_room.ensures.same.is) c.requires.few

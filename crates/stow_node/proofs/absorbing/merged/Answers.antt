@@ -1,0 +1,78 @@
+use Rattle.std.proofs.Common.{◌≡◌, ◌<◌, List, length, sym, ap, ◌∙◌, subst, arith}
+use Rattle.std.specs.Prelude.{Contains}
+use Rattle.stow_leaf.proofs.Steps.{inside_of}
+use Rattle.stow_merge.specs.Pins.{pins_in}
+use Rattle.stow_node.specs.Absorbs.{IsReplacedBy, with_leaves}
+use Rattle.stow_node.specs.Forgets.{Forgets}
+use Rattle.stow_node.specs.Joins.{AreLeaves, leaves_of}
+use Rattle.stow_node.specs.declared.child.Child.{Child}
+use Rattle.stow_node.specs.declared.child.Child.TheVariants as in_child
+use Rattle.stow_node.proofs.Absorbed.{Replaced, replaced, low_of_leaf}
+use Rattle.stow_node.proofs.Flushed.{on_err}
+use Rattle.stow_node.proofs.Forgotten.{forgets_one, forgets_then, forgets_kept}
+use Rattle.stow_node.proofs.absorbing.merged.Goals as goal
+
+pub put_leaves-requires-clause-inside : goal.put_leaves-requires-clause-inside
+put_leaves-requires-clause-inside g c =
+    subst (λ (l : List (Child g.row.A.Denot)). c.args.index < length l) (sym c.in_ok-fresh.ensures.same) (inside_of c.args.children.now c.args.index (in_child.Leaf c.requires.can.leaf) c.requires.can.at)
+
+pub offset_bounds-children-index : goal.offset_bounds-children-index
+offset_bounds-children-index g c = omega (arith, inside_of c.args.children.now c.args.index (in_child.Leaf c.requires.can.leaf) c.requires.can.at)
+
+pub bounds-children-index : goal.bounds-children-index
+bounds-children-index g c = inside_of c.args.children.now c.args.index (in_child.Leaf c.requires.can.leaf) c.requires.can.at
+
+pub join_small-requires-clause-some : goal.join_small-requires-clause-some
+join_small-requires-clause-some g c =
+    let r : IsReplacedBy c.args.children.now c.args.index c.args.buffer.now.messages (pins_in c.args.pins.now) c.args.target c.in_ok-leaves.leaves.items = c.in_ok-leaves.ensures in
+    let rep : Replaced c.args.children.now c.args.index r.leaf c.in_ok-leaves.leaves.items = replaced c.args.children.now c.args.index c.args.buffer.now.messages (pins_in c.args.pins.now) c.args.target r.leaf c.in_ok-leaves.leaves.items c.requires.leaves r.at r.is in
+    let items : c.put_leaves.new.children.items ≡ with_leaves c.args.children.now c.args.index c.in_ok-leaves.leaves.items = c.put_leaves.ensures ∙ ap (λ (l : List (Child g.row.A.Denot)). with_leaves l c.args.index c.in_ok-leaves.leaves.items) c.in_ok-fresh.ensures.same in
+    subst (λ (l : List (Child g.row.A.Denot)). 0 < length l) (sym items) rep.some
+
+pub join_small-requires-clause-leaves : goal.join_small-requires-clause-leaves
+join_small-requires-clause-leaves g c =
+    let r : IsReplacedBy c.args.children.now c.args.index c.args.buffer.now.messages (pins_in c.args.pins.now) c.args.target c.in_ok-leaves.leaves.items = c.in_ok-leaves.ensures in
+    let rep : Replaced c.args.children.now c.args.index r.leaf c.in_ok-leaves.leaves.items = replaced c.args.children.now c.args.index c.args.buffer.now.messages (pins_in c.args.pins.now) c.args.target r.leaf c.in_ok-leaves.leaves.items c.requires.leaves r.at r.is in
+    let items : c.put_leaves.new.children.items ≡ with_leaves c.args.children.now c.args.index c.in_ok-leaves.leaves.items = c.put_leaves.ensures ∙ ap (λ (l : List (Child g.row.A.Denot)). with_leaves l c.args.index c.in_ok-leaves.leaves.items) c.in_ok-fresh.ensures.same in
+    subst (λ (l : List (Child g.row.A.Denot)). AreLeaves l) (sym items) rep.are_leaves
+
+pub returns-in_err-join_small-clause-err : goal.returns-in_err-join_small-clause-err
+returns-in_err-join_small-clause-err g c =
+    let r : IsReplacedBy c.args.children.now c.args.index c.args.buffer.now.messages (pins_in c.args.pins.now) c.args.target c.in_ok-leaves.leaves.items = c.in_ok-leaves.ensures in
+    let rep : Replaced c.args.children.now c.args.index r.leaf c.in_ok-leaves.leaves.items = replaced c.args.children.now c.args.index c.args.buffer.now.messages (pins_in c.args.pins.now) c.args.target r.leaf c.in_ok-leaves.leaves.items c.requires.leaves r.at r.is in
+    let items : c.put_leaves.new.children.items ≡ with_leaves c.args.children.now c.args.index c.in_ok-leaves.leaves.items = c.put_leaves.ensures ∙ ap (λ (l : List (Child g.row.A.Denot)). with_leaves l c.args.index c.in_ok-leaves.leaves.items) c.in_ok-fresh.ensures.same in
+    let low : c.low.result.bytes.now ≡ r.leaf.low = c.low.ensures ∙ low_of_leaf c.args.children.now c.args.index c.index-children-index.result r.leaf r.at c.index-children-index.is in
+    let both : Forgets (leaves_of c.args.children.now) (leaves_of c.join_small.new.children.items) c.args.cache.now c.join_small.new.cache =
+    forgets_then (leaves_of c.args.children.now) (leaves_of c.put_leaves.new.children.items) (leaves_of c.join_small.new.children.items) c.args.cache.now c.forget.new.self c.join_small.new.cache
+    (forgets_one c.low.result.bytes.now (leaves_of c.args.children.now) (leaves_of c.put_leaves.new.children.items) c.args.cache.now c.forget.new.self c.forget.ensures.limit c.forget.ensures.leaves c.forget.ensures.gone
+    (λ leaf o ne. subst (λ (l : List (Child g.row.A.Denot)). Contains (leaves_of l) leaf) (sym items) (rep.others leaf o (λ e. ne (e ∙ sym low)))))
+    c.join_small.ensures.cache in
+    on_err c.from_residual-in_err-join_small.result (forgets_kept (leaves_of c.args.children.now) (leaves_of c.join_small.new.children.items) (leaves_of c.args.children.now) c.args.cache.now c.join_small.new.cache both)
+
+pub returns-clause-merged : goal.returns-clause-merged
+returns-clause-merged g c =
+    let r : IsReplacedBy c.args.children.now c.args.index c.args.buffer.now.messages (pins_in c.args.pins.now) c.args.target c.in_ok-leaves.leaves.items = c.in_ok-leaves.ensures in
+    let rep : Replaced c.args.children.now c.args.index r.leaf c.in_ok-leaves.leaves.items = replaced c.args.children.now c.args.index c.args.buffer.now.messages (pins_in c.args.pins.now) c.args.target r.leaf c.in_ok-leaves.leaves.items c.requires.leaves r.at r.is in
+    let items : c.put_leaves.new.children.items ≡ with_leaves c.args.children.now c.args.index c.in_ok-leaves.leaves.items = c.put_leaves.ensures ∙ ap (λ (l : List (Child g.row.A.Denot)). with_leaves l c.args.index c.in_ok-leaves.leaves.items) c.in_ok-fresh.ensures.same in
+    record {
+      leaves = c.in_ok-leaves.leaves.items;
+      replaced = r;
+      middle = c.put_leaves.new.children;
+      into = items;
+      joined = c.join_small.ensures.joined;
+      are_leaves = c.join_small.ensures.leaves;
+      none = c.in_ok-join_small.ensures.none;
+    }
+
+pub returns-clause-cache : goal.returns-clause-cache
+returns-clause-cache g c =
+    let r : IsReplacedBy c.args.children.now c.args.index c.args.buffer.now.messages (pins_in c.args.pins.now) c.args.target c.in_ok-leaves.leaves.items = c.in_ok-leaves.ensures in
+    let rep : Replaced c.args.children.now c.args.index r.leaf c.in_ok-leaves.leaves.items = replaced c.args.children.now c.args.index c.args.buffer.now.messages (pins_in c.args.pins.now) c.args.target r.leaf c.in_ok-leaves.leaves.items c.requires.leaves r.at r.is in
+    let items : c.put_leaves.new.children.items ≡ with_leaves c.args.children.now c.args.index c.in_ok-leaves.leaves.items = c.put_leaves.ensures ∙ ap (λ (l : List (Child g.row.A.Denot)). with_leaves l c.args.index c.in_ok-leaves.leaves.items) c.in_ok-fresh.ensures.same in
+    let low : c.low.result.bytes.now ≡ r.leaf.low = c.low.ensures ∙ low_of_leaf c.args.children.now c.args.index c.index-children-index.result r.leaf r.at c.index-children-index.is in
+    let both : Forgets (leaves_of c.args.children.now) (leaves_of c.join_small.new.children.items) c.args.cache.now c.join_small.new.cache =
+    forgets_then (leaves_of c.args.children.now) (leaves_of c.put_leaves.new.children.items) (leaves_of c.join_small.new.children.items) c.args.cache.now c.forget.new.self c.join_small.new.cache
+    (forgets_one c.low.result.bytes.now (leaves_of c.args.children.now) (leaves_of c.put_leaves.new.children.items) c.args.cache.now c.forget.new.self c.forget.ensures.limit c.forget.ensures.leaves c.forget.ensures.gone
+    (λ leaf o ne. subst (λ (l : List (Child g.row.A.Denot)). Contains (leaves_of l) leaf) (sym items) (rep.others leaf o (λ e. ne (e ∙ sym low)))))
+    c.join_small.ensures.cache in
+    both
