@@ -107,8 +107,8 @@ fn a_leaf_takes_messages(rt: HostRuntime) -> Result<(), Fail> {
     Ok(())
 }
 
-/// Puts tenant 1's key of one byte into a node, or removes it, if the message fits there. Its number follows the last.
-fn put<A: Allocator>(node: &mut Node<A>, key: u8, last: u64, value: Option<&[u8]>) -> bool
+/// Puts tenant 1's key of this number into a node, or removes it, if the message fits there. Its own number follows the last.
+fn put<A: Allocator>(node: &mut Node<A>, key: u16, last: u64, value: Option<&[u8]>) -> bool
     requires few { last < 1000 }
     requires ready { IsReadyAbove last node.old }
     ensures { IsTrue result → IsReadyAbove (last + 1) node.new }
@@ -117,7 +117,8 @@ fn put<A: Allocator>(node: &mut Node<A>, key: u8, last: u64, value: Option<&[u8]
         Some(value) => Op::Put(value),
         None => Op::Gone,
     };
-    let packed = [0, 0, 0, 1, key];
+    let [high, low] = key.to_be_bytes();
+    let packed = [0, 0, 0, 1, high, low];
     let Some(made) = message(TenantKey::from_packed(&packed), last + 1, op) else {
         return false;
     };
@@ -128,17 +129,14 @@ fn put<A: Allocator>(node: &mut Node<A>, key: u8, last: u64, value: Option<&[u8]
     fits
 }
 
-/// The keys that the leaves are filled with.
-const KEYS: &[u8] = b"abcdefghijkl";
-
-/// Puts the keys into a node, or removes them, if all messages fit there.
-fn put_all<A: Allocator>(node: &mut Node<A>, last: u64, value: Option<&[u8]>) -> bool
-    requires few { last < 900 }
+/// Puts so many keys into a node, or removes them, if all messages fit there.
+fn put_all<A: Allocator>(node: &mut Node<A>, keys: u16, last: u64, value: Option<&[u8]>) -> bool
+    requires few { last + keys < 1000 }
     requires ready { IsReadyAbove last node.old }
-    ensures { IsTrue result → IsReadyAbove (last + 12) node.new }
+    ensures { IsTrue result → IsReadyAbove (last + keys) node.new }
 {
-    for i in 0..KEYS.len() {
-        if !put(node, KEYS[i], last + i as u64, value) {
+    for key in 0..keys {
+        if !put(node, key, last + u64::from(key), value) {
             return false;
         }
     }
@@ -172,11 +170,11 @@ fn to_empty<A: Allocator + Copy>(alloc: A) -> Result<Node<A>, AllocError>
     };
     let mut node = Node::first(alloc, shape)?;
     let value = Vec::from_elem(alloc, b'x', 1000)?;
-    if !put_all(&mut node, 0, Some(value.as_slice())) {
+    if !put_all(&mut node, 12, 0, Some(value.as_slice())) {
         return Err(AllocError);
     }
     flush(alloc, &mut node)?;
-    if !put_all(&mut node, 12, None) {
+    if !put_all(&mut node, 12, 12, None) {
         return Err(AllocError);
     }
     Ok(node)
@@ -194,7 +192,7 @@ fn widths<A: Allocator + Copy>(alloc: A) -> Result<[usize; 4], AllocError> {
     Ok([full, first, second, node.width()])
 }
 
-// A page of four keys with values of 1,000 bytes has 4,077 bytes: two of them are more than the target, and one fits
+// A page of four keys with values of 1,000 bytes has 4,081 bytes: two of them are more than the target, and one fits
 // with an empty one.
 #[test]
 fn emptied_leaves_are_joined(rt: HostRuntime) -> Result<(), Fail> {
@@ -237,20 +235,33 @@ fn joins_withstand_each_refusal(rt: HostRuntime) -> Result<(), Fail> {
     Ok(())
 }
 
+/// How many messages of `to_spread` there are.
+const SPREAD: u16 = 301;
+
 /// A node above an empty leaf, and messages of which each takes a page of its own.
 fn to_spread<A: Allocator + Copy>(alloc: A) -> Result<Node<A>, AllocError>
     ensures { IfOk result (λ node. AreShort (messages_of node)) }
 {
-    let mut node = Node::first(alloc, smallest())?;
+    let shape = Shape {
+        buffer: 2_097_152,
+        leaf: 4096,
+        fan_out: 4,
+    };
+    let mut node = Node::first(alloc, shape)?;
     let value = Vec::from_elem(alloc, b'x', 4000)?;
-    if !put_all(&mut node, 0, Some(value.as_slice())) {
+    if !put_all(&mut node, SPREAD, 0, Some(value.as_slice())) {
         return Err(AllocError);
     }
     Ok(node)
 }
 
-/// The levels, the children and the buffered messages of a node once a step was refused its nth request, and once more
-/// with memory. `None` where it asked for fewer, `Err` where it did not answer that it was refused, or moved something.
+/// The levels, the children and the buffered messages of a node.
+fn sizes<A: Allocator>(node: &Node<A>) -> (u64, usize, usize) {
+    (node.height(), node.width(), node.buffer().len())
+}
+
+/// The sizes of a node once a step was refused its nth request, and once more with memory. `None` where it asked for fewer,
+/// `Err` where it did not answer that it was refused, or moved something.
 fn spread<B: Allocator>(
     heap: &Refusing<B>,
     n: u64,
@@ -262,26 +273,26 @@ fn spread<B: Allocator>(
     if heap.asked() <= n {
         return Ok(None);
     }
-    if is_done || node.height() != 1 || node.width() != 1 || node.buffer().len() != KEYS.len() {
+    if is_done || sizes(&node) != (1, 1, SPREAD as usize) {
         return Err(AllocError);
     }
     heap.set(Plan::Grant);
     flush(heap, &mut node)?;
-    Ok(Some((node.height(), node.width(), node.buffer().len())))
+    Ok(Some(sizes(&node)))
 }
 
-// Twelve leaves stand under three nodes, and these under a new root.
+// 301 leaves stand under 76 nodes, these under 19, these under 5, these under 2, and these under a new root.
 #[test]
 fn a_leaf_gives_way_to_any_number(rt: HostRuntime) -> Result<(), Fail> {
     let heap = Refusing::new(rt.alloc());
     let mut refusals = 0u64;
-    for n in 0..500u64 {
-        let Some(shape) = spread(&heap, n)? else {
+    for n in 0..5000u64 {
+        let Some(sizes) = spread(&heap, n)? else {
             break;
         };
-        assert!(rt; shape == (2, 3, 0), "request {n}");
+        assert!(rt; sizes == (5, 2, 0), "request {n}");
         refusals = n + 1;
     }
-    assert!(rt; refusals > 40, "{refusals} refusals");
+    assert!(rt; refusals > 1000, "{refusals} refusals");
     Ok(())
 }
