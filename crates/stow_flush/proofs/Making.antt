@@ -11,13 +11,13 @@ use Rattle.stow_tree_model.specs.Messages.{ops_in}
 use Rattle.stow_tree_model.specs.Operations.{or_else}
 use Rattle.stow_node.specs.Flushes.{Flushes}
 use Rattle.stow_node.specs.Forgets.{Forgets}
-use Rattle.stow_node.specs.Moves.{IsSqueezed, Stays}
+use Rattle.stow_node.specs.Moves.{IsSqueezed, LacksRoom, Stays}
 use Rattle.stow_node.specs.Subtree.{Subtree, messages_of}
 use Rattle.stow_node.specs.Ways.{StepsDown}
 use Rattle.stow_node.specs.declared.shape.Shape.{Shape}
 use Rattle.stow_node.proofs.Over.{same_itself, same_pointwise, same_then}
 use Rattle.stow_node.proofs.Standing.{parts_ops}
-use Rattle.stow_flush.specs.Rooms.{Stands, LacksRoom, FlushesTimes, MakesRoom}
+use Rattle.stow_flush.specs.Rooms.{Stands, FlushesTimes, MakesRoom}
 
 pub stands_itself : (pins : TenantPins) (t : Subtree) → Stands pins t t
 stands_itself pins t = record { low = refl; shape = refl; capacity = refl; means = λ key. same_itself (pins (tenant_of key)) (ops_in (messages_of t) key) }

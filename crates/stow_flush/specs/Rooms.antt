@@ -4,7 +4,7 @@ use Rattle.std.specs.List.{sum_by}
 use Rattle.stow_leaf_cache.specs.Cache.{Cache}
 use Rattle.stow_message.specs.Packed.{message_size}
 use Rattle.stow_node.specs.Flushes.{MeanTheSame}
-use Rattle.stow_node.specs.Moves.{IsSqueezed}
+use Rattle.stow_node.specs.Moves.{IsSqueezed, LacksRoom}
 use Rattle.stow_node.specs.Subtree.{Subtree, messages_of}
 use Rattle.stow_node.specs.Ways.{StepsDown}
 use Rattle.stow_tree_model.specs.Agreement.{TenantPins}
@@ -18,11 +18,6 @@ HasRoom bytes t = t.buffer.used + bytes ≤ t.buffer.capacity
 -- they fit once dead bytes are dropped
 abbrev pub FitsSqueezed : ℕ → Subtree → Type 0
 FitsSqueezed bytes t = sum_by message_size t.buffer.messages + bytes ≤ t.buffer.capacity
-
--- so many bytes, and a quarter of the block, don't fit even once dead bytes are dropped
-abbrev pub LacksRoom : ℕ → Subtree → Type 0
-LacksRoom bytes t =
-    t.buffer.capacity < sum_by message_size t.buffer.messages + max bytes (t.shape.buffer / 4)
 
 -- a root that lacks room takes a step down, and dead bytes may be dropped
 pub record MakesStep (A : Type 0) (bytes : ℕ) (pins : TenantPins) (old new : Subtree)

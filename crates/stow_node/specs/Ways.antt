@@ -7,8 +7,8 @@ use Rattle.stow_node.specs.declared.child.Child.{Child}
 use Rattle.stow_node.specs.declared.child.Child.TheVariants as in_child
 use Rattle.stow_node.specs.Absorbs.{Merges}
 use Rattle.stow_node.specs.Joins.{leaves_of}
-use Rattle.stow_node.specs.Moves.{IsHeaviest, IsSqueezed, HandsDown}
-use Rattle.stow_node.specs.Nodes.{parts_of, AreChildren}
+use Rattle.stow_node.specs.Moves.{IsHeaviest, IsSqueezed, HandsDown, LacksRoom, bytes_for}
+use Rattle.stow_node.specs.Nodes.{node_part, parts_of, AreChildren}
 use Rattle.stow_node.specs.Parts.{high_of}
 use Rattle.stow_node.specs.Regroups.{Grows}
 use Rattle.stow_node.specs.Subtree.{Subtree}
@@ -33,7 +33,8 @@ pub record MergesHeaviest {A : Type 0} (pins : TenantPins) (old new : Subtree)
     (came : List (Child A)) (cache cache' : Cache) : Type 0 where
   pub to : Heaviest A old
   pub fresh : List (Child A)
-  pub merges : Merges to.children to.index old.buffer.messages pins old.shape.leaf fresh cache cache'
+  pub merges : Merges to.children to.index old.buffer.messages pins old.shape.leaf fresh
+      cache cache'
   pub cut : IsCutFrom pins fresh (without_range merges.replaced.leaf.low
       (high_of (parts_of to.children) to.index) old.buffer) new came
 
@@ -46,10 +47,11 @@ pub record Takes {A : Type 0} (children : List (Child A)) (index : ℕ) (old new
   pub none : came ≡ []
   pub same : cache' ≡ cache
 
--- the step is the child's own, and what comes behind it stands there
-pub record Enters {A : Type 0} (below : Subtree → Subtree → List (Child A) → Cache → Cache → Type 0)
-    (pins : TenantPins) (children : List (Child A)) (index : ℕ) (node old new : Subtree)
+-- it lacks room, so the step is the child's own, and what comes behind it stands there
+pub record Enters {A : Type 0}
+    (below : Subtree → Subtree → List (Child A) → Cache → Cache → Type 0) (pins : TenantPins) (children : List (Child A)) (index : ℕ) (node old new : Subtree)
     (came : List (Child A)) (cache cache' : Cache) : Type 0 where
+  pub lacks : LacksRoom (bytes_for (parts_of children) old.buffer index (node_part node)) node
   pub stepped : Subtree
   pub behind : List (Child A)
   pub steps : below node stepped behind cache cache'
@@ -57,16 +59,16 @@ pub record Enters {A : Type 0} (below : Subtree → Subtree → List (Child A) �
       ++ ((in_child.Node stepped ∷ behind) ++ drop (index + 1) children)) old.buffer new came
 
 -- further up: the heaviest child, a node of which dead bytes may have gone, takes them or is entered
-pub record GoesOn {A : Type 0} (below : Subtree → Subtree → List (Child A) → Cache → Cache → Type 0)
-    (pins : TenantPins) (old new : Subtree) (came : List (Child A))
+pub record GoesOn {A : Type 0}
+    (below : Subtree → Subtree → List (Child A) → Cache → Cache → Type 0) (pins : TenantPins) (old new : Subtree) (came : List (Child A))
     (cache cache' : Cache) : Type 0 where
   pub to : Heaviest A old
   pub node : Subtree
   pub at : slice_get to.children to.index ≡ Some (in_child.Node node)
   pub ready : Subtree
   pub squeezed : IsSqueezed node ready
-  pub way : Takes (slice_set to.children to.index (in_child.Node ready)) to.index old new came cache cache'
-      ⊎ Enters below pins to.children to.index ready old new came cache cache'
+  pub way : Takes (slice_set to.children to.index (in_child.Node ready)) to.index old new came
+      cache cache' ⊎ Enters below pins to.children to.index ready old new came cache cache'
 
 -- the step of a node of this height goes down along the heaviest children
 abbrev pub Goes : {A : Type 0} → ℕ → TenantPins → Subtree → Subtree → List (Child A)

@@ -226,8 +226,8 @@ returns-then-not-makes_room-clause-goes g t c =
     let next = is_next g t (goal.at.returns-then-not-makes_room-clause-goes g t c).In-Node in
     let st = is_stepped g t (goal.at.returns-then-not-makes_room-clause-goes g t c).After-take_in next in
     subst (λ (s : Subtree). Goes s.height (pins_in c.args.pins.now) s c.settle.new.self c.settle.new.room.came.items c.args.cache.now c.step_below.new.cache) c.self.view_is
-    (goes_below c.self.inside c.take_in.new.children c.heaviest-index.result c.bytes_for-bytes.result c.in-Node.node c.makes_room.new.self c.step_below.new.self c.settle.new.self c.in_ok-room-in-Node.room.came.items c.settle.new.room.came.items (pins_in c.args.pins.now) c.args.cache.now c.step_below.new.cache
-    c.self.invariant st.is_node (is_heavy g t (goal.at.returns-then-not-makes_room-clause-goes g t c).In-Node) next c.makes_room.ensures.same c.in_ok-room-in-Node.ensures.goes c.take_in.ensures.children (c.settle.ensures.settles (pins_in c.args.pins.now)))
+    (goes_below c.self.inside c.take_in.new.children c.heaviest-index.result c.bytes_for-bytes.result c.ample-ample.result c.in-Node.node c.makes_room.new.self c.step_below.new.self c.settle.new.self c.in_ok-room-in-Node.room.came.items c.settle.new.room.came.items (pins_in c.args.pins.now) c.args.cache.now c.step_below.new.cache
+    c.self.invariant st.is_node (is_heavy g t (goal.at.returns-then-not-makes_room-clause-goes g t c).In-Node) next c.makes_room.ensures.same c.ample-ample.ensures.is (c.makes_room.ensures.full c.if-not-makes_room.true) c.in_ok-room-in-Node.ensures.goes c.take_in.ensures.children (c.settle.ensures.settles (pins_in c.args.pins.now)))
 
 pub returns-then-not-makes_room-clause-ok : goal.returns-then-not-makes_room-clause-ok
 returns-then-not-makes_room-clause-ok g t c =
