@@ -1,20 +1,23 @@
 -- A root as room is made in it.
-use Rattle.std.proofs.Common.{◌≡◌, ℕ, ◌≤◌, refl, sym, ap, ◌∙◌, subst, List}
+use Rattle.std.proofs.Common.{zero, suc, ◌≡◌, ℕ, ◌+◌, ◌/◌, ◌<◌, ◌≤◌, max, arith, refl, sym, ap, ◌∙◌, subst, List}
+use Rattle.std.specs.List.{sum_by}
 use Rattle.stow_leaf.specs.LeafRows.{LeafRows, row_messages}
 use Rattle.stow_leaf_cache.specs.Cache.{Cache}
 use Rattle.stow_message.specs.MessageBuf.{message_list}
+use Rattle.stow_message.specs.Packed.{message_size}
 use Rattle.stow_tree_model.specs.Agreement.{TenantPins}
 use Rattle.stow_tree_model.specs.Keys.{tenant_of}
 use Rattle.stow_tree_model.specs.Messages.{ops_in}
 use Rattle.stow_tree_model.specs.Operations.{or_else}
 use Rattle.stow_node.specs.Flushes.{Flushes}
 use Rattle.stow_node.specs.Forgets.{Forgets}
-use Rattle.stow_node.specs.Moves.{IsSqueezed, Stays}
+use Rattle.stow_node.specs.Moves.{IsSqueezed, LacksRoom, Stays}
 use Rattle.stow_node.specs.Subtree.{Subtree, messages_of}
+use Rattle.stow_node.specs.Ways.{StepsDown}
 use Rattle.stow_node.specs.declared.shape.Shape.{Shape}
 use Rattle.stow_node.proofs.Over.{same_itself, same_pointwise, same_then}
 use Rattle.stow_node.proofs.Standing.{parts_ops}
-use Rattle.stow_flush.specs.Rooms.{Stands}
+use Rattle.stow_flush.specs.Rooms.{Stands, FlushesTimes, MakesRoom}
 
 pub stands_itself : (pins : TenantPins) (t : Subtree) → Stands pins t t
 stands_itself pins t = record { low = refl; shape = refl; capacity = refl; means = λ key. same_itself (pins (tenant_of key)) (ops_in (messages_of t) key) }
@@ -86,3 +89,41 @@ moved_then pins old mid new cache cache' cache'' spare spare' last m k f l few =
 
 pub stays_few : (s t : Subtree) → Stays s t → s.width ≤ s.shape.fan_out → t.width ≤ t.shape.fan_out
 stays_few s t k few = subst (λ h. t.width ≤ h) (sym (ap (λ (h : Shape). h.fan_out) k.shape)) (subst (λ w. w ≤ s.shape.fan_out) (sym k.width) few)
+
+-- ---- steps one after another
+
+squeezed_itself : (t : Subtree) → IsSqueezed t t
+squeezed_itself t = record { used = t.buffer.used; is = refl; fewer = omega arith }
+
+squeezed_twice : (s t u : Subtree) → IsSqueezed s t → IsSqueezed t u → IsSqueezed s u
+squeezed_twice s t u p q = record {
+  used = q.used;
+  is = q.is ∙ ap (λ (x : Subtree). record x { buffer = message_list x.buffer.messages q.used x.buffer.capacity }) p.is;
+  fewer = let a = p.fewer in let b = q.fewer in let e = ap (λ (x : Subtree). x.buffer.used) p.is in omega (arith, a, b, e);
+}
+
+pub makes_none : (A : Type 0) (bytes : ℕ) (pins : TenantPins) (t : Subtree) (cache : Cache) → MakesRoom A bytes pins t t cache cache
+makes_none A bytes pins t cache = (0, (squeezed_itself t, refl))
+
+pub makes_squeezed : (A : Type 0) (bytes : ℕ) (pins : TenantPins) (s t u : Subtree) (cache cache' : Cache) → MakesRoom A bytes pins s t cache cache' → IsSqueezed t u → MakesRoom A bytes pins s u cache cache'
+makes_squeezed A bytes pins s t u cache cache' m q = (m.0, by_count m.0 m.1) where
+  by_count : (n : ℕ) → FlushesTimes A n bytes pins s t cache cache' → FlushesTimes A n bytes pins s u cache cache'
+  by_count zero h = (squeezed_twice s t u h.0 q, h.1)
+  by_count (suc n) h = (h.0, h.1, h.2, record { lacks = h.3.lacks; stepped = h.3.stepped; down = h.3.down; squeezed = squeezed_twice h.3.stepped t u h.3.squeezed q })
+
+pub squeezed_makes : (A : Type 0) (bytes : ℕ) (pins : TenantPins) (s t u : Subtree) (cache cache' : Cache) → IsSqueezed s t → MakesRoom A bytes pins t u cache cache' → MakesRoom A bytes pins s u cache cache'
+squeezed_makes A bytes pins s t u cache cache' q m = (m.0, by_count m.0 u cache' m.1) where
+  by_count : (n : ℕ) (u : Subtree) (cache' : Cache) → FlushesTimes A n bytes pins t u cache cache' → FlushesTimes A n bytes pins s u cache cache'
+  by_count zero u cache' h = (squeezed_twice s t u q h.0, h.1)
+  by_count (suc n) u cache' h = (h.0, h.1, by_count n h.0 h.1 h.2, h.3)
+
+pub makes_more : (A : Type 0) (bytes ample : ℕ) (pins : TenantPins) (s t u v : Subtree) (a b c : Cache) → MakesRoom A bytes pins s t a b → IsSqueezed t u → ample ≡ max bytes (t.shape.buffer / 4) → u.buffer.capacity < sum_by message_size u.buffer.messages + ample → StepsDown A pins u v b c → MakesRoom A bytes pins s v a c
+makes_more A bytes ample pins s t u v a b c m q e full down =
+    let ready = makes_squeezed A bytes pins s t u a b m q in
+    (suc ready.0, (u, b, ready.1, record { lacks = lacks; stepped = v; down = down; squeezed = squeezed_itself v }))
+  where
+    shape : u.shape ≡ t.shape
+    shape = ap (λ (x : Subtree). x.shape) q.is
+
+    lacks : LacksRoom bytes u
+    lacks = subst (λ n. u.buffer.capacity < sum_by message_size u.buffer.messages + n) (e ∙ ap (λ (h : Shape). max bytes (h.buffer / 4)) (sym shape)) full

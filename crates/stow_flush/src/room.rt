@@ -5,7 +5,7 @@ ghost use Rattle.stow_node.specs.Flushes.{AreShort};
 ghost use Rattle.stow_node.specs.Forgets.{Forgets};
 ghost use Rattle.stow_node.specs.Moves.{IsSqueezed};
 ghost use Rattle.stow_node.specs.Subtree.{messages_of};
-ghost use Rattle.stow_flush.specs.Rooms.{Stands, HasRoom, FitsSqueezed};
+ghost use Rattle.stow_flush.specs.Rooms.{Stands, HasRoom, FitsSqueezed, MakesRoom};
 
 use std::alloc::{AllocError, Allocator};
 use stow_leaf_cache::leaf_cache::LeafCache;
@@ -30,6 +30,8 @@ fn flush<A: Allocator + Copy>(
     ensures room { OnOk result (HasRoom bytes root.new) }
     ensures few { root.new.width ≤ root.new.shape.fan_out }
     ensures stands { Stands (pins_in pins.now) root.old root.new }
+    ensures made { OnOk result (MakesRoom A bytes (pins_in pins.now) root.old root.new
+        cache.old cache.new) }
     ensures cache { Forgets root.old.leaves root.new.leaves cache.old cache.new }
     ensures spare { spare.new.capacity ≡ spare.old.capacity }
 {
@@ -57,6 +59,8 @@ pub fn make_room<A: Allocator + Copy>(
     ensures room { OnOk result (HasRoom bytes root.new) }
     ensures few { root.new.width ≤ root.new.shape.fan_out }
     ensures stands { Stands (pins_in pins.now) root.old root.new }
+    ensures made { OnOk result (MakesRoom A bytes (pins_in pins.now) root.old root.new
+        cache.old cache.new) }
     ensures unmoved { FitsSqueezed bytes root.old → IsSqueezed root.old root.new }
     ensures cache { Forgets root.old.leaves root.new.leaves cache.old cache.new }
     ensures spare { spare.new.capacity ≡ spare.old.capacity }

@@ -27,3 +27,4 @@ pub mod Groups
 pub mod Came
 pub mod Merging
 pub mod Rising
+pub mod Ways

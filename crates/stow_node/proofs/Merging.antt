@@ -1,12 +1,13 @@
 -- A node of which all messages for a leaf were merged into it.
-use Rattle.std.proofs.Common.{zero, suc, ◌≡◌, ℕ, ◌+◌, ◌-◌, ◌*◌, ◌<◌, ◌≤◌, List, [], ◌∷◌, map, length, refl, sym, ap, subst, arith}
+use Rattle.std.proofs.Common.{zero, suc, ◌≡◌, ℕ, ◌+◌, ◌-◌, ◌*◌, ◌<◌, ◌≤◌, List, [], ◌∷◌, map, length, refl, sym, ap, ◌∙◌, subst, arith}
 use Rattle.std.specs.List.{AllByRecursion}
 use Rattle.std.specs.Vec.{vec_capacity}
 use Rattle.std.specs.declared.vec.Vec.{Vec}
 use Rattle.stow_leaf.specs.LeafRows.{leaf_rows}
 use Rattle.stow_leaf.specs.Replacements.{IsReplacement}
+use Rattle.stow_leaf_cache.specs.Cache.{Cache}
 use Rattle.stow_leaf.specs.declared.leaf.Leaf.{Leaf}
-use Rattle.stow_message.specs.MessageBuf.{without_range}
+use Rattle.stow_message.specs.MessageBuf.{MessageList, without_range}
 use Rattle.stow_tree_model.specs.Agreement.{TenantPins}
 use Rattle.stow_tree_model.specs.TreeMessage.{TreeMessage}
 use Rattle.stow_node.specs.declared.child.Child.{Child}
@@ -14,35 +15,47 @@ use Rattle.stow_node.specs.declared.node.Node.TheInside.{Inside}
 use Rattle.stow_node.specs.declared.room.Room.{Room}
 use Rattle.stow_node.specs.declared.shape.Shape.{Shape}
 use Rattle.stow_node.specs.Absorbs.{CanAbsorb, Merges}
-use Rattle.stow_node.specs.Flushes.{Keeps}
+use Rattle.stow_node.specs.Flushes.{AreShort, Keeps}
 use Rattle.stow_node.specs.Joins.{AreLeaves, leaves_of}
+use Rattle.stow_node.specs.Moves.{IsHeaviest}
 use Rattle.stow_node.specs.Nodes.{parts_of, subtree_of, IsNode}
 use Rattle.stow_node.specs.Parts.{high_of}
+use Rattle.stow_node.specs.Regroups.{Grows}
 use Rattle.stow_node.specs.Rooms.{IsList, AreLists, AreShells, IsRoom, HasRoom, groups, nodes_needed, levels_needed, places_needed}
+use Rattle.stow_node.specs.Subtree.{Subtree, messages_of}
+use Rattle.stow_node.specs.Ways.{MergesHeaviest}
 use Rattle.stow_node.proofs.Absorbed.{replaced}
 use Rattle.stow_node.proofs.Fewer.{HasFewer, has_fewer, count_is}
 use Rattle.stow_node.proofs.Joined.{joined_same}
-use Rattle.stow_node.proofs.Flushed.{Flushed, flushed}
+use Rattle.stow_node.proofs.Flushed.{Flushed, flushed, can_absorb}
 use Rattle.stow_node.proofs.Groups.{one_group, groups_fall, roots_fall, levels_fall, places_fall}
 use Rattle.stow_node.proofs.Pairs.{one_leaf}
 use Rattle.stow_node.proofs.Stepping.{keeps_then}
+use Rattle.stow_node.proofs.Ways.{merges_heaviest}
 
-pub record MergedLeaf {A : Type 0} (a : Inside A) (v : Vec (Child A) A) (low high : List ℕ) (pins : TenantPins) : Type 0 where
+pub record MergedLeaf {A : Type 0} (a : Inside A) (v : Vec (Child A) A) (low high : List ℕ) (pins : TenantPins) (cache cache' : Cache) : Type 0 where
   pub is_node : IsNode (record a { children = v; buffer = without_range low high a.buffer })
   pub keeps : Keeps pins (subtree_of a) (subtree_of (record a { children = v; buffer = without_range low high a.buffer }))
   pub lighter : (subtree_of (record a { children = v; buffer = without_range low high a.buffer })).weight < (subtree_of a).weight
+  pub goes : (b : MessageList) (new : Subtree) (came : List (Child A)) → b ≡ without_range low high a.buffer → Grows pins (subtree_of (record a { children = v; buffer = b })) new came → MergesHeaviest pins (subtree_of a) new came cache cache'
 
-pub merged_leaf : {A : Type 0} (a : Inside A) (v : Vec (Child A) A) (i : ℕ) (low high : List ℕ) (pins : TenantPins) → IsNode a → a.height ≡ 1 → (can : CanAbsorb a.children.items i a.buffer.messages pins a.shape.leaf) → Merges a.children.items i a.buffer.messages pins a.shape.leaf v.items
-    → low ≡ can.leaf.low → high ≡ high_of (parts_of a.children.items) i → MergedLeaf a v low high pins
-merged_leaf {A} a v i low high pins node one can m l h =
-    subst (λ x. MergedLeaf a v x high pins) (sym l) (subst (λ x. MergedLeaf a v can.leaf.low x pins) (sym h) (record {
-      is_node = fewer.is_node;
-      keeps = keeps_then pins (subtree_of a) (subtree_of middle) (subtree_of (record middle { children = v })) into.keeps fewer.keeps;
-      lighter = let w = into.lighter in let s = fewer.weight in omega (arith, w, s);
-    }))
+pub merged_leaf : {A : Type 0} (a : Inside A) (v : Vec (Child A) A) (i : ℕ) (low high : List ℕ) (pins : TenantPins) (cache cache' : Cache) → IsNode a → a.height ≡ 1 → IsHeaviest (parts_of a.children.items) a.buffer i → 0 < length a.buffer.messages → AreShort (messages_of (subtree_of a))
+    → (m : Merges a.children.items i a.buffer.messages pins a.shape.leaf v.items cache cache') → low ≡ m.replaced.leaf.low → high ≡ high_of (parts_of a.children.items) i → MergedLeaf a v low high pins cache cache'
+merged_leaf {A} a v i low high pins cache cache' node one heavy some short m l h = record {
+  is_node = is_node;
+  keeps = rw (low_is, h) (keeps_then pins (subtree_of a) (subtree_of middle) (subtree_of (record middle { children = v })) into.keeps fewer.keeps);
+  lighter = rw (low_is, h) (let w = into.lighter in let s = fewer.weight in omega (arith, w, s));
+  goes = λ b new came e grows. merges_heaviest a v i low high pins new came cache cache' node is_node heavy m l h (subst (λ x. Grows pins (subtree_of (record a { children = v; buffer = x })) new came) e grows);
+}
   where
+    can : CanAbsorb a.children.items i a.buffer.messages pins a.shape.leaf
+    can = can_absorb a i pins node one heavy some short
+
     same : m.replaced.leaf ≡ can.leaf
     same = one_leaf a.children.items i m.replaced.leaf can.leaf m.replaced.at can.at
+
+    low_is : low ≡ can.leaf.low
+    low_is = l ∙ ap (λ (x : Leaf A). x.low) same
 
     into : Flushed a m.middle i (without_range can.leaf.low (high_of (parts_of a.children.items) i) a.buffer) pins
     into = flushed a m.middle i m.leaves pins node can
@@ -52,7 +65,10 @@ merged_leaf {A} a v i low high pins node one can m l h =
     middle = record a { children = m.middle; buffer = without_range can.leaf.low (high_of (parts_of a.children.items) i) a.buffer }
 
     fewer : HasFewer middle v pins
-    fewer = has_fewer middle v pins into.is_node one m.are_leaves m.joined
+    fewer = has_fewer middle v pins into.is_node one m.are_leaves m.joins.joined
+
+    is_node : IsNode (record a { children = v; buffer = without_range low high a.buffer })
+    is_node = rw (low_is, h) fewer.is_node
 
 -- ---- its room
 
@@ -82,11 +98,11 @@ room_left {A} shape n levels places ws room room' r fl fp shells cap wides count
 
 -- ---- leaves are left
 
-pub some_left : {A : Type 0} (children : List (Child A)) (i : ℕ) (ms : List TreeMessage) (pins : TenantPins) (target : ℕ) (fresh : List (Child A)) → AreLeaves children → Merges children i ms pins target fresh → 0 < length fresh
-some_left children i ms pins target fresh leaves m =
+pub some_left : {A : Type 0} (children : List (Child A)) (i : ℕ) (ms : List TreeMessage) (pins : TenantPins) (target : ℕ) (fresh : List (Child A)) (cache cache' : Cache) → AreLeaves children → Merges children i ms pins target fresh cache cache' → 0 < length fresh
+some_left children i ms pins target fresh cache cache' leaves m =
     let r = replaced children i ms pins target m.replaced.leaf m.leaves leaves m.replaced.at m.replaced.is in
     let mid : AreLeaves m.middle.items = subst AreLeaves (sym m.into) r.are_leaves in
-    let same = joined_same target (leaves_of m.middle.items) (leaves_of fresh) m.joined in
+    let same = joined_same target (leaves_of m.middle.items) (leaves_of fresh) m.joins.joined in
     let before = count_is m.middle.items mid in
     let after = count_is fresh m.are_leaves in
     let n = ap length m.into in

@@ -19,6 +19,16 @@ use Rattle.stow_node.specs.Parts.{Part, IsTile}
 use Rattle.stow_node.specs.Regroups.{nodes, run_parts, run_messages, Stands, Steps, AreBehind, ForgetsCame}
 use Rattle.stow_node.specs.Rooms.{HasRoom}
 use Rattle.stow_node.specs.Subtree.{Subtree, buffered, messages_of}
+use Rattle.stow_node.specs.Ways.{Goes, StepsDown}
+
+-- the way that messages went, and how many roots came above
+pub record WentUp {A : Type 0} (pins : TenantPins) (old now : Subtree) (came : List (Child A)) (cache cache' : Cache) : Type 0 where
+  pub stepped : Subtree
+  pub behind : List (Child A)
+  pub goes : Goes old.height pins old stepped behind cache cache'
+  pub alone : behind ≡ [] → (now ≡ stepped) × (came ≡ [])
+  pub height : now.height + length came ≤ stepped.height + length behind
+  pub leaves : now.leaves ++ leaves_of came ≡ stepped.leaves ++ leaves_of behind
 
 -- how far the code is: some nodes stand behind the root
 pub record IsRising {A : Type 0} (pins : TenantPins) (old now : Subtree) (room : Room A) (cache cache' : Cache) : Type 0 where
@@ -27,14 +37,16 @@ pub record IsRising {A : Type 0} (pins : TenantPins) (old now : Subtree) (room :
   pub has_room : HasRoom old.shape [] room
   pub counted : now.height + length room.came.items ≤ 9223372041149743104
   pub forgets : ForgetsCame old now room.came.items cache cache'
+  pub up : WentUp pins old now room.came.items cache cache'
 
-pub rising_begins : {A : Type 0} (pins : TenantPins) (old now : Subtree) (room : Room A) (cache cache' : Cache) → IsTile (node_part old) top_key → old.height ≤ 9223372036854775808 → Steps pins old now room.came.items → HasRoom old.shape [] room → ForgetsCame old now room.came.items cache cache' → IsRising pins old now room cache cache'
-rising_begins pins old now room cache cache' tile low s r f = record {
+pub rising_begins : {A : Type 0} (pins : TenantPins) (old now : Subtree) (room : Room A) (cache cache' : Cache) → IsTile (node_part old) top_key → old.height ≤ 9223372036854775808 → Steps pins old now room.came.items → Goes old.height pins old now room.came.items cache cache' → HasRoom old.shape [] room → ForgetsCame old now room.came.items cache cache' → IsRising pins old now room cache cache'
+rising_begins pins old now room cache cache' tile low s goes r f = record {
   stands = s.stands;
   tile = tile;
   has_room = r;
   counted = let h = s.height in let c = s.counted in omega (arith, h, c, low);
   forgets = f;
+  up = record { stepped = now; behind = room.came.items; goes = goes; alone = λ e. (refl, e); height = omega arith; leaves = refl };
 }
 
 pub rising_next : {A : Type 0} (pins : TenantPins) (old now new : Subtree) (room room' : Room A) (cache cache' : Cache) → IsRising pins old now room cache cache' → Stands pins old new room'.came.items → HasRoom now.shape [] room' → length room'.came.items < length room.came.items → new.height ≡ now.height + 1
@@ -45,6 +57,14 @@ rising_next pins old now new room room' cache cache' i s r fewer higher leaves =
   has_room = subst (λ (h : Shape). HasRoom h [] room') i.stands.shape r;
   counted = let c = i.counted in omega (arith, c, fewer, higher);
   forgets = subst (λ ls. Forgets old.leaves ls cache cache') (sym leaves) i.forgets;
+  up = record {
+    stepped = i.up.stepped;
+    behind = i.up.behind;
+    goes = i.up.goes;
+    alone = λ e. absurd (let n = ap length (i.up.alone e).1 in omega (arith, n, fewer));
+    height = let h = i.up.height in omega (arith, h, fewer, higher);
+    leaves = leaves ∙ i.up.leaves;
+  };
 }
 
 pub behind_it : {A : Type 0} (pins : TenantPins) (old now : Subtree) (room : Room A) (cache cache' : Cache) → IsRising pins old now room cache cache' → AreBehind now room.came.items
@@ -79,6 +99,16 @@ no_leaves (c ∷ came) l = absurd (omega arith)
 
 pub rising_forgets : {A : Type 0} (pins : TenantPins) (old now : Subtree) (room : Room A) (cache cache' : Cache) → IsRising pins old now room cache cache' → length room.came.items ≡ 0 → Forgets old.leaves now.leaves cache cache'
 rising_forgets pins old now room cache cache' i none = subst (λ ls. Forgets old.leaves ls cache cache') (ap (λ ls. now.leaves ++ ls) (no_leaves room.came.items none) ∙ append-nil now.leaves) i.forgets
+
+pub rising_down : {A : Type 0} (pins : TenantPins) (old now : Subtree) (room : Room A) (cache cache' : Cache) → IsRising pins old now room cache cache' → length room.came.items ≡ 0 → StepsDown A pins old now cache cache'
+rising_down {A} pins old now room cache cache' i none = record {
+  stepped = i.up.stepped;
+  came = i.up.behind;
+  goes = i.up.goes;
+  alone = λ e. (i.up.alone e).0;
+  height = let h = i.up.height in omega (arith, h, none);
+  leaves = sym (append-nil now.leaves) ∙ ap (λ ls. now.leaves ++ ls) (sym (no_leaves room.came.items none)) ∙ i.up.leaves;
+}
 
 pub stays_itself : (x : Subtree) → Stays x x
 stays_itself x = record { low = refl; height = refl; width = refl; shape = refl; capacity = refl; leaves = refl; messages = λ key n. refl; count = refl }

@@ -10,3 +10,4 @@ pub mod Forgets
 pub mod Joins
 pub mod Regroups
 pub mod Rooms
+pub mod Ways

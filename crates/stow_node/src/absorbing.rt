@@ -72,8 +72,8 @@ fn put_leaves<A: Allocator>(
 }
 
 /// The leaves with all messages of the buffer for the one at `index` merged into it, under pins: it gives way to leaves that
-/// are cut by the target, and then small leaves are joined with a neighbour. The cache forgets what is replaced. The leaves
-/// themselves stay as they are.
+/// are cut by the target, and then small leaves are joined with a neighbour. The cache forgets what is replaced, and
+/// nothing else. The leaves themselves stay as they are.
 pub(crate) fn merged<A: Allocator + Copy>(
     alloc: A,
     children: &[Child<A>],
@@ -86,7 +86,7 @@ pub(crate) fn merged<A: Allocator + Copy>(
     requires can { CanAbsorb children.now index buffer.now.messages (pins_in pins.now) target }
     requires leaves { AreLeaves children.now }
     ensures merged { IfOk result (λ fresh. Merges children.now index buffer.now.messages
-        (pins_in pins.now) target fresh.items) }
+        (pins_in pins.now) target fresh.items cache.old cache.new) }
     ensures cache { IfOk result (λ fresh. Forgets (leaves_of children.now) (leaves_of fresh.items)
         cache.old cache.new) }
     ensures err { OnErr result (Forgets (leaves_of children.now) (leaves_of children.now)

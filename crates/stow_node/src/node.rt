@@ -19,6 +19,7 @@ ghost use Rattle.stow_node.specs.Parts.{IsTile};
 ghost use Rattle.stow_node.specs.Regroups.{Grows, Steps, Stands, AreBehind, ForgetsCame};
 ghost use Rattle.stow_node.specs.Rooms.{AreShells, HasRoom, groups};
 ghost use Rattle.stow_node.specs.Subtree.{Subtree, first_subtree, messages_of};
+ghost use Rattle.stow_node.specs.Ways.{Goes, StepsDown};
 
 use crate::absorbing::merged;
 use crate::child::{Child, high_after, top_key};
@@ -170,6 +171,8 @@ impl<A: Allocator + Copy> Node<A> {
         requires fan_out { 1 ≤ self.old.shape.fan_out }
         requires short { AreShort (messages_of self.old) }
         ensures ok { IfOk result (λ room. Steps (pins_in pins.now) self.old self.new room.came.items) }
+        ensures goes { IfOk result (λ room. Goes self.old.height (pins_in pins.now) self.old self.new
+            room.came.items cache.old cache.new) }
         ensures room { IfOk result (HasRoom self.old.shape above.now) }
         ensures err { OnErr result (self.new ≡ self.old) }
         ensures cache { IfOk result (λ room. ForgetsCame self.old self.new room.came.items
@@ -215,6 +218,8 @@ impl<A: Allocator + Copy> Node<A> {
         requires short { AreShort (messages_of self.old) }
         requires spare { self.old.buffer.capacity ≤ spare.old.capacity }
         ensures ok { IfOk result (λ room. Steps (pins_in pins.now) self.old self.new room.came.items) }
+        ensures goes { IfOk result (λ room. Goes self.old.height (pins_in pins.now) self.old self.new
+            room.came.items cache.old cache.new) }
         ensures room { IfOk result (HasRoom self.old.shape above.old.items) }
         ensures err { OnErr result (Stays self.old self.new) }
         ensures cache { IfOk result (λ room. ForgetsCame self.old self.new room.came.items
@@ -292,6 +297,8 @@ impl<A: Allocator + Copy> Node<A> {
         requires short { AreShort (messages_of self.old) }
         requires spare { self.old.buffer.capacity ≤ spare.old.capacity }
         ensures ok { OnOk result (Flushes (pins_in pins.now) self.old self.new) }
+        ensures down { OnOk result (StepsDown A (pins_in pins.now) self.old self.new
+            cache.old cache.new) }
         ensures err { OnErr result (Stays self.old self.new) }
         ensures cache { Forgets self.old.leaves self.new.leaves cache.old cache.new }
         ensures spare { spare.new.capacity ≡ spare.old.capacity }

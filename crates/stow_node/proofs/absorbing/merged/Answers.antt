@@ -1,15 +1,16 @@
 use Rattle.std.proofs.Common.{◌≡◌, ◌<◌, List, length, sym, ap, ◌∙◌, subst, arith}
 use Rattle.std.specs.Prelude.{Contains}
 use Rattle.stow_leaf.proofs.Steps.{inside_of}
+use Rattle.stow_leaf_cache.specs.Cache.{leaves_without}
 use Rattle.stow_merge.specs.Pins.{pins_in}
 use Rattle.stow_node.specs.Absorbs.{IsReplacedBy, with_leaves}
 use Rattle.stow_node.specs.Forgets.{Forgets}
-use Rattle.stow_node.specs.Joins.{AreLeaves, leaves_of}
+use Rattle.stow_node.specs.Joins.{JoinsAll, AreLeaves, leaves_of}
 use Rattle.stow_node.specs.declared.child.Child.{Child}
 use Rattle.stow_node.specs.declared.child.Child.TheVariants as in_child
 use Rattle.stow_node.proofs.Absorbed.{Replaced, replaced, low_of_leaf}
 use Rattle.stow_node.proofs.Flushed.{on_err}
-use Rattle.stow_node.proofs.Forgotten.{forgets_one, forgets_then, forgets_kept}
+use Rattle.stow_node.proofs.Forgotten.{forgot, forgets_one, forgets_then, forgets_kept}
 use Rattle.stow_node.proofs.absorbing.merged.Goals as goal
 
 pub put_leaves-requires-clause-inside : goal.put_leaves-requires-clause-inside
@@ -54,12 +55,14 @@ returns-clause-merged g c =
     let r : IsReplacedBy c.args.children.now c.args.index c.args.buffer.now.messages (pins_in c.args.pins.now) c.args.target c.in_ok-leaves.leaves.items = c.in_ok-leaves.ensures in
     let rep : Replaced c.args.children.now c.args.index r.leaf c.in_ok-leaves.leaves.items = replaced c.args.children.now c.args.index c.args.buffer.now.messages (pins_in c.args.pins.now) c.args.target r.leaf c.in_ok-leaves.leaves.items c.requires.leaves r.at r.is in
     let items : c.put_leaves.new.children.items ≡ with_leaves c.args.children.now c.args.index c.in_ok-leaves.leaves.items = c.put_leaves.ensures ∙ ap (λ (l : List (Child g.row.A.Denot)). with_leaves l c.args.index c.in_ok-leaves.leaves.items) c.in_ok-fresh.ensures.same in
+    let low : c.low.result.bytes.now ≡ r.leaf.low = c.low.ensures ∙ low_of_leaf c.args.children.now c.args.index c.index-children-index.result r.leaf r.at c.index-children-index.is in
     record {
       leaves = c.in_ok-leaves.leaves.items;
       replaced = r;
       middle = c.put_leaves.new.children;
       into = items;
-      joined = c.join_small.ensures.joined;
+      joins = subst (λ k. JoinsAll c.args.target (leaves_of c.put_leaves.new.children.items) (leaves_of c.join_small.new.children.items) k c.join_small.new.cache)
+          (forgot r.leaf.low c.args.cache.now c.forget.new.self c.forget.ensures.limit (c.forget.ensures.leaves ∙ ap (λ f. leaves_without f c.args.cache.now.leaves) low)) c.join_small.ensures.joined;
       are_leaves = c.join_small.ensures.leaves;
       none = c.in_ok-join_small.ensures.none;
     }
