@@ -1,10 +1,12 @@
 //! The command line.
-ghost use Rattle.std.specs.Prelude.{IfErr, IfSome};
-ghost use Rattle.stow_command_line.specs.Words.{RefusesWords};
+ghost use Rattle.std.specs.Prelude.{IfErr, IfOk, IfSome};
+ghost use Rattle.stow_command_line.specs.Words.{AsksByRule, RefusesWords};
 
+use crate::entry;
 use clap::error::ErrorKind;
 use clap::{Arg, ArgAction, ArgMatches, Command, Error, value_parser};
 use std::alloc::Global;
+use stow_login::new_tenant::NewTenant;
 use stow_run::failure::Failure;
 use stow_run::job::{Job, Task};
 use stow_run::serving::Serving;
@@ -23,6 +25,9 @@ struct Count {
     least: u32,
     most: u32,
 }
+
+/// What `--version` tells behind the program's name.
+const VERSION: &str = "0.1.0";
 
 /// The sizes of the tree.
 const SIZES: [Count; 4] = [
@@ -92,6 +97,14 @@ pub struct Arguments<'a> {
     pub explain: bool,
 }
 
+/// A tenant file that is to be looked at.
+#[derive(Clone, Copy)]
+pub struct TenantFile<'a> {
+    pub path: &'a str,
+    /// Whether a second line tells more of its fault.
+    pub explain: bool,
+}
+
 /// What the words of the command line ask for.
 #[derive(Drop)]
 pub enum Wish<'a> {
@@ -99,14 +112,19 @@ pub enum Wish<'a> {
     Help(String),
     /// What these say.
     Work(Arguments<'a>),
+    /// The entry of this tenant, whose password is on standard input.
+    Entry(NewTenant<'a>),
+    /// Whether this file is good.
+    Check(TenantFile<'a>),
 }
 
 /// What the words ask for, of which the first is the program's own name.
 pub fn read_arguments(alloc: Global, words: &[String]) -> Result<Wish<'_>, Failure<'static>>
-    ensures { IfErr result RefusesWords }
+    ensures ok { IfOk result AsksByRule }
+    ensures err { IfErr result RefusesWords }
 {
     match matched(alloc, words) {
-        Ok(matches) => arguments_of(alloc, &matches),
+        Ok(matches) => wish_of(alloc, &matches),
         Err(error) => refused(alloc, &error),
     }
 }
@@ -114,12 +132,15 @@ pub fn read_arguments(alloc: Global, words: &[String]) -> Result<Wish<'_>, Failu
 fn matched(alloc: Global, words: &[String]) -> Result<ArgMatches<'_>, Error> {
     let command = Command::new(alloc, "stow")
         .about("An ordered key-value service for many tenants, spoken to in RESP2")
+        .version(VERSION)
         .subcommand_required(true);
     let pipe = "Answers the requests on standard input, as one connection";
     let command = command.subcommand(task(alloc, "pipe", pipe)?)?;
     let script = "Carries out the events of a script on standard input";
     let command = command.subcommand(task(alloc, "script", script)?)?;
     let command = command.subcommand(serve(alloc)?)?;
+    let command = command.subcommand(entry::command(alloc)?)?;
+    let command = command.subcommand(check(alloc)?)?;
     command.try_get_matches_from(words)
 }
 
@@ -139,13 +160,23 @@ fn serve<'a>(alloc: Global) -> Result<Command<'a>, Error> {
     with_service(alloc, command)
 }
 
-/// The command with what each takes: the tenant file, the flag that asks for more of what goes wrong, and the sizes of
-/// the tree.
+/// The command that looks at a tenant file.
+fn check<'a>(alloc: Global) -> Result<Command<'a>, Error> {
+    let about = "Tells whether a tenant file is good, and how many tenants it has";
+    with_file(alloc, Command::new(alloc, "check").about(about))
+}
+
+/// The command with what each takes that has a service: the tenant file, and the sizes of the tree.
 fn with_service<'a>(alloc: Global, command: Command<'a>) -> Result<Command<'a>, Error> {
+    let command = with_file(alloc, command)?;
+    with_counts(alloc, command, &SIZES)
+}
+
+/// The command with the tenant file, and the flag that asks for more of what goes wrong.
+fn with_file<'a>(alloc: Global, command: Command<'a>) -> Result<Command<'a>, Error> {
     let command = command.arg(tenants(alloc))?;
     let explain = "Tells more of what goes wrong, in a second line on standard error";
-    let command = command.arg(flag(alloc, "explain", explain))?;
-    with_counts(alloc, command, &SIZES)
+    Ok(command.arg(flag(alloc, "explain", explain))?)
 }
 
 fn with_counts<'a>(
@@ -179,7 +210,7 @@ fn counted<'a>(alloc: Global, count: &Count) -> Arg<'a> {
 }
 
 /// An option of this name, with a value.
-fn named<'a>(alloc: Global, name: &'a str, value: &'a str, help: &'a str) -> Arg<'a> {
+pub(crate) fn named<'a>(alloc: Global, name: &'a str, value: &'a str, help: &'a str) -> Arg<'a> {
     Arg::new(alloc, name)
         .long(name)
         .value_name(value)
@@ -194,17 +225,36 @@ fn flag<'a>(alloc: Global, name: &'a str, help: &'a str) -> Arg<'a> {
         .action(ArgAction::SetTrue)
 }
 
+/// What was matched.
+fn wish_of<'a>(alloc: Global, matches: &ArgMatches<'a>) -> Result<Wish<'a>, Failure<'static>>
+    ensures ok { IfOk result AsksByRule }
+    ensures err { IfErr result RefusesWords }
+{
+    match matches.subcommand() {
+        Some(("entry", matches)) => entry::wish_of(alloc, matches),
+        Some((name, matches)) => work_of(alloc, name, matches),
+        None => Err(Failure::Arguments(String::new(alloc))),
+    }
+}
+
 /// What was matched; each command that is matched has its file and its numbers.
-fn arguments_of<'a>(alloc: Global, matches: &ArgMatches<'a>) -> Result<Wish<'a>, Failure<'static>>
-    ensures { IfErr result RefusesWords }
+fn work_of<'a>(
+    alloc: Global,
+    name: &str,
+    matches: &ArgMatches<'a>,
+) -> Result<Wish<'a>, Failure<'static>>
+    ensures ok { IfOk result AsksByRule }
+    ensures err { IfErr result RefusesWords }
 {
     let nothing = Failure::Arguments(String::new(alloc));
-    let Some((name, matches)) = matches.subcommand() else {
-        return Err(nothing);
-    };
     let Some(tenants) = matches.get_str("tenants") else {
         return Err(nothing);
     };
+    let explain = matches.get_flag("explain");
+    if name == "check" {
+        let path = tenants;
+        return Ok(Wish::Check(TenantFile { path, explain }));
+    }
     let Some(shape) = shape_of(matches) else {
         return Err(nothing);
     };
@@ -217,7 +267,7 @@ fn arguments_of<'a>(alloc: Global, matches: &ArgMatches<'a>) -> Result<Wish<'a>,
         job,
         shape,
         tenants,
-        explain: matches.get_flag("explain"),
+        explain,
     }))
 }
 
@@ -256,7 +306,8 @@ fn serving_of(matches: &ArgMatches<'_>) -> Option<Result<Serving, Failure<'stati
 
 /// What is told where the parser gives no command.
 fn refused<'a>(alloc: Global, error: &Error) -> Result<Wish<'a>, Failure<'static>>
-    ensures { IfErr result RefusesWords }
+    ensures ok { IfOk result AsksByRule }
+    ensures err { IfErr result RefusesWords }
 {
     if error.kind() == ErrorKind::OutOfMemory {
         return Err(Failure::Memory);

@@ -13,12 +13,10 @@ use crate::number::number;
 use crate::snapshots::read_snapshot;
 use crate::update::Update;
 use std::alloc::Allocator;
+use stow_bytes::limits::KEY_LIMIT;
 use stow_model::lent_words::LentWords;
 use stow_model::refusal::Refusal;
 use stow_model::words::Words;
-
-/// Bytes of a key.
-const KEY_LIMIT: usize = 1024;
 
 /// Keys of one deletion.
 const DELETED_LIMIT: usize = 64;
@@ -219,7 +217,8 @@ fn read_set(arguments: LentWords<'_>) -> Result<Command<'_>, Refusal>
 
 fn set<'a>(key: &'a [u8], value: &'a [u8], condition: Condition) -> Result<Command<'a>, Refusal>
     ensures { reading_of result
-        ≡ meant.with_keys (key.now ∷ []) (meant.Change key.now (meant.Set value.now (condition_of condition))) }
+        ≡ meant.with_keys (key.now ∷ [])
+        (meant.Change key.now (meant.Set value.now (condition_of condition))) }
 {
     let update = Update::Set(value, condition);
     with_key(key, Command::Change(key, update))

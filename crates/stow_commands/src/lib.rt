@@ -12,7 +12,7 @@ pub mod command;
 pub mod condition;
 pub mod kind;
 mod name;
-mod number;
+pub mod number;
 pub mod outcome;
 pub mod outcome_fault;
 mod snapshots;

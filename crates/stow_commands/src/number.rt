@@ -47,7 +47,7 @@ fn from_zero(text: &[u8]) -> Option<i64>
 }
 
 /// The number of up to 19 digits whose decimal text this is, without a leading zero.
-fn magnitude(digits: &[u8]) -> Option<u64>
+pub fn magnitude(digits: &[u8]) -> Option<u64>
     ensures { IsMagnitude digits.now result }
 {
     if digits.is_empty() || digits.len() > DIGITS_LIMIT {

@@ -12,12 +12,10 @@ use crate::outcome_fault::OutcomeFault;
 use itoa::Buffer;
 use std::alloc::{AllocError, Allocator};
 use stow_bytes::byte_string::ByteString;
+use stow_bytes::limits::VALUE_LIMIT;
 use stow_model::refusal::Refusal;
 use stow_model::reply::Reply;
 use stow_model::simple_string::SimpleString;
-
-/// Bytes of a value.
-const VALUE_LIMIT: usize = 65535;
 
 /// A change of one row, which its present value alone decides.
 #[derive(Clone, Copy)]

@@ -88,7 +88,7 @@ impl<A: Allocator + Copy> LeafCache<A> {
         ensures leaves { IsOffered self.old key.items rows self.new.leaves }
         ensures limit { self.new.limit ≡ self.old.limit }
     {
-        let _held = self.leaves.len();
+        let _known = self.leaves.len();
         match self.leaves.put(key, rows) {
             Ok(_) => {}
             Err(_) => {}
@@ -101,7 +101,7 @@ impl<A: Allocator + Copy> LeafCache<A> {
         ensures gone { rows_under low_fence.now self.new.leaves ≡ None }
         ensures limit { self.new.limit ≡ self.old.limit }
     {
-        let _held = self.leaves.len();
+        let _known = self.leaves.len();
         let _rows = self.leaves.pop(low_fence);
     }
 

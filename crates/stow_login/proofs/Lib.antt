@@ -3,3 +3,4 @@ pub mod Shapes
 pub mod Valid
 pub mod Named
 pub mod Same
+mod Spelled

@@ -1,3 +1,4 @@
 pub mod Entries
 pub mod TenantFile
 pub mod Names
+pub mod NewTenants

@@ -7,6 +7,7 @@ use Rattle.std.specs.Str.{bytes_eq}
 use Rattle.hex.specs.Hex.{decode_of, decode_sized}
 use Rattle.toml.specs.Data.{Data, Items, no_items, item, Members, no_members, member, get_member, as_str, as_integer, as_array, as_table}
 use Rattle.toml.specs.Parse.{parse_document}
+use Rattle.stow_bytes.specs.Limits.{tenant_limit}
 use Rattle.stow_model.specs.Login.{Entry}
 use Rattle.stow_login.specs.declared.tenants_fault.TenantsFault.{TenantsFault}
 use Rattle.stow_login.specs.declared.tenants_fault.TenantsFault.TheVariants as fault
@@ -22,10 +23,7 @@ fault_number fault.QuotaOutOfRange = 6
 fault_number fault.WrongCount = 7
 fault_number fault.OutOfMemory = 8
 
--- the most tenants, and the most bytes of a name, of a salt and of a digest
-abbrev pub tenant_limit : ℕ
-tenant_limit = 65535
-
+-- the most bytes of a name, of a salt and of a digest
 abbrev pub name_limit : ℕ
 name_limit = 64
 

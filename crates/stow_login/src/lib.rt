@@ -13,7 +13,9 @@
 pub mod explaining;
 pub mod laws;
 mod names;
+pub mod new_tenant;
 mod reading;
+pub mod spelling;
 pub mod tenant;
 pub mod tenants;
 pub mod tenants_fault;

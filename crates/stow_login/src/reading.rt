@@ -12,10 +12,11 @@ use crate::tenants_fault::TenantsFault;
 use hex::{FromHex, FromHexError};
 use std::alloc::Allocator;
 use stow_bytes::byte_string::ByteString;
+use stow_bytes::limits;
 use toml::{Table, Value};
 
 /// The most tenants of a file.
-pub(crate) const TENANT_LIMIT: usize = 65_535;
+pub(crate) const TENANT_LIMIT: usize = limits::TENANT_LIMIT as usize;
 
 /// The most bytes of a name.
 const NAME_LIMIT: usize = 64;
@@ -157,7 +158,7 @@ pub(crate) fn number_at(table: &Table, key: &str) -> Option<i64>
     }
 }
 
-fn is_name(name: &[u8]) -> bool
+pub(crate) fn is_name(name: &[u8]) -> bool
     ensures { result ≡ is_name name.now }
 {
     !name.is_empty() && name.len() <= NAME_LIMIT && has_name_bytes(name)
@@ -199,7 +200,7 @@ fn digest_in(text: &str) -> Result<[u8; 32], TenantsFault>
 }
 
 /// A quota that isn't negative.
-fn quota_in(number: i64) -> Result<u64, TenantsFault>
+pub(crate) fn quota_in(number: i64) -> Result<u64, TenantsFault>
     ensures { result ≡ quota_in number }
 {
     match u64::try_from(number) {

@@ -8,9 +8,9 @@ ghost use Rattle.stow_login.specs.TenantFile.{IsReading, is_used};
 
 use crate::names::Names;
 use crate::reading::{TENANT_LIMIT, read_table};
+use crate::spelling::digest_of;
 use crate::tenant::Tenant;
 use crate::tenants_fault::TenantsFault;
-use sha2::{Digest, Sha256};
 use std::alloc::{AllocError, Allocator, Global};
 use std::marker::Model;
 use stow_bytes::byte_string::ByteString;
@@ -160,8 +160,5 @@ fn is_same_tenant<A: Allocator>(a: &Tenant<A>, b: &Tenant<A>) -> bool
 fn is_password<A: Allocator>(tenant: &Tenant<A>, password: &[u8]) -> bool
     ensures { result ≡ is_own (entry_of tenant.now) password.now }
 {
-    let mut hasher = Sha256::new();
-    hasher.update(tenant.salt.as_slice());
-    hasher.update(password);
-    hasher.finalize() == tenant.digest
+    digest_of(tenant.salt.as_slice(), password) == tenant.digest
 }

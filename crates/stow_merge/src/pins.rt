@@ -63,7 +63,8 @@ impl<A: Allocator + Copy> Pins<A> {
     /// Takes a pin of a tenant away. Nothing changes where it isn't there.
     pub fn remove(&mut self, tenant: u32, number: u64)
         ensures { (t : ℕ) → pins_in self.new t
-            ≡ with_pins (pins_in self.old) tenant (filter (λ p. not (p == number)) (pins_in self.old tenant)) t }
+            ≡ with_pins (pins_in self.old) tenant
+            (filter (λ p. not (p == number)) (pins_in self.old tenant)) t }
     {
         if let Some(numbers) = self.numbers.get_mut(tenant as usize) {
             take_out(numbers, number);

@@ -3,7 +3,8 @@ use Rattle.std.specs.Prelude.{◌≡◌, ℕ, ◌+◌, ◌*◌, ◌/◌, ◌%◌
 use Rattle.std.specs.List.{AllByRecursion}
 use Rattle.stow_tree_model.specs.TreeMessage.{TreeMessage}
 
--- a number that bytes are told by, which others may have too: the value of a polynomial whose coefficients they are
+-- a number that bytes are told by, which others may have too: the value of a polynomial whose
+-- coefficients they are
 abbrev pub hash_from : ℕ → List ℕ → ℕ
 hash_from hash [] = hash
 hash_from hash (b ∷ bs) = hash_from ((hash * 1099511628211 % 2 ^ 64 + b) % 2 ^ 64) bs

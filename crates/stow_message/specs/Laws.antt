@@ -26,7 +26,8 @@ abbrev pub RangeAndRest : Type 0
 RangeAndRest = (from to : List ℕ) (ms : List TreeMessage) → MessagesRise ms
     → all_placed (in_range from to ms) (out_of_range from to ms) ≡ ms
 
--- where an interval of a list moves into another, a message is in one of the two exactly where it was before
+-- where an interval of a list moves into another, a message is in one of the two exactly where it
+-- was before
 abbrev pub MoveKeepsAll : Type 0
 MoveKeepsAll = (from to : List ℕ) (ms ns : List TreeMessage) (m : TreeMessage) → MessagesRise ms
     → (Contains (out_of_range from to ms) m

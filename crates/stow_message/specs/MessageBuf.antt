@@ -10,7 +10,8 @@ use Rattle.stow_message.specs.Packed.{kind_of, op_by, message_at, message_size, 
 use Rattle.stow_message.specs.Rising.{placed, all_placed, in_range, out_of_range, without}
 use Rattle.std.specs.List.{AllByRecursion, sum_by}
 
--- the messages, rising by key and number, the bytes in use, dead ones among them, and the bytes of the block
+-- the messages, rising by key and number, the bytes in use, dead ones among them, and the bytes of
+-- the block
 pub record MessageList : Type 0 where
   pub messages : List TreeMessage
   pub used : ℕ

@@ -1,5 +1,6 @@
--- How a message lies in bytes: the length of its key in 2 bytes, its number in 8, its kind in 1, the length of its value
--- or suffix in 2, then the key and the value, all numbers with the highest byte first.
+-- How a message lies in bytes: the length of its key in 2 bytes, its number in 8, its kind in 1,
+-- the length of its value or suffix in 2, then the key and the value, all numbers with the highest
+-- byte first.
 use Rattle.std.specs.Prelude.{◌≡◌, ℕ, zero, suc, ◌+◌, ◌≤◌, List, [], ◌∷◌, ◌++◌, length, take, drop, slice_index}
 use Rattle.std.specs.Int.{w16, w64, to_be_bytes, from_be_bytes}
 use Rattle.stow_bytes.specs.Limits.{value_limit, number_limit}

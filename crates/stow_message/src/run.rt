@@ -27,7 +27,8 @@ impl<'a, A: Allocator> Model for Run<'a, A> {
 
     ghost view = { λ r. take (r.to - r.from) (drop r.from r.buf.now.messages) };
 
-    ghost invariant = { λ r. (r.from ≤ r.to) × (r.to ≤ length r.buf.now.messages) × (r.to < 2 ^ 64) };
+    ghost invariant = { λ r. (r.from ≤ r.to) × (r.to ≤ length r.buf.now.messages)
+        × (r.to < 2 ^ 64) };
 }
 
 impl<'a, A: Allocator> Run<'a, A> {

@@ -1,5 +1,5 @@
--- The packed form of a leaf, format 1: the format's byte, the number of entries, then each version's entry. All
--- numbers are written with their highest byte first.
+-- The packed form of a leaf, format 1: the format's byte, the number of entries, then each
+-- version's entry. All numbers are written with their highest byte first.
 use Rattle.std.specs.Prelude.{ℕ, ◌+◌, ◌≤◌, List, [], ◌∷◌, ◌++◌, length, Option, Some, None}
 use Rattle.std.specs.List.{AllByRecursion, flat_map}
 use Rattle.std.specs.Int.{to_be_bytes, w16, w32, w64}

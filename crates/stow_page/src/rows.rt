@@ -75,7 +75,7 @@ impl<A: Allocator> Rows<A> {
         ensures same { IfOk result (λ p. arc_value p ≡ self.now) }
         ensures short { length (packed_page self.now) < 2 ^ 32 }
     {
-        let _bytes = self.packed.as_bytes();
+        let _known = self.packed.as_bytes();
         Arc::try_clone(&self.packed)
     }
 

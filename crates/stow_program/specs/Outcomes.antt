@@ -1,6 +1,10 @@
 -- What the program came to, and what had been read and written by then.
-use Rattle.std.specs.Prelude.{◌≡◌, ◌⊎◌, ℕ, List, Result, Ok, Err, IfErr}
+use Rattle.std.specs.Prelude.{◌≡◌, ◌⊎◌, ℕ, List, [], ◌∷◌, ◌++◌, length, codes, Result, Ok, Err, IfErr, IsErr}
+use Rattle.std.specs.Fmt.{decimal}
 use Rattle.stow_model.specs.Login.{Entry}
+use Rattle.stow_login.specs.NewTenants.{IsAllowed}
+use Rattle.stow_login.specs.TenantFile.{entries_of_text}
+use Rattle.stow_login.specs.declared.new_tenant.NewTenant.{NewTenant}
 use Rattle.stow_run.specs.declared.job.Task.{Task}
 use Rattle.stow_run.specs.declared.job.Job.{Job}
 use Rattle.stow_run.specs.declared.job.Job.TheVariants as job
@@ -11,6 +15,7 @@ use Rattle.stow_workers.specs.Failures.{HasFailed}
 use Rattle.stow_workers.specs.Sent.{Written, WritesAll}
 use Rattle.stow_tasks.specs.Ends.{InputFails, IsOfOutput, Unread}
 use Rattle.stow_run.specs.Statuses.{status_after}
+use Rattle.stow_tasks.specs.Entered.{IsEntered}
 use Rattle.stow_tasks.specs.Told.{IsTaskServed}
 use Rattle.stow_command_line.specs.Words.{RefusesWords}
 
@@ -60,11 +65,36 @@ abbrev pub IsHelp : Streams → Result (Unit {0}) Failure → Type 0
 IsHelp s r = (text : List ℕ) × WritesAll r text s.before s.after × IfErr r IsOfOutput
     × (s.left ≡ s.unread)
 
--- the words asked for help or for a job, or they are refused
-abbrev pub IsOutcome : Streams → Result (Unit {0}) Failure → Type 0
-IsOutcome s r = FailsBefore RefusesWords s r ⊎ IsHelp s r ⊎ ((asked : Job) × IsRun asked s r)
+-- the entry of a tenant by the rules was written, where salts come from such a source
+abbrev pub IsEntryMade : (List ℕ → Type 0) → Streams → Result (Unit {0}) Failure → Type 0
+IsEntryMade Gives s r = (tenant : NewTenant) × IsAllowed tenant
+    × IsEntered Gives tenant s.unread.bytes s.before s.after r
+    × InputFails r s.unread.failures s.left.failures
 
--- the status is that of what the program came to
-abbrev pub EndsWith : Streams → ℕ → Type 0
-EndsWith s status = (outcome : Result (Unit {0}) Failure) × IsOutcome s outcome
+-- ---- a tenant file that is looked at
+
+-- some text says these tenants
+abbrev pub AreOfText : List Entry → Type 0
+AreOfText entries = (text : List ℕ) × (entries_of_text text ≡ Ok entries)
+
+-- what is told of a good file
+abbrev pub good_text : List Entry → List ℕ
+good_text entries = codes "good, tenants: " ++ (decimal (length entries) ++ 10 ∷ [])
+
+-- how many tenants a text says was told, or the file gives none, and nothing was told
+abbrev pub IsChecked : Written → Written → Result (Unit {0}) Failure → Type 0
+IsChecked old new r = (IfErr r RefusesTenants × IsErr r × (new ≡ old))
+    ⊎ ((entries : List Entry) × AreOfText entries × WritesAll r (good_text entries) old new
+    × IfErr r IsOfOutput)
+
+-- ---- all of it
+
+-- the words asked for help, a job, an entry or a look at a file, or they are refused
+abbrev pub IsOutcome : (List ℕ → Type 0) → Streams → Result (Unit {0}) Failure → Type 0
+IsOutcome Gives s r = FailsBefore RefusesWords s r ⊎ IsHelp s r ⊎ ((asked : Job) × IsRun asked s r)
+    ⊎ IsEntryMade Gives s r ⊎ (IsChecked s.before s.after r × (s.left ≡ s.unread))
+
+-- the status is that of what the program came to, where salts come from such a source
+abbrev pub EndsWith : (List ℕ → Type 0) → Streams → ℕ → Type 0
+EndsWith Gives s status = (outcome : Result (Unit {0}) Failure) × IsOutcome Gives s outcome
     × (status ≡ status_after outcome)

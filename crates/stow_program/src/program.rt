@@ -2,23 +2,23 @@
 ghost use Rattle.std.specs.Prelude.{◌≡◌, IfErr};
 ghost use Rattle.stow_workers.specs.Counted.{borrow_of};
 ghost use Rattle.stow_tasks.specs.Ends.{held_by, unread_of};
-ghost use Rattle.stow_program.specs.Outcomes.{EndsWith, IsRun, RefusesTenants, streams_of};
+ghost use Rattle.stow_program.specs.Outcomes.{EndsWith, IsRun, streams_of};
 
+use crate::check::check;
 use crate::network::listen;
+use crate::tenant_file::read_tenants;
 use std::alloc::Global;
-use std::io;
 use std::io::{Read, Write};
 use std::net::{Net, TcpListener, TcpStream};
 use std::sync::Wait;
 use std::thread::Threads;
 use stow_command_line::arguments::{Arguments, Wish, read_arguments};
-use stow_login::explaining::explain;
-use stow_login::tenants::Tenants;
-use stow_login::tenants_fault::TenantsFault;
 use stow_run::conclusion::conclude;
-use stow_run::failure::{Failure, Place};
+use stow_run::failure::Failure;
 use stow_run::folder::Folder;
 use stow_run::job::Job;
+use stow_run::salt_source::SaltSource;
+use stow_tasks::entry::entry;
 use stow_tasks::script::finish;
 use stow_tasks::service::serve;
 use stow_workers::counted::Counted;
@@ -27,7 +27,7 @@ use stow_workers::counted::Counted;
 /// where the arguments or the script are refused; 3 where the tenant file is; 4 where input or output failed;
 /// 5 where memory was refused. The arguments are looked at first, then the address, the tenant file and the
 /// script.
-pub fn program<H, D: Folder, R: Read, W: Write, E: Write>(
+pub fn program<H, D: Folder + SaltSource, R: Read, W: Write, E: Write>(
     rt: &H,
     alloc: Global,
     folder: &D,
@@ -38,7 +38,7 @@ pub fn program<H, D: Folder, R: Read, W: Write, E: Write>(
 ) -> u8
 where
     H: Net<Listener = TcpListener, Stream = TcpStream> + Threads + Wait + Sync,
-    ensures ends { EndsWith (streams_of (unread_of R.remaining input.old)
+    ensures ends { EndsWith (D.gives folder.now) (streams_of (unread_of R.remaining input.old)
         (unread_of R.remaining input.new) (held_by W.contents output.old)
         (held_by W.contents output.new)) result }
     ensures same_input { borrow_of input.new ≡ borrow_of input.old }
@@ -48,6 +48,14 @@ where
         Ok(Wish::Work(arguments)) => {
             let outcome = run(rt, alloc, folder, &arguments, input, output, errors);
             conclude(alloc, outcome, arguments.explain, errors)
+        }
+        Ok(Wish::Entry(tenant)) => {
+            let outcome = entry(alloc, folder, &tenant, input, output);
+            conclude(alloc, outcome, false, errors)
+        }
+        Ok(Wish::Check(file)) => {
+            let outcome = check(alloc, folder, file.path, output);
+            conclude(alloc, outcome, file.explain, errors)
         }
         Ok(Wish::Help(text)) => {
             let outcome = finish(text.as_bytes(), output);
@@ -81,30 +89,4 @@ where
         Job::Input(task) => serve(alloc, tenants, shape, task, input, output),
         Job::Serve(serving) => listen(rt, alloc, tenants, shape, serving, output, errors),
     }
-}
-
-/// The tenants of the file of this path. A file that isn't UTF-8 is no TOML text.
-fn read_tenants<'a, D: Folder>(
-    alloc: Global,
-    folder: &D,
-    path: &'a str,
-) -> Result<Tenants<Global>, Failure<'a>>
-    ensures { IfErr result RefusesTenants }
-{
-    let bytes = Place::File(path).check(read_file(alloc, folder, path))?;
-    let Ok(text) = std::str::from_utf8(bytes.as_slice()) else {
-        let reason = String::from_str(alloc, "the file is no UTF-8 text")?;
-        return Err(Failure::tenants(TenantsFault::NotToml, Some(reason)));
-    };
-    match Tenants::read(alloc, alloc, text) {
-        Ok(tenants) => Ok(tenants),
-        Err(fault) => Err(Failure::tenants(fault, explain(alloc, text, fault).ok())),
-    }
-}
-
-fn read_file<D: Folder>(alloc: Global, folder: &D, path: &str) -> io::Result<Vec<u8>> {
-    let mut bytes = Vec::new(alloc);
-    let mut file = folder.open(path)?;
-    file.read_to_end(&mut bytes)?;
-    Ok(bytes)
 }

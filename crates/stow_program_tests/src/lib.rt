@@ -12,6 +12,8 @@ mod given;
 #[cfg(test)]
 mod limits;
 #[cfg(test)]
+mod operator;
+#[cfg(test)]
 mod refusals;
 #[cfg(test)]
 mod running;

@@ -1,6 +1,6 @@
 //! Why the program ends early: its statuses, and what it tells on standard error.
 use crate::given::Given;
-use crate::running::{HELLO, PIPE, SCRIPT, Shelf, run, run_over, wants};
+use crate::running::{ENTRY, HELLO, PIPE, SCRIPT, Shelf, run, run_over, wants};
 use crate::table::{lines_of, rows_of};
 use crate::taken::{Breaks, Taken};
 use std::alloc::Global;
@@ -74,6 +74,18 @@ serve --tenants three.toml --workers 0
 serve --tenants three.toml --workers 257
 serve --tenants three.toml --connections 65536
 serve --tenants three.toml --connections -1
+check
+check --tenants three.toml --buffer 131072
+entry
+entry dora
+entry do/ra --quota 1
+entry --quota 1
+entry dora --quota -1
+entry dora --quota 9223372036854775808
+entry dora --quota 1 --salt 0
+entry dora --quota 1 --salt xy
+entry dora --quota 1 --tenants three.toml
+entry dora --quota 1 --leaf 4096
 ";
 
 /// Wants a text on one of the two outputs alone, and this status.
@@ -97,6 +109,7 @@ fn the_parser_tells_its_own(rt: HostRuntime) -> Result<(), Fail> {
     for line in lines_of(BAD_WORDS) {
         tells_its_own(&rt, line, 2, false)?;
     }
+    tells_its_own(&rt, "--version", 0, true)?;
     tells_its_own(&rt, "--help", 0, true)?;
     tells_its_own(&rt, "pipe --help", 0, true)
 }
@@ -119,6 +132,11 @@ serve --tenants missing.toml --listen 127.0.0.1 => 2 bad address
 serve --tenants three.toml --listen localhost:0 => 2 bad address
 serve --tenants empty.toml => 3 tenant file refused: fault 7
 serve --tenants missing.toml => 4 input or output failed
+check --tenants empty.toml => 3 tenant file refused: fault 7
+check --tenants latin.toml => 3 tenant file refused: fault 1
+check --tenants number.toml => 3 tenant file refused: fault 2
+check --tenants broken.toml => 4 input or output failed
+check --tenants missing.toml => 4 input or output failed
 ";
 
 /// The status at the front of a text, and what stands behind it.
@@ -161,6 +179,8 @@ fn the_status_tells_why_it_ended(rt: HostRuntime) -> Result<(), Fail> {
 const EXPLAINED: &str = r#"
 pipe --tenants missing.toml =>  => 4 input or output failed => missing.toml: entity not found
 pipe --tenants broken.toml =>  => 4 input or output failed => broken.toml: other error
+check --tenants missing.toml =>  => 4 input or output failed => missing.toml: entity not found
+check --tenants number.toml =>  => 3 tenant file refused: fault 2 => a key is missing, unknown or of another type
 pipe --tenants empty.toml =>  => 3 tenant file refused: fault 7 => a file has 1 to 65,535 tenants
 pipe --tenants latin.toml =>  => 3 tenant file refused: fault 1 => the file is no UTF-8 text
 script --tenants three.toml => open 1\nopne 1\n => 2 bad line 2 => it stumbles on "opne"
@@ -218,6 +238,7 @@ fn a_reader_that_fails_is_told(rt: HostRuntime) -> Result<(), Fail> {
     let explained = "stow: input or output failed\nstow: standard input: other error\n";
     wants(&rt, PIPE, &mut Given::broken(), 4, "", FAILED)?;
     wants(&rt, SCRIPT, &mut Given::broken(), 4, "", FAILED)?;
+    wants(&rt, ENTRY, &mut Given::broken(), 4, "", FAILED)?;
     let line = "pipe --explain --tenants three.toml";
     wants(&rt, line, &mut Given::broken(), 4, "", explained)
 }
@@ -246,6 +267,8 @@ where
 fn a_writer_that_fails_is_told(rt: HostRuntime) -> Result<(), Fail> {
     tells_of_a_writer(&rt, PIPE, HELLO, FAILED)?;
     tells_of_a_writer(&rt, "--help", HELLO, FAILED)?;
+    tells_of_a_writer(&rt, ENTRY, b"word", FAILED)?;
+    tells_of_a_writer(&rt, "check --tenants three.toml", b"", FAILED)?;
     let line = "script --tenants three.toml --explain";
     let told = "stow: input or output failed\nstow: standard output: other error\n";
     tells_of_a_writer(&rt, line, b"open 1\n", told)

@@ -1,4 +1,6 @@
 //! Runs of the program over memory.
+ghost use Rattle.std.specs.Prelude.{◌≡◌, length};
+
 use crate::given::Given;
 use crate::table::{Row, rows_of, scripts_of};
 use std::alloc::{AllocError, Allocator, Global};
@@ -13,6 +15,7 @@ use stow_login::tenants::Tenants;
 use stow_program::program::program;
 use stow_run::folder::Folder;
 use stow_run::job::Task;
+use stow_run::salt_source::SaltSource;
 use stow_tasks::service::serve;
 use stow_testing::tenants::THREE;
 use stow_tree::tree_shape::TreeShape;
@@ -22,6 +25,8 @@ use stow_workers::counted::Counted;
 pub const PIPE: &str = "pipe --tenants three.toml";
 
 pub const SCRIPT: &str = "script --tenants three.toml";
+
+pub const ENTRY: &str = "entry dora --quota 1000000";
 
 /// A login, a write and a read, and their replies.
 pub const HELLO: &[u8] =
@@ -48,6 +53,18 @@ impl<'a> Folder for Shelf<'a> {
             "own.toml" => Ok(Given::all(self.own)),
             _ => Err(io::Error::from(io::ErrorKind::NotFound)),
         }
+    }
+}
+
+/// Random bytes that are no others each time, but where the test's own file is this word: then there are none.
+impl SaltSource for Shelf<'_> {
+    ghost gives = { λ _ salt. length salt ≡ 16 };
+
+    fn salt(&self) -> io::Result<[u8; 16]> {
+        if self.own == b"no salt".as_slice() {
+            return Err(io::Error::from(io::ErrorKind::Other));
+        }
+        Ok(*b"sixteen of these")
     }
 }
 

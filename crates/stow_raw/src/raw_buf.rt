@@ -141,7 +141,8 @@ impl<A: Allocator> RawBuf<A> {
     pub fn remove_slots(&mut self, from: usize, count: usize)
         requires { from + count ≤ length self.old.slots }
         ensures { self.new
-            ≡ raw_lists self.old.front (remove_range self.old.slots from (from + count)) self.old.capacity }
+            ≡ raw_lists self.old.front (remove_range self.old.slots from (from + count))
+            self.old.capacity }
     {
         self.block.close(from, count);
         self.block.drop_slots(count);

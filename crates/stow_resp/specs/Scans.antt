@@ -26,8 +26,8 @@ IsLineAt bytes line.Inline = (0 < length bytes) × (begins_array bytes ≡ false
 IsLineAt bytes line.More = IsBegun bytes
 IsLineAt bytes line.Stuck = IsFaulty bytes InvalidArrayLength
 
--- an array's line and so many whole elements stand at the front of the bytes, and take so many of them; the
--- first of the words stand at the spans
+-- an array's line and so many whole elements stand at the front of the bytes, and take so many of
+-- them; the first of the words stand at the spans
 pub record IsProgress {A : Type 0} (p : Progress A) (bytes : List ℕ) : Type 0 where
   pub words : List (List ℕ)
   pub rest : List ℕ

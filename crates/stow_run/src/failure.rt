@@ -25,6 +25,8 @@ pub enum Place<'a> {
     Output,
     /// The address that connections come to.
     Network,
+    /// The system's random source.
+    Random,
 }
 
 /// Why the program ends early.
@@ -129,6 +131,7 @@ impl<'a> Place<'a> {
             Place::Input => "standard input",
             Place::Output => "standard output",
             Place::Network => "the address",
+            Place::Random => "the random source",
         }
     }
 }

@@ -8,4 +8,5 @@ pub mod conclusion;
 pub mod failure;
 pub mod folder;
 pub mod job;
+pub mod salt_source;
 pub mod serving;

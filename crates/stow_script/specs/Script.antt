@@ -71,7 +71,8 @@ IsSkipped (first ∷ rest) = first ≡ 35
 abbrev pub IsBad : List ℕ → Type 0
 IsBad line = ¬ IsSkipped line × ((asked : Line) → ¬ AsksFor line asked)
 
--- the lines of a script; behind the last LF there is one that is empty, or the last one, which lacks its LF
+-- the lines of a script; behind the last LF there is one that is empty, or the last one, which
+-- lacks its LF
 abbrev pub lines_of : List ℕ → List (List ℕ)
 lines_of text = slice_split (λ b. b == 10) text
 

@@ -49,7 +49,8 @@ impl<A: Allocator + Copy> Door<A> for Fake<A> {
         ⊎ ((r ≡ told.Error refusal.OutOfMemory) × (new ≡ old)) };
 
     fn call(&mut self, alloc: A, tenant: u32, words: &Words<A>) -> Reply<A>
-        ensures { ((reply_of result ≡ told.Integer (pos tenant)) × (self.new ≡ self.old ++ (tenant, words.now) ∷ []))
+        ensures { ((reply_of result ≡ told.Integer (pos tenant))
+            × (self.new ≡ self.old ++ (tenant, words.now) ∷ []))
             ⊎ ((reply_of result ≡ told.Error refusal.OutOfMemory) × (self.new ≡ self.old)) }
     {
         match self.keep(alloc, tenant, words) {

@@ -24,8 +24,8 @@ pub record StoresStay (old new : CoreState) : Type 0 where
   pub stores : (tenant : ℕ) → store_of new tenant ≡ store_of old tenant
   pub tenants : new.entries ≡ old.entries
 
--- the words were answered in the caller's own store, as its own step says, to which nothing was refused; an
--- index that is no tenant's was refused; no other store moved
+-- the words were answered in the caller's own store, as its own step says, to which nothing was
+-- refused; an index that is no tenant's was refused; no other store moved
 pub record Serves (old : CoreState) (tenant : ℕ) (words : List (List ℕ)) (told : Reply)
     (new : CoreState) : Type 0 where
   pub own : IsTenant old.entries tenant

@@ -24,8 +24,8 @@ HasReceipts journal seat = seat.receipts ≡ entries_by seat.number journal
 abbrev pub IsOfSeat : ℕ → Entry → Type 0
 IsOfSeat count entry = (1 ≤ entry.seat) × (entry.seat ≤ count)
 
--- all that is handed back belongs together: a seat of each number, the tenants of the core, and, where entries are
--- kept, the receipts of each seat and no entry of another
+-- all that is handed back belongs together: a seat of each number, the tenants of the core, and,
+-- where entries are kept, the receipts of each seat and no entry of another
 pub record IsWhole (keeps : Bool) (shared : SharedState) (seats : List SeatState) (book : BookState)
     : Type 0 where
   pub each : AreOneEach shared.seats seats
@@ -33,7 +33,8 @@ pub record IsWhole (keeps : Bool) (shared : SharedState) (seats : List SeatState
   pub receipts : keeps ≡ true → All (HasReceipts book.entries) seats
   pub numbers : keeps ≡ true → All (IsOfSeat shared.seats) book.entries
 
--- the lock was closed: all belongs together, the journal leads to the core, and is as long as the receipts together
+-- the lock was closed: all belongs together, the journal leads to the core, and is as long as the
+-- receipts together
 pub record Closes (keeps : Bool) (shared : SharedState) (seats : List SeatState)
     (closed : BookState) : Type 0 where
   pub whole : IsWhole keeps shared seats closed

@@ -44,8 +44,8 @@ IsAnswered tenants (Call index words told) = ¬ (IsTenant tenants index)
     → told ≡ reply.Error refusal.NotAuthenticated
 IsAnswered tenants (Resize leaves) = Unit {0}
 
--- the journal leads from empty stores to the core: each tenant was told what its own run over its line tells,
--- and its store is the last of that run; a change of the cache's size changes no store
+-- the journal leads from empty stores to the core: each tenant was told what its own run over its
+-- line tells, and its store is the last of that run; a change of the cache's size changes no store
 pub record IsLegal (journal : List Entry) (core : CoreState) : Type 0 where
   pub told : (tenant : ℕ) → IsTenant core.entries tenant
       → told_in tenant journal

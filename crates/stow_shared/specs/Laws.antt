@@ -6,8 +6,8 @@ use Rattle.stow_core.specs.State.{CoreState, store_of}
 use Rattle.stow_shared.specs.Entries.{Entry}
 use Rattle.stow_shared.specs.Journals.{line_in, told_in, IsLegal}
 
--- in both journals the tenant has the same entry in the file, and the same line; its index and all other entries,
--- of the file and of the journal, may differ
+-- in both journals the tenant has the same entry in the file, and the same line; its index and all
+-- other entries, of the file and of the journal, may differ
 pub record CallsAlike (core : CoreState) (journal : List Entry) (tenant : ℕ) (core' : CoreState)
     (journal' : List Entry) (tenant' : ℕ) : Type 0 where
   pub known : IsTenant core.entries tenant
@@ -15,8 +15,8 @@ pub record CallsAlike (core : CoreState) (journal : List Entry) (tenant : ℕ) (
   pub entry : entry_at core.entries tenant ≡ entry_at core'.entries tenant'
   pub line : line_in tenant journal ≡ line_in tenant' journal'
 
--- two journals that lead to their cores, in which a tenant calls alike, whatever else they hold and whoever their
--- tenants are, tell it the same, as replies and as bytes, and leave it the same store
+-- two journals that lead to their cores, in which a tenant calls alike, whatever else they hold and
+-- whoever their tenants are, tell it the same, as replies and as bytes, and leave it the same store
 abbrev pub TwoJournals : Type 0
 TwoJournals =
     (core core' : CoreState) (journal journal' : List Entry) (tenant tenant' : ℕ)

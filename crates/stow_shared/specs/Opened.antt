@@ -5,7 +5,8 @@ use Rattle.stow_shared.specs.declared.open_fault.OpenFault.{OpenFault}
 use Rattle.stow_shared.specs.declared.open_fault.OpenFault.TheVariants as fault
 use Rattle.stow_shared.specs.Seats.{SeatState, new_seat}
 
--- what threads share, beside what stands under the lock: who the tenants are, and how many seats there are
+-- what threads share, beside what stands under the lock: who the tenants are, and how many seats
+-- there are
 pub record SharedState : Type 0 where
   pub tenants : List login.Entry
   pub seats : ℕ

@@ -7,7 +7,8 @@ use Rattle.stow_model.specs.Store.{one_more}
 use Rattle.stow_shared.specs.Entries.{Entry, call_entry}
 use Rattle.stow_shared.specs.Journals.{with_entry}
 
--- its number, the entries that it added, newest first, and how many of its calls memory was refused to
+-- its number, the entries that it added, newest first, and how many of its calls memory was refused
+-- to
 pub record SeatState : Type 0 where
   pub number : ℕ
   pub receipts : List Entry

@@ -8,12 +8,10 @@ use crate::entry::Entry;
 use crate::journal::Journal;
 use std::alloc::{AllocError, Allocator, Global};
 use std::marker::{Model, PhantomData};
+use stow_bytes::limits::NUMBER_LIMIT;
 use stow_core::Core;
 use stow_model::refusal::Refusal;
 use stow_model::reply::Reply;
-
-/// The most that a count of refused calls may be.
-const COUNT_LIMIT: u64 = 9_223_372_036_854_775_807;
 
 /// The right of one thread to take steps, with a receipt of each where a journal is kept, and the number of its
 /// calls that memory was refused to.
@@ -90,7 +88,7 @@ impl<J: Journal, A: Allocator> Seat<J, A> {
         ensures told { reply_of result ≡ reply.Error refusal.OutOfMemory }
         ensures counted { self.new ≡ with_refusal self.old }
     {
-        if self.refused < COUNT_LIMIT {
+        if self.refused < NUMBER_LIMIT {
             self.refused += 1;
         }
         Reply::Error(Refusal::OutOfMemory)

@@ -4,3 +4,4 @@ pub mod Written
 pub mod Ends
 pub mod Pipes
 pub mod Told
+pub mod Entered

@@ -20,8 +20,8 @@ use Rattle.stow_tasks.specs.Lines.{IsText, shape_text}
 use Rattle.stow_tasks.specs.Pipes.{IsPiped}
 use Rattle.stow_script.specs.Script.{AskFor, Asks, IsFirstBad, Line, Shape, lines_of}
 
--- an event is a step of the house, and its line is that of the answer; the other line tells how large the house's
--- tree is, which stays as it is
+-- an event is a step of the house, and its line is that of the answer; the other line tells how
+-- large the house's tree is, which stays as it is
 abbrev pub LineLeads : Line → HouseState → List ℕ → HouseState → Type 0
 LineLeads (Asks e) old text new = (r : StepResult) × IsStepOf old e r new × IsText e r text
 LineLeads Shape old text new = (report : ShapeReport) × IsReport old.core.tree report

@@ -7,6 +7,7 @@
 //! output is said to have failed only where one of its calls did (`specs/Ends.antt`, `specs/Told.antt`).
 #![tactic(auto)]
 
+pub mod entry;
 pub mod line;
 pub mod new_core;
 pub mod pipe;

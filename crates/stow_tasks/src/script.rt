@@ -52,7 +52,7 @@ pub fn script<'a, A: Allocator + Copy, R: Source, W: Sink>(
 }
 
 /// Adds all that there is to be read, up to a read that fails or memory that is refused.
-fn read_all<A: Allocator, R: Source>(
+pub(crate) fn read_all<A: Allocator, R: Source>(
     input: &mut R,
     text: &mut Vec<u8, A>,
 ) -> Result<(), Failure<'static>>

@@ -13,7 +13,8 @@ TenantPins = ℕ → List ℕ
 abbrev pub TenantBounds : Type 0
 TenantBounds = ℕ → ℕ
 
--- two sets of operations on one key mean the same at each pin and from the bound on, and neither goes above it
+-- two sets of operations on one key mean the same at each pin and from the bound on, and neither
+-- goes above it
 pub record AgreeAt (f g : Operations) (pins : List ℕ) (bound : ℕ) : Type 0 where
   pub at_pins : (p : ℕ) → Contains pins p → latest f p ≡ latest g p
   pub from_bound : (n : ℕ) → bound ≤ n → latest f n ≡ latest g n

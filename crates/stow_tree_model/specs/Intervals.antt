@@ -21,7 +21,8 @@ abbrev pub PackedInOrder : Type 0
 PackedInOrder = (t u : ℕ) (a b : List ℕ) → t < 2 ^ 32 → u < 2 ^ 32
     → bytes_cmp (packed t a) (packed u b) ≡ ordering_then (nat_cmp t u) (bytes_cmp a b)
 
--- a tenant's keys are those from its index to the next one's, and no other tenant's key is among them
+-- a tenant's keys are those from its index to the next one's, and no other tenant's key is among
+-- them
 abbrev pub TenantInterval : Type 0
 TenantInterval = (tenant : ℕ) (key : List ℕ) → tenant ≤ tenant_limit → IsTenantKey key
     → AreBytes key

@@ -1,4 +1,5 @@
--- Keys of all tenants in one order: the tenant's index in four bytes, the highest first, then the key's own bytes.
+-- Keys of all tenants in one order: the tenant's index in four bytes, the highest first, then the
+-- key's own bytes.
 use Rattle.std.specs.Prelude.{ℕ, ◌+◌, ◌≤◌, List, ◌++◌, length, take, drop}
 use Rattle.std.specs.Int.{to_be_bytes, from_be_bytes, w32}
 use Rattle.stow_bytes.specs.Limits.{key_limit, tenant_limit}
@@ -15,7 +16,8 @@ tenant_of key = from_be_bytes w32 (take 4 key)
 abbrev pub own_key : List ℕ → List ℕ
 own_key key = drop 4 key
 
--- an index and a key within the limit; the index may be one below or one above those of tenants, where an interval ends
+-- an index and a key within the limit; the index may be one below or one above those of tenants,
+-- where an interval ends
 pub record IsTenantKey (key : List ℕ) : Type 0 where
   pub has_index : 4 ≤ length key
   pub is_short : length key ≤ 4 + key_limit

@@ -25,7 +25,8 @@ IsKept pins messages key number = IsSome (ops_of messages key number)
     × (NoneAbove number (ops_of messages key)
     ⊎ ((pin : ℕ) × Contains (pins (tenant_of key)) pin × IsGreatestUpTo messages key number pin))
 
--- the version that the set's value gives at a kept place; of the kept ones of a key the oldest is left out where it is a removal
+-- the version that the set's value gives at a kept place; of the kept ones of a key the oldest is
+-- left out where it is a removal
 pub record Stays (pins : TenantPins) (messages : Messages) (v : Version) : Type 0 where
   pub is_kept : IsKept pins messages v.key v.number
   pub is_value : v.value ≡ value_in (value messages v.key v.number)
@@ -33,7 +34,8 @@ pub record Stays (pins : TenantPins) (messages : Messages) (v : Version) : Type 
 
 -- ---- the same as a list
 
--- A history is a list of messages or versions told newest first: it falls by key, and within a key by number.
+-- A history is a list of messages or versions told newest first: it falls by key, and within a key
+-- by number.
 
 abbrev pub same_key : List ℕ → List ℕ → Bool
 same_key = eq_by_cmp bytes_cmp

@@ -1,4 +1,4 @@
--- What a message does to the value of its key (Bender and others 2015: a put, a tombstone, an upsert).
+-- What a message does to the value of its key: a put, a removal, an append.
 use Rattle.std.specs.Prelude.{ℕ, List}
 use Rattle.std.specs.Prelude.{[]}
 use Rattle.stow_tree_model.specs.declared.op.Op as coded

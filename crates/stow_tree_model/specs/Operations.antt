@@ -1,4 +1,5 @@
--- What a key has at a number, by the operations on it: the reading rule of the buffered tree (Bender and others 2015).
+-- What a key has at a number, by the operations on it: the reading rule of the buffered tree
+-- (Bender and others 2015).
 use Rattle.std.specs.Prelude.{◌≡◌, ℕ, zero, suc, ◌<◌, ◌≤◌, List, [], ◌++◌, Option, Some, None}
 use Rattle.stow_tree_model.specs.Op.{Op, Put, Gone, Append}
 

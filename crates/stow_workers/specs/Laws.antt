@@ -19,9 +19,9 @@ abbrev pub asked_by : Call → OwnEvent
 asked_by call =
     Asked (record { words = call.words; is_refused = is_out_of_memory call.reply })
 
--- A connection was served through this core: what went on is a history of the connection, the calls of each
--- tenant and their replies are its line and what it is told, what is to be written is the connection's output,
--- and each tenant's store is the last of its own run.
+-- A connection was served through this core: what went on is a history of the connection, the calls
+-- of each tenant and their replies are its line and what it is told, what is to be written is the
+-- connection's output, and each tenant's store is the last of its own run.
 pub record IsOneHistory (c : ℕ) (entries : List Entry) (exchanges : List Exchange)
     (core : CoreState) : Type 0 where
   pub is_history : IsHistory entries (history_of c exchanges)

@@ -5,8 +5,8 @@ use Rattle.stow_workers.specs.Exchanges.{Call, LeadTo}
 use Rattle.stow_workers.specs.declared.worker.Worker.{Worker}
 use Rattle.stow_workers.specs.declared.worker.Worker.TheVariants as worker
 
--- Calls led the seat from one state to the other: of each it gained the receipt, where receipts are kept, or counted
--- that memory was refused to it. Nothing else happened to it.
+-- Calls led the seat from one state to the other: of each it gained the receipt, where receipts are
+-- kept, or counted that memory was refused to it. Nothing else happened to it.
 pub record HasCalled (keeps : Bool) (old new : SeatState) : Type 0 where
   pub calls : List Call
   pub led : LeadTo (SeatCalls keeps) old calls new
@@ -28,7 +28,8 @@ abbrev pub IsIdleOf : {J A : Type 0} → SeatState → Worker J A → Type 0
 IsIdleOf seat (worker.Running thread) = ⊥
 IsIdleOf seat (worker.Idle handed) = handed ≡ seat
 
--- what joining a worker gives: the seat that it is a worker of, after calls, or as it was where it had no thread
+-- what joining a worker gives: the seat that it is a worker of, after calls, or as it was where it
+-- had no thread
 pub record GivesBack {J A : Type 0} (keeps : Bool) (worker : Worker J A) (seat : SeatState) : Type 0
   where
     pub called : (first : SeatState) → IsWorkerOf keeps first worker → HasCalled keeps first seat

@@ -18,7 +18,8 @@ use Rattle.stow_workers.specs.Failures.{HasFailed}
 use Rattle.stow_workers.specs.Exchanges.{Exchange, steps_of, AllFollow, calls_in, LeadTo, told_in, spelled}
 use Rattle.stow_workers.specs.Sent.{Begins, Written, Sent, sent_of, HasSent}
 
--- a door's relation: the door before a call, the tenant and its words, the reply, and the door after
+-- a door's relation: the door before a call, the tenant and its words, the reply, and the door
+-- after
 abbrev pub Answers : Type 0 → Type 1
 Answers D = D → ℕ → List (List ℕ) → Reply → D → Type 0
 
@@ -65,7 +66,8 @@ WriterFails served.WriteFailed old new = HasFailed old new
 WriterFails served.NoMemory old new = (new ≡ old) ⊎ HasFailed old new
 WriterFails _ old new = new ≡ old
 
--- the end was met: nothing is left, or so many pieces were read, each of some bytes, as can be counted
+-- the end was met: nothing is left, or so many pieces were read, each of some bytes, as can be
+-- counted
 abbrev pub MeetsEnd : Served → Option (List ℕ) → List ℕ → Type 0
 MeetsEnd served.Ended left read = IsAtEnd left ⊎ (2 ^ 64 ≤ length read + 1)
 MeetsEnd _ left read = Unit {0}
@@ -76,8 +78,8 @@ MeetsEnd _ left read = Unit {0}
 abbrev pub bytes_told : List Entry → List Exchange → List ℕ
 bytes_told entries exchanges = spelled (told_in entries exchanges)
 
--- What went on: each step follows from those before it, their stream is what was read, and the requests among
--- them led the door from one state to the other.
+-- What went on: each step follows from those before it, their stream is what was read, and the
+-- requests among them led the door from one state to the other.
 pub record Course {D : Type 0} (answers : Answers D) (entries : List Entry) (old new : D)
     (read : List ℕ) (exchanges : List Exchange) : Type 0 where
   pub follow : AllFollow entries (steps_of exchanges)
@@ -99,8 +101,8 @@ pub record IsServed {D : Type 0} (answers : Answers D) (entries : List Entry) (o
   pub stops : StopsAt result (steps_of exchanges)
   pub told : IsTold result before after (bytes_told entries exchanges)
 
--- What was read is the front of what there was to read, and it was served and answered until the connection
--- ended so; at the end of input nothing is left.
+-- What was read is the front of what there was to read, and it was served and answered until the
+-- connection ended so; at the end of input nothing is left.
 pub record ServesConnection {D : Type 0} (answers : Answers D) (entries : List Entry)
     (result : Served) (unread left : Option (List ℕ)) (old new : D)
     (before after : Written) : Type 0 where

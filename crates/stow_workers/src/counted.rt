@@ -8,9 +8,7 @@ use crate::sink::Sink;
 use crate::source::Source;
 use std::io;
 use std::io::{Error, ErrorKind, Read, Write};
-
-/// The most failures that are counted.
-const LIMIT: u64 = 9_223_372_036_854_775_807;
+use stow_bytes::limits::NUMBER_LIMIT;
 
 /// A reader or a writer that is lent, how many of its calls have failed, and why the last of these did. A call that was
 /// interrupted is made again, and is no failure.
@@ -55,7 +53,7 @@ impl<'a, T> Counted<'a, T> {
         ensures reason { last_of self.new ≡ Some result }
         ensures same { result ≡ error }
     {
-        self.failures = self.failures.saturating_add(1).min(LIMIT);
+        self.failures = self.failures.saturating_add(1).min(NUMBER_LIMIT);
         self.last = Some(error);
         error
     }

@@ -75,7 +75,8 @@ fn add<A: Allocator + Copy>(
 ) -> Result<(), AllocError>
     ensures { let old = map version_of_buf versions.old.items in
         let added = version_at (message_of message.entry) value.now in
-        OnOk result (map version_of_buf versions.new.items ≡ (if is_added then old ++ added ∷ [] else old)) }
+        OnOk result (map version_of_buf versions.new.items
+        ≡ (if is_added then old ++ added ∷ [] else old)) }
 {
     if is_added {
         versions.push(VersionBuf {
@@ -102,7 +103,8 @@ fn copy<A: Allocator + Copy>(
 /// Whether a message is the newest of its key, or a pin shows it.
 fn keeps(pins: &[Pin], newer: Option<Message<'_>>, message: Message<'_>) -> bool
     ensures { result
-        ≡ is_kept (pins_of pins.now) (option_map message_of newer.entry) (message_of message.entry) }
+        ≡ is_kept (pins_of pins.now) (option_map message_of newer.entry)
+        (message_of message.entry) }
 {
     match newer {
         None => true,
@@ -122,7 +124,8 @@ fn pin_within(pins: &[Pin], tenant: u32, from: u64, to: u64) -> bool
 
 fn any_within(pins: &[Pin], tenant: u32, from: u64, to: u64) -> bool
     ensures { result
-        ≡ list_any (λ p. (p.tenant == tenant) && (nat_le from p.number && nat_lt p.number to)) pins.now }
+        ≡ list_any (λ p. (p.tenant == tenant)
+        && (nat_le from p.number && nat_lt p.number to)) pins.now }
 {
     pins.iter().any(|p| p.tenant == tenant && (from <= p.number && p.number < to))
 }

@@ -67,7 +67,8 @@ pub fn with_messages<'a, A: Allocator + Copy>(
 ) -> Result<Vec<Message<'a>, A>, AllocError>
     requires { MessagesRise (map message_of first.items) }
     ensures { IfOk result (λ ms. map message_of ms.items
-        ≡ in_order (with_all (set_of (map message_of first.entry.items)) (map message_of more.now))) }
+        ≡ in_order (with_all (set_of (map message_of first.entry.items))
+        (map message_of more.now))) }
 {
     let mut sorted = first;
     let mut left = more.len();

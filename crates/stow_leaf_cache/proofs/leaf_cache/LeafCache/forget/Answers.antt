@@ -9,4 +9,4 @@ returns-clause-leaves g c =
     ∙ ap (λ cache. leaves_without c.args.low_fence.now cache.leaves) c.self.view_is
 
 pub returns-clause-gone : goal.returns-clause-gone
-returns-clause-gone g c = gone-rows_under c.args.low_fence.now c.self.inside.leaves c.pop-rows.new.self _ c.len-held.ensures.valid.0 c.pop-rows.ensures.entries
+returns-clause-gone g c = gone-rows_under c.args.low_fence.now c.self.inside.leaves c.pop-rows.new.self _ c.len-known.ensures.valid.0 c.pop-rows.ensures.entries

@@ -8,7 +8,7 @@ pub returns-in-Ok-clause-leaves : goal.returns-in-Ok-clause-leaves
 returns-in-Ok-clause-leaves g c =
     let some : 1 ≤ c.self.inside.limit = subst (λ cache. 1 ≤ cache.limit) (sym c.self.view_is) c.requires in
     let cap = limited c.self.inside.limit c.self.inside.leaves some c.self.invariant in
-    let valid = c.len-held.ensures.valid in
+    let valid = c.len-known.ensures.valid in
     subst (λ cache. IsOffered cache c.args.key.items c.args.rows (leaves_of c.put.new.self)) c.self.view_is
     (inl (ap leaves_of c.in-Ok.ensures.entries ∙ kept-put c.self.inside.leaves.cap c.args.key c.args.rows c.self.inside.leaves.entries valid.1 valid.2
     ∙ ap (λ limit. leaves_kept limit c.args.key.items c.args.rows (leaves_of c.self.inside.leaves)) cap))

@@ -1,5 +1,5 @@
 use Rattle.std.proofs.lemmas.Grind.{common_steps}
-use Rattle.std.proofs.Common.{◌≡◌, ◌≢◌, ◌<◌, length, map, ap, sym, ◌∙◌, rules, arith}
+use Rattle.std.proofs.Common.{◌≡◌, ◌≢◌, ◌<◌, length, map, sym, ◌∙◌, rules, arith}
 use mathlib.Core.Bool.{false≢true}
 use Rattle.stow_login.specs.Entries.{entry_of}
 use Rattle.stow_login.proofs.Same.{take_same, differ_at, mapped_at, length_of_map}
