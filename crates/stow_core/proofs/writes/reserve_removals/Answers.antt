@@ -6,7 +6,7 @@ use Rattle.stow_tree_model.specs.Agreement.{TenantPins}
 use Rattle.stow_tree.specs.Putting.{CanReserve, IsReserved}
 use Rattle.stow_tree.specs.TreeState.{tree_messages, AgreeUnder}
 use Rattle.stow_tree_model.specs.TreeMessage.{message_of}
-use Rattle.stow_core.proofs.Stores.{take_all}
+use Rattle.stow_core.proofs.Tenancies.{take_all}
 use Rattle.stow_core.proofs.Room.{message_at}
 use Rattle.stow_core.proofs.writes.reserve_removals.Goals as goal
 
