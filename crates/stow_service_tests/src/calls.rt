@@ -3,4 +3,5 @@
 mod alone;
 mod held;
 mod refusals;
+mod snapshots;
 mod worked;
