@@ -5,7 +5,7 @@ use Rattle.std.proofs.lemmas.List.{drop_more}
 use Rattle.std.proofs.Math.Nat.{div-mul-le_self, lt-div-mul-add, div-lt_iff_lt-mul, le-div_iff_mul-le, div-le_self, div-le_of_le-mul}
 use Rattle.stow_node.specs.declared.room.Room.{Room}
 use Rattle.stow_node.specs.declared.shape.Shape.{Shape}
-use Rattle.stow_node.specs.Rooms.{IsRoom, groups, nodes_needed, levels_needed, places_needed}
+use Rattle.stow_node.specs.Rooms.{IsRoom, groups, IsLast, nodes_needed, levels_needed, places_needed}
 
 -- ---- groups
 
@@ -57,13 +57,6 @@ groups_halve f c four =
         omega (arith, on, e, h, l)
 
 -- ---- the last of several groups
-
-pub record IsLast (f w k s : ℕ) : Type 0 where
-  pub some : 1 ≤ s
-  pub few : s ≤ f
-  pub less : s < w
-  pub rest_some : k - 1 ≤ w - s
-  pub rest_hold : w - s ≤ (k - 1) * f
 
 pub last_group : (f w k : ℕ) → 2 ≤ k → k ≤ w → w ≤ k * f → IsLast f w k (w / k)
 last_group f w k two many hold = record {

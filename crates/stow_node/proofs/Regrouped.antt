@@ -1,5 +1,5 @@
 -- A node that is cut into several, and a root above several.
-use Rattle.std.proofs.Common.{suc, ◌≡◌, ℕ, ◌+◌, ◌-◌, ◌*◌, ◌/◌, ◌<◌, ◌≤◌, List, [], ◌∷◌, ◌++◌, length, refl, sym, ap, ◌∙◌, subst, arith, append_assoc, append-nil, true}
+use Rattle.std.proofs.Common.{suc, ◌≡◌, ℕ, ◌+◌, ◌-◌, ◌*◌, ◌<◌, ◌≤◌, List, [], ◌∷◌, ◌++◌, length, refl, sym, ap, ◌∙◌, subst, arith, append_assoc, append-nil, true}
 use Rattle.std.specs.List.{AllByRecursion}
 use Rattle.std.specs.declared.vec.Vec.{Vec}
 use Rattle.std.proofs.lemmas.List.Sums.{sum_by-cons}
@@ -19,7 +19,7 @@ use Rattle.stow_node.specs.declared.child.Child.TheVariants as in_child
 use Rattle.stow_node.specs.declared.node.Node.TheInside.{Inside}
 use Rattle.stow_node.specs.declared.room.Room.{Room}
 use Rattle.stow_node.specs.declared.shape.Shape.{Shape}
-use Rattle.stow_node.specs.Rooms.{AreShells, groups}
+use Rattle.stow_node.specs.Rooms.{AreShells, groups, IsLast}
 use Rattle.std.specs.Vec.{vec_capacity}
 use Rattle.stow_node.specs.Flushes.{MeanTheSame, Keeps}
 use Rattle.stow_node.specs.Halves.{IsLike, AreHalves}
@@ -29,7 +29,7 @@ use Rattle.stow_node.specs.Parts.{Part, low_or, IsTile, TiledTo, messages_in, le
 use Rattle.stow_node.specs.Regroups.{nodes, run_parts, run_messages, TakePlace, AreFew, Grows, Stands, Steps, AreBehind}
 use Rattle.stow_node.specs.Subtree.{Subtree, buffered, messages_of}
 use Rattle.stow_node.proofs.Cut.{row_out, below_end}
-use Rattle.stow_node.proofs.Groups.{groups_few, groups_hold, IsLast, last_group}
+use Rattle.stow_node.proofs.Groups.{groups_few, groups_hold}
 use Rattle.stow_node.proofs.Lowered.{rows_by_part}
 use Rattle.stow_node.proofs.Over.{same_pointwise, same_then}
 use Rattle.stow_node.proofs.Raised.{row_fences, first_of_row, above_leaves}
@@ -170,10 +170,10 @@ shells_now old now room room' left rest s two h =
 pub no_rest : (n : ℕ) (shape : Shape) (shells : List Shape) → AreShells n shape shells → AreShells (n + 0) shape shells
 no_rest n shape shells h = let e : n ≡ n + 0 = omega arith in subst (λ k. AreShells k shape shells) e h
 
-pub settling_cut : {A : Type 0} (old now lower upper : Subtree) (room room' room'' : Room A) (left : ℕ) → IsSettling old room now room' left → 2 ≤ left → AreHalves now lower upper → lower.width ≡ now.width - now.width / left
+pub settling_cut : {A : Type 0} (old now lower upper : Subtree) (room room' room'' : Room A) (left share : ℕ) → IsSettling old room now room' left → 2 ≤ left → IsLast old.shape.fan_out now.width left share → AreHalves now lower upper → lower.width ≡ now.width - share
     → room''.came.items ≡ in_child.Node upper ∷ room'.came.items → vec_capacity room'.came ≤ vec_capacity room''.came → room''.wides ≡ room'.wides → ((nodes : ℕ) → AreShells (suc nodes) old.shape room'.shells.items → AreShells nodes old.shape room''.shells.items)
     → IsSettling old room lower room'' (left - 1)
-settling_cut {A} old now lower upper room room' room'' left s two h at came cap wides shells = record {
+settling_cut {A} old now lower upper room room' room'' left share s two last h at came cap wides shells = record {
   settling = λ pins. subst (Settling pins old lower) (sym came) (settling_next pins old now lower upper room'.came.items (s.settling pins) h fits);
   shape = h.lower_like.shape ∙ s.shape;
   some = omega (arith, two);
@@ -187,9 +187,6 @@ settling_cut {A} old now lower upper room room' room'' left s two h at came cap 
       subst (λ n. AreShells n old.shape room''.shells.items) e (shells ((left - 2) + rest) (shells_now old now room room' left rest s two k));
 }
   where
-    last : IsLast old.shape.fan_out now.width left (now.width / left)
-    last = last_group old.shape.fan_out now.width left two s.few s.hold
-
     fits : upper.width ≤ upper.shape.fan_out
     fits =
         let w = h.widths in

@@ -24,7 +24,7 @@ ghost use Rattle.stow_node.specs.Ways.{Goes, StepsDown};
 use crate::absorbing::merged;
 use crate::child::{Child, high_after, top_key};
 use crate::coming::{moved_from, take_in};
-use crate::counting::{groups, room_for};
+use crate::counting::{groups, room_for, share_of_last};
 use crate::fence::Fence;
 use crate::moving::{bytes_for, hand_down, heaviest};
 use crate::room::Room;
@@ -125,9 +125,9 @@ impl<A: Allocator + Copy> Node<A> {
         }
     }
 
-    /// Cuts it, where it has too many children, into as few nodes as hold them, evenly. It keeps the lowest; the others come
-    /// behind it. It asks for no memory.
-    fn settle(&mut self, room: &mut Room<A>)
+    /// Cuts it, where it has too many children, into as few nodes as hold them, evenly, or full ones first. It keeps the
+    /// lowest; the others come behind it. It asks for no memory.
+    fn settle(&mut self, room: &mut Room<A>, full: bool)
         requires fan_out { 1 ≤ self.old.shape.fan_out }
         requires none { room.old.came.items ≡ [] }
         requires came { groups self.old.shape.fan_out self.old.width
@@ -148,7 +148,7 @@ impl<A: Allocator + Copy> Node<A> {
         let mut groups = groups(fan_out, self.width());
         while groups > 1 {
             let width = self.width();
-            let at = width - width / groups;
+            let at = width - share_of_last(fan_out, width, groups, full);
             let node = self.cut_off(at, room.shell());
             room.bring(node);
             groups -= 1;
@@ -191,10 +191,11 @@ impl<A: Allocator + Copy> Node<A> {
             cache,
         )?;
         let mut room = room_for(alloc, self.shape, fresh.len(), above)?;
+        let full = self.children.len() - index == 1;
         let high = high_after(self.children.as_slice(), index);
         self.buffer.drop_range(self.children[index].low(), high);
         self.children = fresh;
-        self.settle(&mut room);
+        self.settle(&mut room, full);
         Ok(room)
     }
 }
@@ -235,6 +236,7 @@ impl<A: Allocator + Copy> Node<A> {
         let index = heaviest(self.children.as_slice(), &self.buffer);
         let bytes = bytes_for(self.children.as_slice(), index, &self.buffer);
         let ample = self.shape.ample(bytes);
+        let full = self.children.len() - index == 1;
         above.insert(0, self.children.len())?;
         match &mut self.children[index] {
             Child::Leaf(_) => unreachable!(),
@@ -242,7 +244,7 @@ impl<A: Allocator + Copy> Node<A> {
                 if !node.makes_room(bytes, ample, spare) {
                     let mut room = node.step_below(alloc, pins, spare, cache, above)?;
                     take_in(&mut self.children, index, &mut room);
-                    self.settle(&mut room);
+                    self.settle(&mut room, full);
                     return Ok(room);
                 }
             }
@@ -279,7 +281,7 @@ impl<A: Allocator + Copy> Node<A> {
         self.children.push(Child::Node(lower)).unwrap();
         take_in(&mut self.children, 0, room);
         self.height += 1;
-        self.settle(room);
+        self.settle(room, true);
     }
 
     /// One step of a root's messages towards the leaves (`step_below`). Where nodes come behind it, it becomes higher. Where

@@ -50,7 +50,7 @@ has_room : (g : given.Over) (t : ℕ) (c : In_ok-room-in-Node g t) → IsNext c.
 has_room g t c n =
     let below : IsBelow c.self.inside.height c.self.inside.shape (in_child.Node c.in-Node.node) = level_at c.self.inside.height c.self.inside.shape c.self.inside.children.items c.heaviest-index.result (in_child.Node c.in-Node.node) c.self.invariant.level n.at in
     let own : c.makes_room.new.self.shape ≡ c.self.inside.shape = (squeezed_same c.in-Node.node c.makes_room.new.self c.makes_room.ensures.same).0.shape ∙ below.same.0 in
-    let len : c.len.result ≡ length c.self.inside.children.items = let e = c.len.ensures in let o = c.self.inside.children.ok.0 in omega (arith, e, o) in
+    let len : c.len-2.result ≡ length c.self.inside.children.items = let e = c.len-2.ensures in let o = c.self.inside.children.ok.0 in omega (arith, e, o) in
     subst (λ (s : Shape). HasRoom s (length c.self.inside.children.items ∷ c.args.above.now.items) c.in_ok-room-in-Node.room) own
     (subst (λ n. HasRoom c.makes_room.new.self.shape (n ∷ c.args.above.now.items) c.in_ok-room-in-Node.room) len
     (subst (λ l. HasRoom c.makes_room.new.self.shape l c.in_ok-room-in-Node.room) c.in_ok-insert.ensures.items c.in_ok-room-in-Node.ensures.room))
@@ -107,6 +107,15 @@ bytes_for-bytes-requires g t c =
     let a = ap length c.as_slice-2.ensures.value in
     let b = ap length c.as_slice-3.ensures.value in
     omega (arith, i, m, a, b)
+
+pub overflow_sub-full : goal.overflow_sub-full
+overflow_sub-full g t c =
+    let i = c.heaviest-index.ensures.inside in
+    let m = length-map c.as_slice-2.result.now part_of in
+    let a = ap length c.as_slice-2.ensures.value in
+    let o = c.self.inside.children.ok.0 in
+    let n = c.len.ensures in
+    omega (arith, i, m, a, o, n)
 
 pub insert-requires : goal.insert-requires
 insert-requires g t c = omega arith

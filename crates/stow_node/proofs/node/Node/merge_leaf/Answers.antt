@@ -66,6 +66,15 @@ room_for-requires-clause-fan_out g c = subst (λ (s : Subtree). 1 ≤ s.shape.fa
 pub same-self-in_err-room : goal.same-self-in_err-room
 same-self-in_err-room g c = refl
 
+pub overflow_sub-full : goal.overflow_sub-full
+overflow_sub-full g c =
+    let i = c.heaviest-index.ensures.inside in
+    let m = length-map c.as_slice.result.now part_of in
+    let a = ap length c.as_slice.ensures.value in
+    let o = c.self.inside.children.ok.0 in
+    let n = c.len-2.ensures in
+    omega (arith, i, m, a, o, n)
+
 pub high_after-high-requires : goal.high_after-high-requires
 high_after-high-requires g c =
     let i = c.heaviest-index.ensures.inside in

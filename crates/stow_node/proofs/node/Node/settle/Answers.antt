@@ -1,8 +1,7 @@
-use Rattle.std.proofs.Common.{◌≡◌, ◌∷◌, ◌+◌, ◌-◌, ◌/◌, ◌≤◌, sym, ap, ◌∙◌, subst, arith}
+use Rattle.std.proofs.Common.{◌≡◌, ◌∷◌, ◌+◌, ◌-◌, ◌≤◌, sym, ap, ◌∙◌, subst, arith}
 use Rattle.stow_node.specs.declared.shape.Shape.{Shape}
 use Rattle.stow_node.specs.Rooms.{AreShells, groups}
 use Rattle.stow_node.specs.declared.child.Child.TheVariants as in_child
-use Rattle.stow_node.proofs.Groups.{IsLast, last_group}
 use Rattle.stow_node.proofs.Regrouped.{settling_begins, shells_now, no_rest, settling_cut, settling_ends}
 use Rattle.stow_node.proofs.node.Node.settle.Goals as goal
 
@@ -14,10 +13,11 @@ loop-groups-init g c =
 
 pub cut_off-node-requires-clause-inside : goal.cut_off-node-requires-clause-inside
 cut_off-node-requires-clause-inside g c =
-    let s = c.loop-groups.invariant in
-    let l : IsLast c.args.self.now.shape.fan_out c.loop-groups.self.width c.loop-groups.groups (c.loop-groups.self.width / c.loop-groups.groups) =
-    last_group c.args.self.now.shape.fan_out c.loop-groups.self.width c.loop-groups.groups c.loop-groups-test.true s.few s.hold in
-    rw c.width-width.ensures.width (let a = l.some in let b = l.less in (omega (arith, a, b), omega (arith, a, b)))
+    let l = c.share_of_last.ensures.last in
+    let w = c.width-width.ensures.width in
+    let a = l.some in
+    let b = l.less in
+    (omega (arith, a, b), omega (arith, a, b, w))
 
 pub cut_off-node-requires-clause-shape : goal.cut_off-node-requires-clause-shape
 cut_off-node-requires-clause-shape g c =
@@ -26,8 +26,9 @@ cut_off-node-requires-clause-shape g c =
 
 pub loop-groups-preserved : goal.loop-groups-preserved
 loop-groups-preserved g c =
-    settling_cut c.args.self.now c.loop-groups.self c.cut_off-node.new.self c.cut_off-node.result c.args.room.now c.loop-groups.room c.bring.new.self c.loop-groups.groups c.loop-groups.invariant c.loop-groups-test.true c.cut_off-node.ensures.halves
-    (c.cut_off-node.ensures.width ∙ ap (λ w. w - w / c.loop-groups.groups) c.width-width.ensures.width)
+    settling_cut c.args.self.now c.loop-groups.self c.cut_off-node.new.self c.cut_off-node.result c.args.room.now c.loop-groups.room c.bring.new.self c.loop-groups.groups c.share_of_last.result c.loop-groups.invariant c.loop-groups-test.true
+    (rw (← (ap (λ (s : Shape). s.fan_out) c.shape-fan_out.ensures.shape), ← c.width-width.ensures.width) c.share_of_last.ensures.last) c.cut_off-node.ensures.halves
+    (c.cut_off-node.ensures.width ∙ ap (λ w. w - c.share_of_last.result) c.width-width.ensures.width)
     (c.bring.ensures.came ∙ (λ i. in_child.Node c.cut_off-node.result ∷ (c.shell.ensures.came i).items))
     (let cap = c.bring.ensures.capacity in rw c.shell.ensures.came at cap)
     (c.bring.ensures.wides ∙ c.shell.ensures.wides)
