@@ -9,7 +9,10 @@ use Rattle.std.proofs.lemmas.Bool.{cases_lt, cond-true, cond-false, eq-eqb, ne_e
 use Rattle.std.proofs.lemmas.Int.{to_z_pos}
 use Rattle.std.specs.Option.{unwrap_or}
 use Rattle.stow_bytes.specs.Limits.{number_limit}
-use Rattle.stow_commands.specs.Outcomes.{IsAppendReply}
+use Rattle.stow_commands.specs.Outcomes.{IsAppendReply, IsOutcome}
+use Rattle.stow_commands.specs.declared.outcome.Outcome as found
+use Rattle.stow_commands.specs.declared.outcome_fault.OutcomeFault.{OutcomeFault}
+use Rattle.stow_commands.specs.declared.outcome_fault.OutcomeFault.TheVariants as in_fault
 use Rattle.stow_model.specs.declared.refusal.Refusal.{Refusal}
 use Rattle.stow_model.specs.declared.refusal.Refusal.TheVariants as refusal
 use Rattle.stow_model.specs.declared.reply.Reply as coded
@@ -18,7 +21,7 @@ use Rattle.stow_model.specs.Reply as reply
 use Rattle.stow_model.specs.Command.{Command, Change, Update, Append, Understood, Refused, reading}
 use Rattle.stow_model.specs.Login.{Entry, IsTenant}
 use Rattle.stow_model.specs.declared.reply.Reply.TheVariants as in_reply
-use Rattle.stow_model.specs.Store.{Store, Answer, Request, Asked, counted, served, answer, answer_to, answer_with, can_take, take_answer, del_answer, change_answer, append_outcome, written, refused, exceeds_quota, Written, Unchanged, Failed, outcome, value_in, rows_without}
+use Rattle.stow_model.specs.Store.{Store, Answer, Outcome, Request, Asked, counted, served, answer, answer_to, answer_with, can_take, take_answer, del_answer, change_answer, append_outcome, written, refused, exceeds_quota, Written, Unchanged, Failed, outcome, value_in, rows_without}
 use Rattle.stow_ledger.specs.Accounts.{IsGivenBy, is_allowed}
 use Rattle.stow_ledger.specs.Shown.{charge_of, with_row}
 use Rattle.stow_core.specs.Tenancies.{TenancyState, tenancy_at}
@@ -193,6 +196,10 @@ appended store t packed_key key suffix content_bytes r is same told =
   where
     own : own_key packed_key ≡ key
     own = ap own_key is ∙ own_key-packed t key
+
+-- the outcome that the code told as a refusal
+pub told_refused : {A : Type 0} (result : Result (found.Outcome A) OutcomeFault) (why : OutcomeFault) (r : Refusal) (o : Outcome) → result ≡ Err why → why ≡ in_fault.Refused r → IsOutcome result o → o ≡ Failed r
+told_refused {A = A} result why r o is because told = subst (λ w. IsOutcome {A = A} (Err w) o) because (subst (λ x. IsOutcome {A = A} x o) is told)
 
 -- the answer to a change that writes a whole value
 pub changed_whole : {A : Type 0} (store : Store) (t : ℕ) (packed_key key value : List ℕ) (update : Update) (r : coded.Reply A) → packed_key ≡ packed t key → outcome update (value_in (rows.get store.rows key)) ≡ Written value (reply_of r)
