@@ -9,16 +9,19 @@ use Rattle.std.proofs.lemmas.Bool.{cases_lt, cond-true, cond-false, eq-eqb, ne_e
 use Rattle.std.proofs.lemmas.Int.{to_z_pos}
 use Rattle.std.specs.Option.{unwrap_or}
 use Rattle.stow_bytes.specs.Limits.{number_limit}
-use Rattle.stow_commands.specs.Outcomes.{IsAppendReply}
+use Rattle.stow_commands.specs.Outcomes.{IsAppendReply, IsOutcome}
+use Rattle.stow_commands.specs.declared.outcome.Outcome as found
+use Rattle.stow_commands.specs.declared.outcome_fault.OutcomeFault.{OutcomeFault}
+use Rattle.stow_commands.specs.declared.outcome_fault.OutcomeFault.TheVariants as in_fault
 use Rattle.stow_model.specs.declared.refusal.Refusal.{Refusal}
 use Rattle.stow_model.specs.declared.refusal.Refusal.TheVariants as refusal
 use Rattle.stow_model.specs.declared.reply.Reply as coded
 use Rattle.stow_model.specs.Reply.{Reply, reply_of}
 use Rattle.stow_model.specs.Reply as reply
-use Rattle.stow_model.specs.Command.{Command, Change, Append, Understood, Refused, reading}
+use Rattle.stow_model.specs.Command.{Command, Change, Update, Append, Understood, Refused, reading}
 use Rattle.stow_model.specs.Login.{Entry, IsTenant}
 use Rattle.stow_model.specs.declared.reply.Reply.TheVariants as in_reply
-use Rattle.stow_model.specs.Store.{Store, Answer, Request, Asked, counted, served, answer, answer_to, answer_with, can_take, take_answer, del_answer, change_answer, append_outcome, written, refused, exceeds_quota, Written, Failed, outcome, value_in, rows_without}
+use Rattle.stow_model.specs.Store.{Store, Answer, Outcome, Request, Asked, counted, served, answer, answer_to, answer_with, can_take, take_answer, del_answer, change_answer, append_outcome, written, refused, exceeds_quota, Written, Unchanged, Failed, outcome, value_in, rows_without}
 use Rattle.stow_ledger.specs.Accounts.{IsGivenBy, is_allowed}
 use Rattle.stow_ledger.specs.Shown.{charge_of, with_row}
 use Rattle.stow_core.specs.Tenancies.{TenancyState, tenancy_at}
@@ -194,6 +197,23 @@ appended store t packed_key key suffix content_bytes r is same told =
     own : own_key packed_key ≡ key
     own = ap own_key is ∙ own_key-packed t key
 
+-- the outcome that the code told as a refusal
+pub told_refused : {A : Type 0} (result : Result (found.Outcome A) OutcomeFault) (why : OutcomeFault) (r : Refusal) (o : Outcome) → result ≡ Err why → why ≡ in_fault.Refused r → IsOutcome result o → o ≡ Failed r
+told_refused {A = A} result why r o is because told = subst (λ w. IsOutcome {A = A} (Err w) o) because (subst (λ x. IsOutcome {A = A} x o) is told)
+
+-- the answer to a change that writes a whole value
+pub changed_whole : {A : Type 0} (store : Store) (t : ℕ) (packed_key key value : List ℕ) (update : Update) (r : coded.Reply A) → packed_key ≡ packed t key → outcome update (value_in (rows.get store.rows key)) ≡ Written value (reply_of r)
+    → writes_row {A = A} packed_key (content.Whole value) (reply_of r) store ≡ serves (Change key update) store
+changed_whole store t packed_key key value update r is told =
+    (λ i. change_answer (counted store) ((ap own_key is ∙ own_key-packed t key) i) (Written value (reply_of r)))
+    ∙ ap (change_answer (counted store) key) (sym told)
+
+pub changed_nothing : {A : Type 0} (store : Store) (key : List ℕ) (update : Update) (r : coded.Reply A) → outcome update (value_in (rows.get store.rows key)) ≡ Unchanged (reply_of r) → ◌≡◌ {A = Answer} (counted store, reply_of r) (serves (Change key update) store)
+changed_nothing store key update r told = ap (change_answer (counted store) key) (sym told)
+
+pub change_refused : (store : Store) (key : List ℕ) (update : Update) (r : Refusal) → outcome update (value_in (rows.get store.rows key)) ≡ Failed r → ◌≡◌ {A = Answer} (counted store, reply.Error r) (serves (Change key update) store)
+change_refused store key update r told = ap (change_answer (counted store) key) (sym told)
+
 pub append_refused : (store : Store) (key suffix : List ℕ) (r : Refusal) → append_outcome suffix (value_in (rows.get store.rows key)) ≡ Failed r
     → ◌≡◌ {A = Answer} (counted store, reply.Error r) (serves (Change key (Append suffix)) store)
 unfolding outcome
@@ -242,14 +262,14 @@ pub called : {A : Type 0} (old mid new : CoreState) (t : ℕ) (words : List (Lis
     → (IsTenant mid.entries p.tenant → Moves mid p.tenant (effect p (store_of mid p.tenant)) new) → ((IsTenant mid.entries p.tenant → ⊥) → new ≡ mid) → Calls old t words told new
 called {A = A} old mid new t words p told keeps same says own stranger carried unmoved = record {
   own = λ is. answered old mid new t words (effect p (store_of old t)) told keeps (moves is) ((λ i. (effect p (store_of old t), says i)) ∙ own is);
-  stranger = λ no. record { told_is = says ∙ (stranger no).0; unchanged = stays no };
+  stranger = λ unknown. record { told_is = says ∙ (stranger unknown).0; unchanged = stays unknown };
   others = λ other ne. ⊎_elim
       (λ (is : IsTenant old.entries t). (moves is).others other ne ∙ keeps.stores other)
-      (λ (no : IsTenant old.entries t → ⊥). ap (λ c. store_of c other) (stays no))
+      (λ (unknown : IsTenant old.entries t → ⊥). ap (λ c. store_of c other) (stays unknown))
       (tenant_cases old.entries t);
   entries = ⊎_elim
       (λ (is : IsTenant old.entries t). (moves is).entries ∙ keeps.entries)
-      (λ (no : IsTenant old.entries t → ⊥). ap (λ (c : CoreState). c.entries) (stays no))
+      (λ (unknown : IsTenant old.entries t → ⊥). ap (λ (c : CoreState). c.entries) (stays unknown))
       (tenant_cases old.entries t);
 }
   where
@@ -263,14 +283,14 @@ called {A = A} old mid new t words p told keeps same says own stranger carried u
     moves is = subst (λ s. Moves mid t (effect p s) new) (keeps.stores t) (subst (λ u. Moves mid u (effect p (store_of mid u)) new) same (carried (to_mid is)))
 
     stays : (IsTenant old.entries t → ⊥) → new ≡ old
-    stays no = unmoved (λ is. no (from_mid is)) ∙ (stranger no).1
+    stays unknown = unmoved (λ is. unknown (from_mid is)) ∙ (stranger unknown).1
 
 -- a call that was refused memory; of whom is no tenant's none is
 pub starved : (old new : CoreState) (t : ℕ) (words : List (List ℕ)) → (IsTenant old.entries t → IsIndex t) → (IsTenant old.entries t → store_of old t ≡ view (shared_of old) t) → Keeps old new → ((IsTenant old.entries t → ⊥) → ⊥)
     → Calls old t words (reply.Error refusal.OutOfMemory) new
 starved old new t words index seen keeps some = record {
   own = λ is. out_of_memory old new t words (index is) (seen is) keeps;
-  stranger = λ no. absurd (some no);
+  stranger = λ unknown. absurd (some unknown);
   others = λ other ne. keeps.stores other;
   entries = keeps.entries;
 }

@@ -111,3 +111,6 @@ keeps_then a b c first second = record {
   entries = second.entries ∙ first.entries;
   gives_way = record { sound = first.gives_way.sound; step = maintenance_chains (shared_of a) (shared_of b) (shared_of c) first.gives_way.step second.gives_way.step };
 }
+
+pub kept_sound : (a b : CoreState) → Keeps a b → IsSound (shared_of b)
+kept_sound a b keeps = step_sound (shared_of a) (shared_of b) Maintenance None keeps.gives_way.sound keeps.gives_way.step

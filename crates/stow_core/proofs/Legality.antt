@@ -18,7 +18,7 @@ use Rattle.stow_model.specs.Command
 use Rattle.stow_model.specs.Command.{Command, Ping, Echo, Get, GetMany, Exists, Length, Range, Del, TakeSnapshot, ListSnapshots, DropSnapshot, GetInSnapshot, RangeInSnapshot, ReportUsage, Change, Update, Set, Append, Add, Condition, Always, Reading, Understood, Refused, Entry, reading, reading_among, commands, with_keys, is_long_key, is_named, of_text, of_key, of_keys, reading_ping, reading_range, reading_range_count, reading_set, reading_set_if, condition_named, reading_append, reading_add, reading_add_number, reading_del, of_nothing, reading_drop_id, reading_drop, reading_get_in_id, reading_get_in, reading_range_in_numbers, reading_range_in, reading_snapshot, snapshot_commands}
 use Rattle.stow_model.specs.Store.{Outcome, Written, Unchanged, Failed, outcome, if_fits, allows, set_outcome, append_outcome, sum_outcome, stored_number}
 use Rattle.std.specs.Prelude.{Ok}
-use Rattle.stow_commands.specs.Outcomes.{IsOutcome}
+use Rattle.stow_commands.specs.Outcomes.{IsOutcome, IsAppendReply}
 use Rattle.stow_commands.specs.declared.outcome.Outcome as coded
 use Rattle.stow_commands.specs.declared.outcome.Outcome.TheVariants as in_outcome
 use Rattle.stow_model.specs.declared.reply.Reply as told
@@ -283,3 +283,8 @@ written_short update present value r e = subst IsShortOutcome e (short_outcome u
 -- the same of what the code found
 pub found_short : {A : Type 0} (update : Update) (present : Option (List ℕ)) (found : coded.Outcome A) (value : List ℕ) (r : told.Reply A) → found ≡ in_outcome.Written value r → IsOutcome (Ok found) (outcome update present) → length value ≤ value_limit
 found_short update present found value r is h = written_short update present value (reply_of r) (subst (λ o. IsOutcome (Ok o) (outcome update present)) is h)
+
+-- and what an APPEND makes of the row
+pub appended_short : {A : Type 0} (suffix : List ℕ) (present : Option (List ℕ)) (r : told.Reply A) → IsAppendReply (Ok r) suffix present → length (unwrap_or present [] ++ suffix) ≤ value_limit
+unfolding outcome
+appended_short suffix present r e = written_short (Append suffix) present (unwrap_or present [] ++ suffix) (reply_of r) e

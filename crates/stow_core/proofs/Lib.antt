@@ -12,6 +12,7 @@ pub mod Copies
 pub mod Charges
 pub mod Drops
 pub mod Live
+pub mod Used
 pub mod Room
 pub mod Reserving
 pub mod Within
@@ -19,4 +20,6 @@ pub mod Told
 pub mod Taking
 pub mod Legality
 pub mod Answered
+pub mod Deletions
+pub mod Shown
 pub mod Sends

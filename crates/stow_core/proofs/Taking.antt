@@ -60,7 +60,7 @@ pub rows_without-push : (keys : List (List ℕ)) (k : List ℕ) (rows : Rows) �
 rows_without-push [] k rows = refl
 rows_without-push (key ∷ keys) k rows = rows_without-push keys k (map.remove rows key)
 
-map-push : (keys : List (List ℕ)) (k : List ℕ) → map own_key (keys ++ k ∷ []) ≡ map own_key keys ++ own_key k ∷ []
+pub map-push : (keys : List (List ℕ)) (k : List ℕ) → map own_key (keys ++ k ∷ []) ≡ map own_key keys ++ own_key k ∷ []
 map-push [] k = refl
 map-push (key ∷ keys) k = ap (λ l. own_key key ∷ l) (map-push keys k)
 

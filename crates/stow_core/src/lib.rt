@@ -143,6 +143,7 @@ impl<A: Allocator + Copy> Core<A> {
     pub fn call(&mut self, alloc: A, tenant: u32, words: &Words<A>) -> Reply<A>
         ensures { Calls self.old tenant words.now (reply_of result) self.new }
     {
+        prove!(self.tenancies.len() < 65_536);
         match self.prepare(alloc, tenant, words) {
             Ok(prepared) => self.commit(prepared),
             Err(_) => Reply::Error(Refusal::OutOfMemory),

@@ -1,16 +1,21 @@
 //! Snapshots: taking and dropping them, and what they show.
-ghost use Rattle.std.specs.Prelude.{◌≡◌, IfOk, OnOk};
+ghost use Rattle.std.specs.FinMap as map;
+ghost use Rattle.std.specs.Prelude.{◌≡◌, ◌≢◌, ◌≤◌, All, IfErr, IfOk, IfSome, IsFalse, OnOk};
+ghost use Rattle.stow_bytes.specs.Limits.{number_limit};
 ghost use Rattle.stow_model.specs.declared.refusal.Refusal.TheVariants as refusal;
 ghost use Rattle.stow_model.specs.declared.reply.Reply.TheVariants as told;
 ghost use Rattle.stow_model.specs.Command.{DropSnapshot, GetInSnapshot, RangeInSnapshot, TakeSnapshot};
 ghost use Rattle.stow_model.specs.Login.{IsTenant};
 ghost use Rattle.stow_model.specs.Reply.{reply_of};
 ghost use Rattle.stow_model.specs.Reply as reply;
-ghost use Rattle.stow_model.specs.Store.{id_items};
+ghost use Rattle.stow_model.specs.Store.{can_take, id_items};
 ghost use Rattle.stow_state.specs.State.{IsSound};
 ghost use Rattle.stow_core.specs.Legal.{IsShortKey};
 ghost use Rattle.stow_core.specs.Prepared.{IsCharged, IsPrepared, after_drop, serves};
-ghost use Rattle.stow_core.specs.State.{rows_in, shared_of, store_of, number_in, IsNumberOf, IsSnapshotOf};
+ghost use Rattle.stow_core.specs.State.{rows_in, shared_of, store_of, number_in, IsNumberOf, IsSnapshotOf, Keeps};
+ghost use Rattle.stow_core.specs.Tenancies.{tenancy_at, versions_of};
+ghost use Rattle.stow_versions.specs.VersionsState.{IsReady};
+ghost use Rattle.stow_versions.specs.declared.snapshot_fault.SnapshotFault.TheVariants.{OutOfMemory};
 
 use crate::Core;
 use crate::change::Change;
@@ -20,6 +25,7 @@ use crate::preparing::{counted, only_counted};
 use crate::rows_at::RowsAt;
 use crate::snapshot::Snapshot;
 use std::alloc::{AllocError, Allocator};
+use stow_bytes::limits::NUMBER_LIMIT;
 use stow_dropping::dropping::charge_of_drop;
 use stow_ledger::charge::Charge;
 use stow_model::items::Items;
@@ -27,6 +33,7 @@ use stow_model::refusal::Refusal;
 use stow_model::reply::Reply;
 use stow_model::simple_string::SimpleString;
 use stow_versions::snapshot_fault::SnapshotFault;
+use stow_versions::versions::Versions;
 
 impl<A: Allocator + Copy> Core<A> {
     /// The snapshot of the tenant's that has the id, if it is live.
@@ -46,7 +53,7 @@ impl<A: Allocator + Copy> Core<A> {
         requires sound { IsSound (shared_of self.old) }
         ensures { IsPrepared self.old tenant (serves TakeSnapshot) self.new result }
     {
-        match self.tenancies[tenant as usize - 1].versions.ready() {
+        match self.make_snapshot_room(tenant) {
             Ok(()) => {
                 self.make_pin_room(tenant)?;
                 let id = self.tenancy(tenant).versions.next();
@@ -61,6 +68,19 @@ impl<A: Allocator + Copy> Core<A> {
                 Ok(only_counted(tenant, Reply::Error(Refusal::TooManySnapshots)))
             }
         }
+    }
+
+    /// Makes room for the tenant's next snapshot, without its pin. It is refused where none can be taken, and where memory
+    /// is.
+    fn make_snapshot_room(&mut self, tenant: u32) -> Result<(), SnapshotFault>
+        requires { IsTenant self.old.entries tenant }
+        ensures keeps { Keeps self.old self.new }
+        ensures ready { OnOk result (IfSome (tenancy_at tenant self.new.tenancies)
+            (λ own. IsReady (versions_of own))) }
+        ensures refused { IfErr result (λ fault. fault ≢ OutOfMemory
+            → IsFalse (can_take (store_of self.old tenant))) }
+    {
+        self.tenancies[tenant as usize - 1].versions.ready()
     }
 
     /// Makes room for the tenant's next pin.
@@ -79,7 +99,7 @@ impl<A: Allocator + Copy> Core<A> {
         requires { IsTenant self.now.entries tenant }
         ensures { IfOk result (λ r. reply_of r ≡ reply.Array (id_items (store_of self.now tenant))) }
     {
-        let ids = self.tenancy(tenant).versions.ids();
+        let ids = ids_of(&self.tenancy(tenant).versions);
         let mut items = Items::with_capacity(alloc, ids.len(), 0)?;
         for id in ids {
             items.push_integer(*id as i64)?;
@@ -178,6 +198,16 @@ impl<A: Allocator + Copy> Core<A> {
             }
         }
     }
+}
+
+/// The live snapshots' ids, each within the limit of numbers.
+fn ids_of<A: Allocator + Copy>(versions: &Versions<A>) -> &[u64]
+    ensures ids { result.now ≡ map.keys versions.now.snapshots }
+    ensures within { All (λ id. id ≤ number_limit) result.now }
+{
+    let last = versions.last();
+    prove!(last <= NUMBER_LIMIT);
+    versions.ids()
 }
 
 /// The answer to a request for a snapshot that isn't live.

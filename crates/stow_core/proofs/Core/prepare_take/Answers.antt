@@ -1,21 +1,38 @@
-use Rattle.std.proofs.Common.{◌≡◌, ◌≤◌, ◌<◌, true, pos, ap, sym, ◌∙◌, subst, arith, refl, w64}
+use Rattle.std.proofs.Common.{Option, ap, refl, sym, subst}
 use Rattle.std.specs.Prelude.{IfSome}
-use Rattle.stow_core.specs.Prepared.{IsPrepared, serves}
 use Rattle.stow_core.specs.State.{CoreState, store_of, Keeps}
-use Rattle.stow_core.specs.Tenancies.{tenancy_at, versions_of}
-use Rattle.stow_core.proofs.Answered.{error_prepared, failed_prepared, only_counted_prepared, take_done, take_refused}
-use Rattle.stow_core.proofs.Carried.{core_of, roomy_core, roomy_keeps, roomy_ready}
-use Rattle.stow_core.proofs.Kept.{keeps_repinned, keeps_then}
+use Rattle.stow_core.specs.Tenancies.{TenancyState, tenancy_at, versions_of}
+use Rattle.stow_core.proofs.Answered.{error_prepared}
+use Rattle.stow_core.proofs.Kept.{kept_sound, keeps_repinned, keeps_then}
+use Rattle.stow_core.proofs.Shown.{takes_one}
+use Rattle.stow_model.specs.Login.{IsTenant}
+use Rattle.stow_versions.specs.VersionsState.{IsReady}
 use Rattle.stow_core.proofs.Core.prepare_take.Goals as goal
 
-pub invariant_of-self : goal.invariant_of-self
-invariant_of-self g c = roomy_core c.self.inside.tenants.value c.self.inside.tenancies.items c.self.inside.pin_room c.self.inside.tree c.self.inside.pins c.args.self.now c.args.tenant c.index_mut.result.now (record { versions = c.ready.new.self; account = c.index_mut.result.now.account })
-    c.self.view_is c.self.invariant c.requires.is_tenant c.index_mut.ensures.value c.ready.ensures.same refl
+pub returns-in_err-make_pin_room-in-Ok : goal.returns-in_err-make_pin_room-in-Ok
+returns-in_err-make_pin_room-in-Ok g c =
+    let old = c.args.self.now in
+    let mid = c.make_snapshot_room.new.self in
+    let new = c.make_pin_room.new.self in
+    let kept = c.make_snapshot_room.ensures.keeps in
+    error_prepared old new c.args.tenant _ c.from_residual.result c.from_residual.ensures.0 (keeps_then old mid new kept (keeps_repinned mid new new.pin_room (kept_sound old mid kept) c.make_pin_room.ensures.same))
 
-pub invariant_of-self-in-Err-OutOfMemory : goal.invariant_of-self-in-Err-OutOfMemory
-invariant_of-self-in-Err-OutOfMemory g c = roomy_core c.self.inside.tenants.value c.self.inside.tenancies.items c.self.inside.pin_room c.self.inside.tree c.self.inside.pins c.args.self.now c.args.tenant c.index_mut.result.now (record { versions = c.ready.new.self; account = c.index_mut.result.now.account })
-    c.self.view_is c.self.invariant c.requires.is_tenant c.index_mut.ensures.value c.ready.ensures.same refl
-
-pub invariant_of-self-in-Err-TooMany : goal.invariant_of-self-in-Err-TooMany
-invariant_of-self-in-Err-TooMany g c = roomy_core c.self.inside.tenants.value c.self.inside.tenancies.items c.self.inside.pin_room c.self.inside.tree c.self.inside.pins c.args.self.now c.args.tenant c.index_mut.result.now (record { versions = c.ready.new.self; account = c.index_mut.result.now.account })
-    c.self.view_is c.self.invariant c.requires.is_tenant c.index_mut.ensures.value c.ready.ensures.same refl
+pub returns-in_ok-make_pin_room-in-Ok : goal.returns-in_ok-make_pin_room-in-Ok
+returns-in_ok-make_pin_room-in-Ok g c =
+    let old = c.args.self.now in
+    let t = c.args.tenant in
+    let mid = c.make_snapshot_room.new.self in
+    let new = c.make_pin_room.new.self in
+    let kept = c.make_snapshot_room.ensures.keeps in
+    let keeps = keeps_then old mid new kept (keeps_repinned mid new new.pin_room (kept_sound old mid kept) c.make_pin_room.ensures.same) in
+    let ready = subst (λ (o : Option TenancyState). IfSome o (λ own. IsReady (versions_of own))) (sym (ap (λ (s : CoreState). tenancy_at t s.tenancies) c.make_pin_room.ensures.same)) c.in-Ok.ensures.ready in
+    record {
+      keeps = keeps;
+      room = record {
+        is_tenant = subst (λ entries. IsTenant entries t) (sym keeps.entries) c.requires.is_tenant;
+        ready = ready;
+        pin_room = c.in_ok-make_pin_room-in-Ok.ensures.room;
+      };
+      tenant_is = refl;
+      answers = takes_one new t c.tenancy.result.now c.tenancy.ensures.own ready (store_of old t) c.next-id.result (keeps.stores t) c.next-id.ensures;
+    }

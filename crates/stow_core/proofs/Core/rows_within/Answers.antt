@@ -6,8 +6,8 @@ use Rattle.stow_core.proofs.Stores.{tight_index}
 use Rattle.stow_model.specs.Login.{IsTenant}
 use Rattle.stow_core.proofs.Core.rows_within.Goals as goal
 
-pub first_rows-items-requires-clause-index : goal.first_rows-items-requires-clause-index
-first_rows-items-requires-clause-index g c = tight_index _ c.self.inside.pins c.args.interval.tenant c.self.invariant (subst (λ (s : CoreState). IsTenant s.entries c.args.interval.tenant) (sym c.self.view_is) c.requires.is_tenant)
+pub first_rows-requires-clause-index : goal.first_rows-requires-clause-index
+first_rows-requires-clause-index g c = tight_index _ c.self.inside.pins c.args.interval.tenant c.self.invariant (subst (λ (s : CoreState). IsTenant s.entries c.args.interval.tenant) (sym c.self.view_is) c.requires.is_tenant)
 
 pub invariant_of-self : goal.invariant_of-self
 invariant_of-self g c = core_rooted _ c.self.inside.pins c.self.invariant c.first_rows.new.tree c.first_rows.ensures.same.root

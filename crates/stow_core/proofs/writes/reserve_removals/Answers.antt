@@ -15,9 +15,6 @@ removal_message-requires g c =
     let below : c.loop-index.index < length (words_in c.args.keys) = search rules in
     message_at c.args.number (words_in c.args.keys) c.loop-index.index c.get.result.now c.requires.messages below c.get.ensures
 
-pub returns-clause-agrees : goal.returns-clause-agrees
-returns-clause-agrees g c = subst (λ (pins : TenantPins). AgreeUnder pins (tree_messages c.args.tree.now) (tree_messages c.reserve.new.self)) (λ i t. c.new.ensures t i) c.reserve.ensures.agrees
-
 pub loop-index-preserved : goal.loop-index-preserved
 loop-index-preserved g c = grind (arith, common_steps)
 
