@@ -146,7 +146,7 @@ fn first_other<A: Allocator + Copy>(
     alloc: A,
 ) -> Result<Option<&'static str>, AllocError> {
     let mut random = Random::new(7);
-    for _ in 0..6_000 {
+    for _ in 0..4_000 {
         if random.below(100) == 0 {
             give_quota(core, stores, &mut random);
         }
@@ -159,7 +159,7 @@ fn first_other<A: Allocator + Copy>(
     Ok(None)
 }
 
-/// Whether each tenant has written more than a hundred times, and has the rows that its own store has.
+/// Whether each tenant has written more than a hundred times, and has the rows and the usage that its own store has.
 fn are_rows_alike<A: Allocator + Copy>(
     core: &mut Core<A>,
     stores: &mut OwnStores<A>,
@@ -167,8 +167,12 @@ fn are_rows_alike<A: Allocator + Copy>(
 ) -> Result<bool, AllocError> {
     for tenant in 1..4u32 {
         let alone = stores.of(tenant);
-        let words = words_of(alloc, "RANGE '' '' 1024")?;
-        if alone.last.get() <= 100 || !is_alike(core, alone, alloc, tenant, words)? {
+        let rows = words_of(alloc, "RANGE '' '' 1024")?;
+        let usage = words_of(alloc, "USAGE")?;
+        if alone.last.get() <= 100
+            || !is_alike(core, alone, alloc, tenant, rows)?
+            || !is_alike(core, alone, alloc, tenant, usage)?
+        {
             return Ok(false);
         }
     }
