@@ -1,8 +1,8 @@
 //! What connections and scripts are answered: worked examples, whose answers come from the service's description.
 use crate::given::Given;
 use crate::running::{
-    HELLO, HELLO_REPLIES, PIPE, SCRIPT, USAGE, answers, answers_all, answers_each, answers_scripts, run,
-    wants,
+    HELLO, HELLO_REPLIES, PIPE, SCRIPT, USAGE, answers, answers_all, answers_each, answers_scripts,
+    run, wants,
 };
 use std::alloc::{AllocError, Allocator};
 use std::test::Fail;
