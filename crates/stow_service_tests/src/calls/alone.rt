@@ -146,7 +146,7 @@ fn first_other<A: Allocator + Copy>(
     alloc: A,
 ) -> Result<Option<&'static str>, AllocError> {
     let mut random = Random::new(7);
-    for _ in 0..4_000 {
+    for _ in 0..2_500 {
         if random.below(100) == 0 {
             give_quota(core, stores, &mut random);
         }
