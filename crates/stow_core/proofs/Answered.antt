@@ -9,6 +9,8 @@ use Rattle.std.proofs.lemmas.Bool.{cases_lt, cond-true, cond-false, eq-eqb, ne_e
 use Rattle.std.proofs.lemmas.Int.{to_z_pos}
 use Rattle.std.specs.Option.{unwrap_or}
 use Rattle.stow_bytes.specs.Limits.{number_limit}
+use Rattle.stow_commands.specs.Commands.{command_of}
+use Rattle.stow_commands.specs.declared.command.Command as asked
 use Rattle.stow_commands.specs.Outcomes.{IsAppendReply, IsOutcome}
 use Rattle.stow_commands.specs.declared.outcome.Outcome as found
 use Rattle.stow_commands.specs.declared.outcome_fault.OutcomeFault.{OutcomeFault}
@@ -30,8 +32,9 @@ use Rattle.stow_core.specs.declared.change.Change.TheVariants as in_change
 use Rattle.stow_core.specs.declared.content.Content.{Content}
 use Rattle.stow_core.specs.declared.prepared.Prepared.{Prepared}
 use Rattle.stow_core.proofs.Changed.{same_charge}
+use Rattle.stow_core.proofs.Kept.{keeps_itself}
 use Rattle.stow_state.specs.Rows.{IsIndex}
-use Rattle.stow_state.specs.State.{view}
+use Rattle.stow_state.specs.State.{IsSound, view}
 use Rattle.stow_core.specs.declared.content.Content.TheVariants as content
 use Rattle.stow_core.specs.Prepared.{effect, prepared_answer, after_write, after_content, after_remove, after_refusal, after_take, whole_value, next_version, store_without, writes_row, serves, IsPriced, IsCharged, IsPrepared, OnlyCounts}
 use Rattle.stow_core.specs.State.{CoreState, store_of, shared_of, Answers, Calls, Keeps, Moves}
@@ -142,6 +145,12 @@ pub counts_prepared : {A : Type 0} (old new : CoreState) (t : ℕ) (f : Store �
     → IfOk told (λ r. ◌≡◌ {A = Answer} (counted (store_of old t), reply_of r) (f (store_of old t))) → IsPrepared old t f new result
 counts_prepared old new t f (Ok r) result is keeps tenant says = subst (IsPrepared old t f new) (sym is) (counted_prepared old new t f r keeps tenant says)
 counts_prepared old new t f (Err e) result is keeps tenant says = subst (IsPrepared old t f new) (sym is) (record { keeps = keeps; room = tt; tenant_is = tt; answers = tt })
+
+-- a reply to a command that changes nothing but the count
+pub command_prepared : {A : Type 0} (core : CoreState) (t : ℕ) (command is : asked.Command) (told : Result (coded.Reply A) AllocError) (result : Result (Prepared A) AllocError) (r : Reply) → command ≡ is → OnlyCounts t told result → IsSound (shared_of core) → IsTenant core.entries t
+    → IfOk told (λ x. reply_of x ≡ r) → ◌≡◌ {A = Answer} (counted (store_of core t), r) (serves (command_of is) (store_of core t)) → IsPrepared core t (serves (command_of command)) core result
+command_prepared core t command is told result r same counts sound tenant tells says = subst (λ k. IsPrepared core t (serves (command_of k)) core result) (sym same)
+    (counts_prepared core core t (serves (command_of is)) told result counts (keeps_itself core sound) tenant (if_ok told _ _ (λ x h. (λ i. (counted (store_of core t), h i)) ∙ says) tells))
 
 -- an answer to which memory was refused
 pub failed_prepared : {A : Type 0} (old new : CoreState) (t : ℕ) (f : Store → Answer) (e : AllocError) → Keeps old new → IsPrepared {A = A} old t f new (Err e)

@@ -62,9 +62,9 @@ fewer_is t store keys taken is = let counts = is.counted in omega (arith, counts
 pub priced_remove : (core : CoreState) (t : ℕ) (taken : List (List ℕ)) (ch : Charge) → IsCharged core t ch (store_without (map own_key taken) (store_of core t)) → IsCharged core t ch (after_remove taken (store_of core t))
 priced_remove core t taken ch priced = record {
   is = priced.is ∙ (λ i. record {
-        charge = same_charge (after_remove taken (store_of core t)) (store_without (map own_key taken) (store_of core t)) refl refl i;
-        rows = finite.len (rows_without (map own_key taken) (store_of core t).rows);
-      });
+    charge = same_charge (after_remove taken (store_of core t)) (store_without (map own_key taken) (store_of core t)) refl refl i;
+    rows = finite.len (rows_without (map own_key taken) (store_of core t).rows);
+  });
   given = priced.given;
   allowed = priced.allowed;
 }

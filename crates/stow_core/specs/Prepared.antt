@@ -97,7 +97,8 @@ abbrev pub next_version : CoreState → ℕ → List ℕ → Version
 next_version core tenant value = record { number = next_number core tenant; value = value }
 
 -- the charge is that of the store after a change, and the tenant's account gave it and allows it
-pub record IsCharged (core : CoreState) (tenant : ℕ) (charge : Charge) (after : Store) : Type 0 where
+pub record IsCharged (core : CoreState) (tenant : ℕ) (charge : Charge) (after : Store)
+    : Type 0 where
   pub is : charge ≡ charge_of after
   pub given : IfSome (tenancy_at tenant core.tenancies) (λ own. IsGivenBy own.account charge)
   pub allowed : IfSome (tenancy_at tenant core.tenancies)

@@ -80,7 +80,8 @@ impl<A: Allocator + Copy> Core<A> {
         requires is_tenant { IsTenant self.old.entries tenant }
         requires sound { IsSound (shared_of self.old) }
         requires short { IsShortKey key.now }
-        ensures { IsPrepared self.old tenant (changes key.now (update.Append suffix.entry)) self.new result }
+        ensures { IsPrepared self.old tenant (changes key.now (update.Append suffix.entry))
+            self.new result }
     {
         let (told, before) = {
             let row = self.row(buffer, alloc, self.present(tenant), key)?;
@@ -110,7 +111,8 @@ impl<A: Allocator + Copy> Core<A> {
         requires sound { IsSound (shared_of self.old) }
         requires own_key { AreKeysOf tenant (buffer.old.items ∷ []) }
         requires is_key { IsTenantKey buffer.old.items }
-        requires before { before ≡ sized_option (row_at self.old tenant (own_key buffer.old.items)) }
+        requires before { before
+            ≡ sized_option (row_at self.old tenant (own_key buffer.old.items)) }
         requires short { length (whole_value content buffer.old.items (store_of self.old tenant))
             ≤ value_limit }
         ensures { IsPrepared self.old tenant (writes_row buffer.old.items content (reply_of reply))

@@ -21,7 +21,8 @@ impl<A: Allocator + Copy> Core<A> {
     pub(crate) fn charge_of_write(&self, tenant: u32, change: &RowChange) -> Option<Charge>
         requires { IsTenant self.now.entries tenant }
         ensures { (key value : List ℕ)
-            → change.now ≡ change_of (store_of self.now tenant) key (Some (next_version self.now tenant value))
+            → change.now ≡ change_of (store_of self.now tenant) key
+            (Some (next_version self.now tenant value))
             → IsPriced self.now tenant result
             (with_row (store_of self.now tenant) key (Some (next_version self.now tenant value))) }
     {

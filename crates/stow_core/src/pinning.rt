@@ -23,11 +23,7 @@ pub(crate) fn add_pin<A: Allocator + Copy>(pins: &mut Pins<A>, tenant: u32, numb
 }
 
 /// Takes a tenant's pin away, if one is to go.
-pub(crate) fn remove_pin<A: Allocator + Copy>(
-    pins: &mut Pins<A>,
-    tenant: u32,
-    number: Option<u64>,
-)
+pub(crate) fn remove_pin<A: Allocator + Copy>(pins: &mut Pins<A>, tenant: u32, number: Option<u64>)
     ensures { (t : ℕ) → pins_in pins.new t
         ≡ with_pins (pins_in pins.old) tenant (without number (pins_in pins.old tenant)) t }
 {

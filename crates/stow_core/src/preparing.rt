@@ -76,15 +76,16 @@ impl<A: Allocator + Copy> Core<A> {
             Command::Range(from, to, count) => {
                 let interval = Interval { tenant, from, to };
                 let number = rows.number;
-                counted(tenant, self.rows_within(buffer, alloc, interval, number, count))
+                counted(
+                    tenant,
+                    self.rows_within(buffer, alloc, interval, number, count),
+                )
             }
             Command::Del(keys) => self.prepare_del(buffer, alloc, tenant, keys),
             Command::TakeSnapshot => self.prepare_take(tenant),
             Command::ListSnapshots => counted(tenant, self.snapshot_ids(alloc, tenant)),
             Command::DropSnapshot(id) => self.prepare_drop(alloc, tenant, id),
-            Command::GetInSnapshot(id, key) => {
-                self.prepare_get(buffer, alloc, tenant, id, key)
-            }
+            Command::GetInSnapshot(id, key) => { self.prepare_get(buffer, alloc, tenant, id, key) }
             Command::RangeInSnapshot(id, from, to, count) => {
                 let interval = Interval { tenant, from, to };
                 self.prepare_range(buffer, alloc, interval, id, count)
@@ -123,7 +124,11 @@ pub(crate) fn counted<A: Allocator>(
 
 /// The answer to a write that the quota refuses.
 pub(crate) fn only_refused<A: Allocator>(tenant: u32) -> Prepared<A>
-    ensures { result ≡ record { tenant = tenant; change = Change.Refuse; reply = told.Error refusal.QuotaExceeded } }
+    ensures { result ≡ record {
+      tenant = tenant;
+      change = Change.Refuse;
+      reply = told.Error refusal.QuotaExceeded;
+    } }
 {
     Prepared {
         tenant,

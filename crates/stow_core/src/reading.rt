@@ -105,7 +105,8 @@ impl<A: Allocator + Copy> Core<A> {
         requires is_tenant { IsTenant self.now.entries rows.tenant }
         requires short { AreShortKeys (words_in keys) }
         ensures { IfOk result (λ r. reply_of r ≡ reply.Array
-            (map (λ key. item_or_null (finite.get (rows_in self.now rows) key)) (words_in keys.entry))) }
+            (map (λ key. item_or_null (finite.get (rows_in self.now rows) key))
+            (words_in keys.entry))) }
     {
         let mut items = Items::with_capacity(alloc, keys.len(), 0)?;
         for index in 0..keys.len() {

@@ -97,7 +97,8 @@ impl<A: Allocator + Copy> Core<A> {
     /// The live snapshots' ids.
     pub(crate) fn snapshot_ids(&self, alloc: A, tenant: u32) -> Result<Reply<A>, AllocError>
         requires { IsTenant self.now.entries tenant }
-        ensures { IfOk result (λ r. reply_of r ≡ reply.Array (id_items (store_of self.now tenant))) }
+        ensures { IfOk result (λ r. reply_of r
+            ≡ reply.Array (id_items (store_of self.now tenant))) }
     {
         let ids = ids_of(&self.tenancy(tenant).versions);
         let mut items = Items::with_capacity(alloc, ids.len(), 0)?;
@@ -149,7 +150,10 @@ impl<A: Allocator + Copy> Core<A> {
             None => Ok(no_such_snapshot(tenant)),
             Some(snapshot) => {
                 let number = snapshot.rows.number;
-                counted(tenant, self.rows_within(buffer, alloc, interval, number, count))
+                counted(
+                    tenant,
+                    self.rows_within(buffer, alloc, interval, number, count),
+                )
             }
         }
     }
@@ -172,7 +176,14 @@ impl<A: Allocator + Copy> Core<A> {
         if left.as_slice().contains(&rows.number) {
             return Ok(account.present());
         }
-        charge_of_drop(alloc, tree, account, rows.tenant, rows.number, left.as_slice())
+        charge_of_drop(
+            alloc,
+            tree,
+            account,
+            rows.tenant,
+            rows.number,
+            left.as_slice(),
+        )
     }
 
     /// Finds what dropping a snapshot says, and what stays charged.
@@ -212,7 +223,11 @@ fn ids_of<A: Allocator + Copy>(versions: &Versions<A>) -> &[u64]
 
 /// The answer to a request for a snapshot that isn't live.
 fn no_such_snapshot<A: Allocator>(tenant: u32) -> Prepared<A>
-    ensures { result ≡ record { tenant = tenant; change = Change.Count; reply = told.Error refusal.NoSuchSnapshot } }
+    ensures { result ≡ record {
+      tenant = tenant;
+      change = Change.Count;
+      reply = told.Error refusal.NoSuchSnapshot;
+    } }
 {
     only_counted(tenant, Reply::Error(Refusal::NoSuchSnapshot))
 }

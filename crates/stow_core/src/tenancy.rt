@@ -74,13 +74,16 @@ impl<A: Allocator + Copy> Tenancy<A> {
     pub(crate) fn take(&mut self)
         requires { IsReady self.old.versions }
         ensures versions { self.new.versions ≡ record self.old.versions {
-          snapshots = map.insert self.old.versions.snapshots self.old.versions.next self.old.versions.last;
+          snapshots =
+              map.insert self.old.versions.snapshots self.old.versions.next
+              self.old.versions.last;
           next = self.old.versions.next + 1;
           room = self.new.versions.room;
         } }
         ensures account { self.new.account ≡ counted_account self.old.account }
         ensures numbers { (n : ℕ) → is_among n (map.values self.new.versions.snapshots)
-            ≡ (is_among n (map.values self.old.versions.snapshots) || (self.old.versions.last == n)) }
+            ≡ (is_among n (map.values self.old.versions.snapshots)
+            || (self.old.versions.last == n)) }
     {
         let _ = self.versions.take();
         self.account.served();

@@ -59,7 +59,8 @@ pub fn reserve_row<A: Allocator + Copy>(
     requires can { CanReserve tree.old (write_of number key.now (content_op content.now) ∷ []) }
     ensures reserved { OnOk result
         (IsReserved tree.new (write_of number key.now (content_op content.now) ∷ [])) }
-    ensures agrees { AgreeUnder (pins_in pins.now) (tree_messages tree.old) (tree_messages tree.new) }
+    ensures agrees { AgreeUnder (pins_in pins.now) (tree_messages tree.old)
+        (tree_messages tree.new) }
     ensures shape { tree.new.root.shape ≡ tree.old.root.shape }
 {
     let messages = [write_message(number, key, content)];
@@ -91,8 +92,10 @@ pub fn reserve_removals<A: Allocator + Copy>(
 ) -> Result<(), AllocError>
     requires messages { AreMessages (removals_of number (words_in keys)) }
     requires can { CanReserve tree.old (removals_of number (words_in keys)) }
-    ensures reserved { OnOk result (IsReserved tree.new (removals_of number (words_in keys.entry))) }
-    ensures agrees { AgreeUnder (pins_in pins.now) (tree_messages tree.old) (tree_messages tree.new) }
+    ensures reserved { OnOk result
+        (IsReserved tree.new (removals_of number (words_in keys.entry))) }
+    ensures agrees { AgreeUnder (pins_in pins.now) (tree_messages tree.old)
+        (tree_messages tree.new) }
     ensures shape { tree.new.root.shape ≡ tree.old.root.shape }
 {
     let mut messages = Vec::new(alloc);
