@@ -67,7 +67,7 @@ impl<A: Allocator + Copy> PlainStore<A> {
     /// The usage report.
     pub fn usage(&self) -> Usage
         ensures usage { result ≡ store.usage (store_of self.now) }
-        ensures within { AreWithin result }
+        ensures within { store.AreWithin result }
     {
         Usage {
             rows: self.rows().len() as u64,
