@@ -67,6 +67,11 @@ wider leaf high ms key t = (
       t.1,
 )
 
+one_leaf : (low : List ℕ) (pages : List (List Version)) → length pages ≡ 1 → length (leaves_from low pages) ≡ 1
+one_leaf low [] e = absurd (omega (arith, e))
+one_leaf low (p ∷ []) e = refl
+one_leaf low (p ∷ q ∷ pages) e = absurd (omega (arith, e))
+
 -- ---- the pages in the leaf's place
 
 pub replacement_is : (leaf : LeafRows) (high : List ℕ) (ms : List TreeMessage) (pins : TenantPins) (target : ℕ) (pages : List (List Version)) → CanReplace leaf high ms pins target → ArePagesOf (merged leaf.1 (in_range leaf.0 high ms) pins) target pages
@@ -87,6 +92,7 @@ replacement_is leaf high ms pins target pages can are = record {
       (λ e. subst (λ ps. AllByRecursion (λ (l : LeafRows). IsFence leaf ms l.0) (leaves_from leaf.0 ps)) (sym e) (inl refl, tt))
       (λ ne. leaf_fences (IsFence leaf ms) target leaf.0 pages (are.are_cut ne) (inl refl)
       (λ v c. inr (wider leaf high ms v.key (v.number, merged_there leaf.1 batch pins v (subst (λ vs. Contains vs v) are.are c)))));
+  one = λ fits. one_leaf leaf.0 pages (are.is_one_enough fits);
   keys = λ key t. wider leaf high ms key (merged_keys leaf.1 batch pins key t.0 (subst (λ l. IsSome (ops_in l key t.0)) messages t.1));
 }
   where

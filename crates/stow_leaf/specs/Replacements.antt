@@ -1,5 +1,5 @@
 -- What comes in a leaf's place, with messages for it merged.
-use Rattle.std.specs.Prelude.{◌≡◌, ◌≢◌, ◌⊎◌, ℕ, ◌<◌, List, [], length, map, true, IsSome}
+use Rattle.std.specs.Prelude.{◌≡◌, ◌≢◌, ◌⊎◌, ℕ, ◌<◌, ◌≤◌, List, [], length, map, true, IsSome}
 use Rattle.std.specs.List.{AllByRecursion}
 use Rattle.stow_merge.specs.Pages.{HaveOneKey, HaveShortValues}
 use Rattle.stow_message.specs.Rising.{in_range}
@@ -63,6 +63,9 @@ pub record IsReplacement (leaf : LeafRows) (high : List ℕ) (ms : List TreeMess
       → GiveWay (pins (tenant_of key)) (ops_with ms leaf.1 key) (ops_in (row_messages leaves) key)
   pub short : (key : List ℕ) → spans leaf.0 high key ≡ true
       → HasShortValues (ops_with ms leaf.1 key) → HasShortValues (ops_in (row_messages leaves) key)
+  -- one leaf is enough where all that stays fits the target
+  pub one : length (packed_page (merged leaf.1 (in_range leaf.0 high ms) pins)) ≤ target
+      → length leaves ≡ 1
   -- no other keys come in
   pub fences : AllByRecursion (λ l. IsFence leaf ms l.0) leaves
   pub keys : (key : List ℕ) → AreThere (ops_in (row_messages leaves) key)

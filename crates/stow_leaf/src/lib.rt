@@ -6,7 +6,8 @@
 //! target are cut between keys into leaves of their own, as many as it takes.
 //!
 //! A body that always answers `AllocError` meets the contract: a test calls it with ample memory, and with each request
-//! refused. That no more leaves come than the target asks for stands in no contract: the same test shows it.
+//! refused. Rows that fit the target are one leaf (`IsReplacement`); that no more leaves come than the target asks for, where
+//! they don't, stands in no contract: the same test shows it.
 #![tactic(auto)]
 
 pub mod leaf;

@@ -1,8 +1,8 @@
 -- Children that come to a list.
-use Rattle.std.proofs.Common.{suc, ◌≡◌, ℕ, ◌≤◌, List, [], ◌∷◌, ◌++◌, length, take, drop, refl, sym, ap, ◌∙◌, subst, arith, append-nil, append_assoc, length-append}
+use Rattle.std.proofs.Common.{suc, ◌≡◌, ℕ, ◌≤◌, List, [], ◌∷◌, ◌++◌, length, take, drop, sym, ap, ◌∙◌, subst, arith, append-nil, append_assoc, length-append}
 use Rattle.std.specs.List.{insert, AllByRecursion}
 use Rattle.std.specs.declared.vec.Vec.{Vec}
-use Rattle.std.proofs.lemmas.List.{take-append-drop, length-take-le}
+use Rattle.std.proofs.lemmas.List.{take-append-drop}
 use Rattle.stow_node.specs.declared.child.Child.{Child}
 use Rattle.stow_node.specs.declared.shape.Shape.{Shape}
 use Rattle.stow_node.specs.Rooms.{IsList, AreLists, AreShells}
@@ -24,31 +24,6 @@ coming_next cs k all now rest items new x l p e n = record {
   are = p.are ∙ ap (λ ls. ls ++ p.done) e ∙ append_assoc rest (x ∷ []) p.done;
   is = n ∙ ap (λ l. insert l k x) p.is ∙ insert_at k cs (p.done ++ drop k cs) x l;
 }
-
-pub all_came : {X : Type 0} (cs : List X) (k : ℕ) (all now items : List X) → IsComing cs k all now items → length now ≡ 0 → items ≡ take k cs ++ (all ++ drop k cs)
-all_came cs k all [] items p e = p.is ∙ ap (λ l. take k cs ++ (l ++ drop k cs)) (sym p.are)
-all_came cs k all (x ∷ now) items p e = absurd (omega arith)
-
--- the place is within
-pub coming_inside : {X : Type 0} (cs : List X) (k : ℕ) (all now items : List X) → IsComing cs k all now items → k ≤ length cs → k ≤ length items
-coming_inside cs k all now items p l =
-    let e = ap length p.is ∙ length-append (take k cs) (p.done ++ drop k cs) in
-    let t = length-take-le k cs l in
-    omega (arith, e, t)
-
--- ---- the first ones and the last
-
-pub front_of : {X : Type 0} (k : ℕ) (all xs ys : List X) → xs ++ ys ≡ all → length xs ≡ k → xs ≡ take k all
-front_of k all xs ys e l = subst (λ n. xs ≡ take n all) l (subst (λ zs. xs ≡ take (length xs) zs) e (front xs ys)) where
-  front : {X : Type 0} (xs ys : List X) → xs ≡ take (length xs) (xs ++ ys)
-  front [] ys = refl
-  front (x ∷ xs) ys = ap (λ l. x ∷ l) (front xs ys)
-
-pub back_of : {X : Type 0} (k : ℕ) (all xs ys : List X) → xs ++ ys ≡ all → length xs ≡ k → ys ≡ drop k all
-back_of k all xs ys e l = subst (λ n. ys ≡ drop n all) l (subst (λ zs. ys ≡ drop (length xs) zs) e (back xs ys)) where
-  back : {X : Type 0} (xs ys : List X) → ys ≡ drop (length xs) (xs ++ ys)
-  back [] ys = refl
-  back (x ∷ xs) ys = back xs ys
 
 -- ---- what is taken out of a room
 

@@ -1,30 +1,19 @@
 -- The child that gets messages next.
-use Rattle.std.proofs.Common.{◌≡◌, ◌≢◌, ℕ, ◌+◌, ◌<◌, List, ◌∷◌, ◌++◌, length, take, drop, get_or, Some, refl, sym, ap, ◌∙◌, subst, arith}
+use Rattle.std.proofs.Common.{◌≡◌, ◌≢◌, ℕ, ◌<◌, List, length, get_or, Some, sym, ap, ◌∙◌, subst, arith}
 use Rattle.std.specs.Prelude.{slice_get}
-use Rattle.std.specs.List.{AllByRecursion}
-use Rattle.std.proofs.lemmas.Grind.{flat_map-append}
 use Rattle.std.proofs.lemmas.List.{length-map}
 use Rattle.std.proofs.lemmas.Option.{get_or_from_slice_get}
 use Rattle.stow_message.specs.MessageBuf.{MessageList}
-use Rattle.stow_tree_model.specs.Agreement.{TenantPins}
-use Rattle.stow_tree_model.specs.Keys.{tenant_of}
 use Rattle.stow_leaf.specs.Intervals.{top_key, AreWithin}
-use Rattle.stow_leaf.specs.LeafRows.{LeafRows}
 use Rattle.stow_leaf.specs.declared.leaf.Leaf.{Leaf}
-use Rattle.stow_leaf.specs.Replacements.{IsLeafSize}
 use Rattle.stow_node.specs.declared.child.Child.{Child}
 use Rattle.stow_node.specs.declared.child.Child.TheVariants as in_child
 use Rattle.stow_node.specs.declared.node.Node.TheInside.{Inside}
-use Rattle.stow_node.specs.declared.shape.Shape.{Shape}
-use Rattle.stow_node.specs.Flushes.{Keeps}
 use Rattle.stow_node.specs.Moves.{bytes_for, IsHeaviest}
-use Rattle.stow_node.specs.Nodes.{part_of, node_part, parts_of, AreLeafSizes, IsBelow, subtree_of, IsNode}
-use Rattle.stow_node.specs.Parts.{Part, leaves_in}
+use Rattle.stow_node.specs.Nodes.{part_of, node_part, parts_of, IsNode}
 use Rattle.stow_node.specs.Subtree.{Subtree}
-use Rattle.stow_node.proofs.Cut.{all_cut}
 use Rattle.stow_node.proofs.Filled.{heaviest_has_bytes}
-use Rattle.stow_node.proofs.Flushed.{child_at, old_parts}
-use Rattle.stow_node.proofs.Over.{same_itself}
+use Rattle.stow_node.proofs.Flushed.{child_at}
 use Rattle.stow_node.proofs.Stayed.{level_at}
 
 pub not_leaf : {A : Type 0} (children : List (Child A)) (i : ℕ) (d : Child A) (x : Leaf A) (n : Subtree) → slice_get children i ≡ Some (in_child.Node n) → d ≡ get_or children i d → d ≡ in_child.Leaf x → ⊥
@@ -35,32 +24,10 @@ not_leaf children i d x n at here is = other x n (sym (get_or_from_slice_get chi
 pub inside_lent : {A : Type 0} (cs lent : List (Child A)) (b : MessageList) (i : ℕ) → lent ≡ cs → IsHeaviest (parts_of lent) b i → i < length cs
 inside_lent cs lent b i e h = let l = h.inside in let n = length-map lent part_of in let m = ap length e in omega (arith, l, n, m)
 
-pub keeps_itself : {A : Type 0} (a : Inside A) (pins : TenantPins) → IsNode a → Keeps pins (subtree_of a) (subtree_of a)
-keeps_itself a pins node = record {
-  low = refl;
-  height = refl;
-  shape = refl;
-  capacity = refl;
-  sizes = node.sizes;
-  tile = λ high t. t;
-  means = λ key. same_itself (pins (tenant_of key)) _;
-}
-
 pub record Entered {A : Type 0} (a : Inside A) (i : ℕ) : Type 0 where
   pub node : Subtree
   pub at : slice_get a.children.items i ≡ Some (in_child.Node node)
   pub some : 0 < bytes_for (parts_of a.children.items) a.buffer i (node_part node)
-
--- a node's leaf sizes are its children's
-pub child_sizes : {A : Type 0} (a : Inside A) (i : ℕ) (x : Subtree) → IsNode a → slice_get a.children.items i ≡ Some (in_child.Node x) → AreLeafSizes x.shape.leaf x.leaves
-child_sizes {A} a i x node at =
-    let P : LeafRows → Type 0 = λ l. IsLeafSize a.shape.leaf l.1 in
-    let before : List Part = take i (parts_of a.children.items) in
-    let after : List Part = drop (i + 1) (parts_of a.children.items) in
-    let are = ap leaves_in (old_parts a i (in_child.Node x) at) ∙ flat_map-append (λ (q : Part). q.leaves) before (node_part x ∷ after) in
-    let all = all_cut P (leaves_in before) (x.leaves ++ leaves_in after) (subst (AllByRecursion P) are node.sizes) in
-    let level : IsBelow {A = A} a.height a.shape (in_child.Node x) = level_at a.height a.shape a.children.items i (in_child.Node x) node.level at in
-    subst (λ (s : Shape). AreLeafSizes s.leaf x.leaves) (sym level.same.0) (all_cut P x.leaves (leaves_in after) all.1).0
 
 -- further up the heaviest child is a node
 pub entered : {A : Type 0} (a : Inside A) (i : ℕ) (lent : List (Child A)) → IsNode a → a.height ≢ 1 → 0 < length a.buffer.messages → lent ≡ a.children.items → IsHeaviest (parts_of lent) a.buffer i → Entered a i

@@ -16,7 +16,7 @@ use Rattle.stow_node.specs.Joins.{leaves_of}
 use Rattle.stow_node.specs.Moves.{Stays}
 use Rattle.stow_node.specs.Nodes.{node_part}
 use Rattle.stow_node.specs.Parts.{Part, IsTile}
-use Rattle.stow_node.specs.Regroups.{nodes, run_parts, run_messages, Stands, Steps, AreBehind, ForgetsCame}
+use Rattle.stow_node.specs.Regroups.{nodes, run_parts, run_messages, Stands, Steps, ForgetsCame}
 use Rattle.stow_node.specs.Rooms.{HasRoom}
 use Rattle.stow_node.specs.Subtree.{Subtree, buffered, messages_of}
 use Rattle.stow_node.specs.Ways.{Goes, StepsDown}
@@ -66,9 +66,6 @@ rising_next pins old now new room room' cache cache' i s r fewer higher leaves =
     leaves = leaves ∙ i.up.leaves;
   };
 }
-
-pub behind_it : {A : Type 0} (pins : TenantPins) (old now : Subtree) (room : Room A) (cache cache' : Cache) → IsRising pins old now room cache cache' → AreBehind now room.came.items
-behind_it pins old now room cache cache' i = record { pins = pins; old = old; tile = i.tile; stands = i.stands }
 
 none_of : {A : Type 0} (came : List (Child A)) (run : List Subtree) → length came ≡ 0 → came ≡ nodes A run → run ≡ []
 none_of came [] l e = refl

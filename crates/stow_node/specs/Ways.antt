@@ -21,7 +21,7 @@ pub record IsCutFrom {A : Type 0} (pins : TenantPins) (children : List (Child A)
   pub own : whole.buffer ≡ b
   pub grows : Grows pins whole new came
 
--- a child for which most bytes are buffered
+-- the child for which most bytes are buffered, the leftmost of equals
 pub record Heaviest (A : Type 0) (old : Subtree) : Type 0 where
   pub children : List (Child A)
   pub stand : AreChildren old children
@@ -49,8 +49,9 @@ pub record Takes {A : Type 0} (children : List (Child A)) (index : ℕ) (old new
 
 -- it lacks room, so the step is the child's own, and what comes behind it stands there
 pub record Enters {A : Type 0}
-    (below : Subtree → Subtree → List (Child A) → Cache → Cache → Type 0) (pins : TenantPins) (children : List (Child A)) (index : ℕ) (node old new : Subtree)
-    (came : List (Child A)) (cache cache' : Cache) : Type 0 where
+    (below : Subtree → Subtree → List (Child A) → Cache → Cache → Type 0) (pins : TenantPins)
+    (children : List (Child A)) (index : ℕ) (node old new : Subtree) (came : List (Child A))
+    (cache cache' : Cache) : Type 0 where
   pub lacks : LacksRoom (bytes_for (parts_of children) old.buffer index (node_part node)) node
   pub stepped : Subtree
   pub behind : List (Child A)
@@ -60,8 +61,8 @@ pub record Enters {A : Type 0}
 
 -- further up: the heaviest child, a node of which dead bytes may have gone, takes them or is entered
 pub record GoesOn {A : Type 0}
-    (below : Subtree → Subtree → List (Child A) → Cache → Cache → Type 0) (pins : TenantPins) (old new : Subtree) (came : List (Child A))
-    (cache cache' : Cache) : Type 0 where
+    (below : Subtree → Subtree → List (Child A) → Cache → Cache → Type 0) (pins : TenantPins)
+    (old new : Subtree) (came : List (Child A)) (cache cache' : Cache) : Type 0 where
   pub to : Heaviest A old
   pub node : Subtree
   pub at : slice_get to.children to.index ≡ Some (in_child.Node node)

@@ -17,9 +17,8 @@
 //! are buffered, the leftmost of equals. A node gets all its messages, or, where it lacks room, the step is its own. A leaf has
 //! all its messages merged, no two neighbours are left under its node that are to become one, and the cache loses this leaf and
 //! those that were joined, and no other. A root gets others above it only where nodes come behind it, at most one for each.
-//! Leaves under two nodes stay apart. That merged rows within the leaf target are one leaf stands in no contract: a merge that
-//! cut them finer, and not so fine that they are to be joined, would pass. How evenly children are shared out stands in the
-//! contract of `share_of_last` alone. After an `Err` the cache may have lost more. A body of `first` or `step` that always answers `AllocError` meets its
+//! A merged leaf within the leaf target is one leaf. Leaves under two nodes stay apart. How evenly children are shared out stands
+//! in the contract of `share_of_last` alone. After an `Err` the cache may have lost more. A body of `first` or `step` that always answers `AllocError` meets its
 //! contract: tests call each with ample memory and with each request refused. `step` answers `AllocError` too where there are
 //! more than 2^63 levels, or where more than 2^32 nodes would come: no memory holds them.
 #![tactic(auto)]
