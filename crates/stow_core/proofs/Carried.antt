@@ -1,6 +1,6 @@
 -- The core once one tenant's part, its pins and the tree are others: what each way of carrying an answer out leads to.
-use Rattle.std.proofs.Common.{◌≡◌, ◌≢◌, ℕ, suc, ◌+◌, ◌-◌, ◌<◌, ◌≤◌, List, [], ◌∷◌, ◌++◌, length, map, get_or, set, Bool, true, false, Option, Some, None, refl, ap, sym, ◌∙◌, subst, arith, ⊎_elim}
-use Rattle.std.specs.Prelude.{Contains, IfSome, IsSome, ◌||◌, ◌==◌}
+use Rattle.std.proofs.Common.{◌≡◌, ◌≢◌, ℕ, ◌+◌, ◌-◌, ◌<◌, ◌≤◌, List, [], ◌∷◌, length, map, get_or, set, Option, Some, None, refl, ap, sym, ◌∙◌, subst, arith, ⊎_elim}
+use Rattle.std.specs.Prelude.{Contains, IfSome, IsSome}
 use Rattle.std.specs.FinMap as finite
 use Rattle.std.specs.List.{AllByRecursion}
 use Rattle.std.proofs.lemmas.Bool.{cases_eq}
@@ -8,15 +8,15 @@ use Rattle.std.proofs.lemmas.List.{length-map, length-set, map-set}
 use Rattle.stow_core.specs.Keys.{AreKeysOf}
 use Rattle.stow_core.specs.declared.content.Content.{Content}
 use Rattle.stow_core.specs.declared.tenancy.Tenancy.{Tenancy}
-use Rattle.stow_core.specs.Prepared.{after_content, after_remove, after_refusal, after_take, after_drop, CanPut, CanRemove, CanTake, CanDrop, IsCharged}
-use Rattle.stow_core.specs.State.{CoreState, shared_of, store_at, store_of, IsCore, Keeps, Moves, GivesQuota}
+use Rattle.stow_core.specs.Prepared.{after_content, after_remove, after_refusal, after_take, after_drop, IsCharged}
+use Rattle.stow_core.specs.State.{CoreState, shared_of, store_at, store_of, IsCore, Keeps, Moves}
 use Rattle.stow_core.proofs.Kept.{idle}
 use Rattle.stow_core.proofs.Tenancies.{set_own, set_other}
 use Rattle.stow_core.specs.Tenancies.{TenancyState, tenancy_with, tenancy_of, tenancy_at, own_state, versions_of, is_among, counted_account, refused_account, charged_account}
 use Rattle.stow_core.specs.Writes.{content_op, write_of, removals_of}
 use Rattle.stow_core.proofs.Changed.{account_counted, account_refused, account_charged, account_given, account_taken, before_is, held_same, leads_counted, leads_refused, leads_given, leads_taken, leads_dropped, leads_put, leads_removed, next_is_free, pins_own, pins_before, pins_other}
 use Rattle.stow_core.proofs.Moved.{with_own, moves, core_moved}
-use Rattle.stow_core.proofs.Stores.{own_is, found_high, found_own, found_account}
+use Rattle.stow_core.proofs.Stores.{found_high, found_own, found_account}
 use Rattle.stow_ledger.specs.Accounts.{AccountState, IsAccountOf}
 use Rattle.stow_ledger.specs.Shown.{charge_of}
 use Rattle.stow_ledger.specs.declared.charge.Charge.{Charge}

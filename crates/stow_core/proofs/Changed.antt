@@ -1,17 +1,16 @@
 -- What each change makes of its tenant's store, part and account.
-use Rattle.std.proofs.Common.{◌≡◌, ◌≢◌, ℕ, zero, suc, ◌+◌, ◌-◌, ◌<◌, ◌≤◌, ◌^◌, ◌⊎◌, List, [], ◌∷◌, length, map, set, cond, eqb, Bool, true, false, Option, Some, None, inl, inr, refl, ap, sym, ◌∙◌, subst, arith, pos, ⊎_elim}
-use Rattle.std.specs.Prelude.{Contains, IsSome, IfSome, IsTrue}
+use Rattle.std.proofs.Common.{◌≡◌, ◌≢◌, ℕ, suc, ◌+◌, ◌-◌, ◌≤◌, List, [], ◌∷◌, length, map, set, cond, eqb, Bool, true, false, Option, Some, None, inl, inr, refl, ap, sym, ◌∙◌, subst, arith, ⊎_elim}
+use Rattle.std.specs.Prelude.{Contains, IsSome}
 use Rattle.std.specs.FinMap.{FinMap}
 use Rattle.std.specs.FinMap as finite
 use Rattle.std.specs.List.{AllByRecursion}
 use Rattle.std.specs.Ordering.{nat_cmp, eq_by_cmp}
 use Rattle.std.proofs.lemmas.Bool.{cases_eq, cond-true, cond-false, eq-eqb, ne_eqb}
-use Rattle.stow_bytes.specs.Limits.{number_limit}
 use Rattle.stow_core.specs.Keys.{AreKeysOf}
 use Rattle.stow_core.specs.declared.content.Content.{Content}
-use Rattle.stow_core.specs.Prepared.{after_content, after_put, after_remove, after_refusal, after_take, after_drop, whole_value}
+use Rattle.stow_core.specs.Prepared.{after_content, after_put, after_remove, after_refusal, after_take, after_drop}
 use Rattle.stow_core.specs.State.{CoreState, shared_of, store_of, IsCore}
-use Rattle.stow_core.specs.Tenancies.{TenancyState, tenancy_with, own_state, tenancy_at, is_among, counted_account, refused_account, charged_account}
+use Rattle.stow_core.specs.Tenancies.{tenancy_with, own_state, tenancy_at, is_among, counted_account, refused_account, charged_account}
 use Rattle.stow_core.specs.Writes.{content_op, write_of, put_of, removal_of, removals_of}
 use Rattle.stow_core.proofs.Appended.{write_agrees}
 use Rattle.stow_core.proofs.Keyed.{first_key, first_own, later_own}
@@ -27,16 +26,16 @@ use Rattle.stow_merge.specs.declared.pins.Pins.{Pins}
 use Rattle.stow_merge.specs.Pins as held
 use Rattle.stow_model.specs.Store.{Store, Rows, Version, charge, counted, one_more, rows_without, without_snapshot}
 use Rattle.stow_model.specs.Store as stored_value
-use Rattle.stow_state.specs.Changes.{AreBelow, AreWritten, changes, gone_message}
-use Rattle.stow_state.specs.Rows.{IsIndex, rows_at}
-use Rattle.stow_state.specs.State.{TenantState, SharedState, IsSound, IdsBelow, copies, store_in, pins_in, lasts_in}
-use Rattle.stow_state.specs.Steps.{LeadsTo, WritesOnce, KeepsRows, WritesRows, KeepsSnapshots, MovesSnapshots, SnapshotMoves, numbers_of, moved_tenant}
+use Rattle.stow_state.specs.Changes.{AreWritten, changes, gone_message}
+use Rattle.stow_state.specs.Rows.{IsIndex}
+use Rattle.stow_state.specs.State.{TenantState, IdsBelow, store_in, pins_in, lasts_in}
+use Rattle.stow_state.specs.Steps.{LeadsTo, WritesOnce, WritesRows, SnapshotMoves, numbers_of, moved_tenant}
 use Rattle.stow_state.proofs.Changes.{rows_are_below_law, writes_are_written_law, writes_by_messages_law}
 use Rattle.stow_state.proofs.Snapshots.{copies_below, id_cases, numbers_stay, numbers_move_law}
 use Rattle.std.specs.Cmp.{nat_cmp_total}
 use Rattle.stow_tree.specs.TreeState.{TreeState, tree_messages, HasBound}
 use Rattle.stow_tree_model.specs.Agreement.{Agree, with_bound}
-use Rattle.stow_tree_model.specs.Keys.{packed, own_key}
+use Rattle.stow_tree_model.specs.Keys.{own_key}
 use Rattle.stow_tree_model.specs.Messages.{Messages, value, with_all}
 use Rattle.stow_tree_model.specs.Operations.{outcome, value_in, bytes_or_none}
 use Rattle.stow_versions.specs.VersionsState.{VersionsState}

@@ -1,7 +1,7 @@
 -- What a tenant's next write is charged.
-use Rattle.std.proofs.Common.{◌≡◌, ℕ, ◌+◌, ◌*◌, ◌<◌, ◌≤◌, Bool, true, false, nat_lt, nat_le, List, [], ◌∷◌, ◌++◌, length, map, Option, Some, None, refl, ap, sym, ◌∙◌, subst, arith, ◌⊎◌, ⊎_elim}
+use Rattle.std.proofs.Common.{◌≡◌, ℕ, ◌<◌, ◌≤◌, Bool, true, false, nat_lt, nat_le, List, [], ◌∷◌, ◌++◌, Option, Some, None, refl, ap, sym, ◌∙◌, subst, arith, ◌⊎◌, ⊎_elim}
 use Rattle.std.proofs.Math.Bool.{◌&&◌, ◌||◌}
-use Rattle.std.specs.Prelude.{Contains, IfSome, IsTrue, IsFalse, not}
+use Rattle.std.specs.Prelude.{Contains, IfSome, IsTrue, not}
 use Rattle.std.specs.FinMap as finite
 use Rattle.std.proofs.lemmas.Bool.{cases_lt, lt-ltb, le-ltb, le-leb, lt-leb}
 use Rattle.std.specs.List.{AllByRecursion}
@@ -18,7 +18,7 @@ use Rattle.stow_core.proofs.Tenancies.{own_with, own_of_parts}
 use Rattle.stow_ledger.specs.Accounts.{AccountState, IsAccountOf, IsGivenBy, is_allowed, present_charge}
 use Rattle.stow_ledger.specs.Charges.{charge_after_write}
 use Rattle.stow_ledger.specs.Histories.{IsHistory, ShowsHistory, SameNumbers}
-use Rattle.stow_ledger.specs.Shown.{PinsTell, charge_of, change_of, copied, is_in, sized_option, with_row, rows_with}
+use Rattle.stow_ledger.specs.Shown.{PinsTell, charge_of, change_of, copied, is_in, with_row}
 use Rattle.stow_ledger.specs.declared.charge.Charge.{Charge}
 use Rattle.stow_ledger.specs.declared.row_change.RowChange.{RowChange}
 use Rattle.stow_ledger.specs.declared.sized_version.SizedVersion.{SizedVersion}
@@ -26,7 +26,7 @@ use Rattle.stow_ledger.proofs.HistoryLemmas.{pins_tell_of_writes_law, next_is_ne
 use Rattle.stow_ledger.proofs.KeptLemmas.{present_is_charged_law}
 use Rattle.stow_ledger.proofs.TreeHistory.{rows_are_history_law}
 use Rattle.stow_ledger.proofs.WriteLemmas.{write_is_charged_law}
-use Rattle.stow_model.specs.Store.{Store, Rows, Version, charge, exceeds_quota, rows_without}
+use Rattle.stow_model.specs.Store.{Store, Rows, Version, exceeds_quota, rows_without}
 use Rattle.stow_state.specs.Rows.{rows_at}
 use Rattle.stow_state.specs.State.{TenantState, IsSound, store_in}
 use Rattle.stow_tree.specs.TreeState.{tree_messages}

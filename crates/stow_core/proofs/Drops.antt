@@ -1,9 +1,9 @@
 -- What a drop leaves charged, by the core's state.
-use Rattle.std.proofs.Common.{◌≡◌, ◌≢◌, ℕ, zero, suc, ◌+◌, ◌<◌, ◌≤◌, ◌^◌, Bool, true, false, cond, nat_le, List, [], ◌∷◌, length, map, get_or, Option, Some, None, refl, ap, sym, ◌∙◌, subst, arith}
+use Rattle.std.proofs.Common.{◌≡◌, ◌≢◌, ℕ, zero, suc, ◌<◌, ◌≤◌, Bool, true, false, cond, nat_le, List, [], ◌∷◌, length, map, get_or, Option, Some, None, refl, ap, sym, ◌∙◌, subst, arith}
 use Rattle.std.proofs.Math.Bool.{◌||◌}
 use Rattle.std.proofs.lemmas.Bool.{le-leb}
 use Rattle.std.proofs.lemmas.List.{length-map}
-use Rattle.std.specs.Prelude.{Contains, IfSome, IsSome, IsTrue, T, option_map}
+use Rattle.std.specs.Prelude.{Contains, IfSome, IsSome, T, option_map}
 use Rattle.std.specs.Cmp.{nat_cmp_total}
 use Rattle.std.specs.FinMap.{FinMap, find, is_sorted, nat_cmp-IsAntisymmetric}
 use Rattle.std.specs.FinMap as finite
@@ -13,24 +13,24 @@ use Rattle.stow_core.specs.Prepared.{IsCharged, after_drop}
 use Rattle.stow_core.specs.State.{CoreState, shared_of, store_of}
 use Rattle.stow_core.specs.Tenancies.{TenancyState, tenancy_of, tenancy_at, versions_of, own_state}
 use Rattle.stow_core.specs.declared.tenancy.Tenancy.{Tenancy}
-use Rattle.stow_core.proofs.Changed.{same_charge, id_is}
-use Rattle.stow_core.proofs.Charges.{charged_in, shows}
+use Rattle.stow_core.proofs.Changed.{same_charge}
+use Rattle.stow_core.proofs.Charges.{charged_in}
 use Rattle.stow_core.proofs.Copies.{all_from, values_copies}
 use Rattle.stow_core.proofs.Stores.{stored}
 use Rattle.stow_core.proofs.Tenancies.{own_with, own_of_parts, same_versions}
 use Rattle.stow_dropping.specs.Dropping.{IsChargeWithout}
 use Rattle.stow_dropping.proofs.FreeDrops.{second_drop_is_free_law, present_drop_is_free_law}
-use Rattle.stow_ledger.specs.Accounts.{AccountState, IsAccountOf, IsGivenBy, is_allowed, present_charge}
-use Rattle.stow_ledger.specs.Histories.{ShowsHistory, SameNumbers}
+use Rattle.stow_ledger.specs.Accounts.{AccountState, IsAccountOf, IsGivenBy, present_charge}
+use Rattle.stow_ledger.specs.Histories.{ShowsHistory}
 use Rattle.stow_ledger.specs.Shown.{charge_of, without_snapshot}
 use Rattle.stow_ledger.specs.declared.charge.Charge.{Charge}
 use Rattle.stow_ledger.proofs.KeptLemmas.{present_is_charged_law}
-use Rattle.stow_model.specs.Store.{Store, Rows, charge}
+use Rattle.stow_model.specs.Store.{Store, Rows}
 use Rattle.stow_state.specs.Rows.{IsIndex, rows_at}
 use Rattle.stow_state.specs.State.{TenantState, IsSound, copies, store_in}
 use Rattle.stow_state.proofs.Snapshots.{found_value, get-copies_of}
 use Rattle.stow_tree.specs.TreeState.{tree_messages}
-use Rattle.stow_tree_model.specs.Keys.{packed, tenant_of}
+use Rattle.stow_tree_model.specs.Keys.{packed}
 use Rattle.stow_tree_model.specs.Messages.{Messages, ops_of}
 use Rattle.stow_tree_model.specs.Operations.{NoneAbove}
 use Rattle.stow_tree_model.proofs.Packed.{tenant_of-packed}

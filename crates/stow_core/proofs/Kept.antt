@@ -1,20 +1,19 @@
 -- The core as it gives way to another that means the same to each tenant.
-use Rattle.std.proofs.Common.{◌≡◌, ◌≢◌, ℕ, ◌<◌, ◌≤◌, ◌^◌, List, length, Bool, Option, Some, None, inr, refl, ap, sym, ◌∙◌, subst, arith}
+use Rattle.std.proofs.Common.{◌≡◌, ◌≢◌, ℕ, ◌<◌, List, Bool, Option, Some, None, refl, ap, sym, ◌∙◌, subst}
 use Rattle.std.specs.Prelude.{Contains, IfSome}
-use Rattle.std.specs.FinMap as finite
-use Rattle.stow_core.specs.State.{CoreState, shared_of, store_of, IsCore, GivesWay, Keeps}
-use Rattle.stow_core.specs.Tenancies.{TenancyState, own_state, tenancy_at, is_among}
+use Rattle.stow_core.specs.State.{CoreState, shared_of, store_of, IsCore, Keeps}
+use Rattle.stow_core.specs.Tenancies.{TenancyState, tenancy_at, is_among}
 use Rattle.stow_core.proofs.Stores.{same_store}
 use Rattle.stow_ledger.specs.Accounts.{IsAccountOf}
 use Rattle.stow_merge.specs.declared.pins.Pins.{Pins}
 use Rattle.stow_merge.specs.Pins.{room_in}
 use Rattle.stow_merge.specs.Pins as held
 use Rattle.stow_node.specs.Subtree.{Subtree}
-use Rattle.stow_state.specs.State.{TenantState, SharedState, IsSound, pins_in, lasts_in, view}
+use Rattle.stow_state.specs.State.{SharedState, IsSound, pins_in, lasts_in}
 use Rattle.stow_state.specs.Steps.{SharedStep, Maintenance, moved, reply_to}
 use Rattle.stow_state.proofs.Steps.{step_sound, step_is_there_law, steps_by_parts_law, other_views_stay_law, maintenance_chains}
 use Rattle.stow_tree.specs.Shapes.{AreInRange}
-use Rattle.stow_tree.specs.TreeState.{TreeState, tree_messages, AgreeUnder, HasBound}
+use Rattle.stow_tree.specs.TreeState.{TreeState, tree_messages, AgreeUnder}
 use Rattle.stow_tree.proofs.Sets.{same_messages}
 use Rattle.stow_tree_model.specs.Agreement.{Agree}
 use Rattle.stow_tree_model.specs.Messages.{Messages}

@@ -1,9 +1,9 @@
 -- Commands that words say have keys within the limits, and what a change writes is within the limit.
-use Rattle.std.proofs.Common.{◌≡◌, ℕ, ◌+◌, ◌<◌, ◌≤◌, ◌^◌, Bool, true, false, cond, nat_lt, nat_le, List, [], ◌∷◌, ◌++◌, length, Option, Some, None, ℤ, pos, negsuc, refl, ap, sym, ◌∙◌, subst, arith}
+use Rattle.std.proofs.Common.{◌≡◌, ℕ, ◌≤◌, Bool, true, false, cond, nat_lt, List, [], ◌∷◌, ◌++◌, length, Option, Some, None, ℤ, pos, negsuc, refl, sym, subst, arith}
 use Rattle.std.proofs.Math.Bool.{◌||◌}
 use Rattle.std.proofs.lemmas.Bool.{ltb-false, leb-true}
 use Rattle.std.proofs.lemmas.Fmt.{length_signed_le}
-use Rattle.std.specs.Prelude.{codes, is_some, ◌+ℤ◌}
+use Rattle.std.specs.Prelude.{◌+ℤ◌}
 use Rattle.std.specs.Fmt.{signed_decimal}
 use Rattle.std.specs.List.{AllByRecursion, list_any}
 use Rattle.stow_bytes.specs.Limits.{key_limit, value_limit, number_limit}
@@ -14,9 +14,8 @@ use Rattle.stow_model.specs.declared.refusal.Refusal.TheVariants as refusal
 use Rattle.stow_model.specs.Reply as reply
 use Rattle.stow_model.specs.declared.simple_string.SimpleString.TheVariants as simple
 use Rattle.std.specs.Option.{unwrap_or}
-use Rattle.stow_model.specs.Command
-use Rattle.stow_model.specs.Command.{Command, Ping, Echo, Get, GetMany, Exists, Length, Range, Del, TakeSnapshot, ListSnapshots, DropSnapshot, GetInSnapshot, RangeInSnapshot, ReportUsage, Change, Update, Set, Append, Add, Condition, Always, Reading, Understood, Refused, Entry, reading, reading_among, commands, with_keys, is_long_key, is_named, of_text, of_key, of_keys, reading_ping, reading_range, reading_range_count, reading_set, reading_set_if, condition_named, reading_append, reading_add, reading_add_number, reading_del, of_nothing, reading_drop_id, reading_drop, reading_get_in_id, reading_get_in, reading_range_in_numbers, reading_range_in, reading_snapshot, snapshot_commands}
-use Rattle.stow_model.specs.Store.{Outcome, Written, Unchanged, Failed, outcome, if_fits, allows, set_outcome, append_outcome, sum_outcome, stored_number}
+use Rattle.stow_model.specs.Command.{Command, Echo, Get, GetMany, Exists, Length, Range, Del, TakeSnapshot, ListSnapshots, GetInSnapshot, RangeInSnapshot, ReportUsage, Change, Update, Set, Append, Add, Condition, Always, Reading, Understood, Refused, Entry, reading, reading_among, commands, with_keys, is_long_key, is_named, of_text, of_key, of_keys, reading_ping, reading_range, reading_range_count, reading_set, reading_set_if, condition_named, reading_append, reading_add, reading_add_number, reading_del, of_nothing, reading_drop_id, reading_drop, reading_get_in_id, reading_get_in, reading_range_in_numbers, reading_range_in, reading_snapshot, snapshot_commands}
+use Rattle.stow_model.specs.Store.{Outcome, Written, Unchanged, Failed, outcome, if_fits, allows, sum_outcome, stored_number}
 use Rattle.std.specs.Prelude.{Ok}
 use Rattle.stow_commands.specs.Outcomes.{IsOutcome, IsAppendReply}
 use Rattle.stow_commands.specs.declared.outcome.Outcome as coded

@@ -1,5 +1,5 @@
 -- A new core.
-use Rattle.std.proofs.Common.{◌≡◌, ◌≢◌, ℕ, zero, suc, ◌+◌, ◌<◌, List, [], ◌∷◌, length, map, Option, Some, None, refl, ap, sym, ◌∙◌, subst, arith}
+use Rattle.std.proofs.Common.{◌≡◌, ℕ, zero, suc, ◌<◌, List, [], ◌∷◌, length, map, Option, Some, None, refl, ap, sym, ◌∙◌, subst}
 use Rattle.std.specs.Prelude.{slice_get, IfSome}
 use Rattle.std.specs.FinMap as finite
 use Rattle.std.proofs.lemmas.List.{length-map}
@@ -12,12 +12,12 @@ use Rattle.stow_ledger.proofs.KeptLemmas.{new_account_is_empty_law}
 use Rattle.stow_merge.specs.declared.pins.Pins.{Pins}
 use Rattle.stow_merge.specs.Pins as held
 use Rattle.stow_model.specs.Login.{Entry, quota_of}
-use Rattle.stow_model.specs.Store.{Store, empty_store}
-use Rattle.stow_state.specs.State.{TenantState, SharedState, IsSound, pins_in, new_state, new_tenant}
+use Rattle.stow_model.specs.Store.{empty_store}
+use Rattle.stow_state.specs.State.{TenantState, IsSound, new_state, new_tenant}
 use Rattle.stow_state.proofs.Snapshots.{entries-empty}
 use Rattle.stow_state.proofs.Steps.{new_sound}
 use Rattle.stow_tree.specs.Shapes.{AreInRange}
-use Rattle.stow_tree.specs.TreeState.{TreeState, tree_messages}
+use Rattle.stow_tree.specs.TreeState.{tree_messages}
 
 -- each account is new
 account_of : (entries : List Entry) (p : ℕ) (own : TenancyState) → slice_get (map new_tenancy entries) p ≡ Some own → (quota : ℕ) × (own.account ≡ new_account quota)

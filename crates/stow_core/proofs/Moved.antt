@@ -1,10 +1,10 @@
 -- The core as one tenant's store becomes another.
-use Rattle.std.proofs.Common.{◌≡◌, ◌≢◌, ℕ, suc, ◌+◌, ◌-◌, ◌<◌, ◌≤◌, ◌^◌, List, [], ◌∷◌, length, set, Bool, Option, Some, None, inl, inr, refl, ap, sym, ◌∙◌, subst, arith, ⊎_elim}
-use Rattle.std.specs.Prelude.{Contains, IfSome}
+use Rattle.std.proofs.Common.{◌≡◌, ◌≢◌, ℕ, suc, ◌-◌, ◌<◌, ◌≤◌, length, set, Option, Some, refl, ap, sym, ◌∙◌, subst, arith, ⊎_elim}
+use Rattle.std.specs.Prelude.{IfSome}
 use Rattle.std.specs.FinMap as finite
 use Rattle.std.proofs.lemmas.Bool.{cases_eq}
 use Rattle.std.proofs.lemmas.List.{length-set}
-use Rattle.stow_core.specs.State.{CoreState, shared_of, store_of, IsCore, Moves, StepsTo}
+use Rattle.stow_core.specs.State.{CoreState, shared_of, store_of, IsCore, Moves}
 use Rattle.stow_core.specs.Tenancies.{TenancyState, own_state, tenancy_at, is_among}
 use Rattle.stow_core.proofs.Stores.{store_view, same_store}
 use Rattle.stow_core.proofs.Tenancies.{set_own, set_other, tenants_set}
@@ -12,12 +12,11 @@ use Rattle.stow_ledger.specs.Accounts.{IsAccountOf}
 use Rattle.stow_merge.specs.declared.pins.Pins.{Pins}
 use Rattle.stow_merge.specs.Pins.{room_in}
 use Rattle.stow_merge.specs.Pins as held
-use Rattle.stow_model.specs.Reply.{Reply}
-use Rattle.stow_model.specs.Store.{Store, OwnEvent}
+use Rattle.stow_model.specs.Store.{Store}
 use Rattle.stow_model.specs.Store.{step as own_step}
 use Rattle.stow_state.specs.Changes.{changes}
 use Rattle.stow_state.specs.Rows.{IsIndex}
-use Rattle.stow_state.specs.State.{TenantState, SharedState, IsSound, view, pins_in, lasts_in}
+use Rattle.stow_state.specs.State.{TenantState, view, pins_in, lasts_in}
 use Rattle.stow_state.specs.Steps.{LeadsTo, LeadsAlone, WritesOnce, after_call, moved_tenant, with_tenant}
 use Rattle.stow_state.proofs.Steps.{stores_lead_law}
 use Rattle.stow_tree.specs.Shapes.{AreInRange}

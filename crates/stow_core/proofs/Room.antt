@@ -1,6 +1,6 @@
 -- What the tree has to be told of messages before there is room for them.
-use Rattle.std.proofs.Common.{◌≡◌, ◌≢◌, ℕ, zero, suc, ◌+◌, ◌*◌, ◌<◌, ◌≤◌, ◌^◌, List, [], ◌∷◌, length, map, drop, take, get_or, Option, Some, None, refl, ap, sym, ◌∙◌, subst, arith}
-use Rattle.std.specs.List.{AllByRecursion, sum_by}
+use Rattle.std.proofs.Common.{◌≡◌, ◌≢◌, ℕ, zero, suc, ◌+◌, ◌*◌, ◌<◌, ◌≤◌, List, [], ◌∷◌, length, map, drop, get_or, Option, Some, None, refl, ap, sym, ◌∙◌, subst, arith}
+use Rattle.std.specs.List.{AllByRecursion}
 use Rattle.std.proofs.Math.Seq.{drop-cons}
 use Rattle.std.proofs.lemmas.List.{length-append}
 use Rattle.std.proofs.lemmas.List.Sums.{sum_by-cons}
@@ -13,7 +13,7 @@ use Rattle.stow_tree.specs.Shapes.{AreInRange}
 use Rattle.stow_core.specs.Taken.{AreDistinct}
 use Rattle.stow_core.specs.Writes.{content_op, write_of, removal_of, removals_of, AreMessages}
 use Rattle.stow_core.proofs.Keyed.{first_own, later_own, tenant_of_own}
-use Rattle.stow_tree.specs.Putting.{CanAdd, CanPut, CanReserve, IsReserved, AreApart, Puts, bytes_of}
+use Rattle.stow_tree.specs.Putting.{CanAdd, CanReserve, IsReserved, AreApart, Puts, bytes_of}
 use Rattle.stow_tree.specs.TreeState.{TreeState, tree_messages, HasBound}
 use Rattle.stow_tree.proofs.Put.{puts_then}
 use Rattle.stow_tree_model.specs.Keys.{packed, own_key, tenant_of, IsTenantKey}

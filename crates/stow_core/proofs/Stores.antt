@@ -1,12 +1,12 @@
 -- One tenant's store in the state of all.
-use Rattle.std.proofs.Common.{◌≡◌, ◌≢◌, ℕ, ◌+◌, ◌-◌, ◌<◌, ◌≤◌, ◌^◌, List, [], ◌∷◌, length, map, get_or, Bool, true, nat_lt, Option, Some, None, is_some, inr, refl, ap, sym, ◌∙◌, subst, arith, ⊎_elim}
+use Rattle.std.proofs.Common.{◌≡◌, ℕ, ◌-◌, ◌<◌, ◌≤◌, List, [], ◌∷◌, length, map, get_or, Bool, true, nat_lt, Option, Some, None, is_some, refl, ap, sym, ◌∙◌, subst, arith, ⊎_elim}
 use Rattle.std.specs.Prelude.{option_map, Result, Ok, Err, IfOk, OnOk, IfSome}
 use Rattle.std.specs.FinMap as finite
 use Rattle.std.proofs.lemmas.Bool.{cases_lt, ltb-true}
 use Rattle.stow_bytes.specs.Limits.{number_limit}
 use Rattle.stow_core.specs.Keys.{AreKeysOf}
 use Rattle.stow_core.specs.Prepared.{CanWrite, whole_value}
-use Rattle.stow_core.specs.State.{CoreState, shared_of, store_at, store_of, IsCore, IsNewCore}
+use Rattle.stow_core.specs.State.{CoreState, shared_of, store_at, store_of, IsCore}
 use Rattle.stow_core.specs.Tenancies.{TenancyState, own_state, tenancy_at, tenancy_of}
 use Rattle.stow_core.specs.declared.content.Content.{Content}
 use Rattle.stow_core.specs.declared.content.Content.TheVariants as content
@@ -17,19 +17,18 @@ use Rattle.stow_core.specs.declared.tenancy.Tenancy.{Tenancy}
 use Rattle.std.proofs.lemmas.List.{length-map}
 use Rattle.stow_ledger.specs.Accounts.{IsAccountOf}
 use Rattle.stow_merge.specs.declared.pins.Pins.{Pins}
-use Rattle.stow_model.specs.Login.{Entry, IsTenant, quota_of}
+use Rattle.stow_model.specs.Login.{IsTenant, quota_of}
 use Rattle.stow_model.specs.Store.{Store, Rows, Version, empty_store}
 use Rattle.stow_model.specs.Store as stored_value
 use Rattle.stow_read.specs.declared.found.Found.{Found}
 use Rattle.stow_read.specs.Found.{found_value}
 use Rattle.stow_state.specs.Rows.{rows_at, version_of, IsIndex}
-use Rattle.stow_state.specs.State.{TenantState, SharedState, IsSound, copies, store_in, view, new_tenant, new_state}
-use Rattle.stow_state.specs.Steps.{SharedStep, Maintenance}
+use Rattle.stow_state.specs.State.{SharedState, store_in, view, new_tenant, new_state}
 use Rattle.stow_state.proofs.Rows.{rows_by_value_law}
-use Rattle.stow_state.proofs.Steps.{new_view, new_sound, other_views_stay_law, step_is_there_law}
-use Rattle.stow_tree.specs.TreeState.{TreeState, tree_messages}
+use Rattle.stow_state.proofs.Steps.{new_view}
+use Rattle.stow_tree.specs.TreeState.{tree_messages}
 use Rattle.stow_tree_model.specs.Keys.{packed, own_key}
-use Rattle.stow_tree_model.specs.Messages.{Messages, ops_of, value}
+use Rattle.stow_tree_model.specs.Messages.{Messages, value}
 use Rattle.stow_tree_model.specs.Operations.{NumberedValue, outcome, bytes_or_none, value_in}
 use Rattle.stow_tree_model.specs.Value.{IsValue}
 

@@ -1,5 +1,5 @@
 -- Which keys a deletion takes rows out with, a key at a time.
-use Rattle.std.proofs.Common.{◌≡◌, ◌≢◌, ℕ, suc, ◌+◌, ◌-◌, ◌<◌, ◌≤◌, ◌⊎◌, Bool, true, false, cond, inl, inr, List, [], ◌∷◌, ◌++◌, length, take, drop, map, get_or, Option, Some, None, is_some, eqb, refl, ap, sym, ◌∙◌, subst, arith, ⊎_elim, w32}
+use Rattle.std.proofs.Common.{◌≡◌, ◌≢◌, ℕ, ◌+◌, ◌-◌, ◌<◌, ◌⊎◌, Bool, true, false, cond, inl, inr, List, [], ◌∷◌, ◌++◌, length, take, drop, map, get_or, Option, Some, None, is_some, eqb, refl, ap, sym, ◌∙◌, subst, arith, ⊎_elim, w32}
 use Rattle.std.proofs.Math.Bool.{and_assoc, ◌&&◌, ◌||◌, false≢true}
 use Rattle.std.proofs.lemmas.Bool.{cond-true, cond-false}
 use Rattle.std.proofs.lemmas.Grind.{take_at_read}
@@ -9,8 +9,7 @@ use Rattle.std.specs.Prelude.{IsSome}
 use Rattle.std.specs.FinMap as map
 use Rattle.std.specs.Cmp.Lexicographic.{nat_list_cmp_total, nat_list_eq_equiv}
 use Rattle.std.specs.Int.{to_be_bytes}
-use Rattle.std.specs.List.{AllByRecursion, list_any}
-use Rattle.std.specs.Ordering.{eq_by_cmp}
+use Rattle.std.specs.List.{list_any}
 use Rattle.std.specs.Str.{bytes_eq}
 use Rattle.stow_bytes.specs.Bytes.{bytes_cmp}
 use Rattle.stow_model.specs.Store.{Rows, Version, rows_without}

@@ -1,5 +1,5 @@
 -- What each tenant has beside its messages, in the list of all.
-use Rattle.std.proofs.Common.{◌≡◌, ◌≢◌, ℕ, zero, suc, ◌+◌, ◌-◌, ◌<◌, ◌≤◌, List, [], ◌∷◌, ◌++◌, length, map, take, get_or, set, cond, eqb, add-one, Option, Some, None, refl, ap, sym, ◌∙◌, subst, arith, ⊎_elim}
+use Rattle.std.proofs.Common.{◌≡◌, ◌≢◌, ℕ, zero, suc, ◌+◌, ◌-◌, ◌<◌, ◌≤◌, List, [], ◌∷◌, ◌++◌, length, map, take, get_or, set, eqb, add-one, Some, None, refl, ap, sym, ◌∙◌, subst, arith, ⊎_elim}
 use Rattle.std.proofs.lemmas.Bool.{cases_eq, cond-true, cond-false, eq-eqb, ne_eqb}
 use Rattle.std.proofs.lemmas.List.{get_or-map, length-map}
 use Rattle.std.proofs.lemmas.Option.{slice_get_past, slice_get_read}
@@ -10,7 +10,7 @@ use Rattle.std.specs.Ordering.{nat_cmp}
 use Rattle.stow_core.specs.Tenancies.{TenancyState, tenancy_with, tenancy_of, versions_of, new_tenancy, own_state, tenancy_at}
 use Rattle.stow_core.specs.declared.tenancy.Tenancy.{Tenancy}
 use Rattle.stow_ledger.specs.Accounts.{AccountState, new_account}
-use Rattle.stow_model.specs.Login.{Entry, IsTenant, quota_from, quota_of}
+use Rattle.stow_model.specs.Login.{Entry, quota_from, quota_of}
 use Rattle.stow_state.specs.State.{TenantState, new_tenant}
 use Rattle.stow_state.specs.Steps.{with_tenant}
 use Rattle.stow_state.proofs.Snapshots.{entries-empty}

@@ -1,7 +1,6 @@
 -- What a tenant uses, by what the core has of it.
-use Rattle.std.proofs.Common.{◌≡◌, ℕ, ◌*◌, ◌≤◌, List, Some, ap, sym, ◌∙◌, arith}
+use Rattle.std.proofs.Common.{◌≡◌, ℕ, ◌*◌, ◌≤◌, Some, ap, sym, ◌∙◌, arith}
 use Rattle.std.specs.FinMap as finite
-use Rattle.stow_bytes.specs.Limits.{number_limit}
 use Rattle.stow_core.specs.State.{CoreState, store_of}
 use Rattle.stow_core.specs.Tenancies.{tenancy_of, tenancy_at, counted_account}
 use Rattle.stow_core.specs.declared.tenancy.Tenancy.{Tenancy}

@@ -20,7 +20,7 @@ use Rattle.stow_core.specs.declared.rows_at.RowsAt.{RowsAt}
 use Rattle.stow_core.specs.declared.snapshot.Snapshot.{Snapshot}
 use Rattle.stow_state.specs.Rows.{rows_at}
 use Rattle.stow_state.specs.State.{SharedState, IsSound, pins_in, store_in, new_state}
-use Rattle.stow_state.specs.Steps.{SharedStep, LeadsTo, Call, Maintenance}
+use Rattle.stow_state.specs.Steps.{SharedStep, Call, Maintenance}
 use Rattle.stow_tree.specs.Shapes.{AreInRange}
 use Rattle.stow_tree.specs.TreeState.{TreeState, tree_messages}
 use Rattle.stow_tree_model.specs.Messages.{Messages}

@@ -1,4 +1,4 @@
-use Rattle.std.proofs.Common.{rules, length, map, take, ap, sym, ◌∙◌, arith}
+use Rattle.std.proofs.Common.{length, map, take, ap, ◌∙◌, arith}
 use Rattle.std.proofs.lemmas.List.{length-map, length-take}
 use Rattle.std.proofs.lemmas.Grind.{common_steps}
 use Rattle.stow_core.specs.Tenancies.{new_tenancy, tenancy_of}

@@ -1,4 +1,4 @@
-use Rattle.std.proofs.Common.{◌≡◌, length, map, take}
+use Rattle.std.proofs.Common.{◌≡◌, map, take}
 use Rattle.stow_core.specs.Tenancies.{new_tenancy, tenancy_of}
 use Rattle.stow_core.proofs.new_tenancies.Given as goal
 

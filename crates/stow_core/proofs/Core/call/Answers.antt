@@ -1,4 +1,4 @@
-use Rattle.std.proofs.Common.{◌≡◌, ap, sym, ◌∙◌, subst}
+use Rattle.std.proofs.Common.{◌≡◌, ap, sym, subst}
 use Rattle.stow_core.specs.State.{CoreState, shared_of, store_of}
 use Rattle.stow_core.proofs.Answered.{called, starved}
 use Rattle.stow_core.proofs.Stores.{index_of, own_there, store_view}

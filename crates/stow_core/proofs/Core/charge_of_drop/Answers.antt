@@ -1,8 +1,6 @@
-use Rattle.std.proofs.Common.{◌≡◌, true, Some, ap, sym, ◌∙◌, subst}
-use Rattle.std.specs.FinMap as finite
-use Rattle.std.specs.Prelude.{Contains, IfOk, IsSome}
-use Rattle.stow_core.specs.Prepared.{IsCharged, after_drop}
-use Rattle.stow_core.specs.State.{CoreState, store_of}
+use Rattle.std.proofs.Common.{◌≡◌, true, sym, ◌∙◌, subst}
+use Rattle.std.specs.Prelude.{Contains}
+use Rattle.stow_core.specs.State.{CoreState}
 use Rattle.stow_core.specs.Tenancies.{is_among}
 use Rattle.stow_core.proofs.Answered.{if_all_ok}
 use Rattle.stow_core.proofs.Drops.{walked, present_free, second_free, number_at, some_at}

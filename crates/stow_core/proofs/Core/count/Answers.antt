@@ -1,4 +1,3 @@
-use Rattle.std.proofs.Common.{sym}
 use Rattle.stow_core.proofs.Carried.{count}
 use Rattle.stow_core.proofs.Core.count.Goals as goal
 

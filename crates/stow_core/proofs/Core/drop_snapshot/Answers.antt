@@ -1,7 +1,6 @@
-use Rattle.std.proofs.Common.{◌≡◌, ◌≢◌, ℕ, eqb, refl, ap, sym, ◌∙◌, subst}
+use Rattle.std.proofs.Common.{eqb, refl, ap, ◌∙◌}
 use Rattle.std.proofs.lemmas.Bool.{cond-true, cond-false, eq-eqb, ne_eqb}
-use Rattle.std.specs.Prelude.{IsTrue, IsSome}
-use Rattle.std.specs.FinMap as finite
+use Rattle.std.specs.Prelude.{IsTrue}
 use Rattle.stow_core.specs.Tenancies.{is_among}
 use Rattle.stow_core.proofs.Carried.{drop, live_in, given_to, held_before}
 use Rattle.stow_ledger.specs.Accounts.{AccountState, IsGivenBy, is_allowed}

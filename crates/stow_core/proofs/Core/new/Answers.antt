@@ -1,5 +1,5 @@
 use Rattle.std.proofs.lemmas.Grind.{common_steps}
-use Rattle.std.proofs.Common.{◌≡◌, ◌<◌, length, map, ap, ◌∙◌, arith, refl, subst, sym}
+use Rattle.std.proofs.Common.{map, ap, ◌∙◌, arith, refl}
 use Rattle.std.proofs.lemmas.List.{length-map}
 use Rattle.stow_core.specs.Tenancies.{new_tenancy, tenancy_of}
 use Rattle.stow_core.proofs.Made.{is_new, new_kept}

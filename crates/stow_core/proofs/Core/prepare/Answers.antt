@@ -1,12 +1,10 @@
-use Rattle.std.proofs.Common.{rules, ◌≡◌, false, ap, sym, ◌∙◌, refl}
-use Rattle.std.proofs.Math.Bool.{false≢true}
+use Rattle.std.proofs.Common.{ap, ◌∙◌}
 use Rattle.stow_commands.specs.Commands.{command_of}
 use Rattle.stow_core.specs.State.{store_of}
 use Rattle.stow_core.specs.Prepared.{prepared_answer}
 use Rattle.stow_core.proofs.Answered.{understood, refused_words, if_ok}
 use Rattle.stow_core.proofs.Kept.{keeps_itself}
 use Rattle.stow_core.proofs.Legality.{understood_legal}
-use Rattle.stow_model.specs.Login.{IsTenant}
 use Rattle.stow_core.proofs.Core.prepare.Goals as goal
 
 pub prepare_command-requires-clause-legal : goal.prepare_command-requires-clause-legal

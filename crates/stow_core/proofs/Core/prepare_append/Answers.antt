@@ -1,7 +1,5 @@
-use Rattle.std.proofs.Common.{◌≡◌, ◌++◌, ◌≤◌, length, [], ◌∷◌, ap, sym, ◌∙◌, subst}
+use Rattle.std.proofs.Common.{◌≡◌, ap, ◌∙◌, subst}
 use Rattle.std.specs.FinMap as finite
-use Rattle.std.specs.Option.{unwrap_or}
-use Rattle.stow_bytes.specs.Limits.{value_limit}
 use Rattle.stow_commands.specs.Outcomes.{IsAppendReply}
 use Rattle.stow_core.specs.State.{store_of, row_at}
 use Rattle.stow_core.proofs.Answered.{appended, append_refused, error_prepared, only_counted_prepared, prepared_as}

@@ -1,4 +1,4 @@
-use Rattle.std.proofs.Common.{rules, ◌≡◌, Ok, ap, sym, ◌∙◌, subst}
+use Rattle.std.proofs.Common.{rules, ◌≡◌, Ok, ap, ◌∙◌, subst}
 use Rattle.std.specs.FinMap as finite
 use Rattle.stow_commands.specs.Commands.{update_of}
 use Rattle.stow_commands.specs.Outcomes.{IsOutcome}

@@ -1,12 +1,11 @@
-use Rattle.std.proofs.Common.{rules, ◌≡◌, ◌≢◌, ◌<◌, ◌≤◌, ◌+◌, ◌^◌, length, map, nat_lt, true, false, Some, refl, ap, sym, ◌∙◌, subst, arith, to_z, w64}
+use Rattle.std.proofs.Common.{rules, ◌≡◌, ◌≢◌, ◌<◌, ◌+◌, ◌^◌, map, nat_lt, true, false, Some, refl, ap, sym, ◌∙◌, subst, arith}
 use Rattle.std.specs.Prelude.{IsSome}
 use Rattle.std.specs.FinMap as finite
 use Rattle.std.specs.List.{AllByRecursion}
 use Rattle.stow_bytes.specs.Limits.{number_limit}
 use Rattle.stow_core.specs.Keys.{AreKeysOf}
-use Rattle.stow_core.specs.Prepared.{CanWrite, IsCharged, IsPriced, after_remove, next_number, store_without}
+use Rattle.stow_core.specs.Prepared.{CanWrite, IsPriced, after_remove, next_number, store_without}
 use Rattle.stow_core.specs.State.{CoreState, store_of, Keeps}
-use Rattle.stow_core.specs.Taken.{AreTaken}
 use Rattle.stow_core.specs.Tenancies.{tenancy_at}
 use Rattle.stow_core.specs.Writes.{removals_of, AreMessages}
 use Rattle.stow_core.proofs.Answered.{charged_kept, del_done, del_exceeds, del_full, del_none, error_prepared, only_counted_prepared, refused_prepared, fewer}

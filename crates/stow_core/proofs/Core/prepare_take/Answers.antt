@@ -1,6 +1,6 @@
 use Rattle.std.proofs.Common.{Option, ap, refl, sym, subst}
 use Rattle.std.specs.Prelude.{IfSome}
-use Rattle.stow_core.specs.State.{CoreState, store_of, Keeps}
+use Rattle.stow_core.specs.State.{CoreState, store_of}
 use Rattle.stow_core.specs.Tenancies.{TenancyState, tenancy_at, versions_of}
 use Rattle.stow_core.proofs.Answered.{error_prepared}
 use Rattle.stow_core.proofs.Kept.{kept_sound, keeps_repinned, keeps_then}

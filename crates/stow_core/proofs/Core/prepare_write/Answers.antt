@@ -1,7 +1,7 @@
-use Rattle.std.proofs.Common.{rules, ◌≡◌, ◌≤◌, ◌<◌, ◌+◌, ℕ, List, [], ◌∷◌, length, nat_lt, true, false, Some, refl, ap, sym, ◌∙◌, subst}
+use Rattle.std.proofs.Common.{rules, ◌≡◌, ◌≤◌, ◌+◌, [], ◌∷◌, length, nat_lt, true, false, Some, refl, ap, sym, ◌∙◌, subst}
 use Rattle.stow_bytes.specs.Limits.{number_limit, value_limit}
 use Rattle.stow_core.specs.Keys.{AreKeysOf}
-use Rattle.stow_core.specs.Prepared.{CanWrite, IsCharged, IsPriced, IsPrepared, HasRoom, after_content, next_number, next_version, whole_value, writes_row}
+use Rattle.stow_core.specs.Prepared.{CanWrite, IsCharged, IsPriced, after_content, next_number, next_version, whole_value}
 use Rattle.stow_core.specs.State.{CoreState, store_of, row_at, Keeps}
 use Rattle.stow_core.specs.Tenancies.{tenancy_at}
 use Rattle.stow_core.specs.Writes.{content_op, write_of}

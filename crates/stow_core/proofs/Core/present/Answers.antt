@@ -1,4 +1,4 @@
-use Rattle.std.proofs.Common.{◌≡◌, ap, ◌∙◌, sym}
+use Rattle.std.proofs.Common.{ap, ◌∙◌, sym}
 use Rattle.stow_model.specs.Store.{Store}
 use Rattle.stow_core.specs.Tenancies.{tenancy_of}
 use Rattle.stow_state.specs.Rows.{rows_at}

@@ -1,4 +1,3 @@
-use Rattle.std.proofs.Common.{sym}
 use Rattle.stow_core.proofs.Carried.{refuse}
 use Rattle.stow_core.proofs.Core.refuse.Goals as goal
 

@@ -1,4 +1,4 @@
-use Rattle.std.proofs.Common.{◌≤◌, ap, ◌∙◌, subst, sym, arith}
+use Rattle.std.proofs.Common.{◌∙◌, subst, sym}
 use Rattle.std.proofs.Common.{◌≡◌}
 use Rattle.std.specs.Prelude.{IfOk}
 use Rattle.std.specs.FinMap as finite
@@ -7,7 +7,7 @@ use Rattle.stow_core.specs.Writes.{row_of}
 use Rattle.stow_core.specs.State.{CoreState, rows_in}
 use Rattle.stow_core.proofs.Stores.{low_index, row_found, row_short, on_ok}
 use Rattle.stow_tree.specs.TreeState.{tree_messages}
-use Rattle.stow_tree_model.specs.Keys.{packed, IsTenantKey}
+use Rattle.stow_tree_model.specs.Keys.{IsTenantKey}
 use Rattle.stow_tree_model.proofs.Packed.{IsTenantKey-packed}
 use Rattle.stow_core.proofs.Core.row.Goals as goal
 

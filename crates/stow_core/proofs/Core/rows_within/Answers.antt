@@ -1,4 +1,4 @@
-use Rattle.std.proofs.Common.{ap, sym, ◌∙◌, subst}
+use Rattle.std.proofs.Common.{sym, subst}
 use Rattle.stow_core.specs.State.{CoreState, Keeps}
 use Rattle.stow_core.proofs.Carried.{core_of}
 use Rattle.stow_core.proofs.Kept.{core_rooted, keeps_rooted}

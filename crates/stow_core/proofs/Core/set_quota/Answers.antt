@@ -1,4 +1,4 @@
-use Rattle.std.proofs.Common.{rules, ◌≡◌, refl, sym}
+use Rattle.std.proofs.Common.{rules}
 use Rattle.stow_core.proofs.Carried.{give}
 use Rattle.stow_model.specs.Login.{IsTenant}
 use Rattle.stow_core.proofs.Core.set_quota.Goals as goal

@@ -1,10 +1,7 @@
-use Rattle.std.proofs.Common.{◌≡◌, ◌≢◌, ℕ, ◌≤◌, ap, sym, ◌∙◌, subst}
-use Rattle.std.specs.Prelude.{Contains, ◌||◌, ◌==◌}
-use Rattle.std.specs.FinMap as finite
-use Rattle.stow_core.specs.Tenancies.{is_among}
+use Rattle.std.proofs.Common.{◌≤◌, sym, ◌∙◌, subst}
+use Rattle.std.specs.Prelude.{◌||◌, ◌==◌}
 use Rattle.stow_core.proofs.Carried.{take, ready_to, has_pin_room, few_pins, low_pins, held_before, last_of}
-use Rattle.stow_merge.specs.Pins.{pins_in}
-use Rattle.stow_versions.specs.VersionsState.{VersionsState, IsReady}
+use Rattle.stow_versions.specs.VersionsState.{IsReady}
 use Rattle.stow_core.proofs.Core.take.Goals as goal
 
 pub add_pin-requires-clause-room : goal.add_pin-requires-clause-room

@@ -1,4 +1,4 @@
-use Rattle.std.proofs.Common.{rules, ◌≡◌, ◌<◌, ◌+◌, ◌-◌, length, take, [], ◌∷◌, ◌++◌, true, false, is_some, inl, inr, refl, ap, sym, ◌∙◌, subst, arith}
+use Rattle.std.proofs.Common.{rules, ◌≡◌, ◌<◌, ◌+◌, ◌-◌, length, take, [], ◌∷◌, ◌++◌, true, false, inl, inr, ap, sym, ◌∙◌, subst, arith}
 use Rattle.std.specs.FinMap as finite
 use Rattle.std.specs.List.{list_any}
 use Rattle.std.specs.Str.{bytes_eq}
@@ -6,7 +6,6 @@ use Rattle.stow_model.specs.LentWords.{words_in}
 use Rattle.stow_core.specs.Prepared.{IsChargedWithout}
 use Rattle.stow_core.specs.State.{store_of}
 use Rattle.stow_core.specs.Taken.{AreTaken}
-use Rattle.stow_core.specs.Writes.{row_of}
 use Rattle.stow_core.proofs.Deletions.{none_freed, one_more_freed, sized_some, sized_none}
 use Rattle.stow_core.proofs.Taking.{taken_none, taken_more, taken_same}
 use Rattle.stow_ledger.specs.Shown.{sized_option}

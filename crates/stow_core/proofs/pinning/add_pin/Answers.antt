@@ -1,4 +1,4 @@
-use Rattle.std.proofs.Common.{ap, ◌∙◌, sym, subst, rules, ◌≡◌, false}
+use Rattle.std.proofs.Common.{rules, ◌≡◌, false}
 use Rattle.std.specs.Prelude.{◌==◌}
 use Rattle.std.specs.List.{list_any}
 use Rattle.stow_merge.specs.Pins.{pins_in}

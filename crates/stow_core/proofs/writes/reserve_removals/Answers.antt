@@ -1,12 +1,6 @@
 use Rattle.std.proofs.lemmas.Grind.{common_steps}
-use Rattle.std.proofs.Common.{refl, length, ◌<◌, rules, subst, ap, sym, ◌∙◌, map, arith}
-use Rattle.stow_core.specs.Writes.{removal_of, removals_of}
+use Rattle.std.proofs.Common.{length, ◌<◌, rules, arith}
 use Rattle.stow_model.specs.LentWords.{words_in}
-use Rattle.stow_tree_model.specs.Agreement.{TenantPins}
-use Rattle.stow_tree.specs.Putting.{CanReserve, IsReserved}
-use Rattle.stow_tree.specs.TreeState.{tree_messages, AgreeUnder}
-use Rattle.stow_tree_model.specs.TreeMessage.{message_of}
-use Rattle.stow_core.proofs.Tenancies.{take_all}
 use Rattle.stow_core.proofs.Room.{message_at}
 use Rattle.stow_core.proofs.writes.reserve_removals.Goals as goal
 

@@ -1,5 +1,4 @@
-use Rattle.std.proofs.Common.{◌≡◌, ℕ, true, false, sym, ap, ◌∙◌, subst, Some, None, Err, refl}
-use Rattle.std.specs.Prelude.{IsSome}
+use Rattle.std.proofs.Common.{◌≡◌, false, sym, ap, ◌∙◌}
 use Rattle.std.specs.FinMap as finite
 use Rattle.std.specs.Result.{result_ok}
 use Rattle.stow_core.specs.Tenancies.{is_among}
