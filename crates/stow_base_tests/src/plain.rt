@@ -77,6 +77,14 @@ fn is_told<A: Allocator + Copy>(
     Ok(reply_text(alloc, &reply)?.as_slice() == told.as_bytes())
 }
 
+/// Whether an empty store tells the line this, and counts it.
+fn is_refused<A: Allocator + Copy>(alloc: A, line: &str, told: &str) -> Result<bool, AllocError> {
+    let mut store = PlainStore::new(alloc, QUOTA);
+    let is_told = is_told(alloc, &mut store, &request_of(alloc, line)?, told)?;
+    let commands = store.commands.get();
+    Ok(is_told && commands == 1)
+}
+
 /// Whether each of the lines is told this by an empty store, and counted.
 fn are_refused<A: Allocator + Copy>(
     alloc: A,
@@ -84,9 +92,7 @@ fn are_refused<A: Allocator + Copy>(
     told: &str,
 ) -> Result<bool, AllocError> {
     for line in lines {
-        let mut store = PlainStore::new(alloc, QUOTA);
-        let request = request_of(alloc, line)?;
-        if !is_told(alloc, &mut store, &request, told)? || store.commands.get() != 1 {
+        if !is_refused(alloc, line, told)? {
             return Ok(false);
         }
     }
@@ -180,8 +186,10 @@ fn withstands<A: Allocator + Copy, B: Allocator>(
         return Ok(if is_done { None } else { Some(false) });
     }
     heap.set(Plan::Grant);
-    let stood = store.commands.get() == 1 && store.last.get() == 1 && store.rows().len() == 1;
-    Ok(Some(!is_done && stood && store.step(alloc, &request).is_ok()))
+    let (commands, last, rows) = (store.commands.get(), store.last.get(), store.rows().len());
+    let stood = commands == 1 && last == 1 && rows == 1;
+    let is_done_now = store.step(alloc, &request).is_ok();
+    Ok(Some(!is_done && stood && is_done_now))
 }
 
 /// Whether a line's step withstands the refusal of each request for memory that it makes.
