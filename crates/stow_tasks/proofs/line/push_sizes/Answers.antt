@@ -19,5 +19,5 @@ returns-clause-ok g c =
     c.in_ok-push_count-3.ensures.ok
     ∙ ap (λ x. x ++ codes " quota=" ++ decimal u.quota) (c.in_ok-push_count-2.ensures.ok
     ∙ ap (λ x. x ++ codes " charge=" ++ decimal u.charge) (c.in_ok-push_count.ensures.ok
-    ∙ ap (λ x. x ++ codes " rows=" ++ decimal u.rows) c.in_ok-extend_from_slice.ensures.ok.items))
+    ∙ ap (λ x. x ++ codes " rows=" ++ decimal u.rows) c.in_ok-extend_from_slice.ensures.items))
     ∙ sym (told c.args.out.now.items c.args.name.now (codes " rows=") (decimal u.rows) (codes " charge=") (decimal u.charge) (codes " quota=") (decimal u.quota))
