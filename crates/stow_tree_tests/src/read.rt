@@ -49,8 +49,7 @@ fn key_outside() -> TenantKey<'static> {
 
 /// A node whose leaf has the value `x` of `a` at 1.
 fn with_row<A: Allocator + Copy>(alloc: A) -> Result<Node<A>, AllocError>
-    ensures below { IfOk result (λ node. AreNumberedBelow 2 node) }
-    ensures height { IfOk result (λ node. node.height ≡ 1) }
+    ensures { IfOk result (λ node. AreNumberedBelow 2 node) }
 {
     let shape = Shape {
         buffer: 131_072,
@@ -72,8 +71,7 @@ fn with_row<A: Allocator + Copy>(alloc: A) -> Result<Node<A>, AllocError>
 /// Puts a message into a node whose messages are numbered below it. Answers whether it could.
 fn put<A: Allocator + Copy>(node: &mut Node<A>, key: TenantKey<'_>, number: u64, op: Op<'_>) -> bool
     requires { AreNumberedBelow number node.old }
-    ensures below { AreNumberedBelow (number + 1) node.new }
-    ensures height { node.new.height ≡ node.old.height }
+    ensures { AreNumberedBelow (number + 1) node.new }
 {
     let Some(made) = message(key, number, op) else {
         return false;
