@@ -11,23 +11,27 @@ use stow_model::reply::Reply;
 use stow_model::usage::Usage;
 use stow_model::words::Words;
 use stow_plain::own_run::own_run;
+use stow_plain::plain_number::PlainNumber;
 use stow_plain::plain_request::PlainRequest;
 use stow_plain::plain_store::PlainStore;
 use stow_refusing::{Plan, Refusing};
 use stow_testing::replies::reply_text;
 
-/// Whether the store, of the quota 1,000,000, reports this usage.
+/// The most bytes that may be charged to a tenant here.
+const QUOTA: u64 = 1_000_000;
+
+/// Whether the store reports this usage.
 fn is_reported<A: Allocator + Copy>(store: &PlainStore<A>, run: &Run) -> bool {
     let want = Usage {
         rows: run.rows,
         charge: run.charge,
-        quota: 1_000_000,
+        quota: QUOTA,
         writes: run.writes,
         commands: run.commands,
         refusals: 0,
         snapshots: 0,
     };
-    store.usage() == Some(want)
+    store.usage() == want
 }
 
 fn are_told<A: Allocator + Copy>(
@@ -49,7 +53,7 @@ fn is_run<A: Allocator + Copy>(alloc: A, row: &Run) -> Result<bool, AllocError> 
     for line in row.lines {
         requests.push(request_of(alloc, line)?)?;
     }
-    let run = own_run(alloc, 1_000_000, requests.as_slice())?;
+    let run = own_run(alloc, QUOTA, requests.as_slice())?;
     let told = are_told(alloc, run.replies.as_slice(), row.replies)?;
     Ok(told && is_reported(&run.store, row))
 }
@@ -73,6 +77,14 @@ fn is_told<A: Allocator + Copy>(
     Ok(reply_text(alloc, &reply)?.as_slice() == told.as_bytes())
 }
 
+/// Whether an empty store tells the line this, and counts it.
+fn is_refused<A: Allocator + Copy>(alloc: A, line: &str, told: &str) -> Result<bool, AllocError> {
+    let mut store = PlainStore::new(alloc, QUOTA);
+    let is_told = is_told(alloc, &mut store, &request_of(alloc, line)?, told)?;
+    let commands = store.commands.get();
+    Ok(is_told && commands == 1)
+}
+
 /// Whether each of the lines is told this by an empty store, and counted.
 fn are_refused<A: Allocator + Copy>(
     alloc: A,
@@ -80,9 +92,7 @@ fn are_refused<A: Allocator + Copy>(
     told: &str,
 ) -> Result<bool, AllocError> {
     for line in lines {
-        let mut store = PlainStore::new(alloc, 0);
-        let request = request_of(alloc, line)?;
-        if !is_told(alloc, &mut store, &request, told)? || store.commands != 1 {
+        if !is_refused(alloc, line, told)? {
             return Ok(false);
         }
     }
@@ -118,7 +128,7 @@ fn long_request<A: Allocator + Copy>(
 
 /// Whether an empty store tells a long request what it is to.
 fn is_long_told<A: Allocator + Copy>(alloc: A, row: &LongRequest) -> Result<bool, AllocError> {
-    let mut store = PlainStore::new(alloc, 0);
+    let mut store = PlainStore::new(alloc, QUOTA);
     is_told(alloc, &mut store, &long_request(alloc, row)?, row.3)
 }
 
@@ -143,11 +153,11 @@ const AFTER_THE_LAST_WRITE: [(&str, &str); 5] = [
 /// counts no more.
 fn is_told_last<A: Allocator + Copy>(alloc: A, line: &str, told: &str) -> Result<bool, AllocError> {
     let last = 9_223_372_036_854_775_807;
-    let mut store = PlainStore::new(alloc, 0);
+    let mut store = PlainStore::new(alloc, QUOTA);
     store.step(alloc, &request_of(alloc, "SET k v")?)?;
-    store.last = last;
-    store.commands = last;
-    Ok(is_told(alloc, &mut store, &request_of(alloc, line)?, told)? && store.commands == last)
+    store.last = PlainNumber::new(last);
+    store.commands = PlainNumber::new(last);
+    Ok(is_told(alloc, &mut store, &request_of(alloc, line)?, told)? && store.commands.get() == last)
 }
 
 #[test]
@@ -167,7 +177,7 @@ fn withstands<A: Allocator + Copy, B: Allocator>(
     at: u64,
 ) -> Result<Option<bool>, AllocError> {
     heap.set(Plan::Grant);
-    let mut store = PlainStore::new(alloc, 0);
+    let mut store = PlainStore::new(alloc, QUOTA);
     store.step(alloc, &request_of(alloc, "SET k v")?)?;
     let request = request_of(alloc, line)?;
     heap.set(Plan::RefuseAt(at));
@@ -176,8 +186,10 @@ fn withstands<A: Allocator + Copy, B: Allocator>(
         return Ok(if is_done { None } else { Some(false) });
     }
     heap.set(Plan::Grant);
-    let stood = store.commands == 1 && store.last == 1 && store.rows.len() == 1;
-    Ok(Some(!is_done && stood && store.step(alloc, &request).is_ok()))
+    let (commands, last, rows) = (store.commands.get(), store.last.get(), store.rows().len());
+    let stood = commands == 1 && last == 1 && rows == 1;
+    let is_done_now = store.step(alloc, &request).is_ok();
+    Ok(Some(!is_done && stood && is_done_now))
 }
 
 /// Whether a line's step withstands the refusal of each request for memory that it makes.

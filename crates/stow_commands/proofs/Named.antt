@@ -30,7 +30,7 @@ kind_none words e = ap kind_of e
 
 -- ---- to a store
 
-pub reads_named : (words rest : List (List ℕ)) (n : List ℕ) → words ≡ n ∷ rest → reading words ≡ reading_among commands n rest
+pub reads_named : (words rest : List (List ℕ)) (n : List ℕ) → words ≡ n ∷ rest → reading words ≡ reading_among commands refusal.UnknownCommand n rest
 unfolding reading
 reads_named words rest n e = ap reading e
 

@@ -33,6 +33,13 @@ command_of (command.Exists keys) = meant.Exists (words_in keys)
 command_of (command.Length key) = meant.Length key.now
 command_of (command.Range from to count) = meant.Range from.now to.now count
 command_of (command.Del keys) = meant.Del (words_in keys)
+command_of command.TakeSnapshot = meant.TakeSnapshot
+command_of command.ListSnapshots = meant.ListSnapshots
+command_of (command.DropSnapshot id) = meant.DropSnapshot id
+command_of (command.GetInSnapshot id key) = meant.GetInSnapshot id key.now
+command_of (command.RangeInSnapshot id from to count) =
+    meant.RangeInSnapshot id from.now to.now count
+command_of command.ReportUsage = meant.ReportUsage
 command_of (command.Change key update) = meant.Change key.now (update_of update)
 
 -- a command, or the first refusal that applies

@@ -1,6 +1,7 @@
 //! Requests to a tenant's store.
 ghost use Rattle.std.specs.Prelude.{◌≡◌, pos, negsuc, [], ◌∷◌, option_map};
 ghost use Rattle.std.specs.List.{list_any};
+ghost use Rattle.stow_model.specs.declared.refusal.Refusal.TheVariants as refusal;
 ghost use Rattle.stow_model.specs.Command as meant;
 ghost use Rattle.stow_model.specs.LentWords.{words_in};
 ghost use Rattle.stow_model.specs.NumberText.{number_of, count_of};
@@ -9,6 +10,7 @@ ghost use Rattle.stow_commands.specs.Commands.{condition_of, command_of, reading
 use crate::condition::Condition;
 use crate::name::is_named;
 use crate::number::number;
+use crate::snapshots::read_snapshot;
 use crate::update::Update;
 use std::alloc::Allocator;
 use stow_bytes::limits::KEY_LIMIT;
@@ -37,6 +39,18 @@ pub enum Command<'a> {
     /// The lower end, the upper end, of which an empty one is none, and how many rows at most.
     Range(&'a [u8], &'a [u8], u32),
     Del(LentWords<'a>),
+    /// SNAPSHOT TAKE.
+    TakeSnapshot,
+    /// SNAPSHOT LIST.
+    ListSnapshots,
+    /// SNAPSHOT DROP of an id.
+    DropSnapshot(i64),
+    /// GET in the snapshot of this id.
+    GetInSnapshot(i64, &'a [u8]),
+    /// RANGE in the snapshot of this id.
+    RangeInSnapshot(i64, &'a [u8], &'a [u8], u32),
+    /// USAGE.
+    ReportUsage,
     /// SET, APPEND, INCR, DECR and INCRBY of a key.
     Change(&'a [u8], Update<'a>),
 }
@@ -57,7 +71,8 @@ impl<'a> Command<'a> {
 
 fn read_named<'a>(name: &[u8], arguments: LentWords<'a>) -> Result<Command<'a>, Refusal>
     ensures { reading_of result
-        ≡ meant.reading_among meant.commands name.now (words_in arguments.entry) }
+        ≡ meant.reading_among meant.commands refusal.UnknownCommand name.now
+        (words_in arguments.entry) }
 {
     if is_named(name, b"ping") {
         read_ping(arguments)
@@ -85,6 +100,10 @@ fn read_named<'a>(name: &[u8], arguments: LentWords<'a>) -> Result<Command<'a>, 
         read_add(arguments)
     } else if is_named(name, b"del") {
         read_del(arguments)
+    } else if is_named(name, b"snapshot") {
+        read_snapshot(arguments)
+    } else if is_named(name, b"usage") {
+        with_nothing(arguments, Command::ReportUsage)
     } else {
         Err(Refusal::UnknownCommand)
     }
@@ -151,23 +170,28 @@ fn read_range(arguments: LentWords<'_>) -> Result<Command<'_>, Refusal>
         return Err(Refusal::WrongArgumentCount);
     };
     match row_count(count) {
-        Some(count) => with_ends(from, to, count),
+        Some(count) => with_ends(from, to, Command::Range(from, to, count)),
         None => Err(Refusal::NotAnInteger),
     }
 }
 
-fn with_ends<'a>(from: &'a [u8], to: &'a [u8], count: u32) -> Result<Command<'a>, Refusal>
+/// The command, unless an end of its interval is too long.
+pub(crate) fn with_ends<'a>(
+    from: &[u8],
+    to: &[u8],
+    command: Command<'a>,
+) -> Result<Command<'a>, Refusal>
     ensures { reading_of result
-        ≡ meant.with_keys (from.now ∷ to.now ∷ []) (meant.Range from.now to.now count) }
+        ≡ meant.with_keys (from.now ∷ to.now ∷ []) (command_of command.entry) }
 {
     if is_long_key(from) || is_long_key(to) {
         return Err(Refusal::KeyTooLong);
     }
-    Ok(Command::Range(from, to, count))
+    Ok(command)
 }
 
 /// How many rows at most: a number of 0 to 1,024.
-fn row_count(text: &[u8]) -> Option<u32>
+pub(crate) fn row_count(text: &[u8]) -> Option<u32>
     ensures { result ≡ count_of (number_of text.now) }
 {
     match number(text) {
@@ -267,8 +291,23 @@ fn read_del(arguments: LentWords<'_>) -> Result<Command<'_>, Refusal>
     with_keys(arguments, Command::Del(arguments))
 }
 
+/// The command, where there are no arguments.
+pub(crate) fn with_nothing<'a>(
+    arguments: LentWords<'_>,
+    command: Command<'a>,
+) -> Result<Command<'a>, Refusal>
+    ensures { reading_of result
+        ≡ meant.of_nothing (command_of command.entry) (words_in arguments.entry) }
+{
+    if arguments.is_empty() {
+        Ok(command)
+    } else {
+        Err(Refusal::WrongArgumentCount)
+    }
+}
+
 /// The command, unless its key is too long.
-fn with_key<'a>(key: &[u8], command: Command<'a>) -> Result<Command<'a>, Refusal>
+pub(crate) fn with_key<'a>(key: &[u8], command: Command<'a>) -> Result<Command<'a>, Refusal>
     ensures { reading_of result ≡ meant.with_keys (key.now ∷ []) (command_of command.entry) }
 {
     if is_long_key(key) {

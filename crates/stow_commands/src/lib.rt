@@ -15,4 +15,5 @@ mod name;
 pub mod number;
 pub mod outcome;
 pub mod outcome_fault;
+mod snapshots;
 pub mod update;

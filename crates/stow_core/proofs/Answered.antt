@@ -1,28 +1,88 @@
 -- What a prepared answer is, as the tenant's own step says it.
-use Rattle.std.proofs.Common.{◌≡◌, ◌≢◌, ℕ, ◌<◌, ◌^◌, true, false, nat_lt, List, [], ◌++◌, Option, Some, None, map, refl, eqb, ap, sym, ◌∙◌, pos, to_z, w64}
-use Rattle.std.specs.Prelude.{◌-◌, Result, Ok, Err, IfOk}
+use Rattle.std.proofs.Common.{◌≡◌, ◌≢◌, ◌⊎◌, ⊎_elim, inl, inr, ℕ, zero, suc, ◌<◌, ◌≤◌, ◌^◌, length, arith, Bool, true, false, cond, nat_lt, List, [], ◌++◌, Option, Some, None, map, refl, eqb, ap, sym, ◌∙◌, subst, pos, to_z, w64}
+use Rattle.std.proofs.Math.Bool.{◌&&◌, false≢true}
+use Rattle.std.specs.declared.alloc.AllocError.{AllocError}
+use Rattle.std.specs.Result.{IsErr}
+use Rattle.std.specs.Prelude.{◌-◌, Result, Ok, Err, IfOk, IfSome, IsTrue}
 use Rattle.std.specs.FinMap as rows
-use Rattle.std.proofs.lemmas.Bool.{cond-true, cond-false, eq-eqb, ne_eqb}
+use Rattle.std.proofs.lemmas.Bool.{cases_lt, cond-true, cond-false, eq-eqb, ne_eqb}
 use Rattle.std.proofs.lemmas.Int.{to_z_pos}
 use Rattle.std.specs.Option.{unwrap_or}
 use Rattle.stow_bytes.specs.Limits.{number_limit}
-use Rattle.stow_commands.specs.Outcomes.{IsAppendReply}
+use Rattle.stow_commands.specs.Commands.{command_of}
+use Rattle.stow_commands.specs.declared.command.Command as asked
+use Rattle.stow_commands.specs.Outcomes.{IsAppendReply, IsOutcome}
+use Rattle.stow_commands.specs.declared.outcome.Outcome as found
+use Rattle.stow_commands.specs.declared.outcome_fault.OutcomeFault.{OutcomeFault}
+use Rattle.stow_commands.specs.declared.outcome_fault.OutcomeFault.TheVariants as in_fault
 use Rattle.stow_model.specs.declared.refusal.Refusal.{Refusal}
 use Rattle.stow_model.specs.declared.refusal.Refusal.TheVariants as refusal
 use Rattle.stow_model.specs.declared.reply.Reply as coded
 use Rattle.stow_model.specs.Reply.{Reply, reply_of}
 use Rattle.stow_model.specs.Reply as reply
-use Rattle.stow_model.specs.Command.{Command, Change, Append, Understood, Refused, reading}
-use Rattle.stow_model.specs.Login.{IsTenant}
-use Rattle.stow_model.specs.Store.{Store, Answer, Request, Asked, counted, served, answer, answer_to, answer_with, del_answer, change_answer, append_outcome, Written, Failed, outcome, value_in, rows_without}
+use Rattle.stow_model.specs.Command.{Command, Change, Update, Append, Understood, Refused, reading}
+use Rattle.stow_model.specs.Login.{Entry, IsTenant}
+use Rattle.stow_model.specs.declared.reply.Reply.TheVariants as in_reply
+use Rattle.stow_model.specs.Store.{Store, Answer, Outcome, Request, Asked, counted, served, answer, answer_to, answer_with, can_take, take_answer, del_answer, change_answer, append_outcome, written, refused, exceeds_quota, Written, Unchanged, Failed, outcome, value_in, rows_without}
+use Rattle.stow_ledger.specs.Accounts.{IsGivenBy, is_allowed}
+use Rattle.stow_ledger.specs.Shown.{charge_of, with_row}
+use Rattle.stow_core.specs.Tenancies.{TenancyState, tenancy_at}
+use Rattle.stow_ledger.specs.declared.charge.Charge.{Charge}
+use Rattle.stow_core.specs.declared.change.Change.TheVariants as in_change
+use Rattle.stow_core.specs.declared.content.Content.{Content}
+use Rattle.stow_core.specs.declared.prepared.Prepared.{Prepared}
+use Rattle.stow_core.proofs.Changed.{same_charge}
+use Rattle.stow_core.proofs.Kept.{keeps_itself}
+use Rattle.stow_state.specs.Rows.{IsIndex}
+use Rattle.stow_state.specs.State.{IsSound, view}
 use Rattle.stow_core.specs.declared.content.Content.TheVariants as content
-use Rattle.stow_core.specs.Prepared.{after_write, after_remove, writes_row, serves}
-use Rattle.stow_core.specs.State.{CoreState, store_of, shared_of, Answers, GivesWay, StepsTo}
+use Rattle.stow_core.specs.Prepared.{effect, prepared_answer, after_write, after_content, after_remove, after_refusal, after_take, whole_value, next_version, store_without, writes_row, serves, IsPriced, IsCharged, IsPrepared, OnlyCounts}
+use Rattle.stow_core.specs.State.{CoreState, store_of, shared_of, Answers, Calls, Keeps, Moves}
 use Rattle.stow_state.specs.Steps.{Maintenance}
 use Rattle.stow_state.proofs.Steps.{call_of_nothing, step_sound, steps_after_maintenance_law}
 use Rattle.stow_tree_model.specs.Keys.{packed, own_key}
 use Rattle.stow_tree_model.specs.Operations.{bytes_or_none}
 use Rattle.stow_tree_model.proofs.Packed.{own_key-packed}
+
+pub if_ok : {X E : Type 0} (r : Result X E) (P Q : X → Type 0) → ((x : X) → P x → Q x) → IfOk r P → IfOk r Q
+if_ok (Ok x) P Q f h = f x h
+if_ok (Err e) P Q f h = h
+
+pub if_all_ok : {X E : Type 0} (r : Result X E) (P Q R S : X → Type 0) → ((x : X) → P x → Q x → R x → S x) → IfOk r P → IfOk r Q → IfOk r R → IfOk r S
+if_all_ok (Ok x) P Q R S f p q s = f x p q s
+if_all_ok (Err e) P Q R S f p q s = p
+
+-- ---- quotas
+
+-- an outcome exceeds the quota of the store before, whether that was counted or not
+exceeds_same : (s a b : Store) → a.rows ≡ b.rows → a.snapshots ≡ b.snapshots → exceeds_quota (counted s) a ≡ exceeds_quota s b
+exceeds_same s a b rows snapshots = λ i. nat_lt s.quota (same_charge b a rows snapshots i) && nat_lt (same_charge s (counted s) refl refl i) (same_charge b a rows snapshots i)
+
+-- what a row's price says of a request that gives it the content
+module _ {A : Type 0} (core : CoreState) (t : ℕ) (key : List ℕ) (c : Content A) where
+  abbrev store : Store
+  store = store_of core t
+
+  abbrev row : Store
+  row = with_row store (own_key key) (Some (next_version core t (whole_value c key store)))
+
+  pub priced_put : (ch : Charge) → IsPriced core t (Some ch) row → IsCharged core t ch (after_content key c store)
+  priced_put ch priced = record {
+    is = priced.0.is ∙ (λ i. record { charge = same_charge (after_content key c store) row refl refl i; rows = rows.len (after_content key c store).rows });
+    given = priced.0.given;
+    allowed = priced.0.allowed;
+  }
+
+  pub put_done : (ch : Charge) (r : Reply) → nat_lt store.last number_limit ≡ true → IsPriced core t (Some ch) row → ◌≡◌ {A = Answer} (after_content key c store, r) (writes_row key c r store)
+  put_done ch r can priced = sym (cond-true (nat_lt store.last number_limit) _ _ can
+      ∙ cond-false (exceeds_quota (counted store) (after_content key c store)) _ _ (exceeds_same store (after_content key c store) row refl refl ∙ priced.1))
+
+  pub put_exceeds : (r : Reply) → nat_lt store.last number_limit ≡ true → IsPriced core t None row → ◌≡◌ {A = Answer} (after_refusal store, reply.Error refusal.QuotaExceeded) (writes_row key c r store)
+  put_exceeds r can priced = sym (cond-true (nat_lt store.last number_limit) _ _ can
+      ∙ cond-true (exceeds_quota (counted store) (after_content key c store)) _ _ (exceeds_same store (after_content key c store) row refl refl ∙ priced))
+
+  pub put_full : (r : Reply) → nat_lt store.last number_limit ≡ false → ◌≡◌ {A = Answer} (counted store, reply.Error refusal.WriteNumbersUsedUp) (writes_row key c r store)
+  put_full r full = sym (cond-false (nat_lt store.last number_limit) _ _ full)
 
 -- ---- deletions
 
@@ -38,12 +98,85 @@ pub del_full : (store : Store) (keys : List (List ℕ)) (n : ℕ) → n ≡ fewe
 del_full store keys n e some full =
     sym (cond-false (eqb (fewer store keys) 0) _ _ (ne_eqb (fewer store keys) 0 (λ z. some (e ∙ z))) ∙ cond-false (nat_lt store.last number_limit) _ _ full)
 
-pub del_done : (store : Store) (taken keys : List (List ℕ)) (n : ℕ) → rows_without (map own_key taken) store.rows ≡ rows_without keys store.rows → n ≡ fewer store keys → n ≢ 0 → n < 2 ^ 63 → nat_lt store.last number_limit ≡ true
-    → ◌≡◌ {A = Answer} (after_remove taken store, reply.Integer (to_z w64 n)) (del_answer (counted store) keys)
-del_done store taken keys n left e some fits can =
-    let done : ◌≡◌ {A = Answer} (after_remove taken store, reply.Integer (to_z w64 n)) (after_write (counted store) (rows_without keys store.rows), reply.Integer (pos (fewer store keys))) =
-    λ i. (after_write (counted store) (left i), reply.Integer ((to_z_pos w64 n fits ∙ ap pos e) i)) in
-    done ∙ sym (cond-false (eqb (fewer store keys) 0) _ _ (ne_eqb (fewer store keys) 0 (λ z. some (e ∙ z))) ∙ cond-true (nat_lt store.last number_limit) _ _ can)
+-- rows are removed, within the quota or above it
+module _ (store : Store) (taken keys : List (List ℕ)) (n : ℕ) (left : rows_without (map own_key taken) store.rows ≡ rows_without keys store.rows) (e : n ≡ fewer store keys) (some : n ≢ 0) (can : nat_lt store.last number_limit ≡ true) where
+  exceeds : Bool
+  exceeds = exceeds_quota store (store_without (map own_key taken) store)
+
+  is_write : (r : Reply) → written (counted store) (rows_without keys store.rows) r ≡ cond (exceeds_quota (counted store) (after_write (counted store) (rows_without keys store.rows))) (refused (after_refusal store) refusal.QuotaExceeded) (after_write (counted store) (rows_without keys store.rows), r)
+  is_write r = cond-true (nat_lt store.last number_limit) _ _ can
+
+  exceeds_is : exceeds_quota (counted store) (after_write (counted store) (rows_without keys store.rows)) ≡ exceeds
+  unfolding exceeds
+  exceeds_is = exceeds_same store (after_write (counted store) (rows_without keys store.rows)) (store_without (map own_key taken) store) (sym left) refl
+
+  pub del_done : n < 2 ^ 63 → exceeds_quota store (store_without (map own_key taken) store) ≡ false → ◌≡◌ {A = Answer} (after_remove taken store, reply.Integer (to_z w64 n)) (del_answer (counted store) keys)
+  unfolding exceeds
+  del_done fits within =
+      let done : ◌≡◌ {A = Answer} (after_remove taken store, reply.Integer (to_z w64 n)) (after_write (counted store) (rows_without keys store.rows), reply.Integer (pos (fewer store keys))) =
+      λ i. (after_write (counted store) (left i), reply.Integer ((to_z_pos w64 n fits ∙ ap pos e) i)) in
+      done ∙ sym (cond-false (eqb (fewer store keys) 0) _ _ (ne_eqb (fewer store keys) 0 (λ z. some (e ∙ z))) ∙ is_write (reply.Integer (pos (fewer store keys))) ∙ cond-false _ _ _ (exceeds_is ∙ within))
+
+  pub del_exceeds : exceeds_quota store (store_without (map own_key taken) store) ≡ true → ◌≡◌ {A = Answer} (after_refusal store, reply.Error refusal.QuotaExceeded) (del_answer (counted store) keys)
+  unfolding exceeds
+  del_exceeds above =
+      sym (cond-false (eqb (fewer store keys) 0) _ _ (ne_eqb (fewer store keys) 0 (λ z. some (e ∙ z))) ∙ is_write (reply.Integer (pos (fewer store keys))) ∙ cond-true _ _ _ (exceeds_is ∙ above))
+
+-- ---- snapshots
+
+pub take_done : (store : Store) → can_take store ≡ true → (n : ℕ) → n ≡ store.next → n < 2 ^ 63 → ◌≡◌ {A = Answer} (after_take store, reply.Integer (to_z w64 n)) (take_answer (counted store))
+take_done store can n e fits = (λ i. (after_take store, reply.Integer ((to_z_pos w64 n fits ∙ ap pos e) i))) ∙ sym (cond-true (can_take store) _ _ can)
+
+pub take_refused : (store : Store) → can_take store ≡ false → ◌≡◌ {A = Answer} (counted store, reply.Error refusal.TooManySnapshots) (take_answer (counted store))
+take_refused store cannot = sym (cond-false (can_take store) _ _ cannot)
+
+-- ---- prepared answers
+
+-- an answer that changes nothing but the count
+pub counted_prepared : {A : Type 0} (old new : CoreState) (t : ℕ) (f : Store → Answer) (r : coded.Reply A) → Keeps old new → IsTenant old.entries t → ◌≡◌ {A = Answer} (counted (store_of old t), reply_of r) (f (store_of old t))
+    → IsPrepared {A = A} old t f new (Ok (record { tenant = t; change = in_change.Count; reply = r }))
+counted_prepared old new t f r keeps is says = record { keeps = keeps; room = subst (λ entries. IsTenant entries t) (sym keeps.entries) is; tenant_is = refl; answers = says }
+
+pub only_counted_prepared : {A : Type 0} (old new : CoreState) (t : ℕ) (f : Store → Answer) (r : coded.Reply A) (p : Prepared A) → p ≡ record { tenant = t; change = in_change.Count; reply = r } → Keeps old new → IsTenant old.entries t → ◌≡◌ {A = Answer} (counted (store_of old t), reply_of r) (f (store_of old t))
+    → IsPrepared {A = A} old t f new (Ok p)
+only_counted_prepared old new t f r p e keeps is says = subst (λ q. IsPrepared old t f new (Ok q)) (sym e) (counted_prepared old new t f r keeps is says)
+
+pub counts_prepared : {A : Type 0} (old new : CoreState) (t : ℕ) (f : Store → Answer) (told : Result (coded.Reply A) AllocError) (result : Result (Prepared A) AllocError) → OnlyCounts t told result → Keeps old new → IsTenant old.entries t
+    → IfOk told (λ r. ◌≡◌ {A = Answer} (counted (store_of old t), reply_of r) (f (store_of old t))) → IsPrepared old t f new result
+counts_prepared old new t f (Ok r) result is keeps tenant says = subst (IsPrepared old t f new) (sym is) (counted_prepared old new t f r keeps tenant says)
+counts_prepared old new t f (Err e) result is keeps tenant says = subst (IsPrepared old t f new) (sym is) (record { keeps = keeps; room = tt; tenant_is = tt; answers = tt })
+
+-- a reply to a command that changes nothing but the count
+pub command_prepared : {A : Type 0} (core : CoreState) (t : ℕ) (command is : asked.Command) (told : Result (coded.Reply A) AllocError) (result : Result (Prepared A) AllocError) (r : Reply) → command ≡ is → OnlyCounts t told result → IsSound (shared_of core) → IsTenant core.entries t
+    → IfOk told (λ x. reply_of x ≡ r) → ◌≡◌ {A = Answer} (counted (store_of core t), r) (serves (command_of is) (store_of core t)) → IsPrepared core t (serves (command_of command)) core result
+command_prepared core t command is told result r same counts sound tenant tells says = subst (λ k. IsPrepared core t (serves (command_of k)) core result) (sym same)
+    (counts_prepared core core t (serves (command_of is)) told result counts (keeps_itself core sound) tenant (if_ok told _ _ (λ x h. (λ i. (counted (store_of core t), h i)) ∙ says) tells))
+
+-- an answer to which memory was refused
+pub failed_prepared : {A : Type 0} (old new : CoreState) (t : ℕ) (f : Store → Answer) (e : AllocError) → Keeps old new → IsPrepared {A = A} old t f new (Err e)
+failed_prepared old new t f e keeps = record { keeps = keeps; room = tt; tenant_is = tt; answers = tt }
+
+-- the same where only that it failed is known
+pub error_prepared : {A : Type 0} (old new : CoreState) (t : ℕ) (f : Store → Answer) (result : Result (Prepared A) AllocError) → IsErr result → Keeps old new → IsPrepared {A = A} old t f new result
+error_prepared old new t f (Ok p) failed keeps = absurd (false≢true failed)
+error_prepared old new t f (Err e) failed keeps = failed_prepared old new t f e keeps
+
+-- a write that the quota refuses
+pub refused_prepared : {A : Type 0} (old new : CoreState) (t : ℕ) (f : Store → Answer) (p : Prepared A) → p ≡ record { tenant = t; change = in_change.Refuse; reply = in_reply.Error refusal.QuotaExceeded } → Keeps old new → IsTenant old.entries t
+    → ◌≡◌ {A = Answer} (after_refusal (store_of old t), reply.Error refusal.QuotaExceeded) (f (store_of old t)) → IsPrepared {A = A} old t f new (Ok p)
+refused_prepared old new t f p e keeps is says = subst (λ q. IsPrepared old t f new (Ok q)) (sym e) (record { keeps = keeps; room = subst (λ entries. IsTenant entries t) (sym keeps.entries) is; tenant_is = refl; answers = says })
+
+-- a charge stays one where the store and the tenant's part do
+pub charged_kept : (old new : CoreState) (t : ℕ) (c : Charge) (f : Store → Store) → IsCharged old t c (f (store_of old t)) → store_of new t ≡ store_of old t → tenancy_at t new.tenancies ≡ tenancy_at t old.tenancies → IsCharged new t c (f (store_of new t))
+charged_kept old new t c f charged same own = record {
+  is = charged.is ∙ ap (λ s. charge_of (f s)) (sym same);
+  given = subst (λ (o : Option TenancyState). IfSome o (λ x. IsGivenBy x.account c)) (sym own) charged.given;
+  allowed = subst (λ (o : Option TenancyState). IfSome o (λ x. IsTrue (is_allowed x.account c))) (sym own) charged.allowed;
+}
+
+-- the same answer in other words
+pub prepared_as : {A : Type 0} (old new : CoreState) (t : ℕ) (f h : Store → Answer) (result : Result (Prepared A) AllocError) → f (store_of old t) ≡ h (store_of old t) → IsPrepared old t f new result → IsPrepared old t h new result
+prepared_as old new t f h result same is = record { keeps = is.keeps; room = is.room; tenant_is = is.tenant_is; answers = if_ok result _ _ (λ p says. says ∙ same) is.answers }
 
 -- ---- answers
 
@@ -73,38 +206,100 @@ appended store t packed_key key suffix content_bytes r is same told =
     own : own_key packed_key ≡ key
     own = ap own_key is ∙ own_key-packed t key
 
+-- the outcome that the code told as a refusal
+pub told_refused : {A : Type 0} (result : Result (found.Outcome A) OutcomeFault) (why : OutcomeFault) (r : Refusal) (o : Outcome) → result ≡ Err why → why ≡ in_fault.Refused r → IsOutcome result o → o ≡ Failed r
+told_refused {A = A} result why r o is because told = subst (λ w. IsOutcome {A = A} (Err w) o) because (subst (λ x. IsOutcome {A = A} x o) is told)
+
+-- the answer to a change that writes a whole value
+pub changed_whole : {A : Type 0} (store : Store) (t : ℕ) (packed_key key value : List ℕ) (update : Update) (r : coded.Reply A) → packed_key ≡ packed t key → outcome update (value_in (rows.get store.rows key)) ≡ Written value (reply_of r)
+    → writes_row {A = A} packed_key (content.Whole value) (reply_of r) store ≡ serves (Change key update) store
+changed_whole store t packed_key key value update r is told =
+    (λ i. change_answer (counted store) ((ap own_key is ∙ own_key-packed t key) i) (Written value (reply_of r)))
+    ∙ ap (change_answer (counted store) key) (sym told)
+
+pub changed_nothing : {A : Type 0} (store : Store) (key : List ℕ) (update : Update) (r : coded.Reply A) → outcome update (value_in (rows.get store.rows key)) ≡ Unchanged (reply_of r) → ◌≡◌ {A = Answer} (counted store, reply_of r) (serves (Change key update) store)
+changed_nothing store key update r told = ap (change_answer (counted store) key) (sym told)
+
+pub change_refused : (store : Store) (key : List ℕ) (update : Update) (r : Refusal) → outcome update (value_in (rows.get store.rows key)) ≡ Failed r → ◌≡◌ {A = Answer} (counted store, reply.Error r) (serves (Change key update) store)
+change_refused store key update r told = ap (change_answer (counted store) key) (sym told)
+
 pub append_refused : (store : Store) (key suffix : List ℕ) (r : Refusal) → append_outcome suffix (value_in (rows.get store.rows key)) ≡ Failed r
     → ◌≡◌ {A = Answer} (counted store, reply.Error r) (serves (Change key (Append suffix)) store)
 unfolding outcome
 append_refused store key suffix r told = ap (change_answer (counted store) key) (sym told)
 
-pub if_ok : {X E : Type 0} (r : Result X E) (P Q : X → Type 0) → ((x : X) → P x → Q x) → IfOk r P → IfOk r Q
-if_ok (Ok x) P Q f h = f x h
-if_ok (Err e) P Q f h = h
-
 -- a prepared answer was carried out
-pub answered : (old mid new : CoreState) (t : ℕ) (words : List (List ℕ)) (store : Store) (told : Reply) → GivesWay old mid → store_of mid t ≡ store_of old t → store_of new t ≡ store → StepsTo mid t store new
+pub answered : (old mid new : CoreState) (t : ℕ) (words : List (List ℕ)) (store : Store) (told : Reply) → Keeps old mid → Moves mid t store new
     → ◌≡◌ {A = Answer} (store, told) (answer (store_of old t) words) → Answers old new t words told
 unfolding answer_with
-answered old mid new t words store told gave kept moved steps is =
-    let again : ◌≡◌ {A = Answer} (answer (store_of mid t) words) (store, told) = ap (λ s. answer s words) kept ∙ sym is in
+answered old mid new t words store told keeps moves is =
+    let again : ◌≡◌ {A = Answer} (answer (store_of mid t) words) (store, told) = ap (λ s. answer s words) (keeps.stores t) ∙ sym is in
     let request : Request = record { words = words; is_refused = false } in (
       false,
       record {
-        alone = ap (λ s. (s, told)) moved ∙ is;
-        step = steps_after_maintenance_law (shared_of old) (shared_of mid) (shared_of new) t (Asked request) (Some told) gave.shared.sound gave.step
-            (steps (Asked request) (Some told) (λ i. ((again i).0, Some (again i).1)));
+        alone = ap (λ s. (s, told)) moves.own ∙ is;
+        step = steps_after_maintenance_law (shared_of old) (shared_of mid) (shared_of new) t (Asked request) (Some told) keeps.gives_way.sound keeps.gives_way.step
+            (moves.step (Asked request) (Some told) (λ i. ((again i).0, Some (again i).1)));
       },
     )
 
-pub out_of_memory : (old new : CoreState) (t : ℕ) (words : List (List ℕ)) → IsTenant old.entries t → GivesWay old new → store_of new t ≡ store_of old t → Answers old new t words (reply.Error refusal.OutOfMemory)
+pub out_of_memory : (old new : CoreState) (t : ℕ) (words : List (List ℕ)) → IsIndex t → store_of old t ≡ view (shared_of old) t → Keeps old new → Answers old new t words (reply.Error refusal.OutOfMemory)
 unfolding answer_with
-out_of_memory old new t words is gave e =
+out_of_memory old new t words index seen keeps =
     let request : Request = record { words = words; is_refused = true } in (
       true,
       record {
-        alone = ap (λ s. (s, reply.Error refusal.OutOfMemory)) e;
-        step = steps_after_maintenance_law (shared_of old) (shared_of new) (shared_of new) t (Asked request) (Some (reply.Error refusal.OutOfMemory)) gave.shared.sound gave.step
-            (call_of_nothing (shared_of new) t (Asked request) (Some (reply.Error refusal.OutOfMemory)) (step_sound (shared_of old) (shared_of new) Maintenance None gave.shared.sound gave.step) (gave.shared.indexes t is) refl);
+        alone = ap (λ s. (s, reply.Error refusal.OutOfMemory)) (keeps.stores t);
+        step = steps_after_maintenance_law (shared_of old) (shared_of new) (shared_of new) t (Asked request) (Some (reply.Error refusal.OutOfMemory)) keeps.gives_way.sound keeps.gives_way.step
+            (call_of_nothing (shared_of new) t (Asked request) (Some (reply.Error refusal.OutOfMemory)) (step_sound (shared_of old) (shared_of new) Maintenance None keeps.gives_way.sound keeps.gives_way.step) index refl);
       },
     )
+
+-- ---- a whole call
+
+tenant_cases : (entries : List Entry) (t : ℕ) → IsTenant entries t ⊎ (IsTenant entries t → ⊥)
+tenant_cases entries zero = inr (λ is. let low = is.0 in absurd (omega (arith, low)))
+tenant_cases entries (suc p) = ⊎_elim
+    (λ (l : p < length entries). inl (omega arith, omega (arith, l)))
+    (λ (l : length entries ≤ p). inr (λ is. let high = is.1 in absurd (omega (arith, high, l))))
+    (cases_lt p (length entries))
+
+-- a prepared answer carried out is a call: of a tenant's by its own step, and of whom is no tenant's by nothing
+pub called : {A : Type 0} (old mid new : CoreState) (t : ℕ) (words : List (List ℕ)) (p : Prepared A) (told : Reply) → Keeps old mid → p.tenant ≡ t → told ≡ reply_of p.reply
+    → (IsTenant old.entries t → prepared_answer p (store_of old t) ≡ answer (store_of old t) words)
+    → ((IsTenant old.entries t → ⊥) → (reply_of p.reply ≡ reply.Error refusal.NotAuthenticated) × (mid ≡ old))
+    → (IsTenant mid.entries p.tenant → Moves mid p.tenant (effect p (store_of mid p.tenant)) new) → ((IsTenant mid.entries p.tenant → ⊥) → new ≡ mid) → Calls old t words told new
+called {A = A} old mid new t words p told keeps same says own stranger carried unmoved = record {
+  own = λ is. answered old mid new t words (effect p (store_of old t)) told keeps (moves is) ((λ i. (effect p (store_of old t), says i)) ∙ own is);
+  stranger = λ unknown. record { told_is = says ∙ (stranger unknown).0; unchanged = stays unknown };
+  others = λ other ne. ⊎_elim
+      (λ (is : IsTenant old.entries t). (moves is).others other ne ∙ keeps.stores other)
+      (λ (unknown : IsTenant old.entries t → ⊥). ap (λ c. store_of c other) (stays unknown))
+      (tenant_cases old.entries t);
+  entries = ⊎_elim
+      (λ (is : IsTenant old.entries t). (moves is).entries ∙ keeps.entries)
+      (λ (unknown : IsTenant old.entries t → ⊥). ap (λ (c : CoreState). c.entries) (stays unknown))
+      (tenant_cases old.entries t);
+}
+  where
+    to_mid : IsTenant old.entries t → IsTenant mid.entries p.tenant
+    to_mid is = subst (IsTenant mid.entries) (sym same) (subst (λ entries. IsTenant entries t) (sym keeps.entries) is)
+
+    from_mid : IsTenant mid.entries p.tenant → IsTenant old.entries t
+    from_mid is = subst (λ entries. IsTenant entries t) keeps.entries (subst (IsTenant mid.entries) same is)
+
+    moves : IsTenant old.entries t → Moves mid t (effect p (store_of old t)) new
+    moves is = subst (λ s. Moves mid t (effect p s) new) (keeps.stores t) (subst (λ u. Moves mid u (effect p (store_of mid u)) new) same (carried (to_mid is)))
+
+    stays : (IsTenant old.entries t → ⊥) → new ≡ old
+    stays unknown = unmoved (λ is. unknown (from_mid is)) ∙ (stranger unknown).1
+
+-- a call that was refused memory; of whom is no tenant's none is
+pub starved : (old new : CoreState) (t : ℕ) (words : List (List ℕ)) → (IsTenant old.entries t → IsIndex t) → (IsTenant old.entries t → store_of old t ≡ view (shared_of old) t) → Keeps old new → ((IsTenant old.entries t → ⊥) → ⊥)
+    → Calls old t words (reply.Error refusal.OutOfMemory) new
+starved old new t words index seen keeps some = record {
+  own = λ is. out_of_memory old new t words (index is) (seen is) keeps;
+  stranger = λ unknown. absurd (some unknown);
+  others = λ other ne. keeps.stores other;
+  entries = keeps.entries;
+}

@@ -3,10 +3,10 @@ use Rattle.std.proofs.Common.{◌≡◌, ◌≢◌, ℕ, suc, ◌<◌, ◌≤◌
 use Rattle.std.specs.Prelude.{Contains}
 use Rattle.std.proofs.lemmas.Bool.{cond-true, eq-eqb}
 use Rattle.stow_core.specs.Keys.{AreKeysOf}
-use Rattle.stow_core.specs.Writes.{write_of, put_of, no_pins}
+use Rattle.stow_core.specs.Writes.{write_of, put_of}
 use Rattle.stow_core.proofs.Keyed.{put_is_call, tenant_of_own, first_key}
 use Rattle.stow_tree.specs.TreeState.{HasBound}
-use Rattle.stow_tree_model.specs.Agreement.{TenantBounds, Agree, with_bound}
+use Rattle.stow_tree_model.specs.Agreement.{TenantPins, TenantBounds, Agree, PinsBelow, with_bound}
 use Rattle.stow_tree_model.specs.Keys.{tenant_of}
 use Rattle.stow_tree_model.specs.Messages.{Messages, ops_of, value, with_all, IsCall}
 use Rattle.stow_tree_model.specs.Op.{Op, Put}
@@ -16,28 +16,31 @@ use Rattle.stow_tree_model.specs.TreeMessage.{TreeMessage}
 use Rattle.stow_tree_model.proofs.Histories.{ops_in-at, ops_in-skip}
 use Rattle.stow_tree_model.proofs.Latest.{latest_same, agree_from}
 use Rattle.stow_tree_model.proofs.Orders.{key_cases}
-use Rattle.stow_tree_model.proofs.Pruning.{none_in_nothing}
 use Rattle.stow_tree_model.proofs.SetLemmas.{ops-with_all, call_agrees_law}
 use Rattle.stow_tree_model.specs.Merged.{same_key}
 
-none_pinned : (m n : Messages) (key : List ℕ) (p : ℕ) → Contains [] p → value m key p ≡ value n key p
-none_pinned m n key p c = absurd (none_in_nothing p c)
+pub agree_itself : (m : Messages) (pins : TenantPins) (bound : TenantBounds) → HasBound m bound → Agree m m pins bound
+agree_itself m pins bound has key = record { at_pins = λ p c. refl; from_bound = λ n l. refl; left_below = has key; right_below = has key }
 
-pub agree_itself : (m : Messages) (bound : TenantBounds) → HasBound m bound → Agree m m no_pins bound
-agree_itself m bound has key = record { at_pins = none_pinned m m key; from_bound = λ n l. refl; left_below = has key; right_below = has key }
+no_pins : TenantPins
+no_pins t = []
+
+none_pinned : (t p : ℕ) → Contains (no_pins t) p → ⊥
+unfolding no_pins
+none_pinned t p (k, l, e) = absurd (omega (arith, l))
 
 -- a call's messages are the newest of its tenant's
 pub call_bound : (m : Messages) (bound : TenantBounds) (t number : ℕ) (ms : List TreeMessage) → suc (bound t) ≡ number → IsCall t number ms → HasBound m bound → HasBound (with_all m ms) (with_bound bound t number)
 call_bound m bound t number ms next call has key =
     subst (λ n. NoneAbove (with_bound bound t n (tenant_of key)) (ops_of (with_all m ms) key)) next
-    (call_agrees_law m m no_pins bound t ms (subst (λ n. IsCall t n ms) (sym next) call) (λ u p c. absurd (none_in_nothing p c)) (agree_itself m bound has) key).left_below
+    (call_agrees_law m m no_pins bound t ms (subst (λ n. IsCall t n ms) (sym next) call) (λ u p c. absurd (none_pinned u p c)) (agree_itself m no_pins bound has) key).left_below
 
 -- what stands where the message doesn't
 ops-elsewhere : (m : Messages) (x : TreeMessage) (key : List ℕ) (n : ℕ) → (◌≢◌ {A = Place} (key, n) (x.key, x.number)) → ops_of (with_all m (x ∷ [])) key n ≡ ops_of m key n
 ops-elsewhere m x key n ne = ops-with_all m (x ∷ []) key n ∙ ap (λ o. or_else o (ops_of m key n)) (ops_in-skip x [] key n ne)
 
 -- what the key has at the number of its newest message
-pub newest_value : (m : Messages) (last : ℕ) (key : List ℕ) (op : Op) → value (with_all m (write_of (suc last) key op ∷ [])) key (suc last) ≡ numbered (suc last) (outcome op (value_in (value m key last)))
+newest_value : (m : Messages) (last : ℕ) (key : List ℕ) (op : Op) → value (with_all m (write_of (suc last) key op ∷ [])) key (suc last) ≡ numbered (suc last) (outcome op (value_in (value m key last)))
 unfolding latest
 newest_value m last key op = λ i. applied (suc last) (at i) (before i) where
   x : TreeMessage
@@ -49,12 +52,13 @@ newest_value m last key op = λ i. applied (suc last) (at i) (before i) where
   before : value (with_all m (x ∷ [])) key last ≡ value m key last
   before = latest_same (ops_of (with_all m (x ∷ [])) key) (ops_of m key) last (λ k l. ops-elsewhere m x key k (λ e. let n : k ≡ suc last = ap (λ (p : Place). p.1) e in absurd (omega (arith, n, l))))
 
--- A tenant's next message, whatever it does, makes the set mean what a put of the value that it leads to makes it mean.
-pub write_agrees : (m : Messages) (bound : TenantBounds) (t last number : ℕ) (key whole : List ℕ) (op : Op) → t < 2 ^ 32 → suc last ≡ number → bound t ≡ last → HasBound m bound → AreKeysOf t (key ∷ [])
+-- A tenant's next message, whatever it does, makes the set mean what a put of the value that it leads to makes it mean,
+-- under all pins that are not above the last writes.
+pub write_agrees : (m : Messages) (pins : TenantPins) (bound : TenantBounds) (t last number : ℕ) (key whole : List ℕ) (op : Op) → t < 2 ^ 32 → suc last ≡ number → bound t ≡ last → HasBound m bound → PinsBelow pins bound → AreKeysOf t (key ∷ [])
     → outcome op (value_in (value m key last)) ≡ Some whole
-    → Agree (with_all m (put_of number key whole ∷ [])) (with_all m (write_of number key op ∷ [])) no_pins (with_bound bound t number)
-write_agrees m bound t last number key whole op low next at has own makes q =
-    agree_from (ops_of put q) (ops_of written q) (moved (tenant_of q)) (none_pinned put written q) same (below (Put whole)) (below op)
+    → Agree (with_all m (put_of number key whole ∷ [])) (with_all m (write_of number key op ∷ [])) pins (with_bound bound t number)
+write_agrees m pins bound t last number key whole op low next at has pins_below own makes q =
+    agree_from (ops_of put q) (ops_of written q) (moved (tenant_of q)) pinned same (below (Put whole)) (below op)
   where
     put : Messages
     put = with_all m (put_of number key whole ∷ [])
@@ -72,16 +76,31 @@ write_agrees m bound t last number key whole op low next at has own makes q =
     at_key = subst (λ n. value (with_all m (put_of n key whole ∷ [])) key n ≡ value (with_all m (write_of n key op ∷ [])) key n) next
         (newest_value m last key (Put whole) ∙ ap (numbered (suc last)) (sym makes) ∙ sym (newest_value m last key op))
 
+    own_tenant : tenant_of key ≡ t
+    own_tenant = tenant_of_own t key low (first_key t key own)
+
     own_bound : moved (tenant_of key) ≡ number
-    own_bound = let e = tenant_of_own t key low (first_key t key own) in cond-true (eqb (tenant_of key) t) _ _ (eq-eqb (tenant_of key) t e)
+    own_bound = cond-true (eqb (tenant_of key) t) _ _ (eq-eqb (tenant_of key) t own_tenant)
 
     other : (n : ℕ) (o : Op) → (q ≢ key) → (k : ℕ) → k ≤ n → ops_of (with_all m (write_of number key o ∷ [])) q k ≡ ops_of m q k
     other n o ne k l = ops-elsewhere m (write_of number key o) q k (λ e. ne (ap (λ (p : Place). p.0) e))
 
+    earlier : (n : ℕ) (o : Op) → n < number → (k : ℕ) → k ≤ n → ops_of (with_all m (write_of number key o ∷ [])) q k ≡ ops_of m q k
+    earlier n o less k l = ops-elsewhere m (write_of number key o) q k (λ e. let same : k ≡ number = ap (λ (p : Place). p.1) e in absurd (omega (arith, same, l, less)))
+
+    unmoved : (n : ℕ) → ((o : Op) (k : ℕ) → k ≤ n → ops_of (with_all m (write_of number key o ∷ [])) q k ≡ ops_of m q k) → value put q n ≡ value written q n
+    unmoved n stays = latest_same (ops_of put q) (ops_of m q) n (stays (Put whole)) ∙ sym (latest_same (ops_of written q) (ops_of m q) n (stays op))
+
+    pinned : (p : ℕ) → Contains (pins (tenant_of q)) p → value put q p ≡ value written q p
+    pinned p c = ⊎_elim
+        (λ (e : (q ≡ key) × (same_key q key ≡ true)).
+        let high : p ≤ bound t = subst (λ u. p ≤ bound u) (ap tenant_of e.0 ∙ own_tenant) (pins_below (tenant_of q) p c) in
+        unmoved p (λ o. earlier p o (omega (arith, high, at, next))))
+        (λ (e : (q ≢ key) × (same_key q key ≡ false)). unmoved p (λ o. other p o e.0))
+        (key_cases q key)
+
     same : value put q (moved (tenant_of q)) ≡ value written q (moved (tenant_of q))
     same = ⊎_elim
         (λ (e : (q ≡ key) × (same_key q key ≡ true)). subst (λ k. value put k (moved (tenant_of k)) ≡ value written k (moved (tenant_of k))) (sym e.0) (subst (λ n. value put key n ≡ value written key n) (sym own_bound) at_key))
-        (λ (e : (q ≢ key) × (same_key q key ≡ false)).
-        let n = moved (tenant_of q) in
-        latest_same (ops_of put q) (ops_of m q) n (other n (Put whole) e.0) ∙ sym (latest_same (ops_of written q) (ops_of m q) n (other n op e.0)))
+        (λ (e : (q ≢ key) × (same_key q key ≡ false)). unmoved (moved (tenant_of q)) (λ o. other (moved (tenant_of q)) o e.0))
         (key_cases q key)

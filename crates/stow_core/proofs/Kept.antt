@@ -1,40 +1,115 @@
--- The tree gives way to one that means the same to each tenant.
-use Rattle.std.proofs.Common.{◌≡◌, ℕ, ◌<◌, ◌≤◌, ◌^◌, List, length, inr, refl, ap, sym, ◌∙◌, subst, arith}
-use Rattle.stow_model.specs.Login.{Entry}
-use Rattle.stow_core.specs.declared.account.Account.{Account}
-use Rattle.stow_core.specs.State.{lasts_of, store_of, IsCore}
-use Rattle.stow_core.specs.Writes.{no_pins}
-use Rattle.stow_core.proofs.Stores.{core_of, store_kept}
+-- The core as it gives way to another that means the same to each tenant.
+use Rattle.std.proofs.Common.{◌≡◌, ◌≢◌, ℕ, ◌<◌, List, Bool, Option, Some, None, refl, ap, sym, ◌∙◌, subst}
+use Rattle.std.specs.Prelude.{Contains, IfSome}
+use Rattle.stow_core.specs.State.{CoreState, shared_of, store_of, IsCore, Keeps}
+use Rattle.stow_core.specs.Tenancies.{TenancyState, tenancy_at, is_among}
+use Rattle.stow_core.proofs.Stores.{same_store}
+use Rattle.stow_ledger.specs.Accounts.{IsAccountOf}
+use Rattle.stow_merge.specs.declared.pins.Pins.{Pins}
+use Rattle.stow_merge.specs.Pins.{room_in}
+use Rattle.stow_merge.specs.Pins as held
 use Rattle.stow_node.specs.Subtree.{Subtree}
-use Rattle.stow_state.specs.Rows.{rows_at}
-use Rattle.stow_state.proofs.Rows.{agreeing_rows_law}
+use Rattle.stow_state.specs.State.{SharedState, IsSound, pins_in, lasts_in}
+use Rattle.stow_state.specs.Steps.{SharedStep, Maintenance, moved, reply_to}
+use Rattle.stow_state.proofs.Steps.{step_sound, step_is_there_law, steps_by_parts_law, other_views_stay_law, maintenance_chains}
 use Rattle.stow_tree.specs.Shapes.{AreInRange}
-use Rattle.stow_tree.specs.TreeState.{TreeState, tree_messages, AgreeUnder, HasBound}
+use Rattle.stow_tree.specs.TreeState.{TreeState, tree_messages, AgreeUnder}
 use Rattle.stow_tree.proofs.Sets.{same_messages}
+use Rattle.stow_tree_model.specs.Agreement.{Agree}
 use Rattle.stow_tree_model.specs.Messages.{Messages}
+use Rattle.stow_tree_model.proofs.SetLemmas.{fewer_pins_agree_law}
+use Rattle.stow_versions.proofs.PinLemmas.{same_contains}
 
-module _ (entries : List Entry) (accounts : List Account) (tree tree' : TreeState) (core : IsCore entries accounts tree) where
-  -- room was made
-  pub core_agrees : AgreeUnder no_pins (tree_messages tree) (tree_messages tree') → tree'.root.shape ≡ tree.root.shape → IsCore entries accounts tree'
+-- where nothing changes
+pub idle : (state : SharedState) → IsSound state → SharedStep state Maintenance None state
+unfolding moved reply_to
+idle state sound = step_is_there_law state Maintenance sound tt
+
+pub keeps_itself : (core : CoreState) → IsSound (shared_of core) → Keeps core core
+keeps_itself core sound = record { stores = λ t. refl; entries = refl; gives_way = record { sound = sound; step = idle (shared_of core) sound } }
+
+-- each pin of the state is held
+pub pins_held : {A : Type 0} (core : CoreState) (pins : Pins A) → IsCore core pins → (t p : ℕ) → Contains (pins_in (shared_of core) t) p → Contains (held.pins_in pins t) p
+pins_held core pins is_core t p c = same_contains (pins_in (shared_of core) t) (held.pins_in pins t) p (sym (is_core.pins_are t p)) c
+
+-- ---- a tree that means the same
+
+module _ {A : Type 0} (core : CoreState) (pins : Pins A) (is_core : IsCore core pins) (tree' : TreeState) where
+  abbrev new : CoreState
+  new = record core { tree = tree' }
+
+  way : AgreeUnder (held.pins_in pins) (tree_messages core.tree) (tree_messages tree') → SharedStep (shared_of core) Maintenance None (shared_of new)
+  unfolding shared_of
+  way agrees = steps_by_parts_law.of_maintenance (shared_of core) (shared_of new) refl
+      (fewer_pins_agree_law (tree_messages core.tree) (tree_messages tree') (held.pins_in pins) (pins_in (shared_of core)) (lasts_in (shared_of core)) (pins_held core pins is_core)
+      (agrees (lasts_in (shared_of core)) is_core.sound.messages_below))
+
+  stays : SharedStep (shared_of core) Maintenance None (shared_of new) → (t : ℕ) → store_of new t ≡ store_of core t
+  stays step t = same_store core new t refl (λ index. other_views_stay_law (shared_of core) (shared_of new) Maintenance None t index tt step) is_core.few
+
+  same_pins : pins_in (shared_of new) ≡ pins_in (shared_of core)
+  unfolding shared_of
+  same_pins = refl
+
+  pub core_agrees : AgreeUnder (held.pins_in pins) (tree_messages core.tree) (tree_messages tree') → tree'.root.shape ≡ core.tree.root.shape → IsCore new pins
   core_agrees agrees shape = record {
-    each = core.each;
-    few = core.few;
-    below = λ key. (agrees (lasts_of accounts) core.below key).right_below;
-    sizes = subst AreInRange (sym shape) core.sizes;
+    each = is_core.each;
+    few = is_core.few;
+    sound = step_sound (shared_of core) (shared_of new) Maintenance None is_core.sound (way agrees);
+    accounts = λ t. accounts t (tenancy_at t core.tenancies) (is_core.accounts t);
+    pins_are = λ t n. is_core.pins_are t n ∙ ap (λ (ps : ℕ → List ℕ). in_list n (ps t)) (sym same_pins);
+    pin_room = is_core.pin_room;
+    sizes = subst AreInRange (sym shape) is_core.sizes;
   }
+    where
+      in_list : ℕ → List ℕ → Bool
+      in_list n ps = is_among n ps
 
-  pub stores_agree : AgreeUnder no_pins (tree_messages tree) (tree_messages tree') → (t : ℕ) → store_of (core_of entries accounts tree') t ≡ store_of (core_of entries accounts tree) t
-  stores_agree agrees t = store_kept entries accounts tree tree' t (λ within.
-      sym (agreeing_rows_law (tree_messages tree) (tree_messages tree') no_pins (lasts_of accounts) t (lasts_of accounts t) (let few = core.few in omega (arith, within, few)) (agrees (lasts_of accounts) core.below) (inr (omega arith))))
+      accounts : (t : ℕ) (o : Option TenancyState) → IfSome o (λ own. IsAccountOf (store_of core t) own.account) → IfSome o (λ own. IsAccountOf (store_of new t) own.account)
+      accounts t None is = is
+      accounts t (Some own) is = subst (λ s. IsAccountOf s own.account) (sym (stays (way agrees) t)) is
+
+  pub keeps_agreed : AgreeUnder (held.pins_in pins) (tree_messages core.tree) (tree_messages tree') → Keeps core new
+  keeps_agreed agrees = record { stores = stays (way agrees); entries = refl; gives_way = record { sound = is_core.sound; step = way agrees } }
 
   -- only what is held of the leaves changed
-  pub core_rooted : tree'.root ≡ tree.root → IsCore entries accounts tree'
-  core_rooted same = record {
-    each = core.each;
-    few = core.few;
-    below = subst (λ m. HasBound m (lasts_of accounts)) (sym (same_messages tree tree' same)) core.below;
-    sizes = subst (λ (r : Subtree). AreInRange r.shape) (sym same) core.sizes;
-  }
+  rooted : tree'.root ≡ core.tree.root → AgreeUnder (held.pins_in pins) (tree_messages core.tree) (tree_messages tree')
+  rooted same bound has key =
+      subst (λ (m : Messages). Agree (tree_messages core.tree) m (held.pins_in pins) bound) (sym (same_messages core.tree tree' same))
+      (λ k. record { at_pins = λ p c. refl; from_bound = λ n l. refl; left_below = has k; right_below = has k }) key
 
-  pub stores_rooted : tree'.root ≡ tree.root → (t : ℕ) → store_of (core_of entries accounts tree') t ≡ store_of (core_of entries accounts tree) t
-  stores_rooted same t = store_kept entries accounts tree tree' t (λ within. ap (λ (m : Messages). rows_at m t (lasts_of accounts t)) (same_messages tree tree' same))
+  pub core_rooted : tree'.root ≡ core.tree.root → IsCore new pins
+  core_rooted same = core_agrees (rooted same) (ap (λ (r : Subtree). r.shape) same)
+
+  pub keeps_rooted : tree'.root ≡ core.tree.root → Keeps core new
+  keeps_rooted same = keeps_agreed (rooted same)
+
+-- ---- pins with other room
+
+-- the same pins, with room for one more of some tenant
+pub core_repinned : {A : Type 0} (core : CoreState) (pins pins' : Pins A) (tenant : ℕ) → IsCore core pins → ((t : ℕ) → held.pins_in pins' t ≡ held.pins_in pins t) → (tenant ≢ 0 → 0 < room_in pins' tenant) → IsCore (record core { pin_room = tenant }) pins'
+unfolding shared_of store_of
+core_repinned core pins pins' tenant is_core same room = record {
+  each = is_core.each;
+  few = is_core.few;
+  sound = is_core.sound;
+  accounts = is_core.accounts;
+  pins_are = λ t n. ap (is_among n) (same t) ∙ is_core.pins_are t n;
+  pin_room = room;
+  sizes = is_core.sizes;
+}
+
+pub keeps_repinned : (core new : CoreState) (tenant : ℕ) → IsSound (shared_of core) → new ≡ record core { pin_room = tenant } → Keeps core new
+unfolding shared_of store_of
+keeps_repinned core core2 tenant sound is = subst (Keeps core) (sym is) (record { stores = λ t. refl; entries = refl; gives_way = record { sound = sound; step = idle (shared_of core) sound } })
+
+-- one after another
+pub keeps_then : (a b c : CoreState) → Keeps a b → Keeps b c → Keeps a c
+keeps_then a b c first second = record {
+  stores = λ t. second.stores t ∙ first.stores t;
+  entries = second.entries ∙ first.entries;
+  gives_way = record { sound = first.gives_way.sound; step = maintenance_chains (shared_of a) (shared_of b) (shared_of c) first.gives_way.step second.gives_way.step };
+}
+
+pub kept_sound : (a b : CoreState) → Keeps a b → IsSound (shared_of b)
+kept_sound a b keeps = step_sound (shared_of a) (shared_of b) Maintenance None keeps.gives_way.sound keeps.gives_way.step

@@ -1,7 +1,5 @@
 -- Which keys are whose.
-use Rattle.std.proofs.Common.{◌≡◌, ℕ, ◌<◌, ◌^◌, List, [], ◌∷◌, ◌++◌, map, refl, ap, sym, ◌∙◌, subst, arith}
-use Rattle.std.specs.List.{AllByRecursion}
-use Rattle.stow_bytes.specs.Limits.{key_limit, tenant_limit}
+use Rattle.std.proofs.Common.{◌≡◌, ℕ, ◌<◌, ◌^◌, List, [], ◌∷◌, ◌++◌, map, refl, ap, sym, ◌∙◌, subst}
 use Rattle.stow_core.specs.Keys.{AreKeysOf}
 use Rattle.stow_core.specs.Writes.{write_of, removals_of}
 use Rattle.stow_tree_model.specs.Keys.{packed, own_key, tenant_of}

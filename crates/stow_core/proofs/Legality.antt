@@ -1,9 +1,9 @@
 -- Commands that words say have keys within the limits, and what a change writes is within the limit.
-use Rattle.std.proofs.Common.{◌≡◌, ℕ, ◌+◌, ◌<◌, ◌≤◌, ◌^◌, Bool, true, false, cond, nat_lt, nat_le, List, [], ◌∷◌, ◌++◌, length, Option, Some, None, ℤ, pos, negsuc, refl, ap, sym, ◌∙◌, subst, arith}
+use Rattle.std.proofs.Common.{◌≡◌, ℕ, ◌≤◌, Bool, true, false, cond, nat_lt, List, [], ◌∷◌, ◌++◌, length, Option, Some, None, ℤ, pos, negsuc, refl, sym, subst, arith}
 use Rattle.std.proofs.Math.Bool.{◌||◌}
 use Rattle.std.proofs.lemmas.Bool.{ltb-false, leb-true}
 use Rattle.std.proofs.lemmas.Fmt.{length_signed_le}
-use Rattle.std.specs.Prelude.{codes, is_some, ◌+ℤ◌}
+use Rattle.std.specs.Prelude.{◌+ℤ◌}
 use Rattle.std.specs.Fmt.{signed_decimal}
 use Rattle.std.specs.List.{AllByRecursion, list_any}
 use Rattle.stow_bytes.specs.Limits.{key_limit, value_limit, number_limit}
@@ -14,11 +14,10 @@ use Rattle.stow_model.specs.declared.refusal.Refusal.TheVariants as refusal
 use Rattle.stow_model.specs.Reply as reply
 use Rattle.stow_model.specs.declared.simple_string.SimpleString.TheVariants as simple
 use Rattle.std.specs.Option.{unwrap_or}
-use Rattle.stow_model.specs.Command
-use Rattle.stow_model.specs.Command.{Command, Ping, Echo, Get, GetMany, Exists, Length, Range, Del, Change, Update, Set, Append, Add, Condition, Always, Reading, Understood, Refused, Entry, reading, reading_among, commands, with_keys, is_long_key, is_named, of_text, of_key, of_keys, reading_ping, reading_range, reading_range_count, reading_set, reading_set_if, condition_named, reading_append, reading_add, reading_add_number, reading_del}
-use Rattle.stow_model.specs.Store.{Outcome, Written, Unchanged, Failed, outcome, if_fits, allows, set_outcome, append_outcome, sum_outcome, stored_number}
+use Rattle.stow_model.specs.Command.{Command, Echo, Get, GetMany, Exists, Length, Range, Del, TakeSnapshot, ListSnapshots, GetInSnapshot, RangeInSnapshot, ReportUsage, Change, Update, Set, Append, Add, Condition, Always, Reading, Understood, Refused, Entry, reading, reading_among, commands, with_keys, is_long_key, is_named, of_text, of_key, of_keys, reading_ping, reading_range, reading_range_count, reading_set, reading_set_if, condition_named, reading_append, reading_add, reading_add_number, reading_del, of_nothing, reading_drop_id, reading_drop, reading_get_in_id, reading_get_in, reading_range_in_numbers, reading_range_in, reading_snapshot, snapshot_commands}
+use Rattle.stow_model.specs.Store.{Outcome, Written, Unchanged, Failed, outcome, if_fits, allows, sum_outcome, stored_number}
 use Rattle.std.specs.Prelude.{Ok}
-use Rattle.stow_commands.specs.Outcomes.{IsOutcome}
+use Rattle.stow_commands.specs.Outcomes.{IsOutcome, IsAppendReply}
 use Rattle.stow_commands.specs.declared.outcome.Outcome as coded
 use Rattle.stow_commands.specs.declared.outcome.Outcome.TheVariants as in_outcome
 use Rattle.stow_model.specs.declared.reply.Reply as told
@@ -129,13 +128,64 @@ legal_del (key ∷ keys) = one (nat_lt deleted_limit (length (key ∷ keys))) re
   one true e = tt
   one false e = legal_with (key ∷ keys) (Del (key ∷ keys)) (λ short. (short, ltb-false deleted_limit (length (key ∷ keys)) e))
 
-legal_among : (entries : List Entry) → AllByRecursion IsLegalEntry entries → (name : List ℕ) (arguments : List (List ℕ)) → IsLegalReading (reading_among entries name arguments)
+legal_nothing : (command : Command) → IsLegal command → (arguments : List (List ℕ)) → IsLegalReading (of_nothing command arguments)
 unfolding IsLegalReading
-legal_among [] all name arguments = tt
-legal_among (entry ∷ entries) all name arguments = one (is_named name entry.0) (legal_among entries all.1 name arguments) where
-  one : (b : Bool) → IsLegalReading (reading_among entries name arguments) → IsLegalReading (cond b (entry.1 arguments) (reading_among entries name arguments))
+legal_nothing command legal [] = legal
+legal_nothing command legal (_ ∷ _) = tt
+
+legal_drop_id : (id : Option ℤ) → IsLegalReading (reading_drop_id id)
+unfolding IsLegalReading
+legal_drop_id None = tt
+legal_drop_id (Some id) = tt
+
+legal_drop : (arguments : List (List ℕ)) → IsLegalReading (reading_drop arguments)
+unfolding IsLegalReading
+legal_drop [] = tt
+legal_drop (id ∷ []) = legal_drop_id (number_of id)
+legal_drop (_ ∷ _ ∷ _) = tt
+
+legal_get_in_id : (key : List ℕ) (id : Option ℤ) → IsLegalReading (reading_get_in_id key id)
+unfolding IsLegalReading
+legal_get_in_id key None = tt
+legal_get_in_id key (Some id) = legal_with (key ∷ []) (GetInSnapshot id key) (λ short. short.0)
+
+legal_get_in : (arguments : List (List ℕ)) → IsLegalReading (reading_get_in arguments)
+unfolding IsLegalReading
+legal_get_in [] = tt
+legal_get_in (_ ∷ []) = tt
+legal_get_in (id ∷ key ∷ []) = legal_get_in_id key (number_of id)
+legal_get_in (_ ∷ _ ∷ _ ∷ _) = tt
+
+legal_range_in_numbers : (from to : List ℕ) (id : Option ℤ) (count : Option ℕ) → IsLegalReading (reading_range_in_numbers from to id count)
+unfolding IsLegalReading
+legal_range_in_numbers from to None count = tt
+legal_range_in_numbers from to (Some id) None = tt
+legal_range_in_numbers from to (Some id) (Some count) = legal_with (from ∷ to ∷ []) (RangeInSnapshot id from to count) (λ short. (short.0, short.1.0))
+
+legal_range_in : (arguments : List (List ℕ)) → IsLegalReading (reading_range_in arguments)
+unfolding IsLegalReading
+legal_range_in [] = tt
+legal_range_in (_ ∷ []) = tt
+legal_range_in (_ ∷ _ ∷ []) = tt
+legal_range_in (_ ∷ _ ∷ _ ∷ []) = tt
+legal_range_in (id ∷ from ∷ to ∷ count ∷ []) = legal_range_in_numbers from to (number_of id) (count_of (number_of count))
+legal_range_in (_ ∷ _ ∷ _ ∷ _ ∷ _ ∷ _) = tt
+
+legal_among : (entries : List Entry) (unknown : Refusal) → AllByRecursion IsLegalEntry entries → (name : List ℕ) (arguments : List (List ℕ)) → IsLegalReading (reading_among entries unknown name arguments)
+unfolding IsLegalReading
+legal_among [] unknown all name arguments = tt
+legal_among (entry ∷ entries) unknown all name arguments = one (is_named name entry.0) (legal_among entries unknown all.1 name arguments) where
+  one : (b : Bool) → IsLegalReading (reading_among entries unknown name arguments) → IsLegalReading (cond b (entry.1 arguments) (reading_among entries unknown name arguments))
   one true rest = all.0 arguments
   one false rest = rest
+
+snapshots_are_legal : AllByRecursion IsLegalEntry snapshot_commands
+snapshots_are_legal = (legal_nothing TakeSnapshot tt, (legal_nothing ListSnapshots tt, (legal_drop, (legal_get_in, (legal_range_in, tt)))))
+
+legal_snapshot : (arguments : List (List ℕ)) → IsLegalReading (reading_snapshot arguments)
+unfolding IsLegalReading
+legal_snapshot [] = tt
+legal_snapshot (name ∷ arguments) = legal_among snapshot_commands refusal.SyntaxError snapshots_are_legal name arguments
 
 are_legal : AllByRecursion IsLegalEntry commands
 are_legal = (
@@ -164,7 +214,7 @@ are_legal = (
                         legal_add,
                         (
                           legal_del,
-                          tt,
+                          (legal_snapshot, (legal_nothing ReportUsage tt, tt)),
                         ),
                       ),
                     ),
@@ -182,7 +232,7 @@ are_legal = (
 legal_reading : (words : List (List ℕ)) → IsLegalReading (reading words)
 unfolding reading IsLegalReading
 legal_reading [] = tt
-legal_reading (name ∷ arguments) = legal_among commands are_legal name arguments
+legal_reading (name ∷ arguments) = legal_among commands refusal.UnknownCommand are_legal name arguments
 
 -- what words say is within the limits
 pub understood_legal : (words : List (List ℕ)) (c : Command) → Understood c ≡ reading words → IsLegal c
@@ -232,3 +282,8 @@ written_short update present value r e = subst IsShortOutcome e (short_outcome u
 -- the same of what the code found
 pub found_short : {A : Type 0} (update : Update) (present : Option (List ℕ)) (found : coded.Outcome A) (value : List ℕ) (r : told.Reply A) → found ≡ in_outcome.Written value r → IsOutcome (Ok found) (outcome update present) → length value ≤ value_limit
 found_short update present found value r is h = written_short update present value (reply_of r) (subst (λ o. IsOutcome (Ok o) (outcome update present)) is h)
+
+-- and what an APPEND makes of the row
+pub appended_short : {A : Type 0} (suffix : List ℕ) (present : Option (List ℕ)) (r : told.Reply A) → IsAppendReply (Ok r) suffix present → length (unwrap_or present [] ++ suffix) ≤ value_limit
+unfolding outcome
+appended_short suffix present r e = written_short (Append suffix) present (unwrap_or present [] ++ suffix) (reply_of r) e

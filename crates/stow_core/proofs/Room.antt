@@ -1,21 +1,19 @@
 -- What the tree has to be told of messages before there is room for them.
-use Rattle.std.proofs.Common.{◌≡◌, ◌≢◌, ℕ, zero, suc, ◌+◌, ◌*◌, ◌<◌, ◌≤◌, ◌^◌, List, [], ◌∷◌, length, map, drop, take, get_or, Option, Some, None, refl, ap, sym, ◌∙◌, subst, arith}
-use Rattle.std.specs.List.{AllByRecursion, sum_by}
+use Rattle.std.proofs.Common.{◌≡◌, ◌≢◌, ℕ, zero, suc, ◌+◌, ◌*◌, ◌<◌, ◌≤◌, List, [], ◌∷◌, length, map, drop, get_or, Option, Some, None, refl, ap, sym, ◌∙◌, subst, arith}
+use Rattle.std.specs.List.{AllByRecursion}
 use Rattle.std.proofs.Math.Seq.{drop-cons}
 use Rattle.std.proofs.lemmas.List.{length-append}
 use Rattle.std.proofs.lemmas.List.Sums.{sum_by-cons}
 use Rattle.stow_bytes.specs.Limits.{value_limit, number_limit}
 use Rattle.stow_message.specs.Packed.{message_size, IsMessage}
-use Rattle.stow_model.specs.Login.{Entry}
-use Rattle.stow_core.specs.declared.account.Account.{Account}
 use Rattle.stow_core.specs.declared.content.Content.{Content}
 use Rattle.stow_core.specs.declared.content.Content.TheVariants as content
 use Rattle.stow_core.specs.Keys.{AreKeysOf}
-use Rattle.stow_core.specs.State.{lasts_of, IsCore}
+use Rattle.stow_tree.specs.Shapes.{AreInRange}
 use Rattle.stow_core.specs.Taken.{AreDistinct}
 use Rattle.stow_core.specs.Writes.{content_op, write_of, removal_of, removals_of, AreMessages}
 use Rattle.stow_core.proofs.Keyed.{first_own, later_own, tenant_of_own}
-use Rattle.stow_tree.specs.Putting.{CanAdd, CanPut, CanReserve, IsReserved, AreApart, Puts, bytes_of}
+use Rattle.stow_tree.specs.Putting.{CanAdd, CanReserve, IsReserved, AreApart, Puts, bytes_of}
 use Rattle.stow_tree.specs.TreeState.{TreeState, tree_messages, HasBound}
 use Rattle.stow_tree.proofs.Put.{puts_then}
 use Rattle.stow_tree_model.specs.Keys.{packed, own_key, tenant_of, IsTenantKey}
@@ -67,28 +65,28 @@ no_value = record { is_short = λ bytes e. absurd (apart bytes e) } where
 newer : (m : Messages) (bound : ℕ → ℕ) (t number : ℕ) (key : List ℕ) → HasBound m bound → tenant_of key ≡ t → bound t < number → (n : ℕ) → number ≤ n → ops_of m key n ≡ None
 newer m bound t number key has own above n l = has key n (let e : bound (tenant_of key) ≡ bound t = ap bound own in omega (arith, e, above, l))
 
-module _ (entries : List Entry) (accounts : List Account) (tree : TreeState) (core : IsCore entries accounts tree) (t number : ℕ) (high : t ≤ 65535) (above : lasts_of accounts t < number) where
+module _ (bound : ℕ → ℕ) (tree : TreeState) (below : HasBound (tree_messages tree) bound) (sizes : AreInRange tree.root.shape) (t number : ℕ) (high : t ≤ 65535) (above : bound t < number) where
   -- what the key has at the next number is what it has at the last
-  value_at : (key : List ℕ) → packed t (own_key key) ≡ key → value (tree_messages tree) key number ≡ value (tree_messages tree) key (lasts_of accounts t)
+  value_at : (key : List ℕ) → packed t (own_key key) ≡ key → value (tree_messages tree) key number ≡ value (tree_messages tree) key (bound t)
   value_at key own =
-      above_bound (ops_of (tree_messages tree) key) (lasts_of accounts t) number (omega (arith, above))
-      (subst (λ u. NoneAbove (lasts_of accounts u) (ops_of (tree_messages tree) key)) (tenant_of_own t key (omega (arith, high)) own) (core.below key))
+      above_bound (ops_of (tree_messages tree) key) (bound t) number (omega (arith, above))
+      (subst (λ u. NoneAbove (bound u) (ops_of (tree_messages tree) key)) (tenant_of_own t key (omega (arith, high)) own) (below key))
 
   pub can_put_row : {A : Type 0} (key : List ℕ) (c : Content A) → packed t (own_key key) ≡ key → IsTenantKey key
-      → length (bytes_or_none (outcome (content_op c) (value_in (value (tree_messages tree) key (lasts_of accounts t))))) ≤ value_limit
+      → length (bytes_or_none (outcome (content_op c) (value_in (value (tree_messages tree) key (bound t))))) ≤ value_limit
       → CanReserve tree (write_of number key (content_op c) ∷ [])
   can_put_row key c own is short = record {
     can = record {
       apart = (tt, tt);
       each = (
         record {
-          newest = newer (tree_messages tree) (lasts_of accounts) t number key core.below (tenant_of_own t key (omega (arith, high)) own) above;
-          short = subst (λ v. IsValue (outcome (content_op c) (value_in v))) (sym (value_at key own)) (some_value (outcome (content_op c) (value_in (value (tree_messages tree) key (lasts_of accounts t)))) short);
+          newest = newer (tree_messages tree) bound t number key below (tenant_of_own t key (omega (arith, high)) own) above;
+          short = subst (λ v. IsValue (outcome (content_op c) (value_in v))) (sym (value_at key own)) (some_value (outcome (content_op c) (value_in (value (tree_messages tree) key (bound t)))) short);
         },
         tt,
       );
     };
-    fit = (let a = sum_by-cons message_size (write_of number key (content_op c)) [] in let room = core.sizes.buffer.0 in let k = is.is_short in let s = carried_short c (value_in (value (tree_messages tree) key (lasts_of accounts t))) short in omega (arith, a, room, k, s));
+    fit = (let a = sum_by-cons message_size (write_of number key (content_op c)) [] in let room = sizes.buffer.0 in let k = is.is_short in let s = carried_short c (value_in (value (tree_messages tree) key (bound t))) short in omega (arith, a, room, k, s));
   }
 
   removals_apart : (keys : List (List ℕ)) → AreDistinct keys → AreApart (removals_of number keys)
@@ -102,7 +100,7 @@ module _ (entries : List Entry) (accounts : List Account) (tree : TreeState) (co
   removals_newer [] own = tt
   removals_newer (key ∷ keys) own = (
     record {
-      newest = newer (tree_messages tree) (lasts_of accounts) t number key core.below (tenant_of_own t key (omega (arith, high)) (first_own t key keys own)) above;
+      newest = newer (tree_messages tree) bound t number key below (tenant_of_own t key (omega (arith, high)) (first_own t key keys own)) above;
       short = no_value;
     },
     removals_newer keys (later_own t key keys own),
@@ -119,7 +117,7 @@ module _ (entries : List Entry) (accounts : List Account) (tree : TreeState) (co
   pub can_remove_rows : (keys : List (List ℕ)) → AreKeysOf t keys → AllByRecursion IsTenantKey keys → AreDistinct keys → length keys ≤ 64 → CanReserve tree (removals_of number keys)
   can_remove_rows keys own are distinct few = record {
     can = record { apart = removals_apart keys distinct; each = removals_newer keys own };
-    fit = (let small = removals_small keys are in let room = core.sizes.buffer.0 in omega (arith, small, room, few));
+    fit = (let small = removals_small keys are in let room = sizes.buffer.0 in omega (arith, small, room, few));
   }
 
 -- ---- one after another

@@ -4,17 +4,21 @@ use denote.Param.Send.{IsSend, IsSync, Frees, sendable, struct_send}
 use denote.Struct.Declared.{shape}
 use Rattle.std.specs.declared.alloc.Allocator.{Ghosts}
 use Rattle.std.proofs.CrossingOver.{crosses}
-use Rattle.stow_core.proofs.account.Account.TheSendSync as account
+use Rattle.stow_core.proofs.tenancy.Tenancy.TheSendSync as tenancy
 use Rattle.stow_core.specs.contracts.Core as core
 use Rattle.stow_core.specs.contracts.Core.TheInside as inside
 use Rattle.stow_login.proofs.tenants.Tenants.TheSendSync as tenants
+use Rattle.stow_merge.proofs.pins.Pins.TheSendSync as pins
 use Rattle.stow_tree.proofs.Sends.{tree_sends}
 
 fields_send : (A : RattleType) (g : Ghosts A.Denot) → IsSend A → IsSync A → Frees g g.dealloc_token → IsSend (inside.the_field A g).row
 fields_send A g sent shared free =
     struct_send (shape (inside.the_type A g)) (
       search (tenants.the_send, tenants.the_sync, crosses, sendable) depth 8,
-      (search (account.the_field_send, crosses, sendable) depth 8, (tree_sends A g sent shared free, (search (crosses, sendable) depth 8, tt))),
+      (
+        search (tenancy.the_send, crosses, sendable) depth 8,
+        (search (pins.the_send, crosses, sendable) depth 8, (search sendable, (tree_sends A g sent shared free, (search (crosses, sendable) depth 8, tt)))),
+      ),
     )
 
 pub core_sends : (A : RattleType) (g : Ghosts A.Denot) → IsSend A → IsSync A → Frees g g.dealloc_token → IsSend (core.the_field A g).row

@@ -1,5 +1,5 @@
 -- Which keys a deletion takes rows out with, a key at a time.
-use Rattle.std.proofs.Common.{◌≡◌, ◌≢◌, ℕ, suc, ◌+◌, ◌-◌, ◌<◌, ◌≤◌, ◌⊎◌, Bool, true, false, cond, List, [], ◌∷◌, ◌++◌, length, take, drop, map, get_or, Option, Some, None, is_some, eqb, refl, ap, sym, ◌∙◌, subst, arith, ⊎_elim, w32}
+use Rattle.std.proofs.Common.{◌≡◌, ◌≢◌, ℕ, ◌+◌, ◌-◌, ◌<◌, ◌⊎◌, Bool, true, false, cond, inl, inr, List, [], ◌∷◌, ◌++◌, length, take, drop, map, get_or, Option, Some, None, is_some, eqb, refl, ap, sym, ◌∙◌, subst, arith, ⊎_elim, w32}
 use Rattle.std.proofs.Math.Bool.{and_assoc, ◌&&◌, ◌||◌, false≢true}
 use Rattle.std.proofs.lemmas.Bool.{cond-true, cond-false}
 use Rattle.std.proofs.lemmas.Grind.{take_at_read}
@@ -9,8 +9,7 @@ use Rattle.std.specs.Prelude.{IsSome}
 use Rattle.std.specs.FinMap as map
 use Rattle.std.specs.Cmp.Lexicographic.{nat_list_cmp_total, nat_list_eq_equiv}
 use Rattle.std.specs.Int.{to_be_bytes}
-use Rattle.std.specs.List.{AllByRecursion, list_any}
-use Rattle.std.specs.Ordering.{eq_by_cmp}
+use Rattle.std.specs.List.{list_any}
 use Rattle.std.specs.Str.{bytes_eq}
 use Rattle.stow_bytes.specs.Bytes.{bytes_cmp}
 use Rattle.stow_model.specs.Store.{Rows, Version, rows_without}
@@ -49,18 +48,18 @@ either true false o = refl
 either false true o = refl
 either false false o = refl
 
-get-rows_without : (keys : List (List ℕ)) (m : Rows) (q : List ℕ) → map.get (rows_without keys m) q ≡ cond (list_any (bytes_eq q) keys) None (map.get m q)
+pub get-rows_without : (keys : List (List ℕ)) (m : Rows) (q : List ℕ) → map.get (rows_without keys m) q ≡ cond (list_any (bytes_eq q) keys) None (map.get m q)
 get-rows_without [] m q = refl
 get-rows_without (key ∷ keys) m q =
     get-rows_without keys (map.remove m key) q
     ∙ ap (cond (list_any (bytes_eq q) keys) None) (map.get-remove nat_list_cmp_total m key q ∙ ap (λ b. cond b None (map.get m q)) (is_eq-slice_cmp q key))
     ∙ either (list_any (bytes_eq q) keys) (bytes_eq q key) (map.get m q)
 
-rows_without-push : (keys : List (List ℕ)) (k : List ℕ) (rows : Rows) → rows_without (keys ++ k ∷ []) rows ≡ map.remove (rows_without keys rows) k
+pub rows_without-push : (keys : List (List ℕ)) (k : List ℕ) (rows : Rows) → rows_without (keys ++ k ∷ []) rows ≡ map.remove (rows_without keys rows) k
 rows_without-push [] k rows = refl
 rows_without-push (key ∷ keys) k rows = rows_without-push keys k (map.remove rows key)
 
-map-push : (keys : List (List ℕ)) (k : List ℕ) → map own_key (keys ++ k ∷ []) ≡ map own_key keys ++ own_key k ∷ []
+pub map-push : (keys : List (List ℕ)) (k : List ℕ) → map own_key (keys ++ k ∷ []) ≡ map own_key keys ++ own_key k ∷ []
 map-push [] k = refl
 map-push (key ∷ keys) k = ap (λ l. own_key key ∷ l) (map-push keys k)
 
@@ -166,3 +165,14 @@ taken_same t rows keys taken i k l is so why = subst (λ ks. AreTaken t rows ks 
 
     same : rows_without (take i keys ++ k ∷ []) rows ≡ rows_without (take i keys) rows
     same = rows_without-push (take i keys) k rows ∙ remove_none (rows_without (take i keys) rows) k none
+
+-- a row that is there without some keys is the one that was there
+pub without_or_same : (keys : List (List ℕ)) (m : Rows) (q : List ℕ) → (map.get (rows_without keys m) q ≡ None) ⊎ (map.get (rows_without keys m) q ≡ map.get m q)
+without_or_same keys m q = one (list_any (bytes_eq q) keys) refl where
+  one : (b : Bool) → list_any (bytes_eq q) keys ≡ b → (map.get (rows_without keys m) q ≡ None) ⊎ (map.get (rows_without keys m) q ≡ map.get m q)
+  one true e = inl (get-rows_without keys m q ∙ cond-true _ _ _ e)
+  one false e = inr (get-rows_without keys m q ∙ cond-false _ _ _ e)
+
+-- and is there still where its key is none of them
+pub still_there : (t : ℕ) (keys : List (List ℕ)) (m : Rows) (q : List ℕ) → AreKeysOf t keys → list_any (bytes_eq (packed t q)) keys ≡ false → map.get (rows_without (map own_key keys) m) q ≡ map.get m q
+still_there t keys m q own none = get-rows_without (map own_key keys) m q ∙ cond-false _ _ _ (sym (any_own t q keys own) ∙ none)

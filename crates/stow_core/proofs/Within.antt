@@ -1,5 +1,5 @@
 -- The rows of an interval, as the tree tells them.
-use Rattle.std.proofs.Common.{◌≡◌, ◌≢◌, ℕ, zero, suc, ◌+◌, ◌<◌, ◌≤◌, ◌^◌, ◌⊎◌, inl, inr, Bool, true, false, cond, not, List, [], ◌∷◌, ◌++◌, length, take, map, eqb, Option, Some, None, is_some, refl, ap, sym, ◌∙◌, subst, arith, ⊎_elim}
+use Rattle.std.proofs.Common.{◌≡◌, ◌≢◌, ℕ, zero, suc, ◌+◌, ◌<◌, ◌≤◌, ◌^◌, ◌⊎◌, inl, inr, Bool, true, false, cond, not, List, [], ◌∷◌, length, take, map, eqb, Option, Some, None, refl, ap, sym, ◌∙◌, subst, arith, ⊎_elim}
 use Rattle.std.proofs.Math.Bool.{◌&&◌, ◌||◌, false≢true}
 use Rattle.std.specs.Prelude.{filter, Contains, IsSome, T, Result, Ok, Err, IfOk}
 use Rattle.std.specs.FinMap as rows
@@ -10,20 +10,19 @@ use Rattle.std.specs.Cmp.{tied_itself}
 use Rattle.std.specs.Cmp.Lexicographic.{nat_list_cmp_total}
 use Rattle.std.specs.declared.cmp.Ordering.{Ordering}
 use Rattle.std.specs.declared.cmp.Ordering.TheVariants.{Less, Equal, Greater}
-use Rattle.std.specs.Ordering.{is_le, is_lt, ordering_then, ordering_reverse, nat_cmp, eq_by_cmp}
+use Rattle.std.specs.Ordering.{is_le, is_lt, ordering_then, ordering_reverse, nat_cmp}
 use Rattle.std.proofs.lemmas.Bool.{cases_order, cond-true, cond-false}
 use Rattle.std.proofs.lemmas.List.{length-map}
 use Rattle.stow_bytes.specs.Bytes.{bytes_cmp}
 use Rattle.stow_leaf.specs.Intervals.{spans}
 use Rattle.stow_model.specs.Item.{Item}
 use Rattle.stow_model.specs.Item as item
-use Rattle.stow_model.specs.Store.{Rows, Shown, Version, is_below, is_within, row_items, rows_within}
+use Rattle.stow_model.specs.Store.{Rows, Shown, Version, is_within, row_items, rows_within}
 use Rattle.stow_core.specs.Ends.{upper_end, row_bulks, IsWholeKey}
 use Rattle.stow_read.specs.Range.{KeyValue, IsRange, AreUnder}
 use Rattle.stow_state.specs.Rows.{rows_at, version_of}
 use Rattle.stow_state.proofs.Rows.{rows_by_value_law}
-use Rattle.stow_tree_model.specs.Intervals.{AreBytes}
-use Rattle.stow_tree_model.specs.Keys.{packed, own_key, tenant_of, IsTenantKey}
+use Rattle.stow_tree_model.specs.Keys.{packed, own_key, tenant_of}
 use Rattle.stow_tree_model.specs.Merged.{same_key}
 use Rattle.stow_tree_model.specs.Messages.{Messages, ops_of, value}
 use Rattle.stow_tree_model.specs.Operations.{NumberedValue, latest, value_in}

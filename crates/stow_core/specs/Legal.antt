@@ -3,7 +3,7 @@ use Rattle.std.specs.Prelude.{ℕ, ◌≤◌, List, length}
 use Rattle.std.specs.List.{AllByRecursion}
 use Rattle.stow_bytes.specs.Limits.{key_limit}
 use Rattle.stow_model.specs.Limits.{deleted_limit}
-use Rattle.stow_model.specs.Command.{Command, Ping, Echo, Get, GetMany, Exists, Length, Range, Del, Change}
+use Rattle.stow_model.specs.Command.{Command, Ping, Echo, Get, GetMany, Exists, Length, Range, Del, TakeSnapshot, ListSnapshots, DropSnapshot, GetInSnapshot, RangeInSnapshot, ReportUsage, Change}
 
 abbrev pub IsShortKey : List ℕ → Type 0
 IsShortKey key = length key ≤ key_limit
@@ -21,4 +21,10 @@ IsLegal (Exists keys) = AreShortKeys keys
 IsLegal (Length key) = IsShortKey key
 IsLegal (Range from to count) = IsShortKey from × IsShortKey to
 IsLegal (Del keys) = AreShortKeys keys × (length keys ≤ deleted_limit)
+IsLegal TakeSnapshot = Unit {0}
+IsLegal ListSnapshots = Unit {0}
+IsLegal (DropSnapshot id) = Unit {0}
+IsLegal (GetInSnapshot id key) = IsShortKey key
+IsLegal (RangeInSnapshot id from to count) = IsShortKey from × IsShortKey to
+IsLegal ReportUsage = Unit {0}
 IsLegal (Change key update) = IsShortKey key

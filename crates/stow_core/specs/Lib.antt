@@ -1,4 +1,5 @@
 pub mod Keys
+pub mod Tenancies
 pub mod State
 pub mod Writes
 pub mod Taken

@@ -1,5 +1,5 @@
 //! Deletions.
-ghost use Rattle.std.specs.Prelude.{◌≡◌, ◌≤◌, ℕ, IfOk, length};
+ghost use Rattle.std.specs.Prelude.{◌≡◌, ◌≤◌, IfOk, length};
 ghost use Rattle.std.specs.List.{list_any};
 ghost use Rattle.std.specs.Str.{bytes_eq};
 ghost use Rattle.stow_model.specs.Limits.{deleted_limit};
@@ -7,16 +7,19 @@ ghost use Rattle.stow_model.specs.Login.{IsTenant};
 ghost use Rattle.stow_model.specs.Command.{Del};
 ghost use Rattle.stow_model.specs.LentWords.{words_in};
 ghost use Rattle.stow_core.specs.Legal.{AreShortKeys};
-ghost use Rattle.stow_core.specs.State.{store_of, GivesWay};
-ghost use Rattle.stow_core.specs.Prepared.{HasRoom, Prepares, serves};
+ghost use Rattle.stow_state.specs.State.{IsSound};
+ghost use Rattle.stow_core.specs.State.{store_of, shared_of};
+ghost use Rattle.stow_core.specs.Prepared.{IsPrepared, IsChargedWithout, serves};
 ghost use Rattle.stow_core.specs.Taken.{AreTaken};
 
 use crate::Core;
 use crate::change::Change;
+use crate::charging::sized;
 use crate::prepared::Prepared;
-use crate::preparing::only_counted;
+use crate::preparing::{only_counted, only_refused};
 use crate::writes::reserve_removals;
 use std::alloc::{AllocError, Allocator};
+use stow_ledger::charge::Charge;
 use stow_model::lent_words::LentWords;
 use stow_model::refusal::Refusal;
 use stow_model::reply::Reply;
@@ -32,53 +35,59 @@ impl<A: Allocator + Copy> Core<A> {
         keys: LentWords<'_>,
     ) -> Result<Prepared<A>, AllocError>
         requires is_tenant { IsTenant self.old.entries tenant }
+        requires sound { IsSound (shared_of self.old) }
         requires short { AreShortKeys (words_in keys) }
         requires few { length (words_in keys) ≤ deleted_limit }
-        ensures stores { (t : ℕ) → store_of self.new t ≡ store_of self.old t }
-        ensures entries { self.new.entries ≡ self.old.entries }
-        ensures gives_way { GivesWay self.old self.new }
-        ensures room { IfOk result (λ p. HasRoom self.new p) }
-        ensures tenant { IfOk result (λ p. p.tenant ≡ tenant) }
-        ensures answer { Prepares self.old tenant result (serves (Del (words_in keys.entry))) }
+        ensures { IsPrepared self.old tenant (serves (Del (words_in keys.entry))) self.new result }
     {
-        let taken = self.taken(buffer, alloc, tenant, keys)?;
+        let (taken, charge) = self.taken(buffer, alloc, tenant, keys)?;
         if taken.len() == 0 {
             return Ok(only_counted(tenant, Reply::Integer(0)));
         }
         if !self.can_write(tenant) {
             return Ok(only_counted(tenant, Reply::Error(Refusal::WriteNumbersUsedUp)));
         }
+        if !self.tenancy(tenant).account.allows(charge) {
+            return Ok(only_refused(tenant));
+        }
         let number = self.next_number(tenant);
-        reserve_removals(&mut self.tree, alloc, number, taken.lent())?;
+        reserve_removals(&mut self.tree, alloc, &self.pins, number, taken.lent())?;
         let reply = Reply::Integer(taken.len() as i64);
         Ok(Prepared {
             tenant,
-            change: Change::Remove(taken),
+            change: Change::Remove(taken, charge),
             reply,
         })
     }
 
-    /// Those of the keys that have a row, each once, among the keys of all.
+    /// Those of the keys that have a row, each once, among the keys of all, and the charge without these rows.
     fn taken(
         &self,
         buffer: &mut Vec<u8, A>,
         alloc: A,
         tenant: u32,
         keys: LentWords<'_>,
-    ) -> Result<Words<A>, AllocError>
+    ) -> Result<(Words<A>, Charge), AllocError>
         requires is_tenant { IsTenant self.now.entries tenant }
         requires short { AreShortKeys (words_in keys) }
-        ensures { IfOk result (λ taken. AreTaken tenant (store_of self.now tenant).rows
-            (words_in keys.entry) taken) }
+        ensures taken { IfOk result (λ r. AreTaken tenant (store_of self.now tenant).rows
+            (words_in keys.entry) r.0) }
+        ensures charge { IfOk result (λ r. IsChargedWithout self.now tenant r.0 r.1) }
     {
+        let rows = self.present(tenant);
         let mut taken = Words::new(alloc);
+        let mut charge = self.tenancy(tenant).account.present();
         for index in 0..keys.len() {
-            let is_there = self.row(buffer, alloc, tenant, keys.get(index))?.is_some();
-            if is_there && !is_among(buffer.as_slice(), taken.lent()) {
-                taken.push(buffer.as_slice())?;
+            let row = self.row(buffer, alloc, rows, keys.get(index))?;
+            if let Some(version) = sized(&row) {
+                if !is_among(buffer.as_slice(), taken.lent()) {
+                    let own = (buffer.len() - 4) as u32;
+                    charge = self.charge_without(tenant, charge, own, version);
+                    taken.push(buffer.as_slice())?;
+                }
             }
         }
-        Ok(taken)
+        Ok((taken, charge))
     }
 }
 

@@ -1,32 +1,34 @@
 //! The rows of all tenants in one tree, with each tenant's requests answered as if it were alone.
 //!
-//! What a tenant has is `store_of` of the core's value. `Core::prepare` asks for all the memory that an
-//! answer takes and changes no tenant's store. `Core::commit` then takes none and cannot fail: it moves the
-//! tenant's store as the answer says and leaves every other tenant's as it was. `Core::call` does both: an
+//! What a tenant has is `store_of` of the core's value, its part of the state that all tenants share. `Core::prepare` asks
+//! for all the memory that an answer takes and changes no tenant's store. `Core::commit` then takes none and cannot fail: it
+//! moves the tenant's store as the answer says and leaves every other tenant's as it was. `Core::call` does both: an
 //! answer to which memory was refused leaves every store as it was. Who the tenants are is said by `Tenants`
 //! of `stow_login`.
 //!
 //! Rows stand in the order of packed keys, each the tenant's index and then its own key, so a tenant's rows
 //! stand together, in the order of its keys. A write is a message to the tree, with the tenant's next number: `prepare`
 //! makes the room for it, which may move other messages towards the leaves, and `commit` puts it. An APPEND's message
-//! has its suffix alone.
+//! has its suffix alone. A snapshot is an id with the number of the last write, its pin: messages that a pin shows stay
+//! readable when others are merged. What a tenant is charged is kept as its changes come, and looked at before room
+//! is made.
 //!
 //! A body of `prepare`, `prepare_command` or `prepare_change` that prepares the same twice is right too, since
 //! a prepared answer that is never carried out changes nothing.
 #![tactic(auto)]
 
-ghost use Rattle.std.specs.Prelude.{◌≡◌, ℕ, Err, IfOk, OnErr, OnOk};
+ghost use Rattle.std.specs.Prelude.{◌≡◌, ◌<◌, Err, IfOk, OnErr, OnOk, length, map};
 ghost use Rattle.std.specs.Arc.{arc_value};
 ghost use Rattle.stow_model.specs.Reply.{reply_of};
 ghost use Rattle.stow_model.specs.Login.{IsTenant};
-ghost use Rattle.stow_core.specs.State.{store_of, IsNewCore, OthersStay, Calls, Resized, GivesWay, StepsTo};
-ghost use Rattle.stow_core.specs.Prepared.{HasRoom, PreparesOwn, RefusesStranger, CarriesOut, effect};
+ghost use Rattle.stow_core.specs.State.{store_of, IsNewCore, Moves, Calls, Resized, Keeps};
+ghost use Rattle.stow_core.specs.Tenancies.{new_tenancy, tenancy_of};
+ghost use Rattle.stow_core.specs.Prepared.{HasRoom, PreparesOwn, RefusesStranger, effect};
 ghost use Rattle.stow_tree.specs.declared.tree_fault.TreeFault.TheVariants as fault;
 ghost use Rattle.stow_tree.specs.Reports.{IsReport};
 ghost use Rattle.stow_tree.specs.Shapes.{IsInRange};
 ghost use Rattle.stow_tree.specs.TreeState.{new_tree};
 
-use account::{Account, new_accounts};
 use change::Change;
 use prepared::Prepared;
 use preparing::only_counted;
@@ -35,6 +37,7 @@ use std::marker::Model;
 use std::sync::Arc;
 use stow_commands::command::Command;
 use stow_login::tenants::Tenants;
+use stow_merge::pins::Pins;
 use stow_model::refusal::Refusal;
 use stow_model::reply::Reply;
 use stow_model::words::Words;
@@ -42,26 +45,37 @@ use stow_tree::shape_report::ShapeReport;
 use stow_tree::tree::Tree;
 use stow_tree::tree_fault::TreeFault;
 use stow_tree::tree_shape::TreeShape;
+use tenancy::Tenancy;
 
-pub mod account;
 pub mod change;
 mod changing;
+mod charging;
 mod committing;
 pub mod content;
 mod deleting;
 mod interval;
 mod keys;
+mod pinning;
 pub mod prepared;
 mod preparing;
 mod ranging;
 mod reading;
+pub mod rows_at;
+pub mod snapshot;
+mod snapshots;
+pub mod tenancy;
+mod usage;
 mod writes;
 
 /// The stores of all tenants.
 #[derive(Drop)]
 pub struct Core<A: Allocator + Copy = Global> {
     tenants: Arc<Tenants<A>, A>,
-    accounts: Vec<Account, A>,
+    tenancies: Vec<Tenancy<A>, A>,
+    /// The numbers of live snapshots, at which rows stay readable.
+    pins: Pins<A>,
+    /// The tenant for whose next pin there is room, if not 0.
+    pin_room: u32,
     tree: Tree<A>,
     /// Where keys are packed. Its bytes mean nothing between calls, so that its memory serves one after another.
     buffer: Vec<u8, A>,
@@ -69,13 +83,25 @@ pub struct Core<A: Allocator + Copy = Global> {
 
 impl<A: Allocator + Copy> Model for Core<A> {
     ghost use Rattle.std.specs.Arc.{arc_value};
+    ghost use Rattle.std.specs.Prelude.{map};
     ghost use Rattle.stow_core.specs.State.{IsCore, CoreState};
+    ghost use Rattle.stow_core.specs.Tenancies.{tenancy_of};
 
     ghost Value = { CoreState };
 
-    ghost view = { λ c. record { entries = arc_value c.tenants; accounts = c.accounts.items; tree = c.tree } };
+    ghost view = { λ c. record {
+      entries = arc_value c.tenants;
+      tenancies = map tenancy_of c.tenancies.items;
+      pin_room = c.pin_room;
+      tree = c.tree;
+    } };
 
-    ghost invariant = { λ c. IsCore (arc_value c.tenants) c.accounts.items c.tree };
+    ghost invariant = { λ c. IsCore (record {
+      entries = arc_value c.tenants;
+      tenancies = map tenancy_of c.tenancies.items;
+      pin_room = c.pin_room;
+      tree = c.tree;
+    }) c.pins };
 }
 
 impl<A: Allocator + Copy> Core<A> {
@@ -93,10 +119,13 @@ impl<A: Allocator + Copy> Core<A> {
         ensures out_of_range { ¬ (IsInRange shape) → result ≡ Err fault.Shape }
     {
         let tree = Tree::new(alloc, shape)?;
-        let accounts = new_accounts(alloc, &tenants)?;
+        let tenancies = new_tenancies(alloc, &tenants)?;
+        let pins = Pins::new(alloc);
         Ok(Core {
             tenants,
-            accounts,
+            tenancies,
+            pins,
+            pin_room: 0,
             tree,
             buffer: Vec::new(alloc),
         })
@@ -114,6 +143,7 @@ impl<A: Allocator + Copy> Core<A> {
     pub fn call(&mut self, alloc: A, tenant: u32, words: &Words<A>) -> Reply<A>
         ensures { Calls self.old tenant words.now (reply_of result) self.new }
     {
+        prove!(self.tenancies.len() < 65_536);
         match self.prepare(alloc, tenant, words) {
             Ok(prepared) => self.commit(prepared),
             Err(_) => Reply::Error(Refusal::OutOfMemory),
@@ -127,13 +157,12 @@ impl<A: Allocator + Copy> Core<A> {
         tenant: u32,
         words: &Words<A>,
     ) -> Result<Prepared<A>, AllocError>
-        ensures stores { (t : ℕ) → store_of self.new t ≡ store_of self.old t }
-        ensures entries { self.new.entries ≡ self.old.entries }
-        ensures gives_way { GivesWay self.old self.new }
+        ensures keeps { Keeps self.old self.new }
         ensures room { IfOk result (λ p. HasRoom self.new p) }
         ensures tenant { IfOk result (λ p. p.tenant ≡ tenant) }
         ensures own { PreparesOwn self.old tenant words.now result }
-        ensures stranger { ¬ (IsTenant self.old.entries tenant) → RefusesStranger result }
+        ensures stranger { ¬ (IsTenant self.old.entries tenant)
+            → RefusesStranger self.old self.new result }
     {
         if !self.is_tenant(tenant) {
             return Ok(Prepared {
@@ -152,11 +181,9 @@ impl<A: Allocator + Copy> Core<A> {
     pub fn commit(&mut self, prepared: Prepared<A>) -> Reply<A>
         requires { HasRoom self.old prepared }
         ensures reply { result ≡ prepared.reply }
-        ensures own { CarriesOut self.old self.new prepared }
-        ensures others { OthersStay self.old self.new prepared.tenant }
-        ensures entries { self.new.entries ≡ self.old.entries }
-        ensures step { IsTenant self.old.entries prepared.tenant
-            → StepsTo self.old prepared.tenant (effect prepared (store_of self.old prepared.tenant)) self.new }
+        ensures own { IsTenant self.old.entries prepared.tenant → Moves self.old prepared.tenant
+            (effect prepared (store_of self.old prepared.tenant)) self.new }
+        ensures stranger { ¬ (IsTenant self.old.entries prepared.tenant) → self.new ≡ self.old }
     {
         let Prepared {
             tenant,
@@ -166,8 +193,11 @@ impl<A: Allocator + Copy> Core<A> {
         match change {
             Change::Nothing => {}
             Change::Count => self.count(tenant),
-            Change::Write(key, content) => self.put(tenant, key, content),
-            Change::Remove(keys) => self.remove(tenant, keys),
+            Change::Refuse => self.refuse(tenant),
+            Change::Write(key, content, charge) => self.put(tenant, key, content, charge),
+            Change::Remove(keys, charge) => self.remove(tenant, keys, charge),
+            Change::Take => self.take(tenant),
+            Change::Drop(id, charge) => self.drop_snapshot(tenant, id, charge),
         }
         reply
     }
@@ -176,9 +206,7 @@ impl<A: Allocator + Copy> Core<A> {
     pub fn resize(&mut self, leaves: usize) -> Result<(), AllocError>
         ensures ok { OnOk result (Resized leaves self.old self.new) }
         ensures err { OnErr result (self.new.tree ≡ self.old.tree) }
-        ensures stores { (t : ℕ) → store_of self.new t ≡ store_of self.old t }
-        ensures entries { self.new.entries ≡ self.old.entries }
-        ensures gives_way { GivesWay self.old self.new }
+        ensures keeps { Keeps self.old self.new }
     {
         self.tree.resize(leaves)
     }
@@ -189,4 +217,19 @@ impl<A: Allocator + Copy> Core<A> {
     {
         self.tree.shape()
     }
+}
+
+/// What each tenant has beside its rows: nothing was written or counted yet.
+fn new_tenancies<A: Allocator + Copy>(
+    alloc: A,
+    tenants: &Tenants<A>,
+) -> Result<Vec<Tenancy<A>, A>, AllocError>
+    ensures each { IfOk result (λ made. map tenancy_of made.items ≡ map new_tenancy tenants.now) }
+    ensures few { IfOk result (λ made. length made.items < 65536) }
+{
+    let mut made = Vec::new(alloc);
+    for before in 0..tenants.count() {
+        made.push(Tenancy::new(alloc, tenants.quota(before + 1)))?;
+    }
+    Ok(made)
 }

@@ -1,9 +1,14 @@
 //! Finding answers, with all the memory that they take.
-ghost use Rattle.std.specs.Prelude.{◌≡◌, ℕ, IfOk, IsTrue, ◌↔◌};
+ghost use Rattle.std.specs.Prelude.{◌≡◌, IfOk, IsTrue, ◌↔◌};
+ghost use Rattle.stow_model.specs.declared.refusal.Refusal.TheVariants as refusal;
+ghost use Rattle.stow_model.specs.declared.reply.Reply.TheVariants as told;
+ghost use Rattle.stow_model.specs.Reply.{reply_of};
+ghost use Rattle.stow_model.specs.Reply as reply;
 ghost use Rattle.stow_model.specs.Login.{IsTenant};
+ghost use Rattle.stow_state.specs.State.{IsSound};
 ghost use Rattle.stow_core.specs.Legal.{IsLegal};
-ghost use Rattle.stow_core.specs.State.{store_of, GivesWay, IsShared};
-ghost use Rattle.stow_core.specs.Prepared.{HasRoom, Prepares, serves};
+ghost use Rattle.stow_core.specs.State.{shared_of};
+ghost use Rattle.stow_core.specs.Prepared.{IsPrepared, OnlyCounts, serves};
 ghost use Rattle.stow_commands.specs.Commands.{command_of};
 
 use crate::Core;
@@ -14,15 +19,16 @@ use std::alloc::{AllocError, Allocator};
 use std::mem;
 use stow_bytes::byte_string::ByteString;
 use stow_commands::command::Command;
+use stow_model::refusal::Refusal;
 use stow_model::reply::Reply;
 use stow_model::simple_string::SimpleString;
 
 impl<A: Allocator + Copy> Core<A> {
     pub(crate) fn is_tenant(&self, tenant: u32) -> bool
         ensures is { IsTrue result ↔ IsTenant self.now.entries tenant }
-        ensures shared { IsShared self.now }
+        ensures sound { IsSound (shared_of self.now) }
     {
-        tenant != 0 && tenant as usize <= self.accounts.len()
+        tenant != 0 && tenant as usize <= self.tenancies.len()
     }
 
     /// Finds what a command says in the tenant's own rows. Its keys are packed in the core's buffer; a PING has none.
@@ -33,14 +39,9 @@ impl<A: Allocator + Copy> Core<A> {
         command: Command<'_>,
     ) -> Result<Prepared<A>, AllocError>
         requires is_tenant { IsTenant self.old.entries tenant }
-        requires shared { IsShared self.old }
+        requires sound { IsSound (shared_of self.old) }
         requires legal { IsLegal (command_of command) }
-        ensures stores { (t : ℕ) → store_of self.new t ≡ store_of self.old t }
-        ensures entries { self.new.entries ≡ self.old.entries }
-        ensures gives_way { GivesWay self.old self.new }
-        ensures room { IfOk result (λ p. HasRoom self.new p) }
-        ensures tenant { IfOk result (λ p. p.tenant ≡ tenant) }
-        ensures answer { Prepares self.old tenant result (serves (command_of command.entry)) }
+        ensures { IsPrepared self.old tenant (serves (command_of command.entry)) self.new result }
     {
         if let Command::Ping = command {
             return Ok(only_counted(tenant, Reply::Simple(SimpleString::Pong)));
@@ -60,33 +61,40 @@ impl<A: Allocator + Copy> Core<A> {
         command: Command<'_>,
     ) -> Result<Prepared<A>, AllocError>
         requires is_tenant { IsTenant self.old.entries tenant }
-        requires shared { IsShared self.old }
+        requires sound { IsSound (shared_of self.old) }
         requires legal { IsLegal (command_of command) }
-        ensures stores { (t : ℕ) → store_of self.new t ≡ store_of self.old t }
-        ensures entries { self.new.entries ≡ self.old.entries }
-        ensures gives_way { GivesWay self.old self.new }
-        ensures room { IfOk result (λ p. HasRoom self.new p) }
-        ensures tenant { IfOk result (λ p. p.tenant ≡ tenant) }
-        ensures answer { Prepares self.old tenant result (serves (command_of command.entry)) }
+        ensures { IsPrepared self.old tenant (serves (command_of command.entry)) self.new result }
     {
-        let reply = match command {
-            Command::Ping => Reply::Simple(SimpleString::Pong),
-            Command::Echo(text) => Reply::Bulk(ByteString::from_slice(alloc, text)?),
-            Command::Get(key) => self.value(buffer, alloc, tenant, key)?,
-            Command::GetMany(keys) => self.values(buffer, alloc, tenant, keys)?,
-            Command::Exists(keys) => self.count_rows(buffer, alloc, tenant, keys)?,
-            Command::Length(key) => self.value_length(buffer, alloc, tenant, key)?,
+        let rows = self.present(tenant);
+        match command {
+            Command::Ping => Ok(only_counted(tenant, Reply::Simple(SimpleString::Pong))),
+            Command::Echo(text) => counted(tenant, echo(alloc, text)),
+            Command::Get(key) => counted(tenant, self.value(buffer, alloc, rows, key)),
+            Command::GetMany(keys) => counted(tenant, self.values(buffer, alloc, rows, keys)),
+            Command::Exists(keys) => counted(tenant, self.count_rows(buffer, alloc, rows, keys)),
+            Command::Length(key) => counted(tenant, self.value_length(buffer, alloc, rows, key)),
             Command::Range(from, to, count) => {
                 let interval = Interval { tenant, from, to };
-                let reply = self.rows_within(buffer, alloc, interval, count)?;
-                return Ok(only_counted(tenant, reply));
+                let number = rows.number;
+                counted(
+                    tenant,
+                    self.rows_within(buffer, alloc, interval, number, count),
+                )
             }
-            Command::Del(keys) => return self.prepare_del(buffer, alloc, tenant, keys),
+            Command::Del(keys) => self.prepare_del(buffer, alloc, tenant, keys),
+            Command::TakeSnapshot => self.prepare_take(tenant),
+            Command::ListSnapshots => counted(tenant, self.snapshot_ids(alloc, tenant)),
+            Command::DropSnapshot(id) => self.prepare_drop(alloc, tenant, id),
+            Command::GetInSnapshot(id, key) => { self.prepare_get(buffer, alloc, tenant, id, key) }
+            Command::RangeInSnapshot(id, from, to, count) => {
+                let interval = Interval { tenant, from, to };
+                self.prepare_range(buffer, alloc, interval, id, count)
+            }
+            Command::ReportUsage => counted(tenant, self.usage_reply(alloc, tenant)),
             Command::Change(key, update) => {
-                return self.prepare_change(buffer, alloc, tenant, key, update);
+                self.prepare_change(buffer, alloc, tenant, key, update)
             }
-        };
-        Ok(only_counted(tenant, reply))
+        }
     }
 }
 
@@ -99,4 +107,39 @@ pub(crate) fn only_counted<A: Allocator>(tenant: u32, reply: Reply<A>) -> Prepar
         change: Change::Count,
         reply,
     }
+}
+
+/// The same of a reply that may have been refused memory.
+pub(crate) fn counted<A: Allocator>(
+    tenant: u32,
+    reply: Result<Reply<A>, AllocError>,
+) -> Result<Prepared<A>, AllocError>
+    ensures { OnlyCounts tenant reply result }
+{
+    match reply {
+        Ok(reply) => Ok(only_counted(tenant, reply)),
+        Err(refused) => Err(refused),
+    }
+}
+
+/// The answer to a write that the quota refuses.
+pub(crate) fn only_refused<A: Allocator>(tenant: u32) -> Prepared<A>
+    ensures { result ≡ record {
+      tenant = tenant;
+      change = Change.Refuse;
+      reply = told.Error refusal.QuotaExceeded;
+    } }
+{
+    Prepared {
+        tenant,
+        change: Change::Refuse,
+        reply: Reply::Error(Refusal::QuotaExceeded),
+    }
+}
+
+/// The text, told again.
+fn echo<A: Allocator>(alloc: A, text: &[u8]) -> Result<Reply<A>, AllocError>
+    ensures { IfOk result (λ r. reply_of r ≡ reply.Bulk text.now) }
+{
+    Ok(Reply::Bulk(ByteString::from_slice(alloc, text)?))
 }

@@ -33,7 +33,8 @@ pub fn first_rows<A: Allocator + Copy>(
     requires from { length interval.from.now ≤ key_limit }
     requires to { length interval.to.now ≤ key_limit }
     ensures rows { IfOk result (λ items. items
-        ≡ told_rows (rows_at (tree_messages tree.old) interval.entry.tenant at) interval.entry count) }
+        ≡ told_rows (rows_at (tree_messages tree.old) interval.entry.tenant at)
+        interval.entry count) }
     ensures same { IsRead tree.old tree.new }
 {
     pack_into(buffer, interval.tenant, interval.from)?;

@@ -1,20 +1,26 @@
-//! Replies that are read from a tenant's rows.
-ghost use Rattle.std.specs.Prelude.{◌≡◌, ◌++◌, ◌∷◌, ℕ, [], IfOk, OnOk};
+//! Replies that are read from a tenant's rows, as they are or as a snapshot shows them.
+ghost use Rattle.std.specs.Prelude.{◌≡◌, ◌++◌, ◌∷◌, [], Some, IfOk, OnOk, pos, map};
+ghost use Rattle.std.specs.FinMap as finite;
+ghost use Rattle.stow_ledger.specs.Accounts.{IsAccountOf};
 ghost use Rattle.stow_model.specs.LentWords.{words_in};
 ghost use Rattle.stow_model.specs.Reply.{reply_of};
+ghost use Rattle.stow_model.specs.Reply as reply;
 ghost use Rattle.stow_model.specs.Login.{IsTenant};
-ghost use Rattle.stow_model.specs.Command.{Get, GetMany, Exists, Length};
-ghost use Rattle.stow_model.specs.Store.{item_or_null};
+ghost use Rattle.stow_model.specs.Store.{count_rows, get_reply, item_or_null, length_or_zero, range_reply, value_in};
 ghost use Rattle.stow_tree_model.specs.Keys.{packed, IsTenantKey};
+ghost use Rattle.stow_tree_model.specs.Value.{IsValue};
 ghost use Rattle.stow_core.specs.Legal.{IsShortKey, AreShortKeys};
-ghost use Rattle.stow_core.specs.Prepared.{read_reply, range_reply};
-ghost use Rattle.stow_core.specs.State.{row_at, store_of, GivesWay};
+ghost use Rattle.stow_state.specs.State.{IsSound};
+ghost use Rattle.stow_core.specs.State.{rows_in, shared_of, store_of, Keeps};
+ghost use Rattle.stow_core.specs.Tenancies.{tenancy_at, tenancy_of};
 ghost use Rattle.stow_core.specs.Writes.{row_of};
 
 use crate::Core;
 use crate::interval::Interval;
 use crate::keys::pack_into;
 use crate::ranging::first_rows;
+use crate::rows_at::RowsAt;
+use crate::tenancy::Tenancy;
 use std::alloc::{AllocError, Allocator};
 use stow_bytes::byte_string::ByteString;
 use stow_model::items::Items;
@@ -24,24 +30,47 @@ use stow_read::found::Found;
 use stow_tree_model::tenant_key::TenantKey;
 
 impl<A: Allocator + Copy> Core<A> {
-    /// The tenant's row of a key. The buffer then has the key among the keys of all.
+    /// What a tenant has beside its rows.
+    pub(crate) fn tenancy(&self, tenant: u32) -> &Tenancy<A>
+        requires { IsTenant self.now.entries tenant }
+        ensures own { tenancy_at tenant self.now.tenancies ≡ Some (tenancy_of result.now) }
+        ensures account { IsAccountOf (store_of self.now tenant) result.now.account }
+        ensures sound { IsSound (shared_of self.now) }
+    {
+        &self.tenancies[tenant as usize - 1]
+    }
+
+    /// A tenant's rows as they are.
+    pub(crate) fn present(&self, tenant: u32) -> RowsAt
+        requires { IsTenant self.now.entries tenant }
+        ensures tenant { result.tenant ≡ tenant }
+        ensures rows { rows_in self.now result ≡ (store_of self.now tenant).rows }
+    {
+        RowsAt {
+            tenant,
+            number: self.tenancy(tenant).versions.last(),
+        }
+    }
+
+    /// The row of a key. The buffer then has the key among the keys of all.
     pub(crate) fn row(
         &self,
         buffer: &mut Vec<u8, A>,
         alloc: A,
-        tenant: u32,
+        rows: RowsAt,
         key: &[u8],
     ) -> Result<Option<Found<'_, A>>, AllocError>
-        requires is_tenant { IsTenant self.now.entries tenant }
+        requires is_tenant { IsTenant self.now.entries rows.tenant }
         requires short { IsShortKey key.now }
-        ensures row { IfOk result (λ row. row_of row ≡ row_at self.now tenant key.now) }
-        ensures buffer { OnOk result (buffer.new.items ≡ packed tenant key.now) }
+        ensures row { IfOk result (λ row. row_of row ≡ finite.get (rows_in self.now rows) key.now) }
+        ensures short { IfOk result (λ row. IsValue (value_in (row_of row))) }
+        ensures buffer { OnOk result (buffer.new.items ≡ packed rows.tenant key.now) }
         ensures is_key { OnOk result (IsTenantKey buffer.new.items) }
     {
-        pack_into(buffer, tenant, key)?;
-        let last = self.accounts[tenant as usize - 1].last;
-        self.tree
-            .get(alloc, TenantKey::from_packed(buffer.as_slice()), last)
+        let tree = &self.tree;
+        pack_into(buffer, rows.tenant, key)?;
+        let key = TenantKey::from_packed(buffer.as_slice());
+        tree.get(alloc, key, rows.number)
     }
 
     /// The value of a key, or null.
@@ -49,14 +78,14 @@ impl<A: Allocator + Copy> Core<A> {
         &self,
         buffer: &mut Vec<u8, A>,
         alloc: A,
-        tenant: u32,
+        rows: RowsAt,
         key: &[u8],
     ) -> Result<Reply<A>, AllocError>
-        requires is_tenant { IsTenant self.now.entries tenant }
+        requires is_tenant { IsTenant self.now.entries rows.tenant }
         requires short { IsShortKey key.now }
-        ensures { IfOk result (λ r. reply_of r ≡ read_reply self.now tenant (Get key.now)) }
+        ensures { IfOk result (λ r. reply_of r ≡ get_reply key.now (rows_in self.now rows)) }
     {
-        match self.row(buffer, alloc, tenant, key)? {
+        match self.row(buffer, alloc, rows, key)? {
             Some(found) => {
                 let value = ByteString::from_slice(alloc, found.bytes())?;
                 Ok(Reply::Bulk(value))
@@ -70,17 +99,18 @@ impl<A: Allocator + Copy> Core<A> {
         &self,
         buffer: &mut Vec<u8, A>,
         alloc: A,
-        tenant: u32,
+        rows: RowsAt,
         keys: LentWords<'_>,
     ) -> Result<Reply<A>, AllocError>
-        requires is_tenant { IsTenant self.now.entries tenant }
+        requires is_tenant { IsTenant self.now.entries rows.tenant }
         requires short { AreShortKeys (words_in keys) }
-        ensures { IfOk result
-            (λ r. reply_of r ≡ read_reply self.now tenant (GetMany (words_in keys.entry))) }
+        ensures { IfOk result (λ r. reply_of r ≡ reply.Array
+            (map (λ key. item_or_null (finite.get (rows_in self.now rows) key))
+            (words_in keys.entry))) }
     {
         let mut items = Items::with_capacity(alloc, keys.len(), 0)?;
         for index in 0..keys.len() {
-            let row = self.row(buffer, alloc, tenant, keys.get(index))?;
+            let row = self.row(buffer, alloc, rows, keys.get(index))?;
             push_value(&mut items, &row)?;
         }
         Ok(Reply::Array(items))
@@ -91,17 +121,17 @@ impl<A: Allocator + Copy> Core<A> {
         &self,
         buffer: &mut Vec<u8, A>,
         alloc: A,
-        tenant: u32,
+        rows: RowsAt,
         keys: LentWords<'_>,
     ) -> Result<Reply<A>, AllocError>
-        requires is_tenant { IsTenant self.now.entries tenant }
+        requires is_tenant { IsTenant self.now.entries rows.tenant }
         requires short { AreShortKeys (words_in keys) }
-        ensures { IfOk result
-            (λ r. reply_of r ≡ read_reply self.now tenant (Exists (words_in keys.entry))) }
+        ensures { IfOk result (λ r. reply_of r
+            ≡ reply.Integer (pos (count_rows (rows_in self.now rows) (words_in keys.entry)))) }
     {
         let mut count: usize = 0;
         for index in 0..keys.len() {
-            if self.row(buffer, alloc, tenant, keys.get(index))?.is_some() {
+            if self.row(buffer, alloc, rows, keys.get(index))?.is_some() {
                 count += 1;
             }
         }
@@ -113,37 +143,38 @@ impl<A: Allocator + Copy> Core<A> {
         &self,
         buffer: &mut Vec<u8, A>,
         alloc: A,
-        tenant: u32,
+        rows: RowsAt,
         key: &[u8],
     ) -> Result<Reply<A>, AllocError>
-        requires is_tenant { IsTenant self.now.entries tenant }
+        requires is_tenant { IsTenant self.now.entries rows.tenant }
         requires short { IsShortKey key.now }
-        ensures { IfOk result (λ r. reply_of r ≡ read_reply self.now tenant (Length key.now)) }
+        ensures { IfOk result (λ r. reply_of r
+            ≡ reply.Integer (pos (length_or_zero (finite.get (rows_in self.now rows) key.now)))) }
     {
-        match self.row(buffer, alloc, tenant, key)? {
+        match self.row(buffer, alloc, rows, key)? {
             Some(found) => Ok(Reply::Integer(found.bytes().len() as i64)),
             None => Ok(Reply::Integer(0)),
         }
     }
 
-    /// The first rows of an interval, `count` at most: key, value, key, value.
+    /// The first rows of an interval at a number, `count` at most: key, value, key, value.
     pub(crate) fn rows_within(
         &mut self,
         buffer: &mut Vec<u8, A>,
         alloc: A,
         interval: Interval<'_>,
+        number: u64,
         count: u32,
     ) -> Result<Reply<A>, AllocError>
         requires is_tenant { IsTenant self.old.entries interval.tenant }
         requires from { IsShortKey interval.from.now }
         requires to { IsShortKey interval.to.now }
-        ensures reply { IfOk result (λ r. reply_of r ≡ range_reply self.old interval.entry count) }
-        ensures stores { (t : ℕ) → store_of self.new t ≡ store_of self.old t }
-        ensures entries { self.new.entries ≡ self.old.entries }
-        ensures gives_way { GivesWay self.old self.new }
+        ensures reply { IfOk result (λ r. reply_of r ≡ range_reply interval.entry.from.now
+            interval.entry.to.now count
+            (rows_in self.old (record { tenant = interval.entry.tenant; number = number }))) }
+        ensures keeps { Keeps self.old self.new }
     {
-        let last = self.accounts[interval.tenant as usize - 1].last;
-        let items = first_rows(&mut self.tree, buffer, alloc, interval, last, count)?;
+        let items = first_rows(&mut self.tree, buffer, alloc, interval, number, count)?;
         Ok(Reply::Array(items))
     }
 }

@@ -1,12 +1,13 @@
 //! Messages of writes, and the room that the tree has for them.
 ghost use Rattle.std.specs.Prelude.{◌≡◌, ◌∷◌, [], OnOk};
+ghost use Rattle.stow_merge.specs.Pins.{pins_in};
 ghost use Rattle.stow_message.specs.Packed.{IsMessage};
 ghost use Rattle.stow_model.specs.LentWords.{words_in};
 ghost use Rattle.stow_tree.specs.Putting.{CanReserve, IsReserved, Puts};
 ghost use Rattle.stow_tree.specs.TreeState.{tree_messages, AgreeUnder};
 ghost use Rattle.stow_tree_model.specs.Messages.{with_all};
 ghost use Rattle.stow_tree_model.specs.TreeMessage.{message_of};
-ghost use Rattle.stow_core.specs.Writes.{content_op, write_of, removal_of, removals_of, AreMessages, no_pins};
+ghost use Rattle.stow_core.specs.Writes.{content_op, write_of, removal_of, removals_of, AreMessages};
 
 use crate::content::Content;
 use std::alloc::{AllocError, Allocator};
@@ -49,6 +50,7 @@ fn removal_message(number: u64, key: &[u8]) -> Message<'_>
 pub fn reserve_row<A: Allocator + Copy>(
     tree: &mut Tree<A>,
     alloc: A,
+    pins: &Pins<A>,
     number: u64,
     key: &[u8],
     content: &Content<A>,
@@ -57,11 +59,12 @@ pub fn reserve_row<A: Allocator + Copy>(
     requires can { CanReserve tree.old (write_of number key.now (content_op content.now) ∷ []) }
     ensures reserved { OnOk result
         (IsReserved tree.new (write_of number key.now (content_op content.now) ∷ [])) }
-    ensures agrees { AgreeUnder no_pins (tree_messages tree.old) (tree_messages tree.new) }
+    ensures agrees { AgreeUnder (pins_in pins.now) (tree_messages tree.old)
+        (tree_messages tree.new) }
     ensures shape { tree.new.root.shape ≡ tree.old.root.shape }
 {
     let messages = [write_message(number, key, content)];
-    tree.reserve(alloc, &messages, &Pins::new(alloc))
+    tree.reserve(alloc, &messages, pins)
 }
 
 /// Puts what a key is given into the tree. It takes no memory and cannot fail.
@@ -83,20 +86,23 @@ pub fn put_row<A: Allocator + Copy>(
 pub fn reserve_removals<A: Allocator + Copy>(
     tree: &mut Tree<A>,
     alloc: A,
+    pins: &Pins<A>,
     number: u64,
     keys: LentWords<'_>,
 ) -> Result<(), AllocError>
     requires messages { AreMessages (removals_of number (words_in keys)) }
     requires can { CanReserve tree.old (removals_of number (words_in keys)) }
-    ensures reserved { OnOk result (IsReserved tree.new (removals_of number (words_in keys.entry))) }
-    ensures agrees { AgreeUnder no_pins (tree_messages tree.old) (tree_messages tree.new) }
+    ensures reserved { OnOk result
+        (IsReserved tree.new (removals_of number (words_in keys.entry))) }
+    ensures agrees { AgreeUnder (pins_in pins.now) (tree_messages tree.old)
+        (tree_messages tree.new) }
     ensures shape { tree.new.root.shape ≡ tree.old.root.shape }
 {
     let mut messages = Vec::new(alloc);
     for index in 0..keys.len() {
         messages.push(removal_message(number, keys.get(index)))?;
     }
-    tree.reserve(alloc, messages.as_slice(), &Pins::new(alloc))
+    tree.reserve(alloc, messages.as_slice(), pins)
 }
 
 /// Puts the removal of a key into the tree.

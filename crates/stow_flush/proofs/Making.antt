@@ -1,18 +1,23 @@
 -- A root as room is made in it.
-use Rattle.std.proofs.Common.{◌≡◌, ℕ, List, refl, sym, ap, ◌∙◌, subst}
-use Rattle.std.specs.Prelude.{Result, Ok, Err, OnOk, OnErr}
-use Rattle.stow_leaf.specs.LeafRows.{LeafRows}
+use Rattle.std.proofs.Common.{zero, suc, ◌≡◌, ℕ, ◌+◌, ◌/◌, ◌<◌, ◌≤◌, max, arith, refl, sym, ap, ◌∙◌, subst, List}
+use Rattle.std.specs.List.{sum_by}
+use Rattle.stow_leaf.specs.LeafRows.{LeafRows, row_messages}
 use Rattle.stow_leaf_cache.specs.Cache.{Cache}
 use Rattle.stow_message.specs.MessageBuf.{message_list}
+use Rattle.stow_message.specs.Packed.{message_size}
 use Rattle.stow_tree_model.specs.Agreement.{TenantPins}
 use Rattle.stow_tree_model.specs.Keys.{tenant_of}
 use Rattle.stow_tree_model.specs.Messages.{ops_in}
-use Rattle.stow_node.specs.Flushes.{Keeps}
+use Rattle.stow_tree_model.specs.Operations.{or_else}
+use Rattle.stow_node.specs.Flushes.{Flushes}
 use Rattle.stow_node.specs.Forgets.{Forgets}
-use Rattle.stow_node.specs.Moves.{IsSqueezed, raised}
+use Rattle.stow_node.specs.Moves.{IsSqueezed, LacksRoom, Stays}
 use Rattle.stow_node.specs.Subtree.{Subtree, messages_of}
-use Rattle.stow_node.proofs.Over.{same_itself, same_then}
-use Rattle.stow_flush.specs.Rooms.{Stands}
+use Rattle.stow_node.specs.Ways.{StepsDown}
+use Rattle.stow_node.specs.declared.shape.Shape.{Shape}
+use Rattle.stow_node.proofs.Over.{same_itself, same_pointwise, same_then}
+use Rattle.stow_node.proofs.Standing.{parts_ops}
+use Rattle.stow_flush.specs.Rooms.{Stands, FlushesTimes, MakesRoom}
 
 pub stands_itself : (pins : TenantPins) (t : Subtree) → Stands pins t t
 stands_itself pins t = record { low = refl; shape = refl; capacity = refl; means = λ key. same_itself (pins (tenant_of key)) (ops_in (messages_of t) key) }
@@ -25,16 +30,24 @@ stands_then pins s t u a b = record {
   means = λ key. same_then (pins (tenant_of key)) (ops_in (messages_of s) key) (ops_in (messages_of t) key) (ops_in (messages_of u) key) (a.means key) (b.means key);
 }
 
-pub keeps_stands : (pins : TenantPins) (s t : Subtree) → Keeps pins s t → Stands pins s t
-keeps_stands pins s t k = record { low = k.low; shape = k.shape; capacity = k.capacity; means = k.means }
+pub flushes_stands : (pins : TenantPins) (s t : Subtree) → Flushes pins s t → Stands pins s t
+flushes_stands pins s t k = record { low = k.low; shape = k.shape; capacity = k.capacity; means = k.means }
+
+pub stays_stands : (pins : TenantPins) (s t : Subtree) → Stays s t → Stands pins s t
+stays_stands pins s t k = record {
+  low = k.low;
+  shape = k.shape;
+  capacity = k.capacity;
+  means = λ key. same_pointwise (pins (tenant_of key)) (ops_in (messages_of s) key) (ops_in (messages_of t) key) (λ n.
+      parts_ops t key n
+      ∙ (λ i. or_else (k.messages key n i) (ops_in (row_messages (k.leaves i)) key n))
+      ∙ sym (parts_ops s key n));
+}
 
 pub squeezed_stands : (pins : TenantPins) (s t : Subtree) → IsSqueezed s t → Stands pins s t
 squeezed_stands pins s t q = rw q.is (stands_squeezed q.used) where
   stands_squeezed : (used : ℕ) → Stands pins s (record s { buffer = message_list s.buffer.messages used s.buffer.capacity })
   stands_squeezed used = record { low = refl; shape = refl; capacity = refl; means = λ key. same_itself (pins (tenant_of key)) (ops_in (messages_of s) key) }
-
-raised_stands : (pins : TenantPins) (t : Subtree) → t.buffer.capacity ≡ t.shape.buffer → Stands pins t (raised t)
-raised_stands pins t block = record { low = refl; shape = refl; capacity = sym block; means = λ key. same_itself (pins (tenant_of key)) (ops_in (messages_of t) key) }
 
 forgets_then : (l m n : List LeafRows) (c d e : Cache) → Forgets l m c d → Forgets m n d e → Forgets l n c e
 forgets_then l m n c d e f g = record {
@@ -51,9 +64,10 @@ pub record IsMaking (pins : TenantPins) (old now : Subtree) (cache cache' : Cach
   pub stands : Stands pins old now
   pub forgets : Forgets old.leaves now.leaves cache cache'
   pub block : room' ≡ room
+  pub few : now.width ≤ now.shape.fan_out
 
-pub making_first : (pins : TenantPins) (old : Subtree) (cache : Cache) (spare : ℕ) → IsMaking pins old old cache cache spare spare
-making_first pins old cache spare = record { stands = stands_itself pins old; forgets = forgets_itself old.leaves cache; block = refl }
+pub making_first : (pins : TenantPins) (old : Subtree) (cache : Cache) (spare : ℕ) → old.width ≤ old.shape.fan_out → IsMaking pins old old cache cache spare spare
+making_first pins old cache spare few = record { stands = stands_itself pins old; forgets = forgets_itself old.leaves cache; block = refl; few = few }
 
 -- dead bytes were dropped
 pub squeezed_then : (pins : TenantPins) (old now new : Subtree) (cache cache' : Cache) (spare spare' last : ℕ) → IsMaking pins old now cache cache' spare spare' → IsSqueezed now new → last ≡ spare' → IsMaking pins old new cache cache' spare last
@@ -61,27 +75,55 @@ squeezed_then pins old now new cache cache' spare spare' last m q l = record {
   stands = stands_then pins old now new m.stands (squeezed_stands pins now new q);
   forgets = subst (λ ls. Forgets old.leaves ls cache cache') (sym (ap (λ (t : Subtree). t.leaves) q.is)) m.forgets;
   block = l ∙ m.block;
+  few = subst (λ (t : Subtree). t.width ≤ t.shape.fan_out) (sym q.is) m.few;
 }
 
 -- messages moved
-pub moved_then : (pins : TenantPins) (old mid new : Subtree) (cache cache' cache'' : Cache) (spare spare' last : ℕ) → IsMaking pins old mid cache cache' spare spare' → Stands pins mid new → Forgets mid.leaves new.leaves cache' cache'' → last ≡ spare' → IsMaking pins old new cache cache'' spare last
-moved_then pins old mid new cache cache' cache'' spare spare' last m k f l = record {
+pub moved_then : (pins : TenantPins) (old mid new : Subtree) (cache cache' cache'' : Cache) (spare spare' last : ℕ) → IsMaking pins old mid cache cache' spare spare' → Stands pins mid new → Forgets mid.leaves new.leaves cache' cache'' → last ≡ spare' → new.width ≤ new.shape.fan_out → IsMaking pins old new cache cache'' spare last
+moved_then pins old mid new cache cache' cache'' spare spare' last m k f l few = record {
   stands = stands_then pins old mid new m.stands k;
   forgets = forgets_then old.leaves mid.leaves new.leaves cache cache' cache'' m.forgets f;
   block = l ∙ m.block;
+  few = few;
 }
 
--- a node above the root
-pub raised_then : (pins : TenantPins) (old mid : Subtree) (cache cache' : Cache) (spare spare' : ℕ) → IsMaking pins old mid cache cache' spare spare' → mid.buffer.capacity ≡ mid.shape.buffer → IsMaking pins old (raised mid) cache cache' spare spare'
-raised_then pins old mid cache cache' spare spare' m block = record {
-  stands = stands_then pins old mid (raised mid) m.stands (raised_stands pins mid block);
-  forgets = m.forgets;
-  block = m.block;
+pub stays_few : (s t : Subtree) → Stays s t → s.width ≤ s.shape.fan_out → t.width ≤ t.shape.fan_out
+stays_few s t k few = subst (λ h. t.width ≤ h) (sym (ap (λ (h : Shape). h.fan_out) k.shape)) (subst (λ w. w ≤ s.shape.fan_out) (sym k.width) few)
+
+-- ---- steps one after another
+
+squeezed_itself : (t : Subtree) → IsSqueezed t t
+squeezed_itself t = record { used = t.buffer.used; is = refl; fewer = omega arith }
+
+squeezed_twice : (s t u : Subtree) → IsSqueezed s t → IsSqueezed t u → IsSqueezed s u
+squeezed_twice s t u p q = record {
+  used = q.used;
+  is = q.is ∙ ap (λ (x : Subtree). record x { buffer = message_list x.buffer.messages q.used x.buffer.capacity }) p.is;
+  fewer = let a = p.fewer in let b = q.fewer in let e = ap (λ (x : Subtree). x.buffer.used) p.is in omega (arith, a, b, e);
 }
 
--- ---- what raising answers
+pub makes_none : (A : Type 0) (bytes : ℕ) (pins : TenantPins) (t : Subtree) (cache : Cache) → MakesRoom A bytes pins t t cache cache
+makes_none A bytes pins t cache = (0, (squeezed_itself t, refl))
 
--- what holds of the raised root and of the one before holds whatever was answered
-pub by_answer : {T E : Type 0} {mid new : Subtree} (r : Result T E) (P : Subtree → Type 0) → OnOk r (new ≡ raised mid) → OnErr r (new ≡ mid) → P (raised mid) → P mid → P new
-by_answer (Ok x) P ok err p q = subst P (sym ok) p
-by_answer (Err e) P ok err p q = subst P (sym err) q
+pub makes_squeezed : (A : Type 0) (bytes : ℕ) (pins : TenantPins) (s t u : Subtree) (cache cache' : Cache) → MakesRoom A bytes pins s t cache cache' → IsSqueezed t u → MakesRoom A bytes pins s u cache cache'
+makes_squeezed A bytes pins s t u cache cache' m q = (m.0, by_count m.0 m.1) where
+  by_count : (n : ℕ) → FlushesTimes A n bytes pins s t cache cache' → FlushesTimes A n bytes pins s u cache cache'
+  by_count zero h = (squeezed_twice s t u h.0 q, h.1)
+  by_count (suc n) h = (h.0, h.1, h.2, record { lacks = h.3.lacks; stepped = h.3.stepped; down = h.3.down; squeezed = squeezed_twice h.3.stepped t u h.3.squeezed q })
+
+pub squeezed_makes : (A : Type 0) (bytes : ℕ) (pins : TenantPins) (s t u : Subtree) (cache cache' : Cache) → IsSqueezed s t → MakesRoom A bytes pins t u cache cache' → MakesRoom A bytes pins s u cache cache'
+squeezed_makes A bytes pins s t u cache cache' q m = (m.0, by_count m.0 u cache' m.1) where
+  by_count : (n : ℕ) (u : Subtree) (cache' : Cache) → FlushesTimes A n bytes pins t u cache cache' → FlushesTimes A n bytes pins s u cache cache'
+  by_count zero u cache' h = (squeezed_twice s t u q h.0, h.1)
+  by_count (suc n) u cache' h = (h.0, h.1, by_count n h.0 h.1 h.2, h.3)
+
+pub makes_more : (A : Type 0) (bytes ample : ℕ) (pins : TenantPins) (s t u v : Subtree) (a b c : Cache) → MakesRoom A bytes pins s t a b → IsSqueezed t u → ample ≡ max bytes (t.shape.buffer / 4) → u.buffer.capacity < sum_by message_size u.buffer.messages + ample → StepsDown A pins u v b c → MakesRoom A bytes pins s v a c
+makes_more A bytes ample pins s t u v a b c m q e full down =
+    let ready = makes_squeezed A bytes pins s t u a b m q in
+    (suc ready.0, (u, b, ready.1, record { lacks = lacks; stepped = v; down = down; squeezed = squeezed_itself v }))
+  where
+    shape : u.shape ≡ t.shape
+    shape = ap (λ (x : Subtree). x.shape) q.is
+
+    lacks : LacksRoom bytes u
+    lacks = subst (λ n. u.buffer.capacity < sum_by message_size u.buffer.messages + n) (e ∙ ap (λ (h : Shape). max bytes (h.buffer / 4)) (sym shape)) full

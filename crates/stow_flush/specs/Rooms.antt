@@ -1,9 +1,12 @@
 -- Room at the root.
-use Rattle.std.specs.Prelude.{◌≡◌, ℕ, ◌+◌, ◌≤◌, List}
+use Rattle.std.specs.Prelude.{◌≡◌, ℕ, zero, suc, ◌+◌, ◌≤◌, List}
 use Rattle.std.specs.List.{sum_by}
+use Rattle.stow_leaf_cache.specs.Cache.{Cache}
 use Rattle.stow_message.specs.Packed.{message_size}
 use Rattle.stow_node.specs.Flushes.{MeanTheSame}
+use Rattle.stow_node.specs.Moves.{IsSqueezed, LacksRoom}
 use Rattle.stow_node.specs.Subtree.{Subtree, messages_of}
+use Rattle.stow_node.specs.Ways.{StepsDown}
 use Rattle.stow_tree_model.specs.Agreement.{TenantPins}
 use Rattle.stow_tree_model.specs.Keys.{tenant_of}
 use Rattle.stow_tree_model.specs.Messages.{ops_in}
@@ -15,6 +18,28 @@ HasRoom bytes t = t.buffer.used + bytes ≤ t.buffer.capacity
 -- they fit once dead bytes are dropped
 abbrev pub FitsSqueezed : ℕ → Subtree → Type 0
 FitsSqueezed bytes t = sum_by message_size t.buffer.messages + bytes ≤ t.buffer.capacity
+
+-- a root that lacks room takes a step down, and dead bytes may be dropped
+pub record MakesStep (A : Type 0) (bytes : ℕ) (pins : TenantPins) (old new : Subtree)
+    (cache cache' : Cache) : Type 0 where
+  pub lacks : LacksRoom bytes old
+  pub stepped : Subtree
+  pub down : StepsDown A pins old stepped cache cache'
+  pub squeezed : IsSqueezed stepped new
+
+-- so many steps, one after another
+abbrev pub FlushesTimes : (A : Type 0) → ℕ → ℕ → TenantPins → Subtree → Subtree
+    → Cache → Cache → Type 0
+FlushesTimes A zero bytes pins old new cache cache' = IsSqueezed old new × (cache' ≡ cache)
+FlushesTimes A (suc n) bytes pins old new cache cache' = (full : Subtree) × (between : Cache)
+    × FlushesTimes A n bytes pins old full cache between
+    × MakesStep A bytes pins full new between cache'
+
+-- room for so many bytes is made by steps down and by nothing else
+abbrev pub MakesRoom : (A : Type 0) → ℕ → TenantPins → Subtree → Subtree
+    → Cache → Cache → Type 0
+MakesRoom A bytes pins old new cache cache' =
+    (n : ℕ) × FlushesTimes A n bytes pins old new cache cache'
 
 -- the root means the same under the pins, whatever height it has
 pub record Stands (pins : TenantPins) (old new : Subtree) : Type 0 where

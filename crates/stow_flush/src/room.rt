@@ -5,7 +5,7 @@ ghost use Rattle.stow_node.specs.Flushes.{AreShort};
 ghost use Rattle.stow_node.specs.Forgets.{Forgets};
 ghost use Rattle.stow_node.specs.Moves.{IsSqueezed};
 ghost use Rattle.stow_node.specs.Subtree.{messages_of};
-ghost use Rattle.stow_flush.specs.Rooms.{Stands, HasRoom, FitsSqueezed};
+ghost use Rattle.stow_flush.specs.Rooms.{Stands, HasRoom, FitsSqueezed, MakesRoom};
 
 use std::alloc::{AllocError, Allocator};
 use stow_leaf_cache::leaf_cache::LeafCache;
@@ -22,19 +22,20 @@ fn flush<A: Allocator + Copy>(
     spare: &mut RawBuf<A>,
     cache: &mut LeafCache<A>,
 ) -> Result<(), AllocError>
+    requires few { root.old.width ≤ root.old.shape.fan_out }
     requires shape { 4 ≤ root.old.shape.fan_out }
     requires bytes { bytes ≤ root.old.shape.buffer }
     requires short { AreShort (messages_of root.old) }
     requires spare { root.old.buffer.capacity ≤ spare.old.capacity }
     ensures room { OnOk result (HasRoom bytes root.new) }
+    ensures few { root.new.width ≤ root.new.shape.fan_out }
     ensures stands { Stands (pins_in pins.now) root.old root.new }
+    ensures made { OnOk result (MakesRoom A bytes (pins_in pins.now) root.old root.new
+        cache.old cache.new) }
     ensures cache { Forgets root.old.leaves root.new.leaves cache.old cache.new }
     ensures spare { spare.new.capacity ≡ spare.old.capacity }
 {
     while !root.makes_room(bytes, root.shape().ample(bytes), spare) {
-        if root.shape().fan_out as usize - root.width() < root.places() {
-            return root.raise(alloc);
-        }
         root.step(alloc, pins, spare, cache)?;
     }
     Ok(())
@@ -50,12 +51,16 @@ pub fn make_room<A: Allocator + Copy>(
     spare: &mut RawBuf<A>,
     cache: &mut LeafCache<A>,
 ) -> Result<(), AllocError>
+    requires few { root.old.width ≤ root.old.shape.fan_out }
     requires shape { 4 ≤ root.old.shape.fan_out }
     requires bytes { bytes ≤ root.old.shape.buffer }
     requires short { AreShort (messages_of root.old) }
     requires spare { root.old.buffer.capacity ≤ spare.old.capacity }
     ensures room { OnOk result (HasRoom bytes root.new) }
+    ensures few { root.new.width ≤ root.new.shape.fan_out }
     ensures stands { Stands (pins_in pins.now) root.old root.new }
+    ensures made { OnOk result (MakesRoom A bytes (pins_in pins.now) root.old root.new
+        cache.old cache.new) }
     ensures unmoved { FitsSqueezed bytes root.old → IsSqueezed root.old root.new }
     ensures cache { Forgets root.old.leaves root.new.leaves cache.old cache.new }
     ensures spare { spare.new.capacity ≡ spare.old.capacity }

@@ -12,7 +12,7 @@ use Rattle.stow_model.specs.Event as event
 use Rattle.stow_model.specs.Reply.{Reply}
 use Rattle.stow_model.specs.Reply as reply
 use Rattle.stow_model.specs.Wire.{IsFaulty}
-use Rattle.stow_model.specs.Store.{Answer, Asked, answer_with, is_out_of_memory}
+use Rattle.stow_model.specs.Store.{Answer, OwnEvent, Asked, step, answer_with, is_out_of_memory}
 use Rattle.stow_model.specs.History.{ConnectionStep, Plain, Took, Broke, Status, Unused, IsOpen, Closed, Service, status_after_kind, status_after_message, status_after_event, stream_after_event, request_as, request_of_message, login_reply, quoted_reply, kind_reply, message_reply}
 use Rattle.stow_model.proofs.Refused.{want_of_memory_lem}
 use Rattle.stow_resp.specs.declared.next.Next.{Next}
@@ -26,7 +26,7 @@ use Rattle.stow_house.specs.declared.connection_event.ConnectionEvent as coded
 use Rattle.stow_house.specs.declared.connection_event.ConnectionEvent.TheVariants as in_code
 use Rattle.stow_house.specs.Seen.{Seen, seen, IsServed, never_opened, status_by}
 use Rattle.stow_house.specs.StepResult.{StepResult, Refused, answered, answer_to_event}
-use Rattle.stow_house.specs.Sessions.{Arrival, Whole, Faulty, Nothing, arrival_of, Told, taking_words, Finishes, Serves}
+use Rattle.stow_house.specs.Sessions.{Arrival, Whole, Faulty, Nothing, arrival_of, Taken, Told, ForStoreOf, taking, taking_words, Finishes, Serves}
 use Rattle.stow_house.specs.Connections.{meaning, moved, reply_in_core, CanBePlain, Happens}
 
 -- ---- nothing is taken from the stream
@@ -36,7 +36,8 @@ pub plain : (e : ConnectionEvent) (r : StepResult) (old new : Seen) (core : Core
 plain e r old new core can status tenant unread result = inr (record {
   own = Plain e;
   is_event = refl;
-  moves = λ is. record { can = can; status = status; tenant = tenant; unread = unread; entries = refl; stores = λ t. refl; shared = refl; result = result };
+  entries = refl;
+  moves = λ is. record { can = can; status = status; tenant = tenant; unread = unread; stores = λ t. refl; shared = refl; result = result };
 })
 
 -- the status is not the one that the event needs
@@ -99,7 +100,6 @@ lacks_memory (Some r) = is_out_of_memory r
 -- what serving a message leads to, where the door is the core
 record Serving (after : Status) (request : Option Service) (is_refused : Bool) (r : Option Reply) (old new : CoreState) (said : Option Reply) (ends : Bool) : Type 0 where
   pub status : status_by (not ends) ≡ after
-  pub entries : new.entries ≡ old.entries
   pub stores : (t : ℕ) → store_of new t ≡ moved t request (store_of old t)
   pub shared : IsCalled request r old new
   pub told : said ≡ r
@@ -110,7 +110,6 @@ own_answer : (status : Status) (r : Option Reply) (ended : Bool) (old new : Core
     → Finishes Calls (Told r ended) old told ends new → Serving status None (lacks_memory told) r old new told ends
 own_answer status r ended old new told ends plain is f = record {
   status = ap (λ b. status_by (not b)) f.1 ∙ is;
-  entries = ap (λ c. c.entries) f.2;
   stores = λ t. ap (λ c. store_of c t) f.2;
   shared = ap shared_of f.2;
   told = f.0;
@@ -134,15 +133,21 @@ answered_by old new tenant words r b says (is_refused, is) =
     let told : is_refused ≡ b = sym (want_of_memory_lem (store_of old tenant) (record { words = words; is_refused = is_refused })) ∙ sym (ap (λ (a : Answer). is_out_of_memory a.1) is.alone) ∙ says in
     subst (λ x. AnswersRequest old new tenant (record { words = words; is_refused = x }) r) told is
 
--- the tenant's store moves, and no other
+-- what comes to the tenant moves its store, and no other
+pub moves_by : (old new : CoreState) (tenant : ℕ) (own : OwnEvent) → store_of new tenant ≡ (step (store_of old tenant) own).0 → ((other : ℕ) → other ≢ tenant → store_of new other ≡ store_of old other)
+    → (t : ℕ) → store_of new t ≡ moved t (Some (record { tenant = tenant; event = own })) (store_of old t)
+moves_by old new tenant own is others t =
+    let service : Option Service = Some (record { tenant = tenant; event = own }) in
+    ⊎_elim
+    (λ (e : tenant ≡ t). subst (λ x. store_of new x ≡ moved x service (store_of old x)) e (is ∙ sym (cond-true (eqb tenant tenant) _ _ (eq-eqb tenant tenant refl))))
+    (λ (differ : tenant ≢ t). others t (λ e. differ (sym e)) ∙ sym (cond-false (eqb tenant t) _ _ (ne_eqb tenant t differ)))
+    (cases_eq tenant t)
+
+-- the same of a request
 pub moves_own : (old new : CoreState) (tenant : ℕ) (words : List (List ℕ)) (b : Bool) (r : Reply) → ◌≡◌ {A = Answer} (store_of new tenant, r) (answer_with (store_of old tenant) (record { words = words; is_refused = b }))
     → ((other : ℕ) → other ≢ tenant → store_of new other ≡ store_of old other) → (t : ℕ) → store_of new t ≡ moved t (request_as ForStore words b (Some tenant)) (store_of old t)
 moves_own old new tenant words b r is others t =
-    let request = request_as ForStore words b (Some tenant) in
-    ⊎_elim
-    (λ (e : tenant ≡ t). subst (λ x. store_of new x ≡ moved x request (store_of old x)) e (ap (λ (a : Answer). a.0) is ∙ sym (cond-true (eqb tenant tenant) _ _ (eq-eqb tenant tenant refl))))
-    (λ (differ : tenant ≢ t). others t (λ e. differ (sym e)) ∙ sym (cond-false (eqb tenant t) _ _ (ne_eqb tenant t differ)))
-    (cases_eq tenant t)
+    moves_by old new tenant (Asked (record { words = words; is_refused = b })) (ap (λ (a : Answer). a.0) is) others t
 
 of_kind : (kind : Kind) (words : List (List ℕ)) (before : Option ℕ) (old new : CoreState) (told : Option Reply) (ends : Bool) → IsServed old.entries before → Finishes Calls (taking_words old.entries kind words before) old told ends new
     → Serving (status_after_kind kind IsOpen) (request_as kind words (lacks_memory told) before) (lacks_memory told) (Some (kind_reply old.entries kind before (reply_in_core old (lacks_memory told) words))) old new told ends
@@ -155,7 +160,6 @@ of_kind ForStore words (Some tenant) old new told ends is (r, called, say, ended
     let answer = answered_by old new tenant words r (lacks_memory told) (sym (ap lacks_memory say)) (called.own (is tenant refl)) in
     record {
       status = ap (λ b. status_by (not b)) ended;
-      entries = called.entries;
       stores = moves_own old new tenant words (lacks_memory told) r answer.alone called.others;
       shared = subst (λ o. SharedStep (shared_of old) (Call tenant (Asked (record { words = words; is_refused = lacks_memory told }))) o (shared_of new)) (ap (λ (a : Answer). Some a.1) answer.alone) answer.step;
       told = say ∙ ap (λ (a : Answer). Some a.1) answer.alone;
@@ -169,6 +173,11 @@ of_message (message.Words words) before old new after told ends is s = of_kind (
 of_message message.Quoted before old new after told ends is s = own_answer IsOpen _ false old new told ends (plain_quoted before) refl s.finishes
 of_message message.Blank before old new after told ends is s = own_answer IsOpen None false old new told ends refl refl s.finishes
 
+-- the tenants stay
+same_tenants : (taken : Taken) (old : CoreState) (told : Option Reply) (ends : Bool) (new : CoreState) → Finishes Calls taken old told ends new → new.entries ≡ old.entries
+same_tenants (Told r ended) old told ends new f = ap (λ c. c.entries) f.2
+same_tenants (ForStoreOf tenant words) old told ends new f = f.1.entries
+
 -- what becomes of the unread bytes
 abbrev pub ReadsArrival : Arrival → List ℕ → List ℕ → Type 0
 ReadsArrival (Whole m) old new = IsTaken m old new
@@ -181,13 +190,13 @@ pub served : (arrival : Arrival) (old new : Seen) (before after : CoreState) (to
 served (Whole m) old new before after told ends r was_open reads s status result = inr (record {
   own = Took m (lacks_memory told);
   is_event = refl;
+  entries = same_tenants (taking before.entries (Whole m) old.tenant) before told ends after s.finishes;
   moves = λ is. let l = of_message m old.tenant before after new.tenant told ends is s in
       record {
         can = (was_open, l.may);
         status = status ∙ l.status ∙ ap (status_after_message m) (sym was_open);
         tenant = s.tenant;
         unread = reads;
-        entries = l.entries;
         stores = l.stores;
         shared = l.shared;
         result = result ∙ ap answered l.told;
@@ -196,12 +205,12 @@ served (Whole m) old new before after told ends r was_open reads s status result
 served (Faulty fault) old new before after told ends r was_open reads s status result = inr (record {
   own = Broke fault;
   is_event = refl;
+  entries = ap (λ c. c.entries) s.finishes.2;
   moves = λ is. record {
     can = (was_open, reads.0);
     status = status ∙ ap (λ b. status_by (not b)) s.finishes.1;
     tenant = s.tenant;
     unread = reads.1;
-    entries = ap (λ c. c.entries) s.finishes.2;
     stores = λ t. ap (λ c. store_of c t) s.finishes.2;
     shared = ap shared_of s.finishes.2;
     result = result ∙ ap answered s.finishes.0;

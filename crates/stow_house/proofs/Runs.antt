@@ -16,16 +16,16 @@ use Rattle.stow_model.specs.Command.{Kind, Login, Quit, Malformed, ForStore, kin
 use Rattle.stow_model.specs.Reply.{Reply, encoding}
 use Rattle.stow_model.specs.Event.{Event, ConnectionEvent, FlusherEvent}
 use Rattle.stow_model.specs.Event as event
-use Rattle.stow_model.specs.Store.{answer_with, store_after, is_out_of_memory}
-use Rattle.stow_model.specs.History.{Step, Void, At, Flushed, ConnectionStep, Plain, Took, Broke, event_of_step, is_void, is_refused, is_refused_own, Status, Unused, IsOpen, Closed, part_of, status_of, served_as, request_as, request_of_message, MayBeRefused, CanLead, Follows, IsStep, IsHistory, login_reply, kind_reply, quoted_reply, message_reply, told_by, reply_in_line, told_at, Telling, telling_of, with_telling, tellings, is_tenant, answers_to, line_of, OneHistory}
+use Rattle.stow_model.specs.Store.{answer_with, store_after, usage, is_out_of_memory}
+use Rattle.stow_model.specs.History.{Step, Void, At, Flushed, Ordered, ConnectionStep, Plain, Took, Broke, event_of_step, is_void, is_refused, is_refused_own, Status, Unused, IsOpen, Closed, part_of, status_of, served_as, request_as, request_of_message, MayBeRefused, CanLead, Follows, IsStep, IsHistory, login_reply, kind_reply, quoted_reply, message_reply, told_by, reply_in_line, told_at, Telling, telling_of, with_telling, tellings, is_tenant, answers_to, line_of, may_be_given, OneHistory}
 use Rattle.stow_model.proofs.Refused.{want_of_memory_lem}
 use Rattle.stow_core.specs.State.{store_of}
 use Rattle.stow_house.specs.declared.mark.Mark.{Mark}
 use Rattle.stow_house.specs.declared.mark.Mark.TheVariants as mark
-use Rattle.stow_house.specs.StepResult.{StepResult, Done, More, answer_to_event, answer_to_own, answered, when_open, when_unused, MayAnswer, IsAnswer}
+use Rattle.stow_house.specs.StepResult.{StepResult, Done, More, answer_to_event, answer_to_own, answer_to_order, CanAnswer, answered, when_open, when_unused, MayAnswer, IsAnswer}
 use Rattle.stow_house.specs.Steps.{HouseState, Stands, IsStepOf}
 use Rattle.stow_house.specs.Outputs.{Told, replies_to, to_connection, told_of, mark_of, mark_if, IsFlusherMark, IsMark, AreMarks, connection_of, told_in_history}
-use Rattle.stow_house.specs.Runs.{Shows, told_in_run, OneRun}
+use Rattle.stow_house.specs.Runs.{Shows, StepsThrough, RunsOver, told_in_run, OneRun}
 
 -- ---- what is answered, and what is told
 
@@ -60,8 +60,13 @@ quiet (event.Plan f) r may = subst (Quiet (event.Plan f)) (sym may) (record { to
 quiet (event.Merge f) r may = subst (Quiet (event.Merge f)) (sym may) (record { told = refl; mark = refl })
 quiet (event.Install f) r may = subst (Quiet (event.Install f)) (sym may) (record { told = refl; mark = refl })
 quiet (event.Resize n) r (inl (few, inl done)) = subst (Quiet (event.Resize n)) (sym done) (record { told = refl; mark = inl refl })
-quiet (event.Resize n) r (inl (few, inr void)) = subst (Quiet (event.Resize n)) (sym void) (record { told = refl; mark = inr refl })
+quiet (event.Resize n) r (inl (few, inr void)) = subst (Quiet (event.Resize n)) (sym void) (record { told = refl; mark = inr (few, refl) })
 quiet (event.Resize n) r (inr (many, refused)) = subst (Quiet (event.Resize n)) (sym refused) (record { told = refl; mark = inl refl })
+
+-- an answer to a quota
+silent_order : (may : Bool) → Silent (answer_to_order may)
+silent_order true = record { told = refl; mark = refl }
+silent_order false = record { told = refl; mark = refl }
 
 told_of-answered : (told : Option Reply) → told_of (answered told) ≡ told
 told_of-answered None = refl
@@ -111,6 +116,7 @@ unfolding IsStep IsAnswer
 marked entries (Void e) earlier r is a = ap mark_of a
 marked entries (At c own) earlier r is a = ap mark_of a ∙ mark_of-own entries c own earlier is
 marked entries (Flushed e) earlier r is a = (quiet e r a).mark
+marked entries (Ordered tenant quota) earlier r is a = ap mark_of a ∙ (silent_order (may_be_given entries tenant quota)).mark
 
 -- ---- one step more
 
@@ -130,6 +136,8 @@ tells entries (At c own) earlier r a =
     told_here c _ (told_at entries c own earlier) (tellings entries earlier)
     ∙ ap (λ t. to_connection c t ++ map told_in_history (tellings entries earlier)) (sym (ap told_of a ∙ told_of-own entries own (status_of (part_of c earlier)) (served_as entries (part_of c earlier)) (reply_in_line entries earlier)))
 tells entries (Flushed e) earlier r a = ap (λ t. to_connection 0 t ++ map told_in_history (tellings entries earlier)) (sym (quiet e r a).told)
+tells entries (Ordered tenant quota) earlier r a =
+    ap (λ t. to_connection 0 t ++ map told_in_history (tellings entries earlier)) (sym (ap told_of a ∙ (silent_order (may_be_given entries tenant quota)).told))
 
 reverse_one : (c : ℕ) (told : Option Reply) → to_connection c told ≡ reverse (to_connection c told)
 reverse_one c None = refl
@@ -156,9 +164,36 @@ shown_more entries old new e r events told marks f s =
           ∙ sym (reverse-append told own);
     }
 
-pub as_shown : (entries : List Entry) (house : HouseState) (events events' : List Event) (told told' : List Told) (marks marks' : List Mark) → events ≡ events' → told ≡ told' → marks ≡ marks' → Shows entries events told marks house → Shows entries events' told' marks' house
-as_shown entries house events events' told told' marks marks' p q r f =
-    subst (λ x. Shows entries x told' marks' house) p (subst (λ x. Shows entries events x marks' house) q (subst (λ x. Shows entries events told x house) r f))
+-- each event so far was one step
+pub step_more : (old mid new : HouseState) (events : List Event) (marks : List Mark) (e : Event) (r : StepResult) → StepsThrough old events marks mid → CanAnswer e r → IsStepOf mid e r new
+    → StepsThrough old (events ++ e ∷ []) (marks ++ mark_of r ∷ []) new
+step_more old mid new [] marks e r (none, same) can is =
+    (r, new, [], can, subst (λ h. IsStepOf h e r new) same is, ap (λ ms. ms ++ mark_of r ∷ []) none, (refl, refl))
+step_more old mid new (first ∷ events) marks e r (q, next, later, could, was, split, rest) can is =
+    (q, next, later ++ mark_of r ∷ [], could, was, ap (λ ms. ms ++ mark_of r ∷ []) split, step_more next mid new events later e r rest can is)
+
+pub runs_none : (house : HouseState) (told : List Told) (marks : List Mark) → Stands house.core.entries house [] → told ≡ [] → marks ≡ [] → RunsOver house [] told marks house
+runs_none house told marks stands none none' =
+    let shows = shown_none house.core.entries house told marks stands none none' in
+    record {
+      shows = shows;
+      steps = (none', refl);
+      usages = λ tenant. ap usage (shows.stands.stores tenant);
+    }
+
+pub runs_more : (old mid new : HouseState) (events : List Event) (told : List Told) (marks : List Mark) (e : Event) (r : StepResult) → RunsOver old events told marks mid → CanAnswer e r → IsStepOf mid e r new
+    → RunsOver old (events ++ e ∷ []) (told ++ to_connection (connection_of e) (told_of r)) (marks ++ mark_of r ∷ []) new
+runs_more old mid new events told marks e r runs can is =
+    let shows = shown_more old.core.entries mid new e r events told marks runs.shows is in
+    record {
+      shows = shows;
+      steps = step_more old mid new events marks e r runs.steps can is;
+      usages = λ tenant. ap usage (shows.stands.stores tenant);
+    }
+
+pub as_run : (old new : HouseState) (events events' : List Event) (told told' : List Told) (marks marks' : List Mark) → events ≡ events' → told ≡ told' → marks ≡ marks' → RunsOver old events told marks new → RunsOver old events' told' marks' new
+as_run old new events events' told told' marks marks' p q r f =
+    subst (λ x. RunsOver old x told' marks' new) p (subst (λ x. RunsOver old events x marks' new) q (subst (λ x. RunsOver old events told x new) r f))
 
 -- ---- two runs
 
@@ -195,15 +230,24 @@ void_once : (entries : List Entry) (s t : Step) (earlier earlier' : List Step) (
 unfolding IsStep
 void_once entries (Void (event.By e)) t earlier earlier' m p q same a b = absurd p
 void_once entries s (Void (event.By e)) earlier earlier' m p q same a b = absurd q
+void_once entries (Void (event.SetQuota tenant quota)) t earlier earlier' m p q same a b = absurd p
+void_once entries s (Void (event.SetQuota tenant quota)) earlier earlier' m p q same a b = absurd q
 void_once entries (Void (event.On c e)) (Void (event.On d e')) earlier earlier' m p q same a b = refl
 void_once entries (Void (event.On c e)) (At d own) earlier earlier' m p q same a b = ap says_void (sym a ∙ b) ∙ sym (void-if (is_refused_own own))
 void_once entries (Void (event.On c e)) (Flushed e') earlier earlier' m p q same a b = cc same
+void_once entries (Void (event.On c e)) (Ordered tenant quota) earlier earlier' m p q same a b = cc same
 void_once entries (At c own) (Void (event.On d e')) earlier earlier' m p q same a b = void-if (is_refused_own own) ∙ ap says_void (sym a ∙ b)
 void_once entries (At c own) (At d own') earlier earlier' m p q same a b = refl
 void_once entries (At c own) (Flushed e') earlier earlier' m p q same a b = refl
+void_once entries (At c own) (Ordered tenant quota) earlier earlier' m p q same a b = refl
 void_once entries (Flushed e) (Void (event.On d e')) earlier earlier' m p q same a b = cc same
 void_once entries (Flushed e) (At d own) earlier earlier' m p q same a b = refl
 void_once entries (Flushed e) (Flushed e') earlier earlier' m p q same a b = refl
+void_once entries (Flushed e) (Ordered tenant quota) earlier earlier' m p q same a b = refl
+void_once entries (Ordered tenant quota) (Void (event.On d e)) earlier earlier' m p q same a b = cc same
+void_once entries (Ordered tenant quota) (At d own) earlier earlier' m p q same a b = refl
+void_once entries (Ordered tenant quota) (Flushed e) earlier earlier' m p q same a b = refl
+void_once entries (Ordered tenant quota) (Ordered tenant' quota') earlier earlier' m p q same a b = refl
 
 voids_once : (entries : List Entry) (history history' : List Step) (marks : List Mark) → IsHistory entries history → IsHistory entries history' → map event_of_step history ≡ map event_of_step history' → AreMarks history marks → AreMarks history' marks
     → map is_void history ≡ map is_void history'
@@ -222,12 +266,13 @@ flusher-unrefused (event.Plan f) m is = ap says_refused (sym is)
 flusher-unrefused (event.Merge f) m is = ap says_refused (sym is)
 flusher-unrefused (event.Install f) m is = ap says_refused (sym is)
 flusher-unrefused (event.Resize n) m (inl kept) = ap says_refused (sym kept)
-flusher-unrefused (event.Resize n) m (inr void) = ap says_refused (sym void)
+flusher-unrefused (event.Resize n) m (inr (few, void)) = ap says_refused (sym void)
 
 refused-mark : (s : Step) (m : Mark) → IsMark s m → is_refused s ≡ says_refused m
 refused-mark (Void e) m is = ap says_refused (sym is)
 refused-mark (At c own) m is = refused-if (is_refused_own own) ∙ ap says_refused (sym is)
 refused-mark (Flushed e) m is = flusher-unrefused e m is
+refused-mark (Ordered tenant quota) m is = ap says_refused (sym is)
 
 refused-marks : (history : List Step) (marks : List Mark) → AreMarks history marks → map is_refused history ≡ map says_refused marks
 refused-marks [] marks are = ap (map says_refused) (sym are)

@@ -1,24 +1,30 @@
 -- A history goes on by what happened on one connection, or on none.
-use Rattle.std.proofs.Common.{◌≡◌, ◌≢◌, ℕ, eqb, Bool, List, [], ◌∷◌, ◌++◌, Option, Some, None, refl, ap, ◌∙◌, sym, subst, ⊎_elim, arith, append_assoc}
-use Rattle.std.proofs.lemmas.Bool.{cases_eq, cond-true, cond-false, eq-eqb, ne_eqb}
-use Rattle.std.proofs.lemmas.Bool.Decides.{nat_tests}
-use Rattle.stow_model.specs.Login.{Entry, quota_of}
+use Rattle.std.proofs.Common.{◌≡◌, ◌≢◌, ℕ, ◌<◌, ◌≤◌, inl, inr, eqb, Bool, true, false, List, length, [], ◌∷◌, ◌++◌, Option, Some, None, refl, ap, ◌∙◌, sym, subst, ⊎_elim, arith, append_assoc}
+use Rattle.std.proofs.Math.Dec.{leb}
+use Rattle.std.proofs.lemmas.Bool.{cases_eq, cond-true, cond-false, eq-eqb, ne_eqb, le-leb}
+use Rattle.std.proofs.lemmas.Bool.Decides.{nat_tests, leb_tells}
+use Rattle.std.specs.Prelude.{◌⊎◌, ◌&&◌, nat_le}
+use Rattle.stow_bytes.specs.Limits.{number_limit}
+use Rattle.stow_model.specs.Login.{Entry, IsTenant, quota_of}
 use Rattle.stow_model.specs.Message.{Message}
 use Rattle.stow_model.specs.Reply.{Reply}
 use Rattle.stow_model.specs.Event.{Event, ConnectionEvent, FlusherEvent}
 use Rattle.stow_model.specs.Event as event
 use Rattle.stow_model.specs.Wire.{SpellsAll}
-use Rattle.stow_model.specs.Store.{OwnEvent, answer_with, empty_store, store_after}
-use Rattle.stow_model.specs.History.{Step, Void, At, Flushed, ConnectionStep, Plain, Took, Broke, Status, Unused, IsOpen, Closed, with_own, part_of, status_of, status_after, served_as, served_after, taken_by, taken_after, stream_of, stream_after, stream_with, stream_after_event, Service, request_of, with_service, service_of, line_of, told_by, reply_in_line, told_at, CanLead, MayTakeNothing, CanBeVoid, MayBeVoid, Follows, IsStep, IsHistory}
+use Rattle.stow_model.specs.Store.{OwnEvent, GivenQuota, answer_with, empty_store, store_after}
+use Rattle.stow_model.specs.History.{Step, Void, At, Flushed, Ordered, ConnectionStep, Plain, Took, Broke, Status, Unused, IsOpen, Closed, with_own, part_of, status_of, status_after, served_as, served_after, taken_by, taken_after, stream_of, stream_after, stream_with, stream_after_event, Service, request_of, may_be_given, given_to, with_service, service_of, line_of, told_by, reply_in_line, told_at, CanLead, MayTakeNothing, CanBeVoid, MayBeVoid, Follows, IsStep, IsHistory}
 use Rattle.stow_core.specs.State.{CoreState, store_of, shared_of, IsNewCore}
+use Rattle.stow_core.specs.State as in_core
 use Rattle.stow_state.specs.State.{SharedState, IsSound, new_state}
 use Rattle.stow_state.specs.Steps.{SharedStep, SharedRun, ToldEvent, Maintenance}
-use Rattle.stow_state.proofs.Steps.{run_sound}
+use Rattle.stow_state.specs.Steps as in_state
+use Rattle.stow_state.proofs.Steps.{run_sound, step_is_there_law}
 use Rattle.stow_house.specs.SharedRuns.{IsCalled, call_of, shared_steps}
 use Rattle.stow_house.specs.Seen.{Seen, IsServed, never_opened}
-use Rattle.stow_house.specs.StepResult.{StepResult, NoMemory, answer_to_own, MayAnswer, IsAnswer}
+use Rattle.stow_house.specs.StepResult.{StepResult, Done, Refused, NoMemory, answer_to_own, answer_to_order, MayAnswer, IsAnswer}
 use Rattle.stow_house.specs.Connections.{moved, reply_in_core, Reads, CanWait, Can, Moves, Leads, AsksMemory, IsVoid, Happens}
 use Rattle.stow_house.specs.Steps.{HouseState, StandsAt, Stands, GoesOn, TreeBy, IsStepOf}
+use Rattle.stow_house.proofs.Here.{moves_by}
 use Rattle.stow_house.proofs.Tenants.{served_tenant}
 
 -- ---- what is unread tells what the whole stream tells
@@ -127,10 +133,10 @@ on first (Some service) service' told told' steps old new is same called run =
     subst (λ s. SharedRun first (call_of s told' ++ steps) (shared_of new)) is (subst (λ t. SharedRun first (call_of (Some service) t ++ steps) (shared_of new)) same (shared_of old, run, called))
 
 -- a connection's step
-led : (old new : HouseState) (c : ℕ) (own : ConnectionStep) (r : StepResult) (history : List Step) → Moves own r (old.seen c) (new.seen c) old.core new.core
+led : (old new : HouseState) (c : ℕ) (own : ConnectionStep) (r : StepResult) (history : List Step) → new.core.entries ≡ old.core.entries → Moves own r (old.seen c) (new.seen c) old.core new.core
     → ((d : ℕ) → d ≢ c → new.seen d ≡ old.seen d) → Stands old.core.entries old history → GoesOn old.core.entries (At c own) history r new
 unfolding IsHistory IsStep IsAnswer line_of service_of told_at reply_in_line shared_steps
-led old new c own r history m others s =
+led old new c own r history same m others s =
     let entries = old.core.entries in
     let at = s.connections c in
     let seen = old.seen c in
@@ -138,7 +144,7 @@ led old new c own r history m others s =
     record {
       stands = record {
         is_history = (follows entries own seen (new.seen c) (part_of c history) at m.unread m.can, s.is_history);
-        tenants = m.entries;
+        tenants = same;
         connections = stands_at entries old new c own history s (stands_here entries own seen (new.seen c) (part_of c history) at m.status m.tenant m.unread) others;
         stores = λ t. m.stores t ∙ (λ i. moved t (request_of own (who i)) (s.stores t i)) ∙ one_more t (quota_of entries t) (request_of own (served_as entries (part_of c history))) (line_of entries t history);
         shared = on (new_state (quota_of entries)) (request_of own seen.tenant) (request_of own (served_as entries (part_of c history))) _ _ (shared_steps entries history) old.core new.core
@@ -183,14 +189,16 @@ at_connection old new c e r happens others =
       is_event = refl;
       goes_on = λ entries history s. voided entries old new c e r history v others s;
       tree = tt;
+      tenants = ap (λ x. x.entries) v.core;
     })
     (λ (l : Leads e r (old.seen c) (new.seen c) old.core new.core). record {
       step = At c l.own;
       is_event = ap (event.On c) l.is_event;
       goes_on = λ entries history s.
           subst (λ es. Stands es old history → GoesOn es (At c l.own) history r new) s.tenants
-          (λ own. led old new c l.own r history (l.moves (subst (λ o. IsServed old.core.entries o) (sym (own.connections c).tenant) (served_tenant old.core.entries (part_of c history)))) others own) s;
+          (λ own. led old new c l.own r history l.entries (l.moves (subst (λ o. IsServed old.core.entries o) (sym (own.connections c).tenant) (served_tenant old.core.entries (part_of c history)))) others own) s;
       tree = tt;
+      tenants = l.entries;
     })
     happens
 
@@ -208,6 +216,84 @@ flushed old new e r may seen tenants stores way tree = record {
     answer = may;
   };
   tree = tree;
+  tenants = tenants;
+}
+
+-- nothing is a step of maintenance
+pub idle : (core : CoreState) → IsSound (shared_of core) → SharedStep (shared_of core) Maintenance None (shared_of core)
+unfolding in_state.moved in_state.reply_to
+idle core sound = step_is_there_law (shared_of core) Maintenance sound tt
+
+-- ---- a quota
+
+not_le : (a b : ℕ) → b < a → leb a b ≡ false
+not_le a b below = ⊎_elim (λ holds. let up : a ≤ b = holds.1 in absurd (omega (arith, up, below))) (λ fails. fails.0) (leb_tells a b)
+
+and_false : (a b : Bool) → b ≡ false → (a && b) ≡ false
+and_false true b e = e
+and_false false b e = refl
+
+-- when a quota may be given
+pub may_give : (entries : List Entry) (tenant quota : ℕ) → IsTenant entries tenant → quota ≤ number_limit → may_be_given entries tenant quota ≡ true
+may_give entries tenant quota is within = λ i. le-leb 1 tenant is.0 i && (le-leb tenant (length entries) is.1 i && le-leb quota number_limit within i)
+
+-- .. and when it may not
+pub may_not : (entries : List Entry) (tenant quota : ℕ) → (tenant < 1) ⊎ ((length entries < tenant) ⊎ (number_limit < quota)) → may_be_given entries tenant quota ≡ false
+may_not entries tenant quota (inl none) = ap (λ b. b && (nat_le tenant (length entries) && nat_le quota number_limit)) (not_le 1 tenant none)
+may_not entries tenant quota (inr (inl past)) = and_false (nat_le 1 tenant) _ (ap (λ b. b && nat_le quota number_limit) (not_le tenant (length entries) past))
+may_not entries tenant quota (inr (inr above)) = and_false (nat_le 1 tenant) _ (and_false (nat_le tenant (length entries)) _ (not_le quota number_limit above))
+
+-- the quota came to the tenant's store
+ordered : (old new : HouseState) (tenant quota : ℕ) (history : List Step) → may_be_given old.core.entries tenant quota ≡ true → ((d : ℕ) → new.seen d ≡ old.seen d)
+    → in_core.Moves old.core tenant (record (store_of old.core tenant) { quota = quota }) new.core → Stands old.core.entries old history → GoesOn old.core.entries (Ordered tenant quota) history Done new
+unfolding IsHistory IsStep IsAnswer part_of line_of service_of shared_steps
+ordered old new tenant quota history may seen m s =
+    let entries = old.core.entries in
+    let service : Option Service = Some (given_to tenant quota) in
+    let is : service ≡ service_of entries (Ordered tenant quota) history = sym (cond-true (may_be_given entries tenant quota) service None may) in
+    record {
+      stands = record {
+        is_history = (tt, s.is_history);
+        tenants = m.entries;
+        connections = λ d. subst (λ x. StandsAt entries x (part_of d history)) (sym (seen d)) (s.connections d);
+        stores = λ t. moves_by old.core new.core tenant (GivenQuota quota) m.own m.others t ∙ ap (moved t service) (s.stores t) ∙ one_more t (quota_of entries t) service (line_of entries t history)
+            ∙ ap (λ o. store_after (quota_of entries t) (with_service t o (line_of entries t history))) is;
+        shared = on (new_state (quota_of entries)) service (service_of entries (Ordered tenant quota) history) None None (shared_steps entries history) old.core new.core is refl
+            (m.step (GivenQuota quota) None refl) s.shared;
+      };
+      answer = ap answer_to_order (sym may);
+    }
+
+-- the quota was refused
+unordered : (entries : List Entry) (house : HouseState) (tenant quota : ℕ) (history : List Step) → may_be_given entries tenant quota ≡ false → Stands entries house history → GoesOn entries (Ordered tenant quota) history Refused house
+unfolding IsStep IsAnswer part_of line_of service_of shared_steps
+unordered entries house tenant quota history may s =
+    let is : service_of entries (Ordered tenant quota) history ≡ None = cond-false (may_be_given entries tenant quota) (Some (given_to tenant quota)) None may in
+    record {
+      stands = stayed entries house house (Ordered tenant quota) history s (λ d. refl) refl (λ t. refl) tt (λ d. refl) (λ t. ap (λ o. with_service t o (line_of entries t history)) is)
+          (subst (λ o. SharedRun (new_state (quota_of entries)) (call_of o None ++ shared_steps entries history) (shared_of house.core)) (sym is) s.shared);
+      answer = ap answer_to_order (sym may);
+    }
+
+-- a tenant was given a quota
+pub given : (old new : HouseState) (tenant quota : ℕ) → may_be_given old.core.entries tenant quota ≡ true → ((d : ℕ) → new.seen d ≡ old.seen d)
+    → in_core.Moves old.core tenant (record (store_of old.core tenant) { quota = quota }) new.core → IsStepOf old (event.SetQuota tenant quota) Done new
+given old new tenant quota may seen m = record {
+  step = Ordered tenant quota;
+  is_event = refl;
+  goes_on = λ entries history s. subst (λ es. Stands es old history → GoesOn es (Ordered tenant quota) history Done new) s.tenants (ordered old new tenant quota history may seen m) s;
+  tree = tt;
+  tenants = m.entries;
+}
+
+-- nobody was given it
+pub not_given : (house : HouseState) (tenant quota : ℕ) → may_be_given house.core.entries tenant quota ≡ false → IsStepOf house (event.SetQuota tenant quota) Refused house
+not_given house tenant quota may = record {
+  step = Ordered tenant quota;
+  is_event = refl;
+  goes_on = λ entries history s. unordered entries house tenant quota history (ap (λ es. may_be_given es tenant quota) (sym s.tenants) ∙ may) s;
+  tree = tt;
+  tenants = refl;
 }
 
 -- a new house stands at the empty history

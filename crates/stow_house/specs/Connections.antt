@@ -66,18 +66,18 @@ pub record Moves (own : ConnectionStep) (r : StepResult) (old new : Seen)
   pub status : new.status ≡ status_after own old.status
   pub tenant : new.tenant ≡ served_after before.entries own old.tenant
   pub unread : Reads own old.status old.unread new.unread
-  pub entries : after.entries ≡ before.entries
   pub stores : (t : ℕ) → store_of after t ≡ moved t (request_of own old.tenant) (store_of before t)
   pub shared : IsCalled (request_of own old.tenant)
       (told_by before.entries own old.tenant (reply_in_core before)) before after
   pub result : r
       ≡ answer_to_own own old.status (told_by before.entries own old.tenant (reply_in_core before))
 
--- a step of this event, as far as whoever is served is a tenant
+-- a step of this event, by which the tenants stay; what it does, where whoever is served is a tenant
 pub record Leads (e : ConnectionEvent) (r : StepResult) (old new : Seen)
     (before after : CoreState) : Type 0 where
   pub own : ConnectionStep
   pub is_event : event_of_own own ≡ e
+  pub entries : after.entries ≡ before.entries
   pub moves : IsServed before.entries old.tenant → Moves own r old new before after
 
 -- ---- want of memory

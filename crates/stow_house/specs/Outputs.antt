@@ -1,12 +1,13 @@
 -- What a run led to.
-use Rattle.std.specs.Prelude.{◌≡◌, ◌⊎◌, ℕ, ◌<◌, Bool, true, false, List, [], ◌∷◌, map, filter, Option, Some, None, ◌==◌, vec_len}
+use Rattle.std.specs.Prelude.{◌≡◌, ◌⊎◌, ℕ, ◌<◌, ◌≤◌, Bool, true, false, List, [], ◌∷◌, map, filter, Option, Some, None, ◌==◌, vec_len}
 use Rattle.std.specs.List.{flat_map}
 use Rattle.std.specs.Vec.{vec_capacity}
 use Rattle.stow_model.specs.Reply.{Reply, reply_of, encoding}
 use Rattle.stow_model.specs.Store.{is_out_of_memory}
 use Rattle.stow_model.specs.Event.{Event, FlusherEvent}
 use Rattle.stow_model.specs.Event as event
-use Rattle.stow_model.specs.History.{Step, Void, At, Flushed, is_refused_own, Telling}
+use Rattle.stow_model.specs.History.{Step, Void, At, Flushed, Ordered, is_refused_own, Telling}
+use Rattle.stow_model.specs.Limits.{cache_limit}
 use Rattle.stow_house.specs.declared.mark.Mark.{Mark}
 use Rattle.stow_house.specs.declared.mark.Mark.TheVariants as mark
 use Rattle.stow_house.specs.declared.step_result.StepResult as result
@@ -68,10 +69,10 @@ mark_of _ = mark.Kept
 abbrev pub marks : StepResult → List Mark
 marks r = mark_of r ∷ []
 
--- the mark of an event of a flusher. Memory may be refused to another size of the cache; either way no store
--- changes and nobody is told anything, so a history needs no step of its own for it
+-- the mark of an event of a flusher. Memory may be refused to another size of the cache, within its limit; either
+-- way no store changes and nobody is told anything, so a history needs no step of its own for it
 abbrev pub IsFlusherMark : FlusherEvent → Mark → Type 0
-IsFlusherMark (event.Resize n) m = (m ≡ mark.Kept) ⊎ (m ≡ mark.Void)
+IsFlusherMark (event.Resize n) m = (m ≡ mark.Kept) ⊎ ((n ≤ cache_limit) × (m ≡ mark.Void))
 IsFlusherMark _ m = m ≡ mark.Kept
 
 -- the mark of a step of a history
@@ -79,6 +80,7 @@ abbrev pub IsMark : Step → Mark → Type 0
 IsMark (Void e) m = m ≡ mark.Void
 IsMark (At c own) m = m ≡ mark_if (is_refused_own own)
 IsMark (Flushed e) m = IsFlusherMark e m
+IsMark (Ordered tenant quota) m = m ≡ mark.Kept
 
 -- the marks of a history's steps, both newest first
 abbrev pub AreMarks : List Step → List Mark → Type 0
@@ -86,10 +88,11 @@ AreMarks [] marks = marks ≡ []
 AreMarks (newest ∷ earlier) [] = ⊥
 AreMarks (newest ∷ earlier) (m ∷ marks) = IsMark newest m × AreMarks earlier marks
 
--- the connection that an event is of; one of a flusher tells nobody anything
+-- the connection that an event is of; one of a flusher or of the operator tells nobody anything
 abbrev pub connection_of : Event → ℕ
 connection_of (event.On c e) = c
 connection_of (event.By e) = 0
+connection_of (event.SetQuota tenant quota) = 0
 
 -- a reply of the history, and the connection that it goes to
 abbrev pub told_in_history : Telling → Told

@@ -2,7 +2,7 @@
 use Rattle.std.specs.Prelude.{◌≡◌, List, [], ◌∷◌, ◌++◌, Option, Some, None}
 use Rattle.stow_model.specs.Login.{Entry}
 use Rattle.stow_model.specs.Reply.{Reply}
-use Rattle.stow_model.specs.History.{Step, Void, At, Flushed, Service, service_of, told_at}
+use Rattle.stow_model.specs.History.{Step, Void, At, Flushed, Ordered, Service, service_of, told_at}
 use Rattle.stow_core.specs.State.{CoreState, shared_of}
 use Rattle.stow_state.specs.Steps.{SharedStep, ToldEvent, Call, Maintenance}
 
@@ -23,6 +23,8 @@ shared_step entries (Void e) earlier = []
 shared_step entries (At c own) earlier =
     call_of (service_of entries (At c own) earlier) (told_at entries c own earlier)
 shared_step entries (Flushed e) earlier = (Maintenance, None) ∷ []
+shared_step entries (Ordered tenant quota) earlier =
+    call_of (service_of entries (Ordered tenant quota) earlier) None
 
 -- the history's steps of the shared state, with what each is told, newest first
 unfoldable pub shared_steps : List Entry → List Step → List ToldEvent

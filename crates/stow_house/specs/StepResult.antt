@@ -1,11 +1,11 @@
 -- What an event is answered.
-use Rattle.std.specs.Prelude.{◌≡◌, ℕ, ◌<◌, ◌≤◌, List, Option, Some, None, ◌⊎◌}
+use Rattle.std.specs.Prelude.{◌≡◌, ℕ, ◌<◌, ◌≤◌, Bool, true, false, List, Option, Some, None, ◌⊎◌}
 use Rattle.stow_model.specs.Limits.{cache_limit}
 use Rattle.stow_model.specs.Reply.{Reply, reply_of}
 use Rattle.stow_model.specs.Login.{Entry}
 use Rattle.stow_model.specs.Event.{Event, ConnectionEvent, FlusherEvent}
 use Rattle.stow_model.specs.Event as event
-use Rattle.stow_model.specs.History.{Step, Void, At, Flushed, ConnectionStep, Plain, Took, Broke, Status, Unused, IsOpen, Closed, status_of, part_of, told_at}
+use Rattle.stow_model.specs.History.{Step, Void, At, Flushed, Ordered, ConnectionStep, Plain, Took, Broke, Status, Unused, IsOpen, Closed, status_of, part_of, may_be_given, told_at}
 use Rattle.stow_house.specs.declared.step_result.StepResult as coded
 use Rattle.stow_house.specs.declared.step_result.StepResult.TheVariants as in_result
 
@@ -72,6 +72,11 @@ MayAnswer (event.Install f) r = r ≡ Refused
 MayAnswer (event.Resize n) r = ((n ≤ cache_limit) × ((r ≡ Done) ⊎ (r ≡ NoMemory)))
     ⊎ ((cache_limit < n) × (r ≡ Refused))
 
+-- the answer to a quota for a tenant, by whether it may be given
+abbrev pub answer_to_order : Bool → StepResult
+answer_to_order true = Done
+answer_to_order false = Refused
+
 -- the answers that an event of a connection can have at all
 abbrev pub CanAnswerOn : ConnectionEvent → StepResult → Type 0
 CanAnswerOn event.Open Done = Unit {0}
@@ -92,10 +97,17 @@ CanAnswerOn event.Close Done = Unit {0}
 CanAnswerOn event.Close Refused = Unit {0}
 CanAnswerOn event.Close _ = ⊥
 
+-- the answers that a quota for a tenant can have at all: it asks for no memory
+abbrev pub CanAnswerOrder : StepResult → Type 0
+CanAnswerOrder Done = Unit {0}
+CanAnswerOrder Refused = Unit {0}
+CanAnswerOrder _ = ⊥
+
 -- the answers that an event can have at all
 abbrev pub CanAnswer : Event → StepResult → Type 0
 CanAnswer (event.On c e) r = CanAnswerOn e r
 CanAnswer (event.By e) r = MayAnswer e r
+CanAnswer (event.SetQuota tenant quota) r = CanAnswerOrder r
 
 -- what a step is answered, after the history before it
 unfoldable pub IsAnswer : List Entry → Step → List Step → StepResult → Type 0
@@ -103,3 +115,5 @@ IsAnswer entries (Void e) earlier r = r ≡ NoMemory
 IsAnswer entries (At c own) earlier r = r
     ≡ answer_to_own own (status_of (part_of c earlier)) (told_at entries c own earlier)
 IsAnswer entries (Flushed e) earlier r = MayAnswer e r
+IsAnswer entries (Ordered tenant quota) earlier r = r
+    ≡ answer_to_order (may_be_given entries tenant quota)

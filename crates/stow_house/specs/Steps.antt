@@ -60,8 +60,9 @@ TreeBy e r old new = new.tree ≡ old.tree
 abbrev pub TreeAfter : Event → StepResult → CoreState → CoreState → Type 0
 TreeAfter (event.On c e) r old new = Unit {0}
 TreeAfter (event.By e) r old new = TreeBy e r old new
+TreeAfter (event.SetQuota tenant quota) r old new = Unit {0}
 
--- an event is one step, by which every history of the house goes on
+-- an event is one step, by which every history of the house goes on, and the tenants stay
 pub record IsStepOf (old : HouseState) (e : Event) (r : StepResult)
     (new : HouseState) : Type 0 where
   pub step : Step
@@ -69,6 +70,7 @@ pub record IsStepOf (old : HouseState) (e : Event) (r : StepResult)
   pub goes_on : (entries : List Entry) (history : List Step) → Stands entries old history
       → GoesOn entries step history r new
   pub tree : TreeAfter e r old.core new.core
+  pub tenants : new.core.entries ≡ old.core.entries
 
 abbrev pub Steps : {A : Type 0} → House A → Event → coded.StepResult A → House A → Type 0
 Steps old e result new = IsStepOf (state_of old) e (step_result_of result) (state_of new)

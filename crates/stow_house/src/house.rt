@@ -3,7 +3,7 @@ ghost use Rattle.std.specs.Prelude.{◌≡◌, ◌≢◌, ℕ, [], IfOk, IfErr, 
 ghost use Rattle.stow_model.specs.Event as meant;
 ghost use Rattle.stow_model.specs.Event.{event_of};
 ghost use Rattle.stow_house.specs.Seen.{never_opened, just_opened, seen_at};
-ghost use Rattle.stow_house.specs.StepResult.{step_result_of, MayAnswer, CanAnswer, CanAnswerOn};
+ghost use Rattle.stow_house.specs.StepResult.{step_result_of, MayAnswer, CanAnswer, CanAnswerOn, CanAnswerOrder};
 ghost use Rattle.stow_house.specs.Connections.{meaning};
 ghost use Rattle.stow_house.specs.Outputs.{connection_of};
 
@@ -14,6 +14,7 @@ use crate::run_fault::RunFault;
 use crate::step_result::StepResult;
 use std::alloc::{AllocError, Allocator, Global};
 use std::collections::BTreeMap;
+use stow_bytes::limits::NUMBER_LIMIT;
 use stow_core::Core;
 use stow_model::event::Event;
 
@@ -51,7 +52,8 @@ impl<A: Allocator + Copy> House<A> {
         &self.core
     }
 
-    /// Runs events on a new house. At an `Err` the first `done` events took place, and nothing more.
+    /// Runs events on a new house. Each event is a step, and is marked by its answer; what each tenant uses then is what
+    /// its own run, alone, uses. At an `Err` the first `done` events took place, and nothing more.
     pub fn run(&mut self, alloc: A, events: &[Event<A>]) -> Result<Outputs<A>, RunFault<A>>
         requires { IsNewHouse (state_of self.old) }
         ensures ok { IfOk result (λ outputs. Ran self.old events.now outputs self.new) }
@@ -83,6 +85,7 @@ impl<A: Allocator + Copy> House<A> {
             Event::Merge(_) => StepResult::Refused,
             Event::Install(_) => StepResult::Refused,
             Event::Resize(leaves) => self.resize(*leaves),
+            Event::Quota(tenant, quota) => self.set_quota(*tenant, *quota),
         }
     }
 
@@ -121,6 +124,19 @@ impl<A: Allocator + Copy> House<A> {
         }
     }
 
+    /// Another quota of a tenant's, in bytes. It is refused where the number is no tenant's and where the quota is
+    /// above the limit of numbers. It takes no memory.
+    fn set_quota(&mut self, tenant: u32, quota: u64) -> StepResult<A>
+        ensures possible { CanAnswerOrder (step_result_of result) }
+        ensures steps { Steps self.old (meant.SetQuota tenant quota) result self.new }
+    {
+        if tenant == 0 || tenant > self.core.tenants().count() || quota > NUMBER_LIMIT {
+            return StepResult::Refused;
+        }
+        self.core.set_quota(tenant, quota);
+        StepResult::Done
+    }
+
     /// An event on a connection of this number, if it was opened.
     fn on(&mut self, alloc: A, c: u32, event: ConnectionEvent<'_>) -> StepResult<A>
         ensures possible { CanAnswerOn (meaning event.entry) (step_result_of result) }
@@ -148,7 +164,7 @@ fn open_at<A: Allocator + Copy>(
     Ok(())
 }
 
-/// The connection that the event is of. An event of a flusher tells nobody anything.
+/// The connection that the event is of. An event of a flusher or of the operator tells nobody anything.
 fn connection_of<A: Allocator>(event: &Event<A>) -> u32
     ensures { result ≡ connection_of (event_of event.now) }
 {

@@ -3,7 +3,7 @@
 /// What a run says of an event.
 #[derive(Clone, Copy, Debug, PartialEq, Eq)]
 pub enum Mark {
-    /// It took place.
+    /// It took place, or was refused.
     Kept,
     /// Memory was refused, and it is as if the event had not been.
     Void,

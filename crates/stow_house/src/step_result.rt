@@ -23,8 +23,8 @@ pub enum StepResult<A: Allocator = Global> {
     NoJob,
     Installed,
     Stale,
-    /// The connection isn't open, its number was used, the flusher has not what the event needs, or the
-    /// cache can't have this size. Nothing changed.
+    /// The connection isn't open, its number was used, the flusher has not what the event needs, the cache can't
+    /// have this size, or the tenant isn't there or can't have this quota. Nothing changed.
     Refused,
     /// Memory was refused. It is as if the event had not been.
     NoMemory,

@@ -1,5 +1,5 @@
 -- Rows by key, and what a merge has of one.
-use Rattle.std.proofs.Common.{◌≡◌, ◌≢◌, ℕ, zero, suc, ◌<◌, ◌≤◌, Bool, true, false, List, [], ◌∷◌, ◌++◌, take, drop, length, map, Option, Some, None, refl, ap, ◌∙◌, sym, subst, arith, ⊎_elim, inl, inr, ◌⊎◌}
+use Rattle.std.proofs.Common.{◌≡◌, ◌≢◌, ℕ, zero, suc, ◌<◌, ◌≤◌, Bool, true, false, List, [], ◌∷◌, take, drop, map, Option, Some, None, refl, ap, ◌∙◌, sym, subst, arith, ⊎_elim, inl, inr, ◌⊎◌}
 use Rattle.std.specs.Prelude.{Contains, IsSome, is_some, if◌then◌else◌, slice_get}
 use Rattle.std.specs.FinMap as finite
 use Rattle.std.specs.List.{AllByRecursion}
@@ -13,9 +13,9 @@ use Rattle.stow_bytes.specs.Bytes.{bytes_cmp}
 use Rattle.stow_tree_model.specs.Op.{Op}
 use Rattle.stow_tree_model.specs.Agreement.{TenantPins}
 use Rattle.stow_tree_model.specs.Keys.{tenant_of}
-use Rattle.stow_tree_model.specs.Merged.{op_of_value, row_message, rows_set, merged, pruned, Stays}
+use Rattle.stow_tree_model.specs.Merged.{op_of_value, row_message, rows_set, merged, Stays}
 use Rattle.stow_tree_model.specs.Messages.{Messages, ops_of, ops_in, with_all, set_of}
-use Rattle.stow_tree_model.specs.Operations.{Operations, NumberedValue, applied, latest, or_else, over, value_in, numbered, outcome, NoneAbove}
+use Rattle.stow_tree_model.specs.Operations.{Operations, NumberedValue, applied, latest, or_else, value_in, numbered, outcome, NoneAbove}
 use Rattle.stow_tree_model.specs.Order.{Place, place_cmp, place_of, version_place, MessagesRise, VersionsRise}
 use Rattle.stow_tree_model.specs.TreeMessage.{TreeMessage}
 use Rattle.stow_tree_model.specs.Value.{IsValue}
@@ -23,14 +23,14 @@ use Rattle.stow_tree_model.specs.Version.{Version}
 use Rattle.stow_tree_model.proofs.Histories.{ops_in-at, ops_in-skip}
 use Rattle.stow_tree_model.proofs.Latest.{contains_cases}
 use Rattle.stow_tree_model.proofs.Merges.{pruned_agrees_law}
-use Rattle.stow_tree_model.proofs.Orders.{place_cases, place_total}
+use Rattle.stow_tree_model.proofs.Orders.{place_cases}
 use Rattle.stow_tree_model.proofs.Pruning.{contains_here, contains_there, none_in_nothing, pruning}
 use Rattle.stow_tree_model.proofs.SetLemmas.{ops-with_all, same_agreement}
 use Rattle.stow_message.proofs.RisingLists.{no_path, lt_is}
 use Rattle.stow_merge.proofs.Lists.{all_from_members, all_mapped_member}
 use Rattle.stow_merge.specs.Pages.{HaveShortValues}
 use Rattle.stow_page.specs.Format.{IsVersion}
-use Rattle.stow_page.specs.Rows.{is_above, IsCountUpTo}
+use Rattle.stow_page.specs.Rows.{IsCountUpTo}
 use Rattle.stow_leaf.specs.Intervals.{spans, AreWithin}
 use Rattle.stow_leaf.specs.Replacements.{GiveWay, ops_with, AreThere, HasShortValues}
 use Rattle.stow_leaf.proofs.Intervals.{lt, by_test, lt_self}

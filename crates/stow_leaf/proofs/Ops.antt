@@ -1,23 +1,22 @@
 -- The operations that lists of messages have, put together and taken apart.
-use Rattle.std.proofs.Common.{◌≡◌, ◌≢◌, ℕ, suc, ◌<◌, Bool, true, false, cond, List, [], ◌∷◌, ◌++◌, Option, Some, None, refl, ap, ◌∙◌, sym, subst, arith, ⊎_elim, map}
-use Rattle.std.specs.Ordering.{eq_by_cmp, is_lt, is_eq}
-use Rattle.std.specs.Prelude.{if◌then◌else◌, not, ◌&&◌}
+use Rattle.std.proofs.Common.{◌≡◌, ◌≢◌, ℕ, Bool, true, false, cond, List, [], ◌∷◌, ◌++◌, Option, Some, None, refl, ap, ◌∙◌, sym, subst, ⊎_elim}
+use Rattle.std.specs.Ordering.{eq_by_cmp, is_eq}
+use Rattle.std.specs.Prelude.{if◌then◌else◌, not}
 use Rattle.std.specs.Cmp.{tied_itself}
-use Rattle.std.specs.List.{All, AllByRecursion, filter, flat_map}
+use Rattle.std.specs.List.{AllByRecursion, filter}
 use Rattle.std.proofs.lemmas.Bool.{cond-true, cond-false}
-use Rattle.stow_bytes.specs.Bytes.{bytes_cmp}
 use Rattle.stow_tree_model.specs.Op.{Op}
 use Rattle.stow_tree_model.specs.TreeMessage.{TreeMessage}
 use Rattle.std.specs.List.Sorted.{IsStrictlySortedBy}
-use Rattle.std.specs.declared.cmp.Ordering.TheVariants.{Less, Equal}
+use Rattle.std.specs.declared.cmp.Ordering.TheVariants.{Less}
 use Rattle.stow_tree_model.specs.Order.{Place, place_cmp, place_of, MessagesRise}
 use Rattle.stow_tree_model.specs.Operations.{or_else}
 use Rattle.stow_tree_model.specs.Messages.{ops_in}
 use Rattle.stow_tree_model.proofs.Orders.{place_cases, place_total}
-use Rattle.stow_tree_model.proofs.Histories.{ops_in-at, ops_in-skip}
-use Rattle.stow_message.proofs.RisingLists.{all_by, AllAbove, above_all}
-use Rattle.stow_message.proofs.Placed.{AllOther, all_other, all_other_placed}
-use Rattle.stow_message.specs.Rising.{is_below, placed, all_placed, IsNew, AreNew, in_range, out_of_range}
+use Rattle.stow_tree_model.proofs.Histories.{ops_in-skip}
+use Rattle.stow_message.proofs.RisingLists.{AllAbove}
+use Rattle.stow_message.proofs.Placed.{AllOther, all_other_placed}
+use Rattle.stow_message.specs.Rising.{is_below, placed, all_placed, in_range, out_of_range}
 use Rattle.stow_leaf.specs.Intervals.{spans}
 
 true_false : true ≡ false → ⊥

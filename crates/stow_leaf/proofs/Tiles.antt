@@ -1,12 +1,11 @@
 -- Merged pages as leaves.
-use Rattle.std.proofs.Common.{◌≡◌, ◌≢◌, ℕ, zero, suc, ◌+◌, ◌<◌, ◌≤◌, Bool, true, false, List, [], ◌∷◌, ◌++◌, take, drop, length, map, Option, Some, None, refl, ap, ◌∙◌, sym, subst, arith, ⊎_elim, length-append}
+use Rattle.std.proofs.Common.{◌≡◌, ℕ, true, List, [], ◌∷◌, ◌++◌, map, refl, ap, ◌∙◌, sym}
 use Rattle.std.specs.Prelude.{Contains}
 use Rattle.std.specs.List.{AllByRecursion}
 use Rattle.std.specs.Ordering.{is_lt}
 use Rattle.std.specs.declared.cmp.Ordering.TheVariants.{Less}
-use Rattle.std.proofs.lemmas.Grind.{flat_map-append}
-use Rattle.std.proofs.lemmas.List.{map-append, take-append-drop}
-use Rattle.std.proofs.lemmas.List.Elements.{Contains-append_left, Contains-append_right, Contains-append_cases}
+use Rattle.std.proofs.lemmas.List.{map-append}
+use Rattle.std.proofs.lemmas.List.Elements.{Contains-append_left, Contains-append_right}
 use Rattle.stow_bytes.specs.Bytes.{bytes_cmp}
 use Rattle.stow_tree_model.specs.Merged.{row_message}
 use Rattle.stow_tree_model.specs.Messages.{ops_in}
@@ -14,50 +13,17 @@ use Rattle.stow_tree_model.specs.Operations.{or_else}
 use Rattle.stow_tree_model.specs.Order.{VersionsRise}
 use Rattle.stow_tree_model.specs.TreeMessage.{TreeMessage}
 use Rattle.stow_tree_model.specs.Version.{Version}
-use Rattle.stow_tree_model.proofs.Pruning.{contains_here, none_in_nothing}
-use Rattle.stow_message.proofs.RisingLists.{no_path, lt_is}
-use Rattle.stow_merge.proofs.KeyLemmas.{rises_front, rises_after}
-use Rattle.stow_merge.proofs.PageLemmas.{length-page}
-use Rattle.stow_merge.specs.Pages.{read_in_order, HaveOneKey, KeysBelow, IsLeafPage, AreLeafPages}
-use Rattle.stow_page.specs.Format.{entry, entries, packed_page}
-use Rattle.stow_leaf.specs.Intervals.{spans, AreWithin}
-use Rattle.stow_leaf.specs.LeafRows.{LeafRows, row_messages, first_fence, IsLeafTile, LeavesTo}
-use Rattle.stow_leaf.specs.Making.{first_key, fenced, leaves_from}
+use Rattle.stow_tree_model.proofs.Pruning.{contains_here}
+use Rattle.stow_message.proofs.RisingLists.{lt_is}
+use Rattle.stow_merge.proofs.KeyLemmas.{rises_after}
+use Rattle.stow_merge.specs.Pages.{read_in_order, AreLeafPages}
+use Rattle.stow_leaf.specs.Intervals.{spans}
+use Rattle.stow_leaf.specs.LeafRows.{LeafRows, row_messages, LeavesTo}
+use Rattle.stow_leaf.specs.Making.{fenced, leaves_from}
 use Rattle.stow_leaf.specs.Replacements.{IsLeafSize}
 use Rattle.stow_leaf.proofs.Intervals.{lt, le_lt, spanned, span_low, span_high}
 use Rattle.stow_leaf.proofs.Ops.{ops-append}
 use Rattle.stow_leaf.proofs.Found.{rows_within, from_first}
-
--- ---- pages in two parts
-
--- pages in two parts, and the keys of the first are below those of the second
-pub record Halves (target : ℕ) (xs ys : List (List Version)) : Type 0 where
-  pub front : AreLeafPages target xs
-  pub back : AreLeafPages target ys
-  pub cross : KeysBelow (read_in_order xs) (read_in_order ys)
-
-pub halves : (target : ℕ) (xs ys : List (List Version)) → AreLeafPages target (xs ++ ys) → Halves target xs ys
-halves target [] ys a = record { front = tt; back = a; cross = record { are_below = λ v w c d. absurd (none_in_nothing v c) } }
-halves target (x ∷ xs) ys a =
-    let more = halves target xs ys a.1 in
-    let both : read_in_order (xs ++ ys) ≡ read_in_order xs ++ read_in_order ys = flat_map-append (λ p. p) xs ys in
-    record {
-      front = (
-        record {
-          is_filled = a.0.is_filled;
-          fits = a.0.fits;
-          is_below = record { are_below = λ v w c d. a.0.is_below.are_below v w c (subst (λ vs. Contains vs w) (sym both) (Contains-append_left (read_in_order xs) (read_in_order ys) w d)) };
-        },
-        more.front,
-      );
-      back = more.back;
-      cross = record {
-        are_below = λ v w c d. ⊎_elim
-            (λ (t : Contains x v). a.0.is_below.are_below v w t (subst (λ vs. Contains vs w) (sym both) (Contains-append_right (read_in_order xs) (read_in_order ys) w d)))
-            (λ (t : Contains (read_in_order xs) v). more.cross.are_below v w t d)
-            (Contains-append_cases x (read_in_order xs) v c);
-      };
-    }
 
 -- ---- their leaves
 
@@ -86,24 +52,6 @@ tiles target low high ((v ∷ p) ∷ (f ∷ q) ∷ ps) a r w o =
           (λ u c. spanned f.key high u.key (from_first f (q ++ read_in_order ps) u (rises_after (v ∷ p) later r) c) (span_high low high u.key (w u (Contains-append_right (v ∷ p) later u c))))
           (less_of f.key high (span_high low high f.key top)),
     )
-
--- a leaf behind leaves that end at its fence
-pub tiles_then : (high : List ℕ) (leaves : List LeafRows) (leaf : LeafRows) → LeavesTo leaf.0 leaves → IsLeafTile leaf high → LeavesTo high (leaves ++ leaf ∷ [])
-tiles_then high [] leaf t l = (l, tt)
-tiles_then high (a ∷ []) leaf t l = (t.0, (l, tt))
-tiles_then high (a ∷ b ∷ leaves) leaf t l = (t.0, tiles_then high (b ∷ leaves) leaf t.1 l)
-
-pub fence_then : (high : List ℕ) (low : List ℕ) (pages : List (List Version)) (leaf : LeafRows) → 0 < length pages → first_fence high (leaves_from low pages ++ leaf ∷ []) ≡ low
-fence_then high low [] leaf l = absurd (omega arith)
-fence_then high low (p ∷ pages) leaf l = refl
-
-length-fenced : (pages : List (List Version)) → length (fenced pages) ≡ length pages
-length-fenced [] = refl
-length-fenced (p ∷ pages) = ap suc (length-fenced pages)
-
-pub length-leaves_from : (low : List ℕ) (pages : List (List Version)) → length (leaves_from low pages) ≡ length pages
-length-leaves_from low [] = refl
-length-leaves_from low (p ∷ pages) = ap suc (length-fenced pages)
 
 fenced_sizes : (target : ℕ) (pages : List (List Version)) → AreLeafPages target pages → AllByRecursion (λ (l : LeafRows). IsLeafSize target l.1) (fenced pages)
 fenced_sizes target [] a = tt
@@ -139,20 +87,3 @@ leaf_messages low (p ∷ pages) = ap (λ (l : List TreeMessage). map row_message
 -- what two parts of versions have of a key
 pub ops_parts : (vs ws : List Version) (key : List ℕ) (n : ℕ) → ops_in (map row_message (vs ++ ws)) key n ≡ or_else (ops_in (map row_message vs) key n) (ops_in (map row_message ws) key n)
 ops_parts vs ws key n = ap (λ l. ops_in l key n) (map-append row_message vs ws) ∙ ops-append (map row_message vs) (map row_message ws) key n
-
--- a part of versions has a page that is no longer
-pub page_of_part : (rows before part after : List Version) → rows ≡ before ++ (part ++ after) → length (packed_page part) ≤ length (packed_page rows)
-page_of_part rows before part after e =
-    let whole = length-page rows in
-    let own = length-page part in
-    let bytes : length (entries rows) ≡ length (entries before) + (length (entries part) + length (entries after)) =
-    ap (λ vs. length (entries vs)) e ∙ ap length (flat_map-append entry before (part ++ after)) ∙ length-append (entries before) (entries (part ++ after))
-    ∙ ap (λ n. length (entries before) + n) (ap length (flat_map-append entry part after) ∙ length-append (entries part) (entries after)) in
-    omega (arith, whole, own, bytes)
-
--- a part of a leaf's rows is no larger
-pub size_of_part : (target : ℕ) (rows before part after : List Version) → rows ≡ before ++ (part ++ after) → IsLeafSize target rows → IsLeafSize target part
-size_of_part target rows before part after e size above =
-    let inside : (u : Version) → Contains part u → Contains rows u = λ u c. subst (λ vs. Contains vs u) (sym e) (Contains-append_right before (part ++ after) u (Contains-append_left part after u c)) in
-    let one : HaveOneKey rows = size (omega (arith, above, page_of_part rows before part after e)) in
-    record { are_of_key = λ v w c d. one.are_of_key v w (inside v c) (inside w d) }

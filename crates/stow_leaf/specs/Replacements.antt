@@ -1,8 +1,6 @@
 -- What comes in a leaf's place, with messages for it merged.
-use Rattle.std.specs.Prelude.{◌≡◌, ◌≢◌, ◌⊎◌, ℕ, ◌<◌, ◌≤◌, List, [], length, map, true, false, IsSome}
-use Rattle.std.specs.Ordering.{is_lt}
+use Rattle.std.specs.Prelude.{◌≡◌, ◌≢◌, ◌⊎◌, ℕ, ◌<◌, ◌≤◌, List, [], length, map, true, IsSome}
 use Rattle.std.specs.List.{AllByRecursion}
-use Rattle.stow_bytes.specs.Bytes.{bytes_cmp}
 use Rattle.stow_merge.specs.Pages.{HaveOneKey, HaveShortValues}
 use Rattle.stow_message.specs.Rising.{in_range}
 use Rattle.stow_page.specs.Format.{packed_page}
@@ -54,36 +52,21 @@ CanReplace leaf high ms pins target = CanTake leaf high (in_range leaf.0 high ms
 abbrev pub IsFence : LeafRows → List TreeMessage → List ℕ → Type 0
 IsFence leaf ms fence = (fence ≡ leaf.0) ⊎ AreThere (ops_with ms leaf.1 fence)
 
--- Leaves in the place of one, with the messages of its keys below an end merged: a key below the
--- end means the same under the pins, and of each other key the rows are as they were.
-pub record Replaces (leaf : LeafRows) (high : List ℕ) (ms : List TreeMessage) (pins : TenantPins)
-    (target most : ℕ) (leaves : List LeafRows) (end : List ℕ) : Type 0 where
+-- Leaves in the place of one, with the messages for it merged: each of its keys means the same
+-- under the pins.
+pub record IsReplacement (leaf : LeafRows) (high : List ℕ) (ms : List TreeMessage)
+    (pins : TenantPins) (target : ℕ) (leaves : List LeafRows) : Type 0 where
   pub tiled : LeavesTo high leaves
   pub first : first_fence high leaves ≡ leaf.0
-  pub few : length leaves ≤ most
   pub sizes : AllByRecursion (λ l. IsLeafSize target l.1) leaves
-  pub begins : is_lt (bytes_cmp leaf.0 end) ≡ true
-  pub ends : is_lt (bytes_cmp high end) ≡ false
-  pub agrees : (key : List ℕ) → spans leaf.0 end key ≡ true
+  pub agrees : (key : List ℕ) → spans leaf.0 high key ≡ true
       → GiveWay (pins (tenant_of key)) (ops_with ms leaf.1 key) (ops_in (row_messages leaves) key)
-  pub rest : (key : List ℕ) → spans leaf.0 end key ≡ false
-      → ops_in (row_messages leaves) key ≡ ops_in (map row_message leaf.1) key
-  pub short : (key : List ℕ) → spans leaf.0 end key ≡ true
+  pub short : (key : List ℕ) → spans leaf.0 high key ≡ true
       → HasShortValues (ops_with ms leaf.1 key) → HasShortValues (ops_in (row_messages leaves) key)
+  -- one leaf is enough where all that stays fits the target
+  pub one : length (packed_page (merged leaf.1 (in_range leaf.0 high ms) pins)) ≤ target
+      → length leaves ≡ 1
   -- no other keys come in
   pub fences : AllByRecursion (λ l. IsFence leaf ms l.0) leaves
   pub keys : (key : List ℕ) → AreThere (ops_in (row_messages leaves) key)
       → AreThere (ops_with ms leaf.1 key)
-
--- a message of a key in the interval is there
-pub record HasMerged (low end : List ℕ) (ms : List TreeMessage) : Type 0 where
-  pub key : List ℕ
-  pub number : ℕ
-  pub within : spans low end key ≡ true
-  pub there : IsSome (ops_in ms key number)
-
--- leaves in the place of one, with some of its messages merged
-pub record IsReplacement (leaf : LeafRows) (high : List ℕ) (ms : List TreeMessage)
-    (pins : TenantPins) (target most : ℕ) (leaves : List LeafRows) (end : List ℕ) : Type 0 where
-  pub replaces : Replaces leaf high ms pins target most leaves end
-  pub some : HasMerged leaf.0 end ms

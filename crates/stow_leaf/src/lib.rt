@@ -1,15 +1,14 @@
 //! Leaves of the buffered tree (Brodal and Fagerberg 2003; Bender and others 2015), and what comes in a leaf's place.
 //!
 //! A leaf is a fence, the lowest key that it may hold, and the rows of the keys from there on, up to the next leaf's
-//! fence. `Leaf::replacement` merges a leaf with the messages that a buffer holds for it, under pins: what it answers
+//! fence. `Leaf::replacement` merges a leaf with all messages that a buffer holds for it, under pins: what it answers
 //! means the same at each pin and from the newest message on (`specs/Replacements.antt`). Merged rows above the leaf
-//! target are cut between keys into leaves of their own. Where these are more than the caller has places for, only the
-//! messages of the first keys are merged, of one key at least, and the other rows stay as they were in a leaf behind.
+//! target are cut between keys into leaves of their own, as many as it takes.
 //!
 //! A body that always answers `AllocError` meets the contract: a test calls it with ample memory, and with each request
-//! refused. That all messages are merged where their pages are few enough stands in no contract: the same test shows it.
+//! refused. Rows that fit the target are one leaf (`IsReplacement`); that no more leaves come than the target asks for, where
+//! they don't, stands in no contract: the same test shows it.
 #![tactic(auto)]
 
 pub mod leaf;
 pub mod making;
-pub mod replacement;

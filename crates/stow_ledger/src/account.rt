@@ -1,7 +1,7 @@
 //! One tenant's account.
 ghost use Rattle.std.specs.Prelude.{◌≡◌, ◌≤◌, IsTrue};
 ghost use Rattle.stow_bytes.specs.Limits.{number_limit};
-ghost use Rattle.stow_model.specs.Store.{one_more};
+ghost use Rattle.stow_model.specs.Store.{one_more, AreWithin};
 ghost use Rattle.stow_ledger.specs.Charges.{charge_after_write, charge_after_drop};
 
 use crate::charge::Charge;
@@ -38,7 +38,8 @@ impl Model for Account {
       refusals = a.refusals;
     } };
 
-    ghost invariant = { λ a. (a.quota ≤ number_limit) × (a.charge ≤ number_limit) };
+    ghost invariant = { λ a. (a.quota ≤ number_limit) × (a.charge ≤ number_limit)
+        × (a.commands ≤ number_limit) × (a.refusals ≤ number_limit) };
 
     ghost inverse = { λ v. record {
       quota = v.quota;
@@ -142,7 +143,8 @@ impl Account {
 
     /// The usage report, with the writes and the snapshots of the tenant's versions.
     pub fn report<A: Allocator + Copy>(&self, versions: &Versions<A>) -> Usage
-        ensures { result ≡ usage_of self.now versions.now }
+        ensures usage { result ≡ usage_of self.now versions.now }
+        ensures within { self.now.rows ≤ number_limit → AreWithin result }
     {
         Usage {
             rows: self.rows,

@@ -1,4 +1,7 @@
 //! A tenant of the service.
+ghost use Rattle.std.specs.Prelude.{◌≤◌};
+ghost use Rattle.stow_bytes.specs.Limits.{number_limit};
+
 use std::alloc::{Allocator, Global};
 use stow_bytes::byte_string::ByteString;
 
@@ -10,4 +13,5 @@ pub struct Tenant<A: Allocator = Global> {
     /// SHA-256 of the salt followed by the password.
     pub digest: [u8; 32],
     pub quota: u64,
+    ghost within: { quota ≤ number_limit },
 }

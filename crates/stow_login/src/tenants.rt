@@ -1,7 +1,8 @@
 //! The tenants of the service.
 ghost use Rattle.std.specs.Bool.{OnTrue};
-ghost use Rattle.std.specs.Prelude.{◌≡◌, ◌<◌, ◌↔◌, ◌++◌, ◌∷◌, [], false, length, IsTrue, IfSome, OnOk};
+ghost use Rattle.std.specs.Prelude.{◌≡◌, ◌<◌, ◌≤◌, ◌↔◌, ◌++◌, ◌∷◌, [], false, length, IsTrue, IfSome, OnOk};
 ghost use Rattle.stow_model.specs.Login.{IsTenant, login, quota_of};
+ghost use Rattle.stow_bytes.specs.Limits.{number_limit};
 ghost use Rattle.stow_login.specs.Entries.{entry_of, name_of, index_named, is_own};
 ghost use Rattle.stow_login.specs.TenantFile.{IsReading, is_used};
 
@@ -137,9 +138,11 @@ impl<A: Allocator> Tenants<A> {
         true
     }
 
+    /// The most that a tenant may be charged, in bytes.
     pub fn quota(&self, index: u32) -> u64
         requires { IsTenant self.now index }
-        ensures { result ≡ quota_of self.now index }
+        ensures quota { result ≡ quota_of self.now index }
+        ensures within { result ≤ number_limit }
     {
         self.tenants[index as usize - 1].quota
     }

@@ -31,7 +31,7 @@ page_has_bytes : (versions : List Version) → versions ≢ [] → 1 ≤ length 
 page_has_bytes [] h = absurd (h refl)
 page_has_bytes (v ∷ versions) h = let one = has_bytes v in let both = length-append (entry v) (entries versions) in omega arith
 
-size-read : (keys : List (List Version)) → length (entries (read_in_order keys)) ≡ sum_by (λ key. length (entries key)) keys
+pub size-read : (keys : List (List Version)) → length (entries (read_in_order keys)) ≡ sum_by (λ key. length (entries key)) keys
 size-read [] = refl
 size-read (key ∷ keys) =
     ap length (flat_map-append entry key (read_in_order keys))

@@ -1,19 +1,21 @@
 -- From kept versions to their pages.
-use Rattle.std.proofs.Common.{◌≡◌, ℕ, ◌-◌, ◌<◌, ◌≤◌, ◌^◌, List, [], ◌∷◌, length, map, refl, ap, ◌∙◌, sym, subst}
-use Rattle.std.specs.Prelude.{Result, Ok, Err, IfOk}
+use Rattle.std.proofs.Common.{◌≡◌, ℕ, ◌-◌, ◌<◌, ◌≤◌, ◌^◌, List, [], ◌∷◌, length, map, refl, ap, ◌∙◌, sym, subst, arith, suc}
+use Rattle.std.specs.Prelude.{Result, Ok, Err, IfOk, sum}
 use Rattle.std.specs.Borrow.{Bor}
 use Rattle.std.specs.List.{AllByRecursion}
 use Rattle.std.proofs.lemmas.List.{length-map}
-use Rattle.stow_page.specs.Format.{entries}
+use Rattle.std.proofs.Math.Seq.{take-length}
+use Rattle.std.proofs.lemmas.List.Sums.{sum-map}
+use Rattle.stow_page.specs.Format.{entries, packed_page}
 use Rattle.stow_tree_model.specs.Order.{VersionsRise}
 use Rattle.stow_tree_model.specs.Version.{Version}
-use Rattle.stow_merge.specs.Cuts.{ArePages}
+use Rattle.stow_merge.specs.Cuts.{size_between, ArePages}
 use Rattle.stow_merge.specs.Pages.{read_in_order, HaveShortValues, AreLeafPages, ArePagesOf}
 use Rattle.stow_merge.specs.Writing.{versions_in, keys_in, AreRuns, AreSizes, IsShortKey, CanMerge, CanPack, pages_at, at_least_one_page}
 use Rattle.stow_merge.specs.declared.kept.Kept as coded
 use Rattle.stow_merge.specs.declared.survey.Survey.{Survey}
 use Rattle.stow_merge.proofs.KeyLemmas.{KeysRise, runs_rise, runs_read}
-use Rattle.stow_merge.proofs.PageLemmas.{AreWritten, written, keys_short, can_pack}
+use Rattle.stow_merge.proofs.PageLemmas.{AreWritten, length-page, size-read, written, keys_short, can_pack}
 
 pub if_ok : {X E : Type 0} (r : Result X E) (P Q : X → Type 0) → ((x : X) → P x → Q x) → IfOk r P → IfOk r Q
 if_ok (Ok x) P Q h p = h x p
@@ -53,9 +55,23 @@ pub can_write : (target : ℕ) (versions : List Version) (keys pages : List (Lis
 can_write target versions keys pages can h w =
     can_pack pages w.have_room (subst VersionsRise (sym (w.are ∙ h.are)) can.rise) (subst HaveShortValues (sym (w.are ∙ h.are)) can.are_short)
 
-filled : (target : ℕ) (versions : List Version) (pages : List (List Version)) → AreLeafPages target pages → read_in_order pages ≡ versions → ArePagesOf versions target (at_least_one_page pages)
-filled target versions [] all e = record { are = e; is_one_there = λ z. cc; are_cut = λ other. absurd (other refl) }
-filled target versions (page ∷ pages) all e = record { are = e; is_one_there = λ z. cc; are_cut = λ _. all }
+-- all fit one page, so there is no other
+pub one_page_of : (target room : ℕ) (versions : List Version) (keys : List (List Version)) (sizes ends : List ℕ) → room ≡ target - 5 → AreKeys versions keys → AreSizes keys sizes → (size_between sizes 0 (length sizes) ≤ room → length ends ≤ 1) → length (packed_page versions) ≤ target → length (pages_at keys 0 ends) ≤ 1
+one_page_of target room versions keys sizes ends r h s one fits =
+    let all : sum sizes ≡ length (entries versions) = ap sum s.are ∙ sum-map (λ key. length (entries key)) keys ∙ sym (size-read keys) ∙ ap (λ vs. length (entries vs)) h.are in
+    let whole : size_between sizes 0 (length sizes) ≡ sum sizes = ap sum (take-length sizes) in
+    let page = length-page versions in
+    let few = one (omega (arith, all, whole, page, fits, r)) in
+    let same = as_many keys 0 ends in
+    omega (arith, few, same)
+  where
+    as_many : (keys : List (List Version)) (from : ℕ) (ends : List ℕ) → length (pages_at keys from ends) ≡ length ends
+    as_many keys from [] = refl
+    as_many keys from (e ∷ ends) = ap (λ n. suc n) (as_many keys e ends)
 
-pub pages_of : (target : ℕ) (versions : List Version) (keys pages : List (List Version)) → AreKeys versions keys → AreWritten target keys 0 pages → ArePagesOf versions target (at_least_one_page pages)
-pages_of target versions keys pages h w = filled target versions pages w.are_leaf_pages (w.are ∙ h.are)
+filled : (target : ℕ) (versions : List Version) (pages : List (List Version)) → (length (packed_page versions) ≤ target → length pages ≤ 1) → AreLeafPages target pages → read_in_order pages ≡ versions → ArePagesOf versions target (at_least_one_page pages)
+filled target versions [] one all e = record { are = e; is_one_there = λ z. cc; is_one_enough = λ fits. refl; are_cut = λ other. absurd (other refl) }
+filled target versions (page ∷ pages) one all e = record { are = e; is_one_there = λ z. cc; is_one_enough = λ fits. (let n = one fits in omega (arith, n)); are_cut = λ _. all }
+
+pub pages_of : (target : ℕ) (versions : List Version) (keys pages : List (List Version)) → (length (packed_page versions) ≤ target → length pages ≤ 1) → AreKeys versions keys → AreWritten target keys 0 pages → ArePagesOf versions target (at_least_one_page pages)
+pages_of target versions keys pages one h w = filled target versions pages one w.are_leaf_pages (w.are ∙ h.are)

@@ -1,5 +1,5 @@
 -- A merged leaf's versions in pages.
-use Rattle.std.specs.Prelude.{◌≡◌, ◌≢◌, ℕ, ◌<◌, List, [], ◌∷◌, length, Contains}
+use Rattle.std.specs.Prelude.{◌≡◌, ◌≢◌, ℕ, ◌<◌, ◌≤◌, List, [], ◌∷◌, length, Contains}
 use Rattle.std.specs.declared.cmp.Ordering.TheVariants.{Less}
 use Rattle.std.specs.Coded.{×_prop, Unit-prop}
 use Rattle.std.specs.List.{flat_map, AllByRecursion}
@@ -40,11 +40,13 @@ AreLeafPages-prop : (target : ℕ) (pages : List (List Version))
 AreLeafPages-prop target [] = Unit-prop
 AreLeafPages-prop target (page ∷ pages) = ×_prop (hlevel props) (AreLeafPages-prop target pages)
 
--- the pages hold just the versions, in order; there is one at least, and an empty one stands alone
+-- The pages hold just the versions, in order; there is one at least, no more where one fits the target,
+-- and an empty one stands alone.
 pub record ArePagesOf (versions : List Version) (target : ℕ)
     (pages : List (List Version)) : Type 0 where
   pub are : read_in_order pages ≡ versions
   pub is_one_there : pages ≢ []
+  pub is_one_enough : length (packed_page versions) ≤ target → length pages ≡ 1
   pub are_cut : pages ≢ [] ∷ [] → AreLeafPages target pages
 
 -- so a type may keep it

@@ -1,20 +1,27 @@
 //! Where a merged leaf is cut into pages.
 ghost use Rattle.std.specs.Bool.{OnFalse};
-ghost use Rattle.std.specs.Prelude.{◌≡◌, ◌⊎◌, ℕ, ◌+◌, ◌^◌, ◌<◌, ◌≤◌, length, IfOk};
-ghost use Rattle.stow_merge.specs.Cuts.{ArePages};
+ghost use Rattle.std.specs.Prelude.{◌≡◌, ◌⊎◌, ℕ, ◌+◌, ◌^◌, ◌<◌, ◌≤◌, [], ◌∷◌, length, min, IfOk};
+ghost use Rattle.stow_merge.specs.Cuts.{size_between, ArePages};
 
 use std::alloc::{AllocError, Allocator};
 
 /// Where pages end, by the sizes of the keys in order, in bytes: each page has a key at least, and a page above the
-/// room has one alone. There are no pages where there are no keys. Pages are about even.
+/// room has one alone. There are no pages where there are no keys, and no more than one where all fit the room. Pages are
+/// about even.
 pub fn cut<A: Allocator + Copy>(
     alloc: A,
     sizes: &[u32],
     room: u32,
 ) -> Result<Vec<usize, A>, AllocError>
-    ensures { IfOk result (λ ends. ArePages sizes.now room 0 ends.items (length sizes.now)) }
+    ensures pages { IfOk result (λ ends. ArePages sizes.now room 0 ends.items (length sizes.now)) }
+    ensures one { size_between sizes.now 0 (length sizes.now) ≤ room
+        → IfOk result (λ ends. length ends.items ≤ 1) }
 {
-    let aim = even_size(total(sizes), u64::from(room));
+    let total = total(sizes);
+    if total <= u64::from(room) {
+        return one_page(alloc, sizes.len());
+    }
+    let aim = even_size(total, u64::from(room));
     let mut ends = Vec::new(alloc);
     let mut from = 0;
     let mut page = 0u64;
@@ -33,11 +40,25 @@ pub fn cut<A: Allocator + Copy>(
     Ok(ends)
 }
 
+/// Where the one page of all keys ends, if there are any.
+fn one_page<A: Allocator + Copy>(alloc: A, keys: usize) -> Result<Vec<usize, A>, AllocError>
+    ensures some { 0 < keys → IfOk result (λ ends. ends.items ≡ keys ∷ []) }
+    ensures none { keys ≡ 0 → IfOk result (λ ends. ends.items ≡ []) }
+{
+    let mut ends = Vec::new(alloc);
+    if keys > 0 {
+        ends.push(keys)?;
+    }
+    Ok(ends)
+}
+
 /// The sum, at most the highest number that there is.
-fn total(sizes: &[u32]) -> u64 {
+fn total(sizes: &[u32]) -> u64
+    ensures { result ≡ min (size_between sizes.now 0 (length sizes.now)) 18446744073709551615 }
+{
     let mut total = 0u64;
-    for size in sizes {
-        total = total.saturating_add(u64::from(*size));
+    for i in 0..sizes.len() {
+        total = total.saturating_add(u64::from(sizes[i]));
     }
     total
 }

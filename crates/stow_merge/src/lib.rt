@@ -2,7 +2,7 @@
 //!
 //! `merge_into_pages` merges a leaf's rows with messages that a buffer lends, and writes what stays into pages. Read in
 //! order these hold exactly what the definition of a merge keeps; no key stands in two of them, one above the leaf
-//! target holds one key, and one is empty only where nothing stays (`specs/Pages.antt`). One walk over rows and
+//! target holds one key, there is one alone where all fits the target, and one is empty only where nothing stays (`specs/Pages.antt`). One walk over rows and
 //! messages finds what stays (`survey_of`), one over what stays finds its sizes and the cuts, and one writes: a value
 //! that one message carries goes from there into the page, and only appends are folded before. A caller knows that the
 //! merged values are within the limit, or asks `has_short_values`.

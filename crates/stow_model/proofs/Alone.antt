@@ -8,12 +8,13 @@ use Rattle.stow_model.specs.Message as message
 use Rattle.stow_model.specs.Reply.{Reply, encoding}
 use Rattle.stow_model.specs.Command.{Kind, Login, Quit, Malformed, ForStore, kind_of}
 use Rattle.stow_model.specs.Login.{Entry, quota_from, quota_of, entry_from, entry_at}
-use Rattle.stow_model.specs.Store.{OwnEvent, Asked, answer_with, step, with_reply, store_after, replies_after}
-use Rattle.stow_model.specs.History.{Step, Void, At, Flushed, ConnectionStep, Plain, Took, Broke, Service, part_of, served_as, request_as, request_of_message, request_of, service_of, with_service, line_of, kind_reply, message_reply, told_by, reply_in_line, told_at, Telling, telling_of, with_telling, tellings, is_tenant, answers_to, told_to, ToldAlone, TwoRuns, IsForAnother, OthersAddNothing}
+use Rattle.stow_model.specs.Store.{OwnEvent, Asked, GivenQuota, answer_with, step, with_reply, store_after, replies_after}
+use Rattle.stow_model.specs.History.{Step, Void, At, Flushed, Ordered, may_be_given, given_to, ConnectionStep, Plain, Took, Broke, Service, part_of, served_as, request_as, request_of_message, request_of, service_of, with_service, line_of, kind_reply, message_reply, told_by, reply_in_line, told_at, Telling, telling_of, with_telling, tellings, is_tenant, answers_to, told_to, ToldAlone, TwoRuns, IsForAnother, OthersAddNothing}
 
 -- what a request of the store is told
 own_reply : ℕ → OwnEvent → (Bool → List (List ℕ) → ℕ → Reply) → Option Reply
 own_reply tenant (Asked request) of_tenant = Some (of_tenant request.is_refused request.words tenant)
+own_reply tenant (GivenQuota quota) of_tenant = None
 
 IsStoreReply : Option Service → Option Reply → (Bool → List (List ℕ) → ℕ → Reply) → Type 0
 IsStoreReply None r of_tenant = Unit {0}
@@ -50,6 +51,16 @@ unfolding replies_after
 told_here true quota newest line t told is e = λ i. with_reply (is refl i) (e i)
 told_here false quota newest line t told is e = e
 
+-- a quota tells nobody anything
+untold : (here : Bool) (first quota : ℕ) (line : List OwnEvent) → replies_after first line ≡ replies_after first (if here then GivenQuota quota ∷ line else line)
+unfolding replies_after
+untold true first quota line = refl
+untold false first quota line = refl
+
+given_untold : (given : Bool) (tenant owner first quota : ℕ) (line : List OwnEvent) → replies_after first line ≡ replies_after first (with_service tenant (if given then Some (given_to owner quota) else None) line)
+given_untold true tenant owner first quota line = untold (owner == tenant) first quota line
+given_untold false tenant owner first quota line = refl
+
 told_own : (entries : List Entry) (tenant c owner : ℕ) (newest : OwnEvent) (earlier : List Step) (told : List Telling) → answers_to tenant told ≡ replies_after (quota_of entries tenant) (line_of entries tenant earlier)
     → answers_to tenant (with_telling (to_tenant c (Some (record { tenant = owner; event = newest })) (own_reply owner newest (reply_in_line entries earlier))) told) ≡ replies_after (quota_of entries tenant) (if owner == tenant then newest ∷ line_of entries tenant earlier else line_of entries tenant earlier)
 unfolding own_reply to_tenant reply_in_line
@@ -60,6 +71,7 @@ told_own entries tenant c owner (Asked request) earlier told e =
     (record { connection = c; tenant = Some owner; reply = (answer_with (store_after (quota_of entries owner) (line_of entries owner earlier)) request).1 })
     (filter (λ t. is_tenant tenant t.tenant) told)
     (λ same. ap (λ t. Some (answer_with (store_after (quota_of entries t) (line_of entries t earlier)) request).1) (eqb-true owner tenant same)) e
+told_own entries tenant c owner (GivenQuota quota) earlier told e = e ∙ untold (owner == tenant) (quota_of entries tenant) quota (line_of entries tenant earlier)
 
 one_more_told : (entries : List Entry) (tenant c : ℕ) (service : Option Service) (r : Option Reply) (earlier : List Step) (told : List Telling) → IsStoreReply service r (reply_in_line entries earlier)
     → answers_to tenant told ≡ replies_after (quota_of entries tenant) (line_of entries tenant earlier)
@@ -79,6 +91,8 @@ told_alone_lem entries tenant (At c own ∷ earlier) =
     one_more_told entries tenant c (request_of own who) (told_by entries own who (reply_in_line entries earlier)) earlier (tellings entries earlier)
     (of_own entries own who (reply_in_line entries earlier)) (told_alone_lem entries tenant earlier)
 told_alone_lem entries tenant (Flushed e ∷ earlier) = told_alone_lem entries tenant earlier
+told_alone_lem entries tenant (Ordered owner quota ∷ earlier) =
+    told_alone_lem entries tenant earlier ∙ given_untold (may_be_given entries owner quota) tenant owner (quota_of entries tenant) quota (line_of entries tenant earlier)
 
 -- ---- an entry tells the quota
 
@@ -125,6 +139,7 @@ unfolding tellings telling_of service_of to_tenant
 told_as_before entries tenant (Void e) earlier other = refl
 told_as_before entries tenant (At c own) earlier other = told_same tenant c (request_of own (served_as entries (part_of c earlier))) (told_at entries c own earlier) (tellings entries earlier) other
 told_as_before entries tenant (Flushed e) earlier other = refl
+told_as_before entries tenant (Ordered owner quota) earlier other = refl
 
 pub others_add_nothing_lem : OthersAddNothing
 unfolding line_of

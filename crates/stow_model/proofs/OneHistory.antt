@@ -6,7 +6,7 @@ use Rattle.stow_model.specs.Event.{ConnectionEvent}
 use Rattle.stow_model.specs.Event as event
 use Rattle.stow_model.specs.Wire.{SpellsAll, HasNoMessage, IsBegun, IsFaulty, FaultyNotBegun}
 use Rattle.stow_model.specs.Login.{Entry}
-use Rattle.stow_model.specs.History.{Step, Void, At, Flushed, ConnectionStep, Plain, Took, Broke, event_of_own, event_of_step, is_void, is_refused_own, is_refused, Status, IsOpen, part_of, status_of, served_as, stream_of, taken_by, Takes, Waits, Breaks, MayTakeNothing, MayBePlain, CanLead, Follows, IsStep, IsHistory, OneHistory}
+use Rattle.stow_model.specs.History.{Step, Void, At, Flushed, Ordered, ConnectionStep, Plain, Took, Broke, event_of_own, event_of_step, is_void, is_refused_own, is_refused, Status, IsOpen, part_of, status_of, served_as, stream_of, taken_by, Takes, Waits, Breaks, MayTakeNothing, MayBePlain, CanLead, Follows, IsStep, IsHistory, OneHistory}
 use Rattle.stow_model.proofs.Spelling.{spelled_once}
 use Rattle.stow_model.proofs.Places.{begun_front, fault_once_lem}
 
@@ -90,6 +90,13 @@ step_once entries (At c s) (Flushed e') earlier p q same void refused = cc
 step_once entries (Flushed e) (Void e') earlier p q same void refused = cc
 step_once entries (Flushed e) (At d t) earlier p q same void refused = cc
 step_once entries (Flushed e) (Flushed e') earlier p q same void refused = cc
+step_once entries (Void e) (Ordered t n) earlier p q same void refused = cc
+step_once entries (At c s) (Ordered t n) earlier p q same void refused = cc
+step_once entries (Flushed e) (Ordered t n) earlier p q same void refused = cc
+step_once entries (Ordered t n) (Void e) earlier p q same void refused = cc
+step_once entries (Ordered t n) (At c s) earlier p q same void refused = cc
+step_once entries (Ordered t n) (Flushed e) earlier p q same void refused = cc
+step_once entries (Ordered t n) (Ordered t' n') earlier p q same void refused = cc
 
 pub one_history_lem : OneHistory
 unfolding IsHistory

@@ -38,6 +38,15 @@ pub data Command : Type 0 where
   -- the lower end, the upper end, and how many rows at most
   Range : List ℕ → List ℕ → ℕ → Command
   Del : List (List ℕ) → Command
+  -- SNAPSHOT TAKE, LIST, DROP id
+  TakeSnapshot : Command
+  ListSnapshots : Command
+  DropSnapshot : ℤ → Command
+  -- SNAPSHOT GET id key, SNAPSHOT RANGE id from to count: as GET and RANGE, in the snapshot
+  GetInSnapshot : ℤ → List ℕ → Command
+  RangeInSnapshot : ℤ → List ℕ → List ℕ → ℕ → Command
+  -- USAGE
+  ReportUsage : Command
   -- SET, APPEND, INCR, DECR, INCRBY of a key
   Change : List ℕ → Update → Command
 
@@ -59,6 +68,11 @@ with_keys keys command =
     if list_any is_long_key keys then Refused refusal.KeyTooLong else Understood command
 
 -- ---- by the arguments
+
+-- none
+abbrev pub of_nothing : Command → List (List ℕ) → Reading
+of_nothing command [] = Understood command
+of_nothing command (_ ∷ _) = Refused refusal.WrongArgumentCount
 
 -- a text, of any length
 abbrev pub of_text : (List ℕ → Command) → List (List ℕ) → Reading
@@ -131,11 +145,70 @@ reading_del (key ∷ keys) =
     if nat_lt deleted_limit (length (key ∷ keys)) then Refused refusal.TooManyKeys
     else with_keys (key ∷ keys) (Del (key ∷ keys))
 
+-- SNAPSHOT DROP
+abbrev pub reading_drop_id : Option ℤ → Reading
+reading_drop_id None = Refused refusal.NotAnInteger
+reading_drop_id (Some id) = Understood (DropSnapshot id)
+
+abbrev pub reading_drop : List (List ℕ) → Reading
+reading_drop [] = Refused refusal.WrongArgumentCount
+reading_drop (id ∷ []) = reading_drop_id (number_of id)
+reading_drop (_ ∷ _ ∷ _) = Refused refusal.WrongArgumentCount
+
+-- SNAPSHOT GET
+abbrev pub reading_get_in_id : List ℕ → Option ℤ → Reading
+reading_get_in_id key None = Refused refusal.NotAnInteger
+reading_get_in_id key (Some id) = with_keys (key ∷ []) (GetInSnapshot id key)
+
+abbrev pub reading_get_in : List (List ℕ) → Reading
+reading_get_in [] = Refused refusal.WrongArgumentCount
+reading_get_in (_ ∷ []) = Refused refusal.WrongArgumentCount
+reading_get_in (id ∷ key ∷ []) = reading_get_in_id key (number_of id)
+reading_get_in (_ ∷ _ ∷ _ ∷ _) = Refused refusal.WrongArgumentCount
+
+-- SNAPSHOT RANGE
+abbrev pub reading_range_in_numbers : List ℕ → List ℕ → Option ℤ → Option ℕ → Reading
+reading_range_in_numbers from to None count = Refused refusal.NotAnInteger
+reading_range_in_numbers from to (Some id) None = Refused refusal.NotAnInteger
+reading_range_in_numbers from to (Some id) (Some count) =
+    with_keys (from ∷ to ∷ []) (RangeInSnapshot id from to count)
+
+abbrev pub reading_range_in : List (List ℕ) → Reading
+reading_range_in [] = Refused refusal.WrongArgumentCount
+reading_range_in (_ ∷ []) = Refused refusal.WrongArgumentCount
+reading_range_in (_ ∷ _ ∷ []) = Refused refusal.WrongArgumentCount
+reading_range_in (_ ∷ _ ∷ _ ∷ []) = Refused refusal.WrongArgumentCount
+reading_range_in (id ∷ from ∷ to ∷ count ∷ []) =
+    reading_range_in_numbers from to (number_of id) (count_of (number_of count))
+reading_range_in (_ ∷ _ ∷ _ ∷ _ ∷ _ ∷ _) = Refused refusal.WrongArgumentCount
+
 -- ---- by the name
 
 -- a name, and what the arguments after it say
 abbrev pub Entry : Type 0
 Entry = List ℕ × (List (List ℕ) → Reading)
+
+-- what the entry of the name says of the arguments, or this refusal of an unknown name
+abbrev pub reading_among : List Entry → Refusal → List ℕ → List (List ℕ) → Reading
+reading_among [] unknown name arguments = Refused unknown
+reading_among (entry ∷ entries) unknown name arguments =
+    if is_named name entry.0 then entry.1 arguments
+    else reading_among entries unknown name arguments
+
+-- the commands on snapshots, by the word after SNAPSHOT
+abbrev pub snapshot_commands : List Entry
+snapshot_commands =
+    (codes "take", of_nothing TakeSnapshot)
+    ∷ (codes "list", of_nothing ListSnapshots)
+    ∷ (codes "drop", reading_drop)
+    ∷ (codes "get", reading_get_in)
+    ∷ (codes "range", reading_range_in)
+    ∷ []
+
+abbrev pub reading_snapshot : List (List ℕ) → Reading
+reading_snapshot [] = Refused refusal.WrongArgumentCount
+reading_snapshot (name ∷ arguments) =
+    reading_among snapshot_commands refusal.SyntaxError name arguments
 
 -- the commands of a store, each with its name in lower case
 abbrev pub commands : List Entry
@@ -153,18 +226,15 @@ commands =
     ∷ (codes "decr", of_key (λ key. Change key (Add (negsuc 0))))
     ∷ (codes "incrby", reading_add)
     ∷ (codes "del", reading_del)
+    ∷ (codes "snapshot", reading_snapshot)
+    ∷ (codes "usage", of_nothing ReportUsage)
     ∷ []
-
-abbrev pub reading_among : List Entry → List ℕ → List (List ℕ) → Reading
-reading_among [] name arguments = Refused refusal.UnknownCommand
-reading_among (entry ∷ entries) name arguments =
-    if is_named name entry.0 then entry.1 arguments else reading_among entries name arguments
 
 -- the command that the words are, or the first refusal that applies: the name, the number of arguments,
 -- options, numbers among the arguments, then the length of each key
 unfoldable pub reading : List (List ℕ) → Reading
 reading [] = Refused refusal.UnknownCommand
-reading (name ∷ arguments) = reading_among commands name arguments
+reading (name ∷ arguments) = reading_among commands refusal.UnknownCommand name arguments
 
 -- ---- what is the connection's own
 

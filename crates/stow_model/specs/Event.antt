@@ -20,6 +20,8 @@ pub data FlusherEvent : Type 0 where
 pub data Event : Type 0 where
   On : ℕ → ConnectionEvent → Event
   By : FlusherEvent → Event
+  -- the operator gives the tenant of this index this quota
+  SetQuota : ℕ → ℕ → Event
 
 -- what the code's type stands for, whatever allocator it has its memory from
 abbrev pub event_of : {A : Type 0} → coded.Event A → Event
@@ -31,3 +33,4 @@ event_of (in_event.Plan f) = By (Plan f)
 event_of (in_event.Merge f) = By (Merge f)
 event_of (in_event.Install f) = By (Install f)
 event_of (in_event.Resize n) = By (Resize n)
+event_of (in_event.Quota tenant quota) = SetQuota tenant quota

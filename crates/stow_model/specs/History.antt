@@ -1,5 +1,5 @@
 -- What has happened at the service, told newest first, and what it means to each connection and each tenant.
-use Rattle.std.specs.Prelude.{◌≡◌, ◌≢◌, ℕ, Bool, true, false, List, [], ◌∷◌, ◌++◌, map, filter, option_map, Option, Some, None, IsSome, if◌then◌else◌, ◌==◌}
+use Rattle.std.specs.Prelude.{◌≡◌, ◌≢◌, ℕ, Bool, true, false, List, [], ◌∷◌, ◌++◌, map, filter, option_map, Option, Some, None, IsSome, if◌then◌else◌, ◌==◌, ◌&&◌, nat_le, length}
 use Rattle.stow_model.specs.declared.stream_fault.StreamFault.{StreamFault}
 use Rattle.stow_model.specs.declared.refusal.Refusal.TheVariants as refusal
 use Rattle.stow_model.specs.declared.simple_string.SimpleString.TheVariants as simple
@@ -11,8 +11,9 @@ use Rattle.stow_model.specs.Reply.{Reply, encoding}
 use Rattle.stow_model.specs.Reply as reply
 use Rattle.stow_model.specs.Wire.{Spells, SpellsAll, IsBegun, IsFaulty}
 use Rattle.stow_model.specs.Command.{Kind, Login, Quit, Malformed, ForStore, kind_of}
+use Rattle.stow_bytes.specs.Limits.{number_limit}
 use Rattle.stow_model.specs.Login.{Entry, login, quota_of, entry_at}
-use Rattle.stow_model.specs.Store.{OwnEvent, Asked, answer_with, store_after, replies_after}
+use Rattle.stow_model.specs.Store.{OwnEvent, Asked, GivenQuota, answer_with, store_after, replies_after}
 
 -- what an event of a connection led to
 pub data ConnectionStep : Type 0 where
@@ -29,6 +30,8 @@ pub data Step : Type 0 where
   Void : Event → Step
   At : ℕ → ConnectionStep → Step
   Flushed : FlusherEvent → Step
+  -- the operator gave the tenant of this index this quota, or was refused
+  Ordered : ℕ → ℕ → Step
 
 abbrev pub event_of_own : ConnectionStep → ConnectionEvent
 event_of_own (Plain e) = e
@@ -39,12 +42,14 @@ abbrev pub event_of_step : Step → Event
 event_of_step (Void e) = e
 event_of_step (At c own) = event.On c (event_of_own own)
 event_of_step (Flushed e) = event.By e
+event_of_step (Ordered tenant quota) = event.SetQuota tenant quota
 
 -- whether memory was refused, so that it is as if the event had not been
 abbrev pub is_void : Step → Bool
 is_void (Void e) = true
 is_void (At c own) = false
 is_void (Flushed e) = false
+is_void (Ordered tenant quota) = false
 
 abbrev pub is_refused_own : ConnectionStep → Bool
 is_refused_own (Plain e) = false
@@ -56,6 +61,7 @@ abbrev pub is_refused : Step → Bool
 is_refused (Void e) = false
 is_refused (At c own) = is_refused_own own
 is_refused (Flushed e) = false
+is_refused (Ordered tenant quota) = false
 
 -- ---- one connection's part of the history
 
@@ -63,6 +69,7 @@ abbrev pub with_own : ℕ → Step → List ConnectionStep → List ConnectionSt
 with_own c (Void e) part = part
 with_own c (At d own) part = if d == c then own ∷ part else part
 with_own c (Flushed e) part = part
+with_own c (Ordered tenant quota) part = part
 
 -- the connection's own steps, newest first
 unfoldable pub part_of : ℕ → List Step → List ConnectionStep
@@ -201,18 +208,29 @@ request_of (Plain e) tenant = None
 request_of (Took m is_refused) tenant = request_of_message m is_refused tenant
 request_of (Broke fault) tenant = None
 
+-- the index is a tenant's, and the quota within its limit
+abbrev pub may_be_given : List Entry → ℕ → ℕ → Bool
+may_be_given entries tenant quota =
+    nat_le 1 tenant && (nat_le tenant (length entries) && nat_le quota number_limit)
+
+-- a quota that is given
+abbrev pub given_to : ℕ → ℕ → Service
+given_to tenant quota = record { tenant = tenant; event = GivenQuota quota }
+
 -- what the step brings to a tenant's store, if it does
 unfoldable pub service_of : List Entry → Step → List Step → Option Service
 service_of entries (Void e) earlier = None
 service_of entries (At c own) earlier = request_of own (served_as entries (part_of c earlier))
 service_of entries (Flushed e) earlier = None
+service_of entries (Ordered tenant quota) earlier =
+    if may_be_given entries tenant quota then Some (given_to tenant quota) else None
 
 abbrev pub with_service : ℕ → Option Service → List OwnEvent → List OwnEvent
 with_service tenant None line = line
 with_service tenant (Some service) line =
     if service.tenant == tenant then service.event ∷ line else line
 
--- the tenant's line: its requests over all connections, newest first
+-- the tenant's line: its requests over all connections, and the quotas that it was given, newest first
 unfoldable pub line_of : List Entry → ℕ → List Step → List OwnEvent
 line_of entries tenant [] = []
 line_of entries tenant (newest ∷ earlier) =
@@ -277,12 +295,14 @@ Follows entries newest earlier =
 unfoldable pub MayBeVoid : ConnectionEvent → List ConnectionStep → Type 0
 MayBeVoid e earlier = CanBeVoid e (status_of earlier) (stream_of earlier) (taken_by earlier)
 
--- the step follows from those before it; no event of a flusher asks for memory yet
+-- the step follows from those before it; no event of a flusher asks for memory yet, nor does a quota
 unfoldable pub IsStep : List Entry → Step → List Step → Type 0
 IsStep entries (Void (event.On c e)) earlier = MayBeVoid e (part_of c earlier)
 IsStep entries (Void (event.By e)) earlier = ⊥
+IsStep entries (Void (event.SetQuota tenant quota)) earlier = ⊥
 IsStep entries (At c own) earlier = Follows entries own (part_of c earlier)
 IsStep entries (Flushed e) earlier = Unit {0}
+IsStep entries (Ordered tenant quota) earlier = Unit {0}
 
 -- each step follows from those before it
 unfoldable pub IsHistory : List Entry → List Step → Type 0
@@ -356,6 +376,7 @@ telling_of entries (At c own) earlier =
           r;
     }) (told_at entries c own earlier)
 telling_of entries (Flushed e) earlier = None
+telling_of entries (Ordered tenant quota) earlier = None
 
 abbrev pub with_telling : Option Telling → List Telling → List Telling
 with_telling None tellings = tellings

@@ -17,6 +17,10 @@ line_limit = 65536
 abbrev pub deleted_limit : ℕ
 deleted_limit = 64
 
+-- live snapshots of one tenant
+abbrev pub snapshot_limit : ℕ
+snapshot_limit = 64
+
 -- leaves of the cache
 abbrev pub cache_limit : ℕ
 cache_limit = 65536

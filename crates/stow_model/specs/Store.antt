@@ -1,5 +1,5 @@
 -- One tenant's store, alone: what a request means to it.
-use Rattle.std.specs.Prelude.{◌≡◌, ℕ, ℤ, pos, ◌+◌, ◌-◌, ◌+ℤ◌, Bool, true, false, not, List, [], ◌∷◌, ◌++◌, length, filter, take, sum_by, Option, Some, None, is_some, if◌then◌else◌, nat_lt, ◌==◌, ◌&&◌, ◌||◌}
+use Rattle.std.specs.Prelude.{◌≤◌, ◌≡◌, ℕ, ℤ, pos, ◌+◌, ◌-◌, ◌+ℤ◌, negsuc, nat_le, codes, Bool, true, false, not, List, [], ◌∷◌, ◌++◌, length, filter, take, sum_by, Option, Some, None, is_some, if◌then◌else◌, nat_lt, ◌==◌, ◌&&◌, ◌||◌}
 use Rattle.std.specs.Prelude.{map as list_map}
 use Rattle.std.specs.Option.{unwrap_or}
 use Rattle.std.specs.List.{list_any, flat_map}
@@ -10,6 +10,7 @@ use Rattle.std.specs.FinMap.{FinMap}
 use Rattle.std.specs.FinMap as map
 use Rattle.stow_bytes.specs.Bytes.{bytes_cmp}
 use Rattle.stow_bytes.specs.Limits.{value_limit, number_limit}
+use Rattle.stow_model.specs.Limits.{snapshot_limit}
 use Rattle.stow_model.specs.declared.refusal.Refusal.{Refusal}
 use Rattle.stow_model.specs.declared.refusal.Refusal.TheVariants as refusal
 use Rattle.stow_model.specs.declared.simple_string.SimpleString.TheVariants as simple
@@ -19,7 +20,7 @@ use Rattle.stow_model.specs.Item as item
 use Rattle.stow_model.specs.Reply.{Reply}
 use Rattle.stow_model.specs.Reply as reply
 use Rattle.stow_model.specs.NumberText.{number_of, is_integer}
-use Rattle.stow_model.specs.Command.{Command, Ping, Echo, Get, GetMany, Exists, Length, Range, Del, Change, Update, Set, Append, Add, Condition, Always, IfMissing, IfThere, Reading, Understood, Refused, reading}
+use Rattle.stow_model.specs.Command.{Command, Ping, Echo, Get, GetMany, Exists, Length, Range, Del, TakeSnapshot, ListSnapshots, DropSnapshot, GetInSnapshot, RangeInSnapshot, ReportUsage, Change, Update, Set, Append, Add, Condition, Always, IfMissing, IfThere, Reading, Understood, Refused, reading}
 
 -- ---- what one tenant has
 
@@ -97,6 +98,10 @@ usage store =
       refusals = store.refusals;
       snapshots = map.len store.snapshots;
     }
+
+-- a count, one higher, up to its limit
+abbrev pub one_more : ℕ → ℕ
+one_more n = if nat_lt n number_limit then n + 1 else n
 
 -- ---- a change of one row
 
@@ -195,10 +200,23 @@ Answer = Store × Reply
 abbrev pub refused : Store → Refusal → Answer
 refused store r = (store, reply.Error r)
 
+-- the second store is charged more than the quota, and more than the first
+abbrev pub exceeds_quota : Store → Store → Bool
+exceeds_quota before after =
+    nat_lt before.quota (charge after) && nat_lt (charge before) (charge after)
+
+-- the next store, unless it exceeds the quota, which is counted
+abbrev pub within_quota : Store → Store → Reply → Answer
+within_quota before after r =
+    if exceeds_quota before after
+    then refused (record before { refusals = one_more before.refusals }) refusal.QuotaExceeded
+    else (after, r)
+
 -- the store's rows become these by its next write
 abbrev pub written : Store → Rows → Reply → Answer
 written store rows r =
-    if nat_lt store.last number_limit then (record store { rows = rows; last = store.last + 1 }, r)
+    if nat_lt store.last number_limit
+    then within_quota store (record store { rows = rows; last = store.last + 1 }) r
     else refused store refusal.WriteNumbersUsedUp
 
 -- a row's value is written with the number of the store's next write
@@ -219,24 +237,98 @@ del_answer store keys =
     removed_answer store (map.len store.rows - map.len (rows_without keys store.rows))
     (rows_without keys store.rows)
 
+-- ---- snapshots
+
+-- an id is left, and few enough snapshots are live
+abbrev pub can_take : Store → Bool
+can_take store =
+    nat_lt (map.len store.snapshots) snapshot_limit && nat_le store.next number_limit
+
+abbrev pub take_answer : Store → Answer
+take_answer store =
+    if can_take store
+    then (
+      record store {
+        snapshots = map.insert store.snapshots store.next store.rows;
+        next = store.next + 1;
+      },
+      reply.Integer (pos store.next),
+    )
+    else refused store refusal.TooManySnapshots
+
+-- the rows that a live snapshot shows; ids are numbers from 1 on
+abbrev pub snapshot_rows : Store → ℤ → Option Rows
+snapshot_rows store (pos id) = map.get store.snapshots id
+snapshot_rows store (negsuc n) = None
+
+abbrev pub without_snapshot : Store → ℤ → Store
+without_snapshot store (pos id) =
+    record store { snapshots = map.remove store.snapshots id }
+without_snapshot store (negsuc n) = store
+
+abbrev pub drop_answer : Store → ℤ → Option Rows → Answer
+drop_answer store id None = refused store refusal.NoSuchSnapshot
+drop_answer store id (Some rows) = (without_snapshot store id, reply.Simple simple.Ok)
+
+-- what is told of a snapshot's rows, if it is live
+abbrev pub in_snapshot : Store → Option Rows → (Rows → Reply) → Answer
+in_snapshot store None told = refused store refusal.NoSuchSnapshot
+in_snapshot store (Some rows) told = (store, told rows)
+
+abbrev pub get_reply : List ℕ → Rows → Reply
+get_reply key rows = value_or_null (map.get rows key)
+
+abbrev pub range_reply : List ℕ → List ℕ → ℕ → Rows → Reply
+range_reply from to count rows =
+    reply.Array (flat_map row_items (rows_within from to count rows))
+
+abbrev pub id_items : Store → List Item
+id_items store = list_map (λ id. item.Integer (pos id)) (map.keys store.snapshots)
+
+-- ---- the usage report
+
+-- each number is within the limit of numbers
+pub record AreWithin (u : Usage) : Type 0 where
+  pub rows : u.rows ≤ number_limit
+  pub charge : u.charge ≤ number_limit
+  pub quota : u.quota ≤ number_limit
+  pub writes : u.writes ≤ number_limit
+  pub commands : u.commands ≤ number_limit
+  pub refusals : u.refusals ≤ number_limit
+  pub snapshots : u.snapshots ≤ number_limit
+
+-- each number behind its name
+abbrev pub usage_items : Usage → List Item
+usage_items u =
+    item.Bulk (codes "rows") ∷ item.Integer (pos u.rows)
+    ∷ item.Bulk (codes "charge") ∷ item.Integer (pos u.charge)
+    ∷ item.Bulk (codes "quota") ∷ item.Integer (pos u.quota)
+    ∷ item.Bulk (codes "writes") ∷ item.Integer (pos u.writes)
+    ∷ item.Bulk (codes "commands") ∷ item.Integer (pos u.commands)
+    ∷ item.Bulk (codes "refusals") ∷ item.Integer (pos u.refusals)
+    ∷ item.Bulk (codes "snapshots") ∷ item.Integer (pos u.snapshots)
+    ∷ []
+
 -- the store after a command that was counted, and the reply
 abbrev pub served : Store → Command → Answer
 served store Ping = (store, reply.Simple simple.Pong)
 served store (Echo text) = (store, reply.Bulk text)
-served store (Get key) = (store, value_or_null (map.get store.rows key))
+served store (Get key) = (store, get_reply key store.rows)
 served store (GetMany keys) =
     (store, reply.Array (list_map (λ key. item_or_null (map.get store.rows key)) keys))
 served store (Exists keys) = (store, reply.Integer (pos (count_rows store.rows keys)))
 served store (Length key) = (store, reply.Integer (pos (length_or_zero (map.get store.rows key))))
-served store (Range from to count) =
-    (store, reply.Array (flat_map row_items (rows_within from to count store.rows)))
+served store (Range from to count) = (store, range_reply from to count store.rows)
 served store (Del keys) = del_answer store keys
+served store TakeSnapshot = take_answer store
+served store ListSnapshots = (store, reply.Array (id_items store))
+served store (DropSnapshot id) = drop_answer store id (snapshot_rows store id)
+served store (GetInSnapshot id key) = in_snapshot store (snapshot_rows store id) (get_reply key)
+served store (RangeInSnapshot id from to count) =
+    in_snapshot store (snapshot_rows store id) (range_reply from to count)
+served store ReportUsage = (store, reply.Array (usage_items (usage store)))
 served store (Change key update) =
     change_answer store key (outcome update (value_in (map.get store.rows key)))
-
--- a count, one higher, up to its limit
-abbrev pub one_more : ℕ → ℕ
-one_more n = if nat_lt n number_limit then n + 1 else n
 
 abbrev pub counted : Store → Store
 counted store = record store { commands = one_more store.commands }
@@ -264,10 +356,13 @@ answer_with store request =
 -- what comes to a tenant's store: an entry of its line
 pub data OwnEvent : Type 0 where
   Asked : Request → OwnEvent
+  -- the operator gives the tenant this quota
+  GivenQuota : ℕ → OwnEvent
 
 -- the next store, and the reply if there is one
 abbrev pub step : Store → OwnEvent → Store × Option Reply
 step store (Asked request) = ((answer_with store request).0, Some (answer_with store request).1)
+step store (GivenQuota quota) = (record store { quota = quota }, None)
 
 abbrev pub with_reply : Option Reply → List Reply → List Reply
 with_reply None replies = replies

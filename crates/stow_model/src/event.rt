@@ -21,4 +21,6 @@ pub enum Event<A: Allocator = Global> {
     Install(u32),
     /// The leaf cache gets another size.
     Resize(usize),
+    /// The operator gives the tenant of this index another quota.
+    Quota(u32, u64),
 }

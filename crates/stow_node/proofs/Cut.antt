@@ -1,5 +1,5 @@
 -- A node cut in two between its children.
-use Rattle.std.proofs.Common.{zero, suc, ◌≡◌, ℕ, ◌+◌, ◌*◌, ◌/◌, ◌<◌, ◌≤◌, Bool, true, false, cond, List, [], ◌∷◌, ◌++◌, length, take, drop, get_or, Option, Some, None, refl, sym, ap, ◌∙◌, subst, arith, length-append, length-drop}
+use Rattle.std.proofs.Common.{zero, suc, ◌≡◌, ℕ, ◌+◌, ◌*◌, ◌<◌, Bool, true, false, cond, List, [], ◌∷◌, ◌++◌, length, take, drop, get_or, Option, Some, None, refl, sym, ap, ◌∙◌, subst, arith, length-append, length-drop}
 use Rattle.std.specs.Prelude.{IsSome, not}
 use Rattle.std.specs.List.{flat_map, AllByRecursion}
 use Rattle.std.specs.Ordering.{is_lt}
@@ -77,7 +77,7 @@ tiled-wider high end (p ∷ []) l t = (wider_tile p high end l t.0, tt)
 tiled-wider high end (p ∷ q ∷ ps) l t = (t.0, tiled-wider high end (q ∷ ps) l t.1)
 
 -- a row that isn't empty begins below its end
-below_end : (high : List ℕ) (ps : List Part) → TiledTo high ps → 0 < length ps → lt (low_or high ps) high ≡ true
+pub below_end : (high : List ℕ) (ps : List Part) → TiledTo high ps → 0 < length ps → lt (low_or high ps) high ≡ true
 below_end high [] t h = absurd (omega arith)
 below_end high (p ∷ ps) t h =
     let apart = messages_apart high (p ∷ ps) t in
@@ -88,7 +88,7 @@ all_cut P [] ys h = (tt, h)
 all_cut P (x ∷ xs) ys h = let more = all_cut P xs ys h.1 in ((h.0, more.0), more.1)
 
 -- nothing is taken of a row for a key outside its interval
-row_out : (f : Taken) (low high : List ℕ) (ps : List Part) (key : List ℕ) (n : ℕ) → Apart f high ps → low_or high ps ≡ low → spans low high key ≡ false → ops_in (flat_map f ps) key n ≡ None
+pub row_out : (f : Taken) (low high : List ℕ) (ps : List Part) (key : List ℕ) (n : ℕ) → Apart f high ps → low_or high ps ≡ low → spans low high key ≡ false → ops_in (flat_map f ps) key n ≡ None
 row_out f low high ps key n a first o = not_spanned low high key o
     (λ l. none_before f high ps key n a (ap (lt key) first ∙ l))
     (λ _ h. none_from f high ps key n a h)
@@ -157,14 +157,14 @@ pub record Cut {A : Type 0} (a : Inside A) (v w : Vec (Child A) A) (low : List �
   pub upper : IsNode (upper_of a w low)
   pub halves : AreHalves (subtree_of a) (subtree_of (lower_of a v low)) (subtree_of (upper_of a w low))
 
-pub cut : {A : Type 0} (a : Inside A) (v w : Vec (Child A) A) (low : List ℕ) → IsNode a → a.children.items ≡ v.items ++ w.items → length v.items ≡ length a.children.items / 2 → 0 < length v.items → 0 < length w.items
+pub cut : {A : Type 0} (a : Inside A) (v w : Vec (Child A) A) (low : List ℕ) → IsNode a → a.children.items ≡ v.items ++ w.items → 0 < length v.items → 0 < length w.items
     → low ≡ low_or top_key (parts_of w.items) → MessagesRise a.buffer.messages → Cut a v w low
-cut {A} a v w low node e half some more is rise = record {
+cut {A} a v w low node e some more is rise = record {
   lower = record {
     tiled = tiled-wider low top_key ps to_low left;
     first = first;
     level = (all_cut (IsBelow a.height a.shape) v.items w.items level).0;
-    wide = let wide = node.wide in (omega arith, omega (arith, widths));
+    some = omega arith;
     fits = node.fits;
     from = record { outside = λ key n o. ops-out_of_range low top_key ms key n ∙ none_cond (not (spans low top_key key)) (ops_in ms key n) (node.from.outside key n o) };
     sizes = leaf_sizes.0;
@@ -180,7 +180,6 @@ cut {A} a v w low node e half some more is rise = record {
     low = refl;
     lower_like = record { height = refl; shape = refl; capacity = refl };
     upper_like = record { height = refl; shape = refl; capacity = sym node.fits };
-    half = half;
     widths = sym widths;
     leaves = ap leaves_in parts ∙ flat_map-append (λ (p : Part). p.leaves) ps qs;
     messages = λ key n.
@@ -291,7 +290,7 @@ cut {A} a v w low node e half some more is rise = record {
       tiled = right;
       first = sym is;
       level = (all_cut (IsBelow a.height a.shape) v.items w.items level).1;
-      wide = let wide = node.wide in (omega arith, omega (arith, widths));
+      some = omega arith;
       fits = refl;
       from = record { outside = λ key n o. upper_ops key n ∙ ap (λ t. cond t (ops_in ms key n) None) o };
       sizes = leaf_sizes.1;
@@ -311,15 +310,13 @@ low_from [] i d h = absurd (omega arith)
 low_from (c ∷ cs) zero d h = refl
 low_from (c ∷ cs) (suc i) d h = low_from cs i d (omega arith)
 
--- the vector's halves
-pub cut_at : {A : Type 0} (a : Inside A) (v w : Vec (Child A) A) (low : List ℕ) (half : ℕ) (d : Child A) → IsNode a → half ≡ length a.children.items / 2 → 2 ≤ length a.children.items → v.items ≡ take half a.children.items → w.items ≡ drop half a.children.items
-    → low ≡ (part_of (get_or a.children.items half d)).low → MessagesRise a.buffer.messages → Cut a v w low
-cut_at a v w low half d node h two left right from rise =
-    let few : half ≤ length a.children.items = omega (arith, h, two) in
+-- the vector's parts
+pub cut_at : {A : Type 0} (a : Inside A) (v w : Vec (Child A) A) (low : List ℕ) (at : ℕ) (d : Child A) → IsNode a → 0 < at → at < length a.children.items → v.items ≡ take at a.children.items → w.items ≡ drop at a.children.items
+    → low ≡ (part_of (get_or a.children.items at d)).low → MessagesRise a.buffer.messages → Cut a v w low
+cut_at a v w low at d node some more left right from rise =
     cut a v w low node
-    (sym (ap (λ l. l ++ w.items) left ∙ ap (λ l. take half a.children.items ++ l) right ∙ take-append-drop half a.children.items))
-    (ap length left ∙ length-take-le half a.children.items few ∙ h)
-    (let l = ap length left ∙ length-take-le half a.children.items few in omega (arith, l, h, two))
-    (let l = ap length right ∙ length-drop half a.children.items in omega (arith, l, h, two))
-    (from ∙ low_from a.children.items half d (omega (arith, h, two)) ∙ ap (λ cs. low_or top_key (parts_of cs)) (sym right))
+    (sym (ap (λ l. l ++ w.items) left ∙ ap (λ l. take at a.children.items ++ l) right ∙ take-append-drop at a.children.items))
+    (let l = ap length left ∙ length-take-le at a.children.items (omega (arith, more)) in omega (arith, l, some))
+    (let l = ap length right ∙ length-drop at a.children.items in omega (arith, l, more))
+    (from ∙ low_from a.children.items at d more ∙ ap (λ cs. low_or top_key (parts_of cs)) (sym right))
     rise

@@ -1,7 +1,7 @@
 -- One step of messages down: what a node is after each of its ends.
-use Rattle.std.proofs.Common.{zero, suc, ◌≡◌, ℕ, ◌+◌, ◌*◌, ◌<◌, ◌≤◌, List, [], ◌∷◌, ◌++◌, length, get_or, set, Some, refl, sym, ap, ◌∙◌, subst, arith}
+use Rattle.std.proofs.Common.{zero, suc, ◌≡◌, ℕ, ◌+◌, ◌<◌, ◌≤◌, List, [], ◌∷◌, length, get_or, set, Some, refl, sym, ap, ◌∙◌, arith}
 use Rattle.std.specs.Prelude.{slice_get}
-use Rattle.std.specs.List.{sum_by, AllByRecursion}
+use Rattle.std.specs.List.{sum_by}
 use Rattle.std.specs.Vec.{with_item, with_items}
 use Rattle.std.specs.declared.vec.Vec.{Vec}
 use Rattle.std.proofs.lemmas.List.{length-set, map-set, with_items_is}
@@ -15,10 +15,9 @@ use Rattle.stow_node.specs.declared.child.Child.{Child}
 use Rattle.stow_node.specs.declared.child.Child.TheVariants as in_child
 use Rattle.stow_node.specs.declared.node.Node.TheInside.{Inside}
 use Rattle.stow_node.specs.Subtree.{Subtree}
-use Rattle.stow_leaf.specs.LeafRows.{row_messages}
-use Rattle.stow_node.specs.Parts.{Part, low_or, high_of, TiledTo, messages_in, leaves_in, weight_in}
+use Rattle.stow_node.specs.Parts.{Part, high_of}
 use Rattle.stow_leaf.specs.Intervals.{top_key}
-use Rattle.stow_node.specs.Nodes.{part_of, node_part, parts_of, AreNewer, IsBelow, subtree_of, IsNode, AreLeafSizes}
+use Rattle.stow_node.specs.Nodes.{part_of, node_part, parts_of, subtree_of, IsNode}
 use Rattle.stow_node.specs.Moves.{accepted, CanAccept, IsSqueezed, Stays, bytes_for, messages_for, HandsDown}
 use Rattle.stow_node.proofs.HandedDown.{same_node}
 use Rattle.stow_node.proofs.Lowered.{for_child, can_hand, Lowered, lowered, end_of-set}
@@ -57,34 +56,6 @@ get-set (y ∷ ys) zero x h = refl
 get-set (y ∷ ys) (suc i) x h = get-set ys i x (omega arith)
 
 -- ---- nothing moved, since the child is a leaf
-
-pub record SameChildren {A : Type 0} (a : Inside A) (v : Vec (Child A) A) : Type 0 where
-  pub is_node : IsNode (record a { children = v })
-  pub is : subtree_of (record a { children = v }) ≡ subtree_of a
-
-pub same_children : {A : Type 0} (a : Inside A) (v : Vec (Child A) A) → IsNode a → v.items ≡ a.children.items → SameChildren a v
-same_children {A} a v node e = record {
-  is_node = record {
-    tiled = subst (λ (l : List (Child A)). TiledTo top_key (parts_of l)) (sym e) node.tiled;
-    first = subst (λ (l : List (Child A)). low_or top_key (parts_of l) ≡ a.low) (sym e) node.first;
-    level = subst (λ (l : List (Child A)). AllByRecursion (IsBelow a.height a.shape) l) (sym e) node.level;
-    wide = subst (λ (l : List (Child A)). (1 ≤ length l) × (length l ≤ a.shape.fan_out)) (sym e) node.wide;
-    fits = node.fits;
-    from = node.from;
-    sizes = subst (λ (l : List (Child A)). AreLeafSizes a.shape.leaf (leaves_in (parts_of l))) (sym e) node.sizes;
-    newer = subst (λ (l : List (Child A)). AreNewer a.buffer.messages (messages_in (parts_of l) ++ row_messages (leaves_in (parts_of l)))) (sym e) node.newer;
-  };
-  is = ap (λ (l : List (Child A)). record {
-    low = a.low;
-    height = a.height;
-    width = length l;
-    shape = a.shape;
-    buffer = a.buffer;
-    deeper = messages_in (parts_of l);
-    leaves = leaves_in (parts_of l);
-    weight = a.height * length a.buffer.messages + weight_in (parts_of l);
-  }) e;
-}
 
 -- ---- messages moved into the child
 

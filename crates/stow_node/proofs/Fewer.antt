@@ -23,7 +23,7 @@ use Rattle.stow_node.specs.Subtree.{messages_of}
 use Rattle.stow_node.proofs.Flushed.{leaf_parts, low_of_leaves, leaf_tiles, no_messages, no_weight, all_leaves}
 use Rattle.stow_node.proofs.Joined.{SameRows, joined_same}
 use Rattle.stow_node.proofs.Over.{same_pointwise}
-use Rattle.stow_node.proofs.Pairs.{leaves_are}
+use Rattle.stow_node.proofs.Absorbed.{leaves_are}
 use Rattle.stow_node.proofs.Raised.{whole_tile}
 use Rattle.stow_node.proofs.Standing.{stands}
 
@@ -39,7 +39,7 @@ low_is children h = ap (λ cs. low_or top_key (parts_of cs)) h.are ∙ ap (low_o
 leaf_list : {A : Type 0} (children : List (Child A)) (h : AreLeaves children) → leaves_of children ≡ map leaf_rows h.leaves
 leaf_list children h = ap leaves_of h.are ∙ leaves_are h.leaves
 
-count_is : {A : Type 0} (children : List (Child A)) → AreLeaves children → length children ≡ length (leaves_of children)
+pub count_is : {A : Type 0} (children : List (Child A)) → AreLeaves children → length children ≡ length (leaves_of children)
 count_is {A} children h = ap length h.are ∙ length-map {B = Child A} h.leaves in_child.Leaf ∙ sym (ap length (leaf_list children h) ∙ length-map h.leaves leaf_rows)
 
 none_buffered : {A : Type 0} (children : List (Child A)) → AreLeaves children → messages_in (parts_of children) ≡ []
@@ -114,13 +114,11 @@ has_fewer {A} a v pins node one new joined = record {
       tiled = subst (TiledTo top_key) (sym (ap parts_of new.are ∙ parts_are new.leaves)) (leaf_tiles top_key new.leaves new.tiled);
       first = low_is v.items new ∙ sym (ap (first_fence top_key) (leaf_list v.items new)) ∙ same.first top_key ∙ ap (first_fence top_key) (leaf_list a.children.items old) ∙ sym (low_is a.children.items old) ∙ node.first;
       level = subst (AllByRecursion (IsBelow {A = A} a.height a.shape)) (sym new.are) (all_leaves a.height a.shape new.leaves one);
-      wide =
+      some =
           let before = count_is a.children.items old in
           let after = count_is v.items new in
-          let some = same.some (let w = node.wide.0 in omega (arith, w, before)) in
-          let few = same.few in
-          let most = node.wide.1 in
-          (omega (arith, after, some), omega (arith, before, after, few, most));
+          let some = same.some (let w = node.some in omega (arith, w, before)) in
+          omega (arith, after, some);
       fits = node.fits;
       from = node.from;
       newer = subst (AreNewer a.buffer.messages) (sym below) node.newer;

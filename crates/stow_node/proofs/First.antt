@@ -13,7 +13,7 @@ use Rattle.stow_node.specs.Subtree.{first_subtree}
 use Rattle.std.specs.List.{AllByRecursion}
 use Rattle.stow_node.specs.Parts.{TiledTo, low_or, messages_in, leaves_in, weight_in}
 use Rattle.stow_leaf.specs.Intervals.{top_key}
-use Rattle.stow_node.specs.Nodes.{parts_of, IsBelow, subtree_of, IsNode, AreLeafSizes}
+use Rattle.stow_node.specs.Nodes.{parts_of, nearest_in, deepest_in, IsBelow, subtree_of, IsNode, AreLeafSizes}
 
 pub record IsFirst {A : Type 0} (shape : Shape) (a : Inside A) : Type 0 where
   pub is_node : IsNode a
@@ -27,16 +27,15 @@ record Facts {A : Type 0} (shape : Shape) (l : List (Child A)) : Type 0 where
   first : low_or top_key (parts_of l) ≡ packed 0 []
   level : AllByRecursion (IsBelow 1 shape) l
   some : 1 ≤ length l
-  few : length l ≤ shape.fan_out
   sizes : AreLeafSizes shape.leaf (leaves_in (parts_of l))
 
-pub is_first : {A : Type 0} (shape : Shape) (v : Vec (Child A) A) → 1 ≤ shape.fan_out → v.items ≡ in_child.Leaf first_leaf ∷ [] → IsFirst shape (record { low = packed 0 []; height = 1; shape = shape; buffer = message_list [] 0 shape.buffer; children = v })
-is_first {A} shape v wide e = record {
+pub is_first : {A : Type 0} (shape : Shape) (v : Vec (Child A) A) → v.items ≡ in_child.Leaf first_leaf ∷ [] → IsFirst shape (record { low = packed 0 []; height = 1; shape = shape; buffer = message_list [] 0 shape.buffer; children = v })
+is_first {A} shape v e = record {
   is_node = record {
     tiled = facts.tiled;
     first = facts.first;
     level = facts.level;
-    wide = (facts.some, facts.few);
+    some = facts.some;
     fits = refl;
     from = record { outside = λ key n o. refl };
     sizes = facts.sizes;
@@ -49,6 +48,8 @@ is_first {A} shape v wide e = record {
     shape = shape;
     buffer = message_list [] 0 shape.buffer;
     deeper = messages_in (parts_of l);
+    nearest = nearest_in l;
+    deepest = deepest_in l;
     leaves = leaves_in (parts_of l);
     weight = 1 * 0 + weight_in (parts_of l);
   }) e;
@@ -69,6 +70,5 @@ is_first {A} shape v wide e = record {
       first = refl;
       level = (record { level = refl; same = tt }, tt);
       some = omega arith;
-      few = wide;
       sizes = (no_rows_size shape.leaf, tt);
     })

@@ -28,20 +28,20 @@ use Rattle.stow_leaf.specs.Replacements.{IsLeafSize, AreThere, ops_with, IsFence
 use Rattle.stow_leaf.specs.declared.leaf.Leaf.{Leaf}
 use Rattle.stow_leaf.proofs.Found.{both_none, or_none, none_or, none_some, some_or, some_left, some_right, merged_short}
 use Rattle.stow_leaf.proofs.Fronts.{range_within}
-use Rattle.stow_leaf.proofs.Intervals.{lt, by_test, lt_le, lt_self, spanned, span_low, span_high}
+use Rattle.stow_leaf.proofs.Intervals.{lt, by_test, lt_self, spanned, span_low, span_high}
 use Rattle.stow_leaf.proofs.Ops.{ops-append, ops-in_range, ops-out_of_range}
 use Rattle.stow_leaf.proofs.Steps.{inside_of}
 use Rattle.stow_node.specs.declared.child.Child.{Child}
 use Rattle.stow_node.specs.declared.child.Child.TheVariants as in_child
 use Rattle.stow_node.specs.declared.node.Node.TheInside.{Inside}
 use Rattle.stow_node.specs.declared.shape.Shape.{Shape}
-use Rattle.stow_node.specs.Absorbs.{CanAbsorb, with_leaves, Absorbs}
-use Rattle.stow_node.specs.Flushes.{AreShort, MeanTheSame, Flushes}
+use Rattle.stow_node.specs.Absorbs.{CanAbsorb, with_leaves}
+use Rattle.stow_node.specs.Flushes.{AreShort, MeanTheSame, Keeps}
 use Rattle.stow_node.specs.Nodes.{leaf_part, part_of, node_part, parts_of, AreLeafSizes, IsBelow, subtree_of, IsNode}
 use Rattle.stow_node.specs.Parts.{Part, low_or, end_of, high_of, IsTile, TiledTo, messages_in, leaves_in, weight_in}
 use Rattle.stow_node.specs.Subtree.{Subtree, messages_of}
 use Rattle.stow_node.proofs.Accepted.{whole_ops}
-use Rattle.stow_node.proofs.Cut.{low_or-append, tiled-left, tiled-right, none_cond, some_cond, all_cut}
+use Rattle.stow_node.proofs.Cut.{row_out, low_or-append, tiled-left, tiled-right, none_cond, some_cond, all_cut}
 use Rattle.stow_node.proofs.Lowered.{rows_by_part}
 use Rattle.stow_node.proofs.Over.{same_pointwise}
 use Rattle.stow_node.proofs.Raised.{whole_tile}
@@ -117,13 +117,6 @@ end_behind high (p ∷ ps) (suc i) h =
 
 -- ---- the row
 
--- what is known where leaves stand in the place of one
-pub record Replaced {A : Type 0} (a : Inside A) (i : ℕ) (leaf : Leaf A) (leaves : List (Leaf A)) (most : ℕ) (end : List ℕ) (pins : TenantPins) : Type 0 where
-  pub node : IsNode a
-  pub at : slice_get a.children.items i ≡ Some (in_child.Leaf leaf)
-  pub is : IsReplacement (leaf_rows leaf) (high_of (parts_of a.children.items) i) a.buffer.messages pins a.shape.leaf most (map leaf_rows leaves) end
-  pub room : length a.children.items + most ≤ a.shape.fan_out + 1
-
 pub old_parts : {A : Type 0} (a : Inside A) (i : ℕ) (c : Child A) → slice_get a.children.items i ≡ Some c → parts_of a.children.items ≡ take i (parts_of a.children.items) ++ (part_of c ∷ drop (i + 1) (parts_of a.children.items))
 old_parts a i c at =
     let inside : i < length (parts_of a.children.items) = omega (arith, inside_of a.children.items i c at, length-map a.children.items part_of) in
@@ -149,12 +142,14 @@ pub record Flushed {A : Type 0} (a : Inside A) (v : Vec (Child A) A) (i : ℕ) (
   pub at : slice_get a.children.items i ≡ Some (in_child.Leaf leaf)
   pub others : (l : LeafRows) → Contains (leaves_in (parts_of a.children.items)) l → l.0 ≢ leaf.low → Contains (leaves_in (parts_of v.items)) l
   pub is_node : IsNode (record a { children = v; buffer = b })
-  pub flushes : Flushes pins (subtree_of a) (subtree_of (record a { children = v; buffer = b }))
+  pub keeps : Keeps pins (subtree_of a) (subtree_of (record a { children = v; buffer = b }))
+  pub lighter : (subtree_of (record a { children = v; buffer = b })).weight < (subtree_of a).weight
 
-pub flushed : {A : Type 0} (a : Inside A) (v : Vec (Child A) A) (i : ℕ) (leaf : Leaf A) (leaves : List (Leaf A)) (most : ℕ) (end : List ℕ) (pins : TenantPins) → Replaced a i leaf leaves most end pins → v.items ≡ with_leaves a.children.items i leaves → Flushed a v i (without_range leaf.low end a.buffer) pins
-flushed {A} a v i leaf leaves most end pins r items = record {
+pub flushed : {A : Type 0} (a : Inside A) (v : Vec (Child A) A) (i : ℕ) (leaves : List (Leaf A)) (pins : TenantPins) → IsNode a → (can : CanAbsorb a.children.items i a.buffer.messages pins a.shape.leaf)
+    → IsReplacement (leaf_rows can.leaf) (high_of (parts_of a.children.items) i) a.buffer.messages pins a.shape.leaf (map leaf_rows leaves) → v.items ≡ with_leaves a.children.items i leaves → Flushed a v i (without_range can.leaf.low (high_of (parts_of a.children.items) i) a.buffer) pins
+flushed {A} a v i leaves pins node can r items = record {
   leaf = leaf;
-  at = r.at;
+  at = can.at;
   others = λ l c ne. subst (λ ls. Contains ls l) (sym leaves_are) (⊎_elim
       (λ (b : Contains (leaves_in xs) l). Contains-append_left (leaves_in xs) (map leaf_rows leaves ++ leaves_in ys) l b)
       (λ (b : Contains (leaf_rows leaf ∷ leaves_in ys) l). ⊎_elim
@@ -163,20 +158,24 @@ flushed {A} a v i leaf leaves most end pins r items = record {
       (contains_cases (leaf_rows leaf) l (leaves_in ys) b))
       (Contains-append_cases (leaves_in xs) (leaf_rows leaf ∷ leaves_in ys) l (subst (λ ls. Contains ls l) (ap leaves_in old ∙ flat_map-append (λ (q : Part). q.leaves) xs (p ∷ ys)) c)));
   is_node = node_is;
-  flushes = record {
-    keeps = record {
-      low = refl;
-      height = refl;
-      shape = refl;
-      capacity = refl;
-      sizes = sizes_are;
-      tile = λ h t. stands (subtree_of a) new top_key h refl t (whole_tile (record a { children = v; buffer = without_range leaf.low end a.buffer }) node_is) (fences h t) (λ key. (means key).there);
-      means = means;
-    };
-    lighter = lighter;
+  keeps = record {
+    low = refl;
+    height = refl;
+    shape = refl;
+    capacity = refl;
+    sizes = sizes_are;
+    tile = λ h t. stands (subtree_of a) new top_key h refl t (whole_tile (record a { children = v; buffer = without_range leaf.low high a.buffer }) node_is) (fences h t) (λ key. (means key).there);
+    means = means;
   };
+  lighter = lighter;
 }
   where
+    leaf : Leaf A
+    leaf = can.leaf
+
+    high : List ℕ
+    high = high_of (parts_of a.children.items) i
+
     ms : List TreeMessage
     ms = a.buffer.messages
 
@@ -193,16 +192,13 @@ flushed {A} a v i leaf leaves most end pins r items = record {
     qs = leaf_parts leaves
 
     new : Subtree
-    new = subtree_of (record a { children = v; buffer = without_range leaf.low end a.buffer })
-
-    high : List ℕ
-    high = high_of (parts_of a.children.items) i
+    new = subtree_of (record a { children = v; buffer = without_range leaf.low high a.buffer })
 
     inside : i < length a.children.items
-    inside = inside_of a.children.items i (in_child.Leaf leaf) r.at
+    inside = inside_of a.children.items i (in_child.Leaf leaf) can.at
 
     old : parts_of a.children.items ≡ xs ++ (p ∷ ys)
-    old = old_parts a i (in_child.Leaf leaf) r.at
+    old = old_parts a i (in_child.Leaf leaf) can.at
 
     parts : parts_of v.items ≡ xs ++ (qs ++ ys)
     parts = ap parts_of items ∙ new_parts a i leaves
@@ -211,7 +207,7 @@ flushed {A} a v i leaf leaves most end pins r items = record {
     ends = end_behind top_key (parts_of a.children.items) i (omega (arith, inside, length-map a.children.items part_of))
 
     tiled : TiledTo top_key (xs ++ (p ∷ ys))
-    tiled = subst (TiledTo top_key) old r.node.tiled
+    tiled = subst (TiledTo top_key) old node.tiled
 
     left : TiledTo leaf.low xs
     left = tiled-left top_key xs (p ∷ ys) tiled
@@ -221,25 +217,28 @@ flushed {A} a v i leaf leaves most end pins r items = record {
 
     -- the leaves begin where the leaf did
     lows : low_or top_key (qs ++ ys) ≡ leaf.low
-    lows = low_or-append top_key qs ys ∙ ap (λ h. low_or h qs) (sym ends) ∙ low_of_leaves high leaves ∙ r.is.replaces.first
+    lows = low_or-append top_key qs ys ∙ ap (λ h. low_or h qs) (sym ends) ∙ low_of_leaves high leaves ∙ r.first
 
     lower : IsBelow {A = A} a.height a.shape (in_child.Leaf leaf)
-    lower = level_at a.height a.shape a.children.items i (in_child.Leaf leaf) r.node.level r.at
+    lower = level_at a.height a.shape a.children.items i (in_child.Leaf leaf) node.level can.at
 
     height_one : a.height ≡ 1
     height_one = sym lower.level
 
     sides : AllByRecursion (IsBelow {A = A} a.height a.shape) (take i a.children.items) × AllByRecursion (IsBelow {A = A} a.height a.shape) (drop (i + 1) a.children.items)
     sides =
-        let all = all_cut (IsBelow {A = A} a.height a.shape) (take i a.children.items) (drop i a.children.items) (subst (AllByRecursion (IsBelow {A = A} a.height a.shape)) (sym (take-append-drop i a.children.items)) r.node.level) in
+        let all = all_cut (IsBelow {A = A} a.height a.shape) (take i a.children.items) (drop i a.children.items) (subst (AllByRecursion (IsBelow {A = A} a.height a.shape)) (sym (take-append-drop i a.children.items)) node.level) in
         (all.0, (subst (AllByRecursion (IsBelow {A = A} a.height a.shape)) (drop_more a.children.items i (in_child.Leaf leaf) inside) all.1).1)
+
+    begins : lt leaf.low high ≡ true
+    begins = ap is_lt can.can.tile.ordered
 
     some : 1 ≤ length leaves
     some = by_leaves leaves refl where
       by_leaves : (ls : List (Leaf A)) → ls ≡ leaves → 1 ≤ length leaves
-      by_leaves [] e = absurd (empty (ap (λ l. first_fence high (map leaf_rows l)) e ∙ r.is.replaces.first)) where
+      by_leaves [] e = absurd (empty (ap (λ l. first_fence high (map leaf_rows l)) e ∙ r.first)) where
         empty : high ≡ leaf.low → ⊥
-        empty f = no_path (sym (lt_self leaf.low) ∙ ap (lt leaf.low) (sym f) ∙ lt_le leaf.low end high r.is.replaces.begins r.is.replaces.ends)
+        empty f = no_path (sym (lt_self leaf.low) ∙ ap (lt leaf.low) (sym f) ∙ begins)
       by_leaves (l ∷ ls) e = let n = ap length e in omega (arith, n)
 
     count : length v.items + 1 ≡ length a.children.items + length leaves
@@ -256,7 +255,7 @@ flushed {A} a v i leaf leaves most end pins r items = record {
 
     sizes : AreLeafSizes a.shape.leaf (leaves_in xs) × AreLeafSizes a.shape.leaf (leaves_in ys)
     sizes =
-        let all = all_cut (λ (l : LeafRows). IsLeafSize a.shape.leaf l.1) (leaves_in xs) (leaf_rows leaf ∷ leaves_in ys) (subst (AreLeafSizes a.shape.leaf) (ap leaves_in old ∙ flat_map-append (λ (q : Part). q.leaves) xs (p ∷ ys)) r.node.sizes) in
+        let all = all_cut (λ (l : LeafRows). IsLeafSize a.shape.leaf l.1) (leaves_in xs) (leaf_rows leaf ∷ leaves_in ys) (subst (AreLeafSizes a.shape.leaf) (ap leaves_in old ∙ flat_map-append (λ (q : Part). q.leaves) xs (p ∷ ys)) node.sizes) in
         (all.0, all.1.1)
 
     -- the buffers below are as they were
@@ -279,10 +278,16 @@ flushed {A} a v i leaf leaves most end pins r items = record {
         ap (λ l. ops_in (row_messages (leaves_in l)) key n) parts ∙ rows_by qs key n
         ∙ ap (λ l. or_else (ops_in (flat_map row_taken xs) key n) (or_else (ops_in l key n) (ops_in (flat_map row_taken ys) key n))) (rows_of_leaves leaves)
 
-    same_rows : (key : List ℕ) (n : ℕ) → spans leaf.low end key ≡ false → ops_in (row_messages (leaves_in (parts_of v.items))) key n ≡ ops_in (row_messages (leaves_in (parts_of a.children.items))) key n
+    outside_rows : (key : List ℕ) → spans leaf.low high key ≡ false → ops_in (row_messages (map leaf_rows leaves)) key ≡ ops_in (map row_message leaf.rows) key
+    outside_rows key o j n =
+        (ap (λ l. ops_in l key n) (sym (rows_of_leaves leaves))
+        ∙ row_out row_taken leaf.low high qs key n (rows_apart high qs (leaf_tiles high leaves r.tiled)) (low_of_leaves high leaves ∙ r.first) o
+        ∙ sym (can.can.tile.rows.outside key n o)) j
+
+    same_rows : (key : List ℕ) (n : ℕ) → spans leaf.low high key ≡ false → ops_in (row_messages (leaves_in (parts_of v.items))) key n ≡ ops_in (row_messages (leaves_in (parts_of a.children.items))) key n
     same_rows key n o =
         new_rows key n
-        ∙ ap (λ (f : Operations). or_else (ops_in (flat_map row_taken xs) key n) (or_else (f n) (ops_in (flat_map row_taken ys) key n))) (r.is.replaces.rest key o)
+        ∙ ap (λ (f : Operations). or_else (ops_in (flat_map row_taken xs) key n) (or_else (f n) (ops_in (flat_map row_taken ys) key n))) (outside_rows key o)
         ∙ sym (old_rows key n)
 
     -- what a node has of a key, by its own buffer, those below it, and the rows
@@ -291,21 +296,21 @@ flushed {A} a v i leaf leaves most end pins r items = record {
         whole_ops (record a { children = w; buffer = b }) key n
         ∙ ap (or_else (ops_in b.messages key n)) (ops-append (messages_in (parts_of w.items)) (row_messages (leaves_in (parts_of w.items))) key n)
 
-    outside : (key : List ℕ) (n : ℕ) → spans leaf.low end key ≡ false → ops_in (messages_of new) key n ≡ ops_in (messages_of (subtree_of a)) key n
+    outside : (key : List ℕ) (n : ℕ) → spans leaf.low high key ≡ false → ops_in (messages_of new) key n ≡ ops_in (messages_of (subtree_of a)) key n
     outside key n o =
-        whole (without_range leaf.low end a.buffer) v key n
-        ∙ ap (λ x. or_else x (or_else (ops_in (messages_in (parts_of v.items)) key n) (ops_in (row_messages (leaves_in (parts_of v.items))) key n))) (ops-out_of_range leaf.low end ms key n)
-        ∙ beside (spans leaf.low end key) (ops_in ms key n) (ops_in (messages_in (parts_of a.children.items)) key n) (ops_in (messages_in (parts_of v.items)) key n) (ops_in (row_messages (leaves_in (parts_of a.children.items))) key n) (ops_in (row_messages (leaves_in (parts_of v.items))) key n) o (same_messages key n) (same_rows key n o)
+        whole (without_range leaf.low high a.buffer) v key n
+        ∙ ap (λ x. or_else x (or_else (ops_in (messages_in (parts_of v.items)) key n) (ops_in (row_messages (leaves_in (parts_of v.items))) key n))) (ops-out_of_range leaf.low high ms key n)
+        ∙ beside (spans leaf.low high key) (ops_in ms key n) (ops_in (messages_in (parts_of a.children.items)) key n) (ops_in (messages_in (parts_of v.items)) key n) (ops_in (row_messages (leaves_in (parts_of a.children.items))) key n) (ops_in (row_messages (leaves_in (parts_of v.items))) key n) o (same_messages key n) (same_rows key n o)
         ∙ sym (whole a.buffer a.children key n)
 
     -- a key of the leaf has nothing beside it
-    before_none : (f : Taken) (key : List ℕ) (n : ℕ) → Apart f leaf.low xs → spans leaf.low end key ≡ true → ops_in (flat_map f xs) key n ≡ None
-    before_none f key n apart s = none_from f leaf.low xs key n apart (span_low leaf.low end key s)
+    before_none : (f : Taken) (key : List ℕ) (n : ℕ) → Apart f leaf.low xs → spans leaf.low high key ≡ true → ops_in (flat_map f xs) key n ≡ None
+    before_none f key n apart s = none_from f leaf.low xs key n apart (span_low leaf.low high key s)
 
-    after_none : (f : Taken) (key : List ℕ) (n : ℕ) → Apart f top_key ys → spans leaf.low end key ≡ true → ops_in (flat_map f ys) key n ≡ None
-    after_none f key n apart s = none_before f top_key ys key n apart (subst (λ h. lt key h ≡ true) ends (lt_le key end high (span_high leaf.low end key s) r.is.replaces.ends))
+    after_none : (f : Taken) (key : List ℕ) (n : ℕ) → Apart f top_key ys → spans leaf.low high key ≡ true → ops_in (flat_map f ys) key n ≡ None
+    after_none f key n apart s = none_before f top_key ys key n apart (subst (λ h. lt key h ≡ true) ends (span_high leaf.low high key s))
 
-    no_buffered : (key : List ℕ) (n : ℕ) → spans leaf.low end key ≡ true → ops_in (messages_in (parts_of a.children.items)) key n ≡ None
+    no_buffered : (key : List ℕ) (n : ℕ) → spans leaf.low high key ≡ true → ops_in (messages_in (parts_of a.children.items)) key n ≡ None
     no_buffered key n s =
         ap (λ l. ops_in (messages_in l) key n) old ∙ three message_taken xs (p ∷ []) ys key n
         ∙ both_none (ops_in (messages_in xs) key n) (or_else None (ops_in (messages_in ys) key n)) (before_none message_taken key n (messages_apart leaf.low xs left) s) (after_none message_taken key n (messages_apart top_key ys right) s)
@@ -313,59 +318,58 @@ flushed {A} a v i leaf leaves most end pins r items = record {
     only_rows : (x q y : Option Op) → x ≡ None → y ≡ None → or_else x (or_else q y) ≡ q
     only_rows x q y e f = none_or x (or_else q y) e ∙ or_none q y f
 
-    old_inside : (key : List ℕ) (n : ℕ) → spans leaf.low end key ≡ true → ops_in (messages_of (subtree_of a)) key n ≡ ops_with ms leaf.rows key n
+    old_inside : (key : List ℕ) (n : ℕ) → spans leaf.low high key ≡ true → ops_in (messages_of (subtree_of a)) key n ≡ ops_with ms leaf.rows key n
     old_inside key n s =
         whole a.buffer a.children key n
         ∙ ap (or_else (ops_in ms key n)) (none_or (ops_in (messages_in (parts_of a.children.items)) key n) (ops_in (row_messages (leaves_in (parts_of a.children.items))) key n) (no_buffered key n s)
         ∙ old_rows key n
         ∙ only_rows (ops_in (flat_map row_taken xs) key n) (ops_in (map row_message leaf.rows) key n) (ops_in (flat_map row_taken ys) key n) (before_none row_taken key n (rows_apart leaf.low xs left) s) (after_none row_taken key n (rows_apart top_key ys right) s))
 
-    new_inside : (key : List ℕ) (n : ℕ) → spans leaf.low end key ≡ true → ops_in (messages_of new) key n ≡ ops_in (row_messages (map leaf_rows leaves)) key n
+    new_inside : (key : List ℕ) (n : ℕ) → spans leaf.low high key ≡ true → ops_in (messages_of new) key n ≡ ops_in (row_messages (map leaf_rows leaves)) key n
     new_inside key n s =
-        whole (without_range leaf.low end a.buffer) v key n
-        ∙ none_or (ops_in (out_of_range leaf.low end ms) key n) (or_else (ops_in (messages_in (parts_of v.items)) key n) (ops_in (row_messages (leaves_in (parts_of v.items))) key n)) (ops-out_of_range leaf.low end ms key n ∙ ap (λ t. cond (not t) (ops_in ms key n) None) s)
+        whole (without_range leaf.low high a.buffer) v key n
+        ∙ none_or (ops_in (out_of_range leaf.low high ms) key n) (or_else (ops_in (messages_in (parts_of v.items)) key n) (ops_in (row_messages (leaves_in (parts_of v.items))) key n)) (ops-out_of_range leaf.low high ms key n ∙ ap (λ t. cond (not t) (ops_in ms key n) None) s)
         ∙ none_or (ops_in (messages_in (parts_of v.items)) key n) (ops_in (row_messages (leaves_in (parts_of v.items))) key n) (same_messages key n ∙ no_buffered key n s)
         ∙ new_rows key n
         ∙ only_rows (ops_in (flat_map row_taken xs) key n) (ops_in (row_messages (map leaf_rows leaves)) key n) (ops_in (flat_map row_taken ys) key n) (before_none row_taken key n (rows_apart leaf.low xs left) s) (after_none row_taken key n (rows_apart top_key ys right) s)
 
     -- some message is gone
-    gone : 0 < length (in_range leaf.low end ms)
-    gone = by_list (in_range leaf.low end ms) refl where
-      by_list : (l : List TreeMessage) → l ≡ in_range leaf.low end ms → 0 < length (in_range leaf.low end ms)
-      by_list [] e = absurd (none_some (ops_in (in_range leaf.low end ms) r.is.some.key r.is.some.number) (ap (λ l. ops_in l r.is.some.key r.is.some.number) (sym e))
-          (subst IsSome (sym (ops-in_range leaf.low end ms r.is.some.key r.is.some.number ∙ ap (λ t. cond t (ops_in ms r.is.some.key r.is.some.number) None) r.is.some.within)) r.is.some.there))
+    gone : 0 < length (in_range leaf.low high ms)
+    gone = by_list (in_range leaf.low high ms) refl where
+      by_list : (l : List TreeMessage) → l ≡ in_range leaf.low high ms → 0 < length (in_range leaf.low high ms)
+      by_list [] e = absurd (can.can.some (sym e))
       by_list (m ∷ l) e = let n = ap length e in omega (arith, n)
 
     lighter : new.weight < (subtree_of a).weight
     lighter =
-        let split = length-filter_both (is_between leaf.low end) (λ m. not (is_between leaf.low end m)) (λ m. refl) ms in
+        let split = length-filter_both (is_between leaf.low high) (λ m. not (is_between leaf.low high m)) (λ m. refl) ms in
         let one : (c : ℕ) → a.height * c ≡ c = λ c. ap (λ h. h * c) height_one ∙ omega arith in
         let after = ap weight_in parts ∙ sum_by-append (λ (q : Part). q.weight) xs (qs ++ ys) in
         let after_rest = sum_by-append (λ (q : Part). q.weight) qs ys in
         let before = ap weight_in old ∙ sum_by-append (λ (q : Part). q.weight) xs (p ∷ ys) in
         let before_rest = sum_by-cons (λ (q : Part). q.weight) p ys in
         let none = no_weight leaves in
-        omega (arith, split, one (length ms), one (length (out_of_range leaf.low end ms)), after, after_rest, before, before_rest, none, gone)
+        omega (arith, split, one (length ms), one (length (out_of_range leaf.low high ms)), after, after_rest, before, before_rest, none, gone)
 
     sizes_are : AreLeafSizes a.shape.leaf (leaves_in (parts_of v.items))
     sizes_are = subst (AreLeafSizes a.shape.leaf) (sym leaves_are) (all_join (λ (l : LeafRows). IsLeafSize a.shape.leaf l.1) (leaves_in xs) (map leaf_rows leaves ++ leaves_in ys) sizes.0
-        (all_join (λ (l : LeafRows). IsLeafSize a.shape.leaf l.1) (map leaf_rows leaves) (leaves_in ys) r.is.replaces.sizes sizes.1))
+        (all_join (λ (l : LeafRows). IsLeafSize a.shape.leaf l.1) (map leaf_rows leaves) (leaves_in ys) r.sizes sizes.1))
 
-    node_is : IsNode (record a { children = v; buffer = without_range leaf.low end a.buffer })
+    node_is : IsNode (record a { children = v; buffer = without_range leaf.low high a.buffer })
     node_is = record {
-      tiled = subst (TiledTo top_key) (sym parts) (tiled-join top_key xs (qs ++ ys) (subst (λ low. TiledTo low xs) (sym lows) left) (tiled-join top_key qs ys (subst (λ high. TiledTo high qs) ends (leaf_tiles high leaves r.is.replaces.tiled)) right));
-      first = ap (low_or top_key) parts ∙ low_or-append top_key xs (qs ++ ys) ∙ ap (λ low. low_or low xs) lows ∙ sym (low_or-append top_key xs (p ∷ ys)) ∙ ap (low_or top_key) (sym old) ∙ r.node.first;
+      tiled = subst (TiledTo top_key) (sym parts) (tiled-join top_key xs (qs ++ ys) (subst (λ low. TiledTo low xs) (sym lows) left) (tiled-join top_key qs ys (subst (λ high. TiledTo high qs) ends (leaf_tiles high leaves r.tiled)) right));
+      first = ap (low_or top_key) parts ∙ low_or-append top_key xs (qs ++ ys) ∙ ap (λ low. low_or low xs) lows ∙ sym (low_or-append top_key xs (p ∷ ys)) ∙ ap (low_or top_key) (sym old) ∙ node.first;
       level = subst (AllByRecursion (IsBelow {A = A} a.height a.shape)) (sym items)
           (all_join (IsBelow a.height a.shape) (take i a.children.items) (map in_child.Leaf leaves ++ drop (i + 1) a.children.items) sides.0
           (all_join (IsBelow a.height a.shape) (map in_child.Leaf leaves) (drop (i + 1) a.children.items) (all_leaves a.height a.shape leaves height_one) sides.1));
-      wide = (omega (arith, count, some), let few = r.is.replaces.few in let room = r.room in let l = length-map leaves leaf_rows in omega (arith, count, few, room, l));
-      fits = r.node.fits;
-      from = record { outside = λ key n o. ops-out_of_range leaf.low end ms key n ∙ none_cond (not (spans leaf.low end key)) (ops_in ms key n) (r.node.from.outside key n o) };
+      some = omega (arith, count, some);
+      fits = node.fits;
+      from = record { outside = λ key n o. ops-out_of_range leaf.low high ms key n ∙ none_cond (not (spans leaf.low high key)) (ops_in ms key n) (node.from.outside key n o) };
       sizes = sizes_are;
       newer = record {
-        above = λ key n k u l. by_test (spans leaf.low end key)
-            (λ s. absurd (none_some (ops_in (out_of_range leaf.low end ms) key n) (ops-out_of_range leaf.low end ms key n ∙ ap (λ t. cond (not t) (ops_in ms key n) None) s) u))
-            (λ s. r.node.newer.above key n k (some_cond (not (spans leaf.low end key)) (ops_in ms key n) (subst IsSome (ops-out_of_range leaf.low end ms key n) u))
+        above = λ key n k u l. by_test (spans leaf.low high key)
+            (λ s. absurd (none_some (ops_in (out_of_range leaf.low high ms) key n) (ops-out_of_range leaf.low high ms key n ∙ ap (λ t. cond (not t) (ops_in ms key n) None) s) u))
+            (λ s. node.newer.above key n k (some_cond (not (spans leaf.low high key)) (ops_in ms key n) (subst IsSome (ops-out_of_range leaf.low high ms key n) u))
             (subst IsSome (ops-append (messages_in (parts_of v.items)) (row_messages (leaves_in (parts_of v.items))) key k
             ∙ (λ j. or_else (same_messages key k j) (same_rows key k s j))
             ∙ sym (ops-append (messages_in (parts_of a.children.items)) (row_messages (leaves_in (parts_of a.children.items))) key k)) l));
@@ -373,10 +377,10 @@ flushed {A} a v i leaf leaves most end pins r items = record {
     }
 
     means : (key : List ℕ) → MeanTheSame (pins (tenant_of key)) (ops_in (messages_of (subtree_of a)) key) (ops_in (messages_of new) key)
-    means key = by_test (spans leaf.low end key)
+    means key = by_test (spans leaf.low high key)
         (λ s. subst (λ f. MeanTheSame (pins (tenant_of key)) f (ops_in (messages_of new) key)) (λ j n. sym (old_inside key n s) j)
         (subst (MeanTheSame (pins (tenant_of key)) (ops_with ms leaf.rows key)) (λ j n. sym (new_inside key n s) j)
-        (record { way = r.is.replaces.agrees key s; short = r.is.replaces.short key s; there = r.is.replaces.keys key })))
+        (record { way = r.agrees key s; short = r.short key s; there = r.keys key })))
         (λ s. same_pointwise (pins (tenant_of key)) (ops_in (messages_of (subtree_of a)) key) (ops_in (messages_of new) key) (λ n. outside key n s))
 
     -- what a leaf and the node's own messages have, the node has
@@ -397,7 +401,7 @@ flushed {A} a v i leaf leaves most end pins r items = record {
     fences h t =
         let P : LeafRows → Type 0 = λ l. spans a.low h l.0 ≡ true in
         let all = all_cut P (leaves_in xs) (leaf_rows leaf ∷ leaves_in ys) (subst (AllByRecursion P) (ap leaves_in old ∙ flat_map-append (λ (q : Part). q.leaves) xs (p ∷ ys)) t.fences) in
-        subst (AllByRecursion P) (sym leaves_are) (all_join P (leaves_in xs) (map leaf_rows leaves ++ leaves_in ys) all.0 (all_join P (map leaf_rows leaves) (leaves_in ys) (each h t all.1.0 (map leaf_rows leaves) r.is.replaces.fences) all.1.1))
+        subst (AllByRecursion P) (sym leaves_are) (all_join P (leaves_in xs) (map leaf_rows leaves ++ leaves_in ys) all.0 (all_join P (map leaf_rows leaves) (leaves_in ys) (each h t all.1.0 (map leaf_rows leaves) r.fences) all.1.1))
       where
         each : (h : List ℕ) → IsTile (node_part (subtree_of a)) h → spans a.low h leaf.low ≡ true → (ls : List LeafRows) → AllByRecursion (λ (l : LeafRows). IsFence (leaf_rows leaf) ms l.0) ls → AllByRecursion (λ (l : LeafRows). spans a.low h l.0 ≡ true) ls
         each h t s [] f = tt
@@ -506,8 +510,3 @@ can_absorb {A} a i pins node one heavy many short = record {
 pub on_err : {T E : Type 0} (r : Result T E) {P : Type 0} → P → OnErr r P
 on_err (Ok x) p = tt
 on_err (Err e) p = p
-
-pub flushed_by : {A : Type 0} (a : Inside A) (v : Vec (Child A) A) (i most : ℕ) (pins : TenantPins) (b : MessageList) → IsNode a → Absorbs a.children.items i a.buffer pins a.shape.leaf most v.items b → length a.children.items + most ≤ a.shape.fan_out + 1 → Flushed a v i b pins
-flushed_by a v i most pins b node r room =
-    subst (λ c. Flushed a v i c pins) (sym r.from)
-    (flushed a v i r.replaced.leaf r.leaves most r.end pins (record { node = node; at = r.replaced.at; is = r.replaced.is; room = room }) r.into)

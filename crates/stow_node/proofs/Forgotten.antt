@@ -8,7 +8,7 @@ use Rattle.stow_tree_model.proofs.Latest.{contains_cases}
 use Rattle.stow_tree_model.proofs.Pruning.{contains_here, contains_there}
 use Rattle.stow_leaf.specs.LeafRows.{LeafRows}
 use Rattle.stow_leaf_cache.specs.Cache.{Cache, rows_under, leaves_without}
-use Rattle.stow_node.specs.Forgets.{Forgets}
+use Rattle.stow_node.specs.Forgets.{Forgets, cache_without}
 
 pub forgets_nothing : (old new : List LeafRows) (cache : Cache) → new ≡ old → Forgets old new cache cache
 forgets_nothing old new cache e = record { limit = refl; held = λ leaf c. c; stands = λ leaf c o. subst (λ ls. Contains ls leaf) (sym e) o }
@@ -62,6 +62,10 @@ forgets_one fence old new cache cache' limit without gone others = record {
   stands = λ leaf c o. others leaf o (λ e. found_under leaf cache'.leaves c (ap (λ f. rows_under f cache'.leaves) e ∙ gone));
 }
 
+-- a leaf was forgotten, and no other
+pub forgot : (fence : List ℕ) (a b : Cache) → b.limit ≡ a.limit → b.leaves ≡ leaves_without fence a.leaves → b ≡ cache_without (fence ∷ []) a
+forgot fence a b limit leaves = λ i. record { leaves = leaves i; limit = limit i }
+
 pub forgets_then : (old middle new : List LeafRows) (a b c : Cache) → Forgets old middle a b → Forgets middle new b c → Forgets old new a c
 forgets_then old middle new a b c f g = record {
   limit = g.limit ∙ f.limit;
@@ -83,3 +87,7 @@ forgets_two one two old new a b c limit without gone limit2 without2 gone2 other
   where
     before : (leaf : LeafRows) → Contains c.leaves leaf → Contains b.leaves leaf
     before leaf h = held_before two b.leaves leaf (subst (λ ls. Contains ls leaf) without2 h)
+
+-- where the leaves stayed after all, the cache holds no others
+pub forgets_kept : (old new leaves : List LeafRows) (cache cache' : Cache) → Forgets old new cache cache' → Forgets leaves leaves cache cache'
+forgets_kept old new leaves cache cache' f = record { limit = f.limit; held = f.held; stands = λ leaf c o. o }

@@ -142,12 +142,6 @@ times_same (suc n) target old new j = same_then (times_same n target old j.0 j.1
 pub joined_same : (target : ℕ) (old new : List LeafRows) → AreJoined target old new → SameRows target old new
 joined_same target old new j = times_same j.0 target old new j.1
 
-pub joined_more : (target : ℕ) (old middle new : List LeafRows) → AreJoined target old middle → Joins target middle new → AreJoined target old new
-joined_more target old middle new a j = (suc a.0, (middle, a.1, j))
-
-pub joined_none : (target : ℕ) (old : List LeafRows) → AreJoined target old old
-joined_none target old = (0, refl)
-
 -- all leaves but the two are still there
 pub others_stay : (before : List LeafRows) (lower upper : LeafRows) (after : List LeafRows) (leaf : LeafRows) → Contains (before ++ (lower ∷ upper ∷ after)) leaf → leaf.0 ≢ lower.0 → leaf.0 ≢ upper.0 → Contains (before ++ (both_of lower upper ∷ after)) leaf
 others_stay before lower upper after leaf c not_lower not_upper = ⊎_elim

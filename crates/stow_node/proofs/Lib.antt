@@ -22,3 +22,9 @@ pub mod Forgotten
 pub mod Joined
 pub mod Pairs
 pub mod Fewer
+pub mod Regrouped
+pub mod Groups
+pub mod Came
+pub mod Merging
+pub mod Rising
+pub mod Ways

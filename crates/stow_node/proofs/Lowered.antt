@@ -239,7 +239,7 @@ lowered {A} a v b i x node at rise can items is = rw is (record {
     tiled = row.tiled;
     first = row.first;
     level = row.level;
-    wide = let w = node.wide in let same = row.width in (omega arith, omega arith);
+    some = let w = node.some in let same = row.width in omega arith;
     fits = node.fits;
     from = record { outside = λ key n o. ops-out_of_range x.low high a.buffer.messages key n ∙ none_of (not (spans x.low high key)) (ops_in a.buffer.messages key n) (node.from.outside key n o) };
     sizes = subst (AreLeafSizes a.shape.leaf) (sym row.leaves) node.sizes;

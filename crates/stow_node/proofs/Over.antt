@@ -49,10 +49,6 @@ pub or_none_right : (a b : Option Op) → or_else a b ≡ None → b ≡ None
 or_none_right None b e = e
 or_none_right (Some op) b e = absurd cc
 
-some_wins : (a b c : Option Op) → IsSome a → or_else a b ≡ or_else a c
-some_wins None b c s = absurd cc
-some_wins (Some op) b c s = refl
-
 nothing_latest : (f : Operations) (n : ℕ) → ((k : ℕ) → f k ≡ None) → latest f n ≡ None
 unfolding latest
 nothing_latest f n none = above_bound f 0 n (omega arith) (λ k l. none k) ∙ at_zero (f 0) (none 0) where

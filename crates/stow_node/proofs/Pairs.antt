@@ -4,24 +4,20 @@ use Rattle.std.specs.Prelude.{slice_get, Contains}
 use Rattle.std.proofs.lemmas.List.{map-append, length-map}
 use Rattle.stow_merge.specs.Pages.{KeysBelow}
 use Rattle.stow_leaf.specs.Intervals.{top_key}
-use Rattle.stow_leaf.specs.LeafRows.{leaf_rows, LeavesTo}
+use Rattle.stow_leaf.specs.LeafRows.{LeafRows, leaf_rows, LeavesTo}
 use Rattle.stow_leaf.specs.declared.leaf.Leaf.{Leaf}
 use Rattle.stow_leaf_cache.specs.Cache.{Cache, rows_under, leaves_without}
 use Rattle.stow_tree_model.specs.Version.{Version}
 use Rattle.stow_node.specs.declared.child.Child.{Child}
 use Rattle.stow_node.specs.declared.child.Child.TheVariants as in_child
-use Rattle.stow_node.specs.Forgets.{Forgets}
-use Rattle.stow_node.specs.Joins.{AreToJoin, AreJoined, NoneToJoin, leaves_of, AreLeaves, Pair, with_joined, IsJoinOf, JoinsPair}
+use Rattle.stow_node.specs.Forgets.{Forgets, cache_without}
+use Rattle.stow_node.specs.Joins.{AreToJoin, JoinsAll, LosesPair, NoneToJoin, leaves_of, AreLeaves, Pair, with_joined, IsJoinOf, JoinsPair}
 use Rattle.stow_node.specs.Subtree.{Subtree}
-use Rattle.stow_node.proofs.Absorbed.{same_leaf, not_node}
-use Rattle.stow_node.proofs.Forgotten.{forgets_two}
-use Rattle.stow_node.proofs.Joined.{both_tiles, keys_below, others_stay, joined_more, joined_none, Settled, none_to_join, settled_grown, settled_next}
+use Rattle.stow_node.proofs.Absorbed.{leaves_are, same_leaf, not_node}
+use Rattle.stow_node.proofs.Forgotten.{forgot, forgets_two}
+use Rattle.stow_node.proofs.Joined.{both_tiles, keys_below, others_stay, Settled, none_to_join, settled_grown, settled_next}
 
 -- ---- a pair
-
-pub leaves_are : {A : Type 0} (leaves : List (Leaf A)) → leaves_of (map {B = Child A} in_child.Leaf leaves) ≡ map leaf_rows leaves
-leaves_are [] = refl
-leaves_are (l ∷ leaves) = ap (λ ls. leaf_rows l ∷ ls) (leaves_are leaves)
 
 middle_at : {X : Type 0} (before : List X) (x : X) (after : List X) → slice_get (before ++ (x ∷ after)) (length before) ≡ Some x
 middle_at [] x after = refl
@@ -169,14 +165,13 @@ pub record AreJoining {A : Type 0} (target : ℕ) (old now : List (Child A)) (i 
   pub place : length before ≡ i
   pub are : now ≡ map in_child.Leaf (before ++ (at ∷ after))
   pub tiled : LeavesTo top_key (map leaf_rows (before ++ (at ∷ after)))
-  pub joined : AreJoined target (leaves_of old) (leaves_of now)
   pub settled : Settled target (map leaf_rows before ++ (leaf_rows at ∷ []))
 
 pub joining_first : {A : Type 0} (target : ℕ) (children : List (Child A)) → AreLeaves children → 0 < length children → AreJoining target children children 0
 joining_first {A} target children h some = by_leaves h.leaves h.are h.tiled where
   by_leaves : (leaves : List (Leaf A)) → children ≡ map in_child.Leaf leaves → LeavesTo top_key (map leaf_rows leaves) → AreJoining target children children 0
   by_leaves [] e t = absurd (let n = ap length e in omega (arith, n, some))
-  by_leaves (l ∷ leaves) e t = record { before = []; at = l; after = leaves; place = refl; are = e; tiled = t; joined = joined_none target (leaves_of children); settled = tt }
+  by_leaves (l ∷ leaves) e t = record { before = []; at = l; after = leaves; place = refl; are = e; tiled = t; settled = tt }
 
 -- a leaf stands above the one that the joins came to
 pub record HasNext {A : Type 0} {target : ℕ} {old now : List (Child A)} {i : ℕ} (j : AreJoining target old now i) : Type 0 where
@@ -218,7 +213,6 @@ joining_on {A} {target} {old} {now} {i} j n new e no_join = subst (λ cs. AreJoi
   place = omega (arith, length-append j.before (j.at ∷ []), j.place);
   are = (pair_of j n).are ∙ ap (map in_child.Leaf) (sym (append_assoc j.before (j.at ∷ []) (n.upper ∷ n.rest)));
   tiled = subst (λ ls. LeavesTo top_key (map leaf_rows ls)) (sym (append_assoc j.before (j.at ∷ []) (n.upper ∷ n.rest))) (pair_of j n).tiled;
-  joined = j.joined;
   settled = subst (Settled target)
       (sym (ap (λ ls. ls ++ (leaf_rows n.upper ∷ [])) (map-append leaf_rows j.before (j.at ∷ [])) ∙ append_assoc (map leaf_rows j.before) (leaf_rows j.at ∷ []) (leaf_rows n.upper ∷ [])))
       (settled_next target (map leaf_rows j.before) (leaf_rows j.at) (leaf_rows n.upper) j.settled no_join);
@@ -238,17 +232,44 @@ joining_joined {A} {target} {old} {now} {i} j n new e can = record {
   are = e;
   tiled = subst (LeavesTo top_key) (sym (map-append leaf_rows j.before (merged_leaf j n ∷ n.rest)))
       (both_tiles top_key (map leaf_rows j.before) (leaf_rows j.at) (leaf_rows n.upper) (map leaf_rows n.rest) (subst (LeavesTo top_key) (pair_rows (pair_of j n)) (pair_of j n).tiled));
-  joined = joined_more target (leaves_of old) (leaves_of now) (leaves_of new) j.joined (record {
-    before = map leaf_rows j.before;
-    lower = leaf_rows j.at;
-    upper = leaf_rows n.upper;
-    after = map leaf_rows n.rest;
-    are_to_join = can;
-    were = ap leaves_of (pair_of j n).are ∙ leaves_are (j.before ++ (j.at ∷ n.upper ∷ n.rest)) ∙ pair_rows (pair_of j n);
-    are = ap leaves_of e ∙ leaves_are (j.before ++ (merged_leaf j n ∷ n.rest)) ∙ map-append leaf_rows j.before (merged_leaf j n ∷ n.rest);
-  });
   settled = settled_grown target (map leaf_rows j.before) (leaf_rows j.at) (leaf_rows n.upper) j.settled;
 }
+
+-- one pair more was joined, or none was
+pub joins_more : {A : Type 0} {children : List (Child A)} {i : ℕ} (pair : Pair children i) (target : ℕ) (old : List LeafRows) (new : List (Child A)) (a b c : Cache) (joins : Bool) → JoinsAll target old (leaves_of children) a b → JoinsPair target pair new joins → LosesPair pair b c joins → JoinsAll target old (leaves_of new) a c
+joins_more {A} {children} pair target old new a b c false all h same = subst (λ (cs : List (Child A)). JoinsAll target old (leaves_of cs) a c) (sym h.0) (subst (JoinsAll target old (leaves_of children) a) (sym same) all)
+joins_more {A} {children} pair target old new a b c true all h lost = record {
+  joined = (
+    suc all.joined.0,
+    (
+      leaves_of children,
+      all.joined.1,
+      record {
+        before = map leaf_rows pair.before;
+        lower = leaf_rows pair.lower;
+        upper = leaf_rows pair.upper;
+        after = map leaf_rows pair.after;
+        are_to_join = h.0;
+        were = ap leaves_of pair.are ∙ leaves_are (pair.before ++ (pair.lower ∷ pair.upper ∷ pair.after)) ∙ pair_rows pair;
+        are = ap leaves_of h.1 ∙ leaves_are (pair.before ++ (joined ∷ pair.after)) ∙ map-append leaf_rows pair.before (joined ∷ pair.after);
+      },
+    ),
+  );
+  lost = lost ∙ ap (cache_without (pair.upper.low ∷ pair.lower.low ∷ [])) all.lost;
+}
+  where
+    joined : Leaf A
+    joined = record pair.lower { rows = pair.lower.rows ++ pair.upper.rows }
+
+pub joins_none : (target : ℕ) (leaves : List LeafRows) (cache : Cache) → JoinsAll target leaves leaves cache cache
+joins_none target leaves cache = record { joined = (0, refl); lost = refl }
+
+-- the cache lost both
+pub loses_pair : {A : Type 0} {children : List (Child A)} {i : ℕ} (pair : Pair children i) (lower upper : List ℕ) (a b c : Cache) → lower ≡ pair.lower.low → upper ≡ pair.upper.low
+    → b.limit ≡ a.limit → b.leaves ≡ leaves_without lower a.leaves → c.limit ≡ b.limit → c.leaves ≡ leaves_without upper b.leaves → LosesPair pair a c true
+loses_pair pair lower upper a b c l u limit without limit2 without2 =
+    forgot pair.upper.low b c limit2 (without2 ∙ ap (λ f. leaves_without f b.leaves) u)
+    ∙ ap (cache_without (pair.upper.low ∷ [])) (forgot pair.lower.low a b limit (without ∙ ap (λ f. leaves_without f a.leaves) l))
 
 -- a join makes one leaf fewer
 fewer : {A : Type 0} {children : List (Child A)} {i : ℕ} (pair : Pair children i) (rows : List Version) (new : List (Child A)) → new ≡ with_joined pair rows → length new + 1 ≡ length children

@@ -1,24 +1,18 @@
 -- A node above another.
-use Rattle.std.proofs.Common.{◌≡◌, ℕ, ◌+◌, ◌*◌, ◌≤◌, true, false, List, [], ◌∷◌, ◌++◌, length, None, refl, sym, ap, ◌∙◌, subst, arith, append-nil}
+use Rattle.std.proofs.Common.{◌≡◌, ℕ, ◌≤◌, true, false, List, [], ◌∷◌, ◌++◌, length, None, refl, sym, ap, ◌∙◌, subst, arith}
 use Rattle.std.specs.List.{AllByRecursion, flat_map}
-use Rattle.std.proofs.lemmas.List.Sums.{sum_by-cons}
 use Rattle.std.specs.Ordering.{is_lt}
-use Rattle.std.specs.declared.vec.Vec.{Vec}
 use Rattle.stow_bytes.specs.Bytes.{bytes_cmp}
 use Rattle.stow_message.proofs.RisingLists.{lt_is}
-use Rattle.stow_message.specs.MessageBuf.{message_list}
 use Rattle.stow_tree_model.specs.Messages.{ops_in}
 use Rattle.stow_node.specs.declared.child.Child.{Child}
-use Rattle.stow_node.specs.declared.child.Child.TheVariants as in_child
 use Rattle.stow_node.specs.declared.node.Node.TheInside.{Inside}
 use Rattle.stow_node.specs.declared.shape.Shape.{Shape}
-use Rattle.stow_node.specs.Subtree.{buffered}
 use Rattle.stow_leaf.specs.LeafRows.{LeafRows, first_fence}
-use Rattle.stow_node.specs.Parts.{Part, low_or, IsTile, TiledTo, messages_in, leaves_in, weight_in}
+use Rattle.stow_node.specs.Parts.{Part, low_or, IsTile, TiledTo, messages_in, leaves_in}
 use Rattle.stow_leaf.specs.Intervals.{top_key, spans}
-use Rattle.stow_node.specs.Nodes.{part_of, node_part, parts_of, IsBelow, subtree_of, IsNode, AreLeafSizes}
+use Rattle.stow_node.specs.Nodes.{part_of, node_part, parts_of, IsBelow, subtree_of, IsNode}
 use Rattle.std.proofs.lemmas.List.{length-map}
-use Rattle.stow_node.specs.Moves.{raised}
 use Rattle.stow_node.proofs.Lowered.{rows_by_part}
 use Rattle.stow_leaf.proofs.Ops.{ops-append}
 use Rattle.stow_leaf.proofs.Found.{both_none}
@@ -69,7 +63,7 @@ pub whole_tile : {A : Type 0} (a : Inside A) → IsNode a → IsTile (node_part 
 whole_tile a node = record {
   fences = subst (λ low. AllByRecursion (λ leaf. spans low top_key leaf.0 ≡ true) (leaves_in (parts_of a.children.items))) node.first (row_fences top_key (parts_of a.children.items) node.tiled);
   first = first_of_row top_key (parts_of a.children.items) node.tiled ∙ node.first;
-  ordered = lt_is (bytes_cmp a.low top_key) (subst (λ low. lt low top_key ≡ true) node.first (below_top (parts_of a.children.items) node.tiled (let w = node.wide in omega (arith, length-map a.children.items part_of))));
+  ordered = lt_is (bytes_cmp a.low top_key) (subst (λ low. lt low top_key ≡ true) node.first (below_top (parts_of a.children.items) node.tiled (let w = node.some in omega (arith, length-map a.children.items part_of))));
   messages = record {
     outside = λ key n o. ops-append a.buffer.messages (messages_in (parts_of a.children.items)) key n
         ∙ both_none (ops_in a.buffer.messages key n) (ops_in (messages_in (parts_of a.children.items)) key n) (node.from.outside key n o)
@@ -91,38 +85,4 @@ level_above h shape (c ∷ cs) all l = let e = all.0.level in omega (arith, e)
 
 -- a node stands above leaves
 pub above_leaves : {A : Type 0} (a : Inside A) → IsNode a → 1 ≤ a.height
-above_leaves a node = level_above a.height a.shape a.children.items node.level node.wide.0
-
-pub record IsRaised {A : Type 0} (a : Inside A) (v : Vec (Child A) A) : Type 0 where
-  pub is_node : IsNode (record { low = a.low; height = a.height + 1; shape = a.shape; buffer = message_list [] 0 a.shape.buffer; children = v })
-  pub is : subtree_of (record { low = a.low; height = a.height + 1; shape = a.shape; buffer = message_list [] 0 a.shape.buffer; children = v }) ≡ raised (subtree_of a)
-
-pub is_raised : {A : Type 0} (a : Inside A) (v : Vec (Child A) A) → IsNode a → v.items ≡ in_child.Node (subtree_of a) ∷ [] → IsRaised a v
-is_raised {A} a v node e = record {
-  is_node = record {
-    tiled = subst (λ (l : List (Child A)). TiledTo top_key (parts_of l)) (sym e) (whole_tile a node, tt);
-    first = subst (λ (l : List (Child A)). low_or top_key (parts_of l) ≡ a.low) (sym e) refl;
-    level = subst (AllByRecursion (IsBelow {A = A} (a.height + 1) a.shape)) (sym e) (record { level = refl; same = (refl, node.fits, above_leaves a node) }, tt);
-    wide = subst (λ (l : List (Child A)). (1 ≤ length l) × (length l ≤ a.shape.fan_out)) (sym e) (let w = node.wide in (omega arith, omega arith));
-    fits = refl;
-    from = record { outside = λ key n o. refl };
-    sizes = subst (λ (l : List (Child A)). AreLeafSizes a.shape.leaf (leaves_in (parts_of l))) (sym e) (subst (AreLeafSizes a.shape.leaf) (sym (append-nil (leaves_in (parts_of a.children.items)))) node.sizes);
-    newer = record { above = λ key n k u l. absurd cc };
-  };
-  is = ap (λ (l : List (Child A)). record {
-    low = a.low;
-    height = a.height + 1;
-    width = length l;
-    shape = a.shape;
-    buffer = message_list [] 0 a.shape.buffer;
-    deeper = messages_in (parts_of l);
-    leaves = leaves_in (parts_of l);
-    weight = (a.height + 1) * 0 + weight_in (parts_of l);
-  }) e
-      ∙ ap (λ ms. record (raised (subtree_of a)) { deeper = ms; leaves = leaves_in (parts_of a.children.items) ++ []; weight = (a.height + 1) * 0 + weight_in (node_part (subtree_of a) ∷ []) }) (append-nil (buffered (subtree_of a)))
-      ∙ ap (λ ls. record (raised (subtree_of a)) { leaves = ls; weight = (a.height + 1) * 0 + weight_in (node_part (subtree_of a) ∷ []) }) (append-nil (leaves_in (parts_of a.children.items)))
-      ∙ ap (λ w. record (raised (subtree_of a)) { weight = w }) weighed;
-}
-  where
-    weighed : (a.height + 1) * 0 + weight_in (node_part (subtree_of a) ∷ []) ≡ (subtree_of a).weight
-    weighed = omega (arith, sum_by-cons (λ (p : Part). p.weight) (node_part (subtree_of a)) [])
+above_leaves a node = level_above a.height a.shape a.children.items node.level node.some

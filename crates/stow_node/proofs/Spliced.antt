@@ -1,5 +1,5 @@
 -- A node with nodes in the place of one of its children.
-use Rattle.std.proofs.Common.{suc, ◌≡◌, ℕ, ◌+◌, ◌<◌, ◌≤◌, true, false, List, [], ◌∷◌, ◌++◌, length, map, take, drop, Option, Some, None, refl, sym, ap, ◌∙◌, subst, arith, length-append, append-nil, length-drop}
+use Rattle.std.proofs.Common.{suc, ◌≡◌, ℕ, ◌+◌, ◌<◌, ◌≤◌, true, false, List, [], ◌∷◌, ◌++◌, length, take, drop, Option, Some, None, refl, sym, ap, ◌∙◌, subst, arith, length-append, append-nil, length-drop}
 use Rattle.std.specs.Prelude.{slice_get}
 use Rattle.std.specs.List.{flat_map, AllByRecursion}
 use Rattle.std.specs.Ordering.{is_lt}
@@ -14,7 +14,6 @@ use Rattle.stow_tree_model.specs.Keys.{tenant_of}
 use Rattle.stow_tree_model.specs.Messages.{ops_in}
 use Rattle.stow_tree_model.specs.Op.{Op}
 use Rattle.stow_tree_model.specs.Operations.{Operations, or_else, over}
-use Rattle.stow_tree_model.specs.TreeMessage.{TreeMessage}
 use Rattle.stow_leaf.specs.Intervals.{top_key, spans}
 use Rattle.stow_leaf.specs.LeafRows.{LeafRows, row_messages, first_fence}
 use Rattle.stow_leaf.specs.Replacements.{IsLeafSize, HasShortValues}
@@ -28,6 +27,7 @@ use Rattle.stow_node.specs.declared.node.Node.TheInside.{Inside}
 use Rattle.stow_node.specs.declared.shape.Shape.{Shape}
 use Rattle.stow_node.specs.Flushes.{AreShort, MeanTheSame, Keeps}
 use Rattle.stow_node.specs.Halves.{IsLike, AreHalves}
+use Rattle.stow_node.specs.Regroups.{nodes, run_parts, run_messages, TakePlace, AreFew}
 use Rattle.stow_node.specs.Nodes.{part_of, node_part, parts_of, AreLeafSizes, IsBelow, subtree_of, IsNode}
 use Rattle.stow_node.specs.Parts.{Part, low_or, IsTile, TiledTo, messages_in, leaves_in, weight_in}
 use Rattle.stow_node.specs.Subtree.{Subtree, buffered, messages_of}
@@ -43,21 +43,6 @@ use Rattle.stow_node.proofs.Stayed.{level_at}
 
 -- ---- nodes in a row
 
-abbrev pub run_parts : List Subtree → List Part
-run_parts run = map node_part run
-
--- all that nodes in a row have
-abbrev pub run_messages : List Subtree → List TreeMessage
-run_messages run = messages_in (run_parts run) ++ row_messages (leaves_in (run_parts run))
-
--- these nodes can stand in a row where one stood
-pub record TakePlace (pins : TenantPins) (x : Subtree) (run : List Subtree) : Type 0 where
-  pub like : AllByRecursion (IsLike x) run
-  pub tiled : (high : List ℕ) → IsTile (node_part x) high → TiledTo high (run_parts run) × (low_or high (run_parts run) ≡ x.low)
-  pub sizes : AreLeafSizes x.shape.leaf (leaves_in (run_parts run))
-  pub means : (key : List ℕ) → MeanTheSame (pins (tenant_of key)) (ops_in (messages_of x) key) (ops_in (run_messages run) key)
-  pub some : 1 ≤ length run
-
 pub record Spliced {A : Type 0} (a : Inside A) (v : Vec (Child A) A) (x : Subtree) (run : List Subtree) (pins : TenantPins) : Type 0 where
   pub is_node : IsNode (record a { children = v })
   pub keeps : Keeps pins (subtree_of a) (subtree_of (record a { children = v }))
@@ -67,9 +52,6 @@ pub record Spliced {A : Type 0} (a : Inside A) (v : Vec (Child A) A) (x : Subtre
   pub after : List LeafRows
   pub leaves_were : leaves_in (parts_of a.children.items) ≡ before ++ (x.leaves ++ after)
   pub leaves_are : leaves_in (parts_of v.items) ≡ before ++ (leaves_in (run_parts run) ++ after)
-
-abbrev pub nodes : (A : Type 0) → List Subtree → List (Child A)
-nodes A run = map in_child.Node run
 
 -- nodes in the place of a child
 abbrev pub with_nodes : {A : Type 0} → List (Child A) → ℕ → List Subtree → List (Child A)
@@ -132,7 +114,7 @@ place {A} a i x node at = record {
 abbrev row_ops : List Part → List ℕ → Operations
 row_ops ps key n = or_else (ops_in (messages_in ps) key n) (ops_in (row_messages (leaves_in ps)) key n)
 
-row_ops_are : (ps : List Part) (key : List ℕ) (n : ℕ) → ops_in (messages_in ps ++ row_messages (leaves_in ps)) key n ≡ row_ops ps key n
+pub row_ops_are : (ps : List Part) (key : List ℕ) (n : ℕ) → ops_in (messages_in ps ++ row_messages (leaves_in ps)) key n ≡ row_ops ps key n
 row_ops_are ps key n = ops-append (messages_in ps) (row_messages (leaves_in ps)) key n
 
 middle : (p q r : Option Op) → p ≡ None → r ≡ None → or_else p (or_else q r) ≡ q
@@ -197,9 +179,9 @@ at_own a i x p key n s =
 
 -- ---- nodes in the place of the child
 
-pub spliced : {A : Type 0} (a : Inside A) (v : Vec (Child A) A) (i : ℕ) (x : Subtree) (run : List Subtree) (pins : TenantPins) → IsNode a → slice_get a.children.items i ≡ Some (in_child.Node x) → TakePlace pins x run
-    → v.items ≡ with_nodes a.children.items i run → length a.children.items + length run ≤ a.shape.fan_out + 1 → Spliced a v x run pins
-spliced {A} a v i x run pins node at r items room = record {
+pub spliced : {A : Type 0} (a : Inside A) (v : Vec (Child A) A) (i : ℕ) (x : Subtree) (run : List Subtree) (pins : TenantPins) → IsNode a → slice_get a.children.items i ≡ Some (in_child.Node x) → TakePlace pins x run → AllByRecursion (IsLike x) run → AreFew run → 1 ≤ length run
+    → v.items ≡ with_nodes a.children.items i run → Spliced a v x run pins
+spliced {A} a v i x run pins node at r like few filled items = record {
   is_node = is_node;
   keeps = record {
     low = refl;
@@ -259,16 +241,16 @@ spliced {A} a v i x run pins node at r items room = record {
         let sides = all_cut (IsBelow {A = A} a.height a.shape) (take i a.children.items) (drop i a.children.items) front in
         let behind = subst (AllByRecursion (IsBelow {A = A} a.height a.shape)) (drop_more a.children.items i (in_child.Node x) inside) sides.1 in
         all_join (IsBelow {A = A} a.height a.shape) (take i a.children.items) (nodes A run ++ drop (i + 1) a.children.items) sides.0
-        (all_join (IsBelow {A = A} a.height a.shape) (nodes A run) (drop (i + 1) a.children.items) (each run r.like) behind.1)
+        (all_join (IsBelow {A = A} a.height a.shape) (nodes A run) (drop (i + 1) a.children.items) (each run like few) behind.1)
       where
-        each : (ts : List Subtree) → AllByRecursion (IsLike x) ts → AllByRecursion (IsBelow {A = A} a.height a.shape) (nodes A ts)
-        each [] h = tt
-        each (t ∷ ts) h = (
+        each : (ts : List Subtree) → AllByRecursion (IsLike x) ts → AreFew ts → AllByRecursion (IsBelow {A = A} a.height a.shape) (nodes A ts)
+        each [] h f = tt
+        each (t ∷ ts) h f = (
           record {
             level = ap (λ k. k + 1) h.0.height ∙ p.below.level;
-            same = (h.0.shape ∙ p.below.same.0, h.0.capacity ∙ p.below.same.1, let e = h.0.height in let l = p.below.same.2 in omega (arith, e, l));
+            same = (h.0.shape ∙ p.below.same.0, h.0.capacity ∙ p.below.same.1, let e = h.0.height in let l = p.below.same.2 in omega (arith, e, l), subst (λ (s : Shape). t.width ≤ s.fan_out) (h.0.shape ∙ p.below.same.0) f.0);
           },
-          each ts h.1,
+          each ts h.1 f.1,
         )
 
     leaves_are : leaves_in (parts_of v.items) ≡ leaves_in xs ++ (leaves_in qs ++ leaves_in ys)
@@ -310,7 +292,7 @@ spliced {A} a v i x run pins node at r items room = record {
       tiled = subst (TiledTo top_key) (sym parts) (tiled-join top_key xs (qs ++ ys) (subst (λ low. TiledTo low xs) (sym begins) p.left) (tiled-join top_key qs ys run_tiled.0 p.right));
       first = ap (low_or top_key) parts ∙ low_or-append top_key xs (qs ++ ys) ∙ ap (λ low. low_or low xs) begins ∙ sym (low_or-append top_key xs (node_part x ∷ ys)) ∙ ap (low_or top_key) (sym p.are) ∙ node.first;
       level = subst (AllByRecursion (IsBelow {A = A} a.height a.shape)) (sym items) level;
-      wide = let s = r.some in (omega (arith, count, s, inside), omega (arith, count, room));
+      some = omega (arith, count, filled, inside);
       fits = node.fits;
       from = node.from;
       newer = record { above = λ key n k u l. above_same (pins (tenant_of key)) (ops_in a.buffer.messages key) (ops_in (below_of a) key) (ops_in (below_of (record a { children = v })) key) (node.newer.above key) (below_means key) n k u l };
@@ -385,22 +367,18 @@ child_short a i x node at short key = by_test (spans x.low (low_or top_key (afte
 
 pub one_takes_place : (pins : TenantPins) (x y : Subtree) → Keeps pins x y → TakePlace pins x (y ∷ [])
 one_takes_place pins x y k = record {
-  like = (record { height = k.height; shape = k.shape; capacity = k.capacity }, tt);
   tiled = λ high t. ((k.tile high t, tt), k.low);
   sizes = subst (λ (s : Shape). AreLeafSizes s.leaf (leaves_in (run_parts (y ∷ [])))) k.shape (subst (AreLeafSizes y.shape.leaf) (sym (append-nil y.leaves)) k.sizes);
   means = λ key. subst (MeanTheSame (pins (tenant_of key)) (ops_in (messages_of x) key)) (λ j n. sym (row_ops_are (run_parts (y ∷ [])) key n ∙ one_part y key n) j) (k.means key);
-  some = omega arith;
 }
 
 -- ---- the halves of a node in its place
 
 pub halves_take_place : (pins : TenantPins) (x lower upper : Subtree) → AreLeafSizes x.shape.leaf x.leaves → AreHalves x lower upper → TakePlace pins x (lower ∷ upper ∷ [])
 halves_take_place pins x lower upper sizes h = record {
-  like = (h.lower_like, (h.upper_like, tt));
   tiled = λ high t. ((h.below, (upper_tile high t, tt)), h.low);
   sizes = subst (AreLeafSizes x.shape.leaf) (h.leaves ∙ ap (λ l. lower.leaves ++ l) (sym (append-nil upper.leaves))) sizes;
   means = λ key. same_pointwise (pins (tenant_of key)) (ops_in (messages_of x) key) (ops_in (run_messages (lower ∷ upper ∷ [])) key) (λ n. same key n);
-  some = omega arith;
 }
   where
     buffers : (key : List ℕ) (n : ℕ) → ops_in (messages_in (run_parts (lower ∷ upper ∷ []))) key n ≡ ops_in (buffered x) key n

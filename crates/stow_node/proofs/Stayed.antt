@@ -104,7 +104,7 @@ row_stays {A} a i x y node at s = record {
     old = level_at a.height a.shape a.children.items i (in_child.Node x) node.level at
 
     below : IsBelow {A = A} a.height a.shape (in_child.Node y)
-    below = record { level = ap (λ h. h + 1) s.height ∙ old.level; same = (s.shape ∙ old.same.0, s.capacity ∙ old.same.1, let h = s.height in let l = old.same.2 in omega (arith, h, l)) }
+    below = record { level = ap (λ h. h + 1) s.height ∙ old.level; same = (s.shape ∙ old.same.0, s.capacity ∙ old.same.1, let h = s.height in let l = old.same.2 in omega (arith, h, l), let w = s.width in let f = old.same.3 in omega (arith, w, f)) }
 
     counted : length (messages_in (set ps i (node_part y))) ≡ length (messages_in ps)
     counted = let c = count-set ps i (node_part x) (node_part y) inside in let e = ap (λ (p : Part). length p.messages) here in let f = s.count in omega arith
@@ -121,7 +121,7 @@ child_stays {A} a v i x y node at e s = record {
     tiled = row.tiled;
     first = row.first;
     level = row.level;
-    wide = let w = node.wide in let same = row.width in (omega arith, omega arith);
+    some = let w = node.some in let same = row.width in omega arith;
     fits = node.fits;
     from = node.from;
     sizes = subst (AreLeafSizes a.shape.leaf) (sym row.leaves) node.sizes;

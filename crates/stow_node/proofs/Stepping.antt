@@ -1,11 +1,11 @@
 -- One step of a node's messages towards the leaves: what the node is after each of its ends.
-use Rattle.std.proofs.Common.{zero, suc, ◌≡◌, ℕ, ◌+◌, ◌<◌, ◌≤◌, List, [], ◌∷◌, length, take, drop, get_or, set, Some, refl, sym, ap, ◌∙◌, subst, arith, append-nil, ◌++◌}
-use Rattle.std.specs.Prelude.{slice_get, Result, Ok, Err, OnOk, OnErr}
-use Rattle.std.specs.List.{sum_by}
-use Rattle.std.specs.Vec.{with_item}
+use Rattle.std.proofs.Common.{zero, suc, ◌≡◌, ◌≢◌, ℕ, ◌+◌, ◌<◌, ◌≤◌, List, [], ◌∷◌, length, take, drop, get_or, set, Some, refl, sym, ap, ◌∙◌, subst, arith, ◌++◌, length-append, length-drop}
+use Rattle.std.specs.Prelude.{slice_get, Result, Ok, Err, OnOk}
+use Rattle.std.specs.List.{AllByRecursion, sum_by}
 use Rattle.std.specs.declared.vec.Vec.{Vec}
+use Rattle.std.proofs.lemmas.Grind.{flat_map-append}
+use Rattle.std.proofs.lemmas.List.{map-append, take-map, drop-map, length-take-le}
 use Rattle.std.proofs.lemmas.List.Sums.{sum_by-cons}
-use Rattle.stow_message.specs.MessageBuf.{MessageList}
 use Rattle.stow_message.specs.Packed.{message_size}
 use Rattle.stow_message.specs.Rising.{is_between}
 use Rattle.stow_tree_model.specs.Agreement.{TenantPins}
@@ -19,19 +19,22 @@ use Rattle.stow_node.specs.declared.child.Child.{Child}
 use Rattle.stow_node.specs.declared.child.Child.TheVariants as in_child
 use Rattle.stow_node.specs.declared.node.Node.TheInside.{Inside}
 use Rattle.stow_node.specs.declared.shape.Shape.{Shape}
-use Rattle.stow_node.specs.Flushes.{AreShort, Keeps, Flushes}
+use Rattle.stow_node.specs.Flushes.{AreShort, Keeps}
 use Rattle.stow_node.specs.Forgets.{Forgets}
-use Rattle.stow_node.specs.Moves.{IsSqueezed, Stays, bytes_for}
-use Rattle.stow_node.specs.Nodes.{node_part, parts_of, AreLeafSizes, IsBelow, subtree_of, IsNode}
+use Rattle.stow_node.specs.Halves.{IsLike}
+use Rattle.stow_node.specs.Joins.{leaves_of}
+use Rattle.stow_node.specs.Moves.{IsSqueezed, Stays, bytes_for, IsHeaviest}
+use Rattle.stow_node.specs.Nodes.{part_of, node_part, parts_of, AreLeafSizes, IsBelow, subtree_of, IsNode}
 use Rattle.stow_node.specs.Parts.{Part, high_of, leaves_in}
-use Rattle.stow_node.specs.Subtree.{Subtree, messages_of, places_at}
-use Rattle.stow_node.proofs.Down.{IsNext, node_at, squeezed_same, full_has_messages, WentInto}
-use Rattle.stow_node.proofs.Entered.{Entered, child_sizes}
+use Rattle.stow_node.specs.Regroups.{nodes, run_parts, run_messages, TakePlace, Steps, ForgetsCame}
+use Rattle.stow_node.specs.Subtree.{Subtree, messages_of}
+use Rattle.stow_node.proofs.Down.{IsNext, node_at, squeezed_same, full_has_messages}
+use Rattle.stow_node.proofs.Entered.{Entered, entered}
 use Rattle.stow_node.proofs.Filled.{some_bytes}
+use Rattle.stow_node.proofs.Flushed.{old_parts}
 use Rattle.stow_node.proofs.Forgotten.{forgets_within}
-use Rattle.stow_node.proofs.HandedDown.{same_node}
 use Rattle.stow_node.proofs.Over.{same_pointwise, same_then}
-use Rattle.stow_node.proofs.Spliced.{Spliced, spliced, one_takes_place, child_short}
+use Rattle.stow_node.proofs.Spliced.{Spliced, spliced, one_takes_place, child_short, before_of, after_of}
 use Rattle.stow_node.proofs.Standing.{parts_ops}
 use Rattle.stow_node.proofs.Stayed.{same_tile, level_at}
 
@@ -61,74 +64,60 @@ stays_keeps pins x y s sizes = record {
       ∙ sym (parts_ops x key n));
 }
 
--- what is known of the child that the step enters
-pub record Stepping {A : Type 0} (a : Inside A) (v : Vec (Child A) A) (i bytes : ℕ) (x : Subtree) (pins : TenantPins) : Type 0 where
-  pub entered : Entered a v i pins
-  pub next : IsNext (record a { children = v }) i bytes x
-  pub places : x.width + places_at x.height ≤ a.shape.fan_out
-
-pub stepping : {A : Type 0} (a : Inside A) (v : Vec (Child A) A) (i bytes : ℕ) (x : Subtree) (pins : TenantPins) (c : Child A) (lent : List (Child A)) → Entered a v i pins → c ≡ get_or v.items i c → c ≡ in_child.Node x → lent ≡ v.items → ((d : Part) → bytes ≡ bytes_for (parts_of lent) a.buffer i d)
-    → sum_by message_size a.buffer.messages ≤ a.buffer.capacity → Stepping a v i bytes x pins
-stepping {A} a v i bytes x pins c lent h here is e given live = record {
-  entered = h;
-  next = record {
-    at = at;
-    bytes_are = are (node_part x);
-    some = let b = are (node_part h.node) in let s = h.some in omega (arith, b, s);
-    few = let less = some_bytes (is_between (get_or (parts_of v.items) i (node_part x)).low (high_of (parts_of v.items) i)) a.buffer.messages in let b = are (node_part x) in omega (arith, b, less, live);
-    capacity = level.same.1 ∙ sym h.is_node.fits;
-    lower = let up : x.height + 1 ≡ a.height = level.level in omega arith;
-  };
-  places = subst (λ (t : Subtree). t.width + places_at t.height ≤ a.shape.fan_out) (sym same) h.places;
+-- what is known of the child that most bytes are buffered for
+pub next_is : {A : Type 0} (a : Inside A) (i bytes : ℕ) (x : Subtree) (c : Child A) (lent lent' : List (Child A)) → IsNode a → a.height ≢ 1 → 0 < length a.buffer.messages → lent ≡ a.children.items → IsHeaviest (parts_of lent) a.buffer i → c ≡ get_or a.children.items i c → c ≡ in_child.Node x
+    → lent' ≡ a.children.items → ((d : Part) → bytes ≡ bytes_for (parts_of lent') a.buffer i d) → sum_by message_size a.buffer.messages ≤ a.buffer.capacity → IsNext a i bytes x
+next_is {A} a i bytes x c lent lent' node high_up many e heavy here is e' given live = record {
+  at = at;
+  bytes_are = are (node_part x);
+  some = let b = are (node_part h.node) in let s = h.some in omega (arith, b, s);
+  few = let less = some_bytes (is_between (get_or (parts_of a.children.items) i (node_part x)).low (high_of (parts_of a.children.items) i)) a.buffer.messages in let b = are (node_part x) in omega (arith, b, less, live);
+  capacity = level.same.1 ∙ sym node.fits;
+  lower = let up : x.height + 1 ≡ a.height = level.level in omega arith;
 }
   where
-    at : slice_get v.items i ≡ Some (in_child.Node x)
-    at = node_at v.items i c x (inside_of v.items i (in_child.Node h.node) h.at) here is
+    h : Entered a i
+    h = entered a i lent node high_up many e heavy
 
-    same : x ≡ h.node
-    same = same_node x h.node (sym at ∙ h.at)
+    at : slice_get a.children.items i ≡ Some (in_child.Node x)
+    at = node_at a.children.items i c x (inside_of a.children.items i (in_child.Node h.node) h.at) here is
 
-    are : (d : Part) → bytes ≡ bytes_for (parts_of v.items) a.buffer i d
-    are d = subst (λ (l : List (Child A)). bytes ≡ bytes_for (parts_of l) a.buffer i d) e (given d)
+    are : (d : Part) → bytes ≡ bytes_for (parts_of a.children.items) a.buffer i d
+    are d = subst (λ (l : List (Child A)). bytes ≡ bytes_for (parts_of l) a.buffer i d) e' (given d)
 
     level : IsBelow {A = A} a.height a.shape (in_child.Node x)
-    level = level_at a.height a.shape v.items i (in_child.Node x) h.is_node.level at
+    level = level_at a.height a.shape a.children.items i (in_child.Node x) node.level at
 
 -- ---- a step of the child's own
 
-pub record CanStep (y : Subtree) (height capacity : ℕ) : Type 0 where
+pub record CanStep (y : Subtree) (height capacity fan_out : ℕ) : Type 0 where
   pub filled : 0 < length y.buffer.messages
-  pub shape : 4 ≤ y.shape.fan_out
-  pub places : y.width + places_at y.height ≤ y.shape.fan_out
+  pub few : y.width ≤ y.shape.fan_out
+  pub wide : y.shape.fan_out ≡ fan_out
   pub short : AreShort (messages_of y)
   pub same : y.buffer.capacity ≡ capacity
   pub lower : y.height < height
 
-pub can_step : {A : Type 0} (a : Inside A) (v : Vec (Child A) A) (i bytes ample : ℕ) (x y : Subtree) (pins : TenantPins) → Stepping a v i bytes x pins → IsSqueezed x y → y.buffer.capacity < sum_by message_size y.buffer.messages + ample → (bytes ≤ a.shape.buffer → ample ≤ a.shape.buffer) → 4 ≤ a.shape.fan_out → AreShort (messages_of (subtree_of a)) → CanStep y a.height a.buffer.capacity
-can_step {A} a v i bytes ample x y pins s q full most wide short = record {
-  filled = full_has_messages y ample full (let b = s.entered.is_node.fits in let f = most (let l = s.next.few in omega (arith, l, b)) in let k = squeezed.capacity in let n = s.next.capacity in omega (arith, b, f, k, n));
-  shape = let e = fan_out in omega (arith, e, wide);
-  places = let e = fan_out in let p = s.places in let w = squeezed.width in let h = ap places_at squeezed.height in omega (arith, e, p, w, h);
-  short = rw q.is (child_short (record a { children = v }) i x s.entered.is_node s.next.at (λ key. (s.entered.keeps.means key).short (short key)));
-  same = squeezed.capacity ∙ s.next.capacity;
-  lower = let h = squeezed.height in let l = s.next.lower in omega (arith, h, l);
+pub can_step : {A : Type 0} (a : Inside A) (i bytes ample : ℕ) (x y : Subtree) → IsNode a → IsNext a i bytes x → IsSqueezed x y → y.buffer.capacity < sum_by message_size y.buffer.messages + ample → (bytes ≤ a.shape.buffer → ample ≤ a.shape.buffer) → AreShort (messages_of (subtree_of a)) → CanStep y a.height a.buffer.capacity a.shape.fan_out
+can_step {A} a i bytes ample x y node n q full most short = record {
+  filled = full_has_messages y ample full (let b = node.fits in let f = most (let l = n.few in omega (arith, l, b)) in let k = squeezed.capacity in let c = n.capacity in omega (arith, b, f, k, c));
+  few = let e = fan_out in let w = squeezed.width in let f = level.same.3 in omega (arith, e, w, f);
+  wide = fan_out;
+  short = rw q.is (child_short a i x node n.at short);
+  same = squeezed.capacity ∙ n.capacity;
+  lower = let h = squeezed.height in let l = n.lower in omega (arith, h, l);
 }
   where
     squeezed : Stays x y
     squeezed = (squeezed_same x y q).0
 
     level : IsBelow {A = A} a.height a.shape (in_child.Node x)
-    level = level_at a.height a.shape v.items i (in_child.Node x) s.entered.is_node.level s.next.at
+    level = level_at a.height a.shape a.children.items i (in_child.Node x) node.level n.at
 
     fan_out : y.shape.fan_out ≡ a.shape.fan_out
     fan_out = ap (λ (t : Shape). t.fan_out) (squeezed.shape ∙ level.same.0)
 
--- the node with the child after its step
-pub record Stepped {A : Type 0} (a : Inside A) (v : Vec (Child A) A) (x z : Subtree) (pins : TenantPins) : Type 0 where
-  pub is_node : IsNode (record a { children = v })
-  pub keeps : Keeps pins (subtree_of a) (subtree_of (record a { children = v }))
-  pub weight : (subtree_of (record a { children = v })).weight + x.weight ≡ (subtree_of a).weight + z.weight
-  pub forgets : (cache cache' : Cache) → Forgets x.leaves z.leaves cache cache' → Forgets (leaves_in (parts_of a.children.items)) (leaves_in (parts_of v.items)) cache cache'
+-- ---- the node with the child after its step, and what came behind it
 
 set_is_splice : {X : Type 0} (xs : List X) (i : ℕ) (x : X) → i < length xs → set xs i x ≡ take i xs ++ (x ∷ drop (i + 1) xs)
 set_is_splice [] i x h = absurd (omega arith)
@@ -137,50 +126,102 @@ set_is_splice (y ∷ ys) (suc i) x h =
     let e : suc i + 1 ≡ suc (i + 1) = omega arith in
     ap (λ l. y ∷ l) (set_is_splice ys i x (omega arith)) ∙ ap (λ k. y ∷ (take i ys ++ (x ∷ drop k (y ∷ ys)))) (sym e)
 
-pub stepped : {A : Type 0} (a : Inside A) (v : Vec (Child A) A) (i bytes : ℕ) (x y z : Subtree) (pins : TenantPins) → Stepping a v i bytes x pins → IsSqueezed x y → Keeps pins y z → Stepped a (with_item v i (in_child.Node z)) x z pins
-stepped {A} a v i bytes x y z pins s q k = record {
+-- a place in a list where one element was set
+pub behind_set : {X : Type 0} (xs : List X) (i : ℕ) (x : X) (came : List X) → i < length xs → take (i + 1) (set xs i x) ++ (came ++ drop (i + 1) (set xs i x)) ≡ take i xs ++ ((x ∷ came) ++ drop (i + 1) xs)
+behind_set [] i x came h = absurd (omega arith)
+behind_set (y ∷ ys) zero x came h = refl
+behind_set (y ∷ ys) (suc i) x came h =
+    let e : suc i + 1 ≡ suc (i + 1) = omega arith in
+    (λ j. take (e j) (y ∷ set ys i x) ++ (came ++ drop (e j) (y ∷ set ys i x)))
+    ∙ ap (λ l. y ∷ l) (behind_set ys i x came (omega arith))
+    ∙ (λ j. y ∷ (take i ys ++ ((x ∷ came) ++ drop (sym e j) (y ∷ ys))))
+
+pub behind_length : {X : Type 0} (xs : List X) (i : ℕ) (came : List X) → i < length xs → length (take (i + 1) xs ++ (came ++ drop (i + 1) xs)) ≡ length xs + length came
+behind_length xs i came l =
+    let a = length-append (take (i + 1) xs) (came ++ drop (i + 1) xs) in
+    let b = length-append came (drop (i + 1) xs) in
+    let t = length-take-le (i + 1) xs (omega (arith, l)) in
+    let d = length-drop (i + 1) xs in
+    omega (arith, a, b, t, d, l)
+
+-- a node that has none behind it
+pub steps_alone : {A : Type 0} (pins : TenantPins) (x y : Subtree) (came : List (Child A)) → Stays x y → AreLeafSizes y.shape.leaf y.leaves → y.weight < x.weight → x.width ≤ x.shape.fan_out → came ≡ [] → Steps pins x y came
+steps_alone pins x y came s sizes less few none = record {
+  stands = record {
+    run = [];
+    are = none;
+    shape = s.shape;
+    capacity = s.capacity;
+    like = tt;
+    place = one_takes_place pins x y (stays_keeps pins x y s sizes);
+    few = (let w = s.width in let f = ap (λ (k : Shape). k.fan_out) s.shape in omega (arith, w, f, few), tt);
+    lighter = let one = sum_by-cons (λ (p : Part). p.weight) (node_part y) [] in omega (arith, one, less);
+  };
+  height = s.height;
+  counted = let n = ap length none in omega (arith, n);
+}
+
+-- a node that stands where another stays
+pub place_of_stayed : (pins : TenantPins) (x y : Subtree) (run : List Subtree) → Stays x y → TakePlace pins y run → TakePlace pins x run
+place_of_stayed pins x y run s p = record {
+  tiled = λ high t. let u = p.tiled high (same_tile x y high s t) in (u.0, u.1 ∙ s.low);
+  sizes = subst (λ (h : Shape). AreLeafSizes h.leaf (leaves_in (run_parts run))) s.shape p.sizes;
+  means = λ key. same_then (pins (tenant_of key)) (ops_in (messages_of x) key) (ops_in (messages_of y) key) (ops_in (run_messages run) key)
+      (same_pointwise (pins (tenant_of key)) (ops_in (messages_of x) key) (ops_in (messages_of y) key) (λ n.
+      parts_ops y key n
+      ∙ (λ i. or_else (s.messages key n i) (ops_in (row_messages (s.leaves i)) key n))
+      ∙ sym (parts_ops x key n)))
+      (p.means key);
+}
+
+pub record Stepped {A : Type 0} (a : Inside A) (v : Vec (Child A) A) (pins : TenantPins) : Type 0 where
+  pub is_node : IsNode (record a { children = v })
+  pub keeps : Keeps pins (subtree_of a) (subtree_of (record a { children = v }))
+  pub lighter : (subtree_of (record a { children = v })).weight < (subtree_of a).weight
+
+pub stepped : {A : Type 0} (a : Inside A) (v : Vec (Child A) A) (i bytes : ℕ) (x y z : Subtree) (came : List (Child A)) (pins : TenantPins) → IsNode a → IsNext a i bytes x → IsSqueezed x y → Steps pins y z came → v.items ≡ take (i + 1) (set a.children.items i (in_child.Node z)) ++ (came ++ drop (i + 1) (set a.children.items i (in_child.Node z))) → Stepped a v pins
+stepped {A} a v i bytes x y z came pins node n q s items = record {
   is_node = whole.is_node;
-  keeps = keeps_then pins (subtree_of a) (subtree_of (record a { children = v })) (subtree_of (record a { children = with_item v i (in_child.Node z) })) s.entered.keeps whole.keeps;
-  weight =
-      let w = whole.weight in
-      let u = s.entered.weight in
-      let one = sum_by-cons (λ (p : Part). p.weight) (node_part z) [] in
-      omega (arith, w, u, one);
-  forgets = λ cache cache' f. forgets_within whole.before x.leaves z.leaves whole.after _ _ cache cache' f (sym s.entered.leaves ∙ whole.leaves_were)
-      (whole.leaves_are ∙ ap (λ ls. whole.before ++ (ls ++ whole.after)) (append-nil z.leaves));
+  keeps = whole.keeps;
+  lighter = let w = whole.weight in let l = s.stands.lighter in let e = (squeezed_same x y q).1 in omega (arith, w, l, e);
 }
   where
-    to_y : Keeps pins x y
-    to_y = stays_keeps pins x y (squeezed_same x y q).0 (rw q.is (child_sizes (record a { children = v }) i x s.entered.is_node s.next.at))
+    st : Stays x y
+    st = (squeezed_same x y q).0
 
-    whole : Spliced (record a { children = v }) (with_item v i (in_child.Node z)) x (z ∷ []) pins
-    whole = spliced (record a { children = v }) (with_item v i (in_child.Node z)) i x (z ∷ []) pins s.entered.is_node s.next.at (one_takes_place pins x z (keeps_then pins x y z to_y k))
-        (set_is_splice v.items i (in_child.Node z) (inside_of v.items i (in_child.Node x) s.next.at))
-        (let w = s.entered.is_node.wide in omega (arith, w))
+    like_x : IsLike x z
+    like_x = record { height = s.height ∙ st.height; shape = s.stands.shape ∙ st.shape; capacity = s.stands.capacity ∙ st.capacity }
 
--- ---- messages moved into the child
+    all_like : (ts : List Subtree) → AllByRecursion (IsLike z) ts → AllByRecursion (IsLike x) ts
+    all_like [] h = tt
+    all_like (t ∷ ts) h = (record { height = h.0.height ∙ like_x.height; shape = h.0.shape ∙ like_x.shape; capacity = h.0.capacity ∙ like_x.capacity }, all_like ts h.1)
 
-pub record Handed {A : Type 0} (a : Inside A) (v : Vec (Child A) A) (b : MessageList) (pins : TenantPins) : Type 0 where
-  pub is_node : IsNode (record a { children = v; buffer = b })
-  pub keeps : Keeps pins (subtree_of a) (subtree_of (record a { children = v; buffer = b }))
-  pub weight : (subtree_of (record a { children = v; buffer = b })).weight < (subtree_of a).weight
-  pub leaves : leaves_in (parts_of v.items) ≡ leaves_in (parts_of a.children.items)
+    whole : Spliced a v x (z ∷ s.stands.run) pins
+    whole = spliced a v i x (z ∷ s.stands.run) pins node n.at (place_of_stayed pins x y (z ∷ s.stands.run) st s.stands.place) (like_x, all_like s.stands.run s.stands.like) s.stands.few (omega arith)
+        (items ∙ ap (λ (l : List (Child A)). take (i + 1) (set a.children.items i (in_child.Node z)) ++ (l ++ drop (i + 1) (set a.children.items i (in_child.Node z)))) s.stands.are
+        ∙ behind_set a.children.items i (in_child.Node z) (nodes A s.stands.run) (inside_of a.children.items i (in_child.Node x) n.at))
 
-pub handed : {A : Type 0} (a : Inside A) (v w : Vec (Child A) A) (i bytes : ℕ) (x : Subtree) (b : MessageList) (pins : TenantPins) → Stepping a v i bytes x pins → WentInto (record a { children = v }) w b → Handed a w b pins
-handed a v w i bytes x b pins s into = record {
-  is_node = into.is_node;
-  keeps = keeps_then pins (subtree_of a) (subtree_of (record a { children = v })) (subtree_of (record a { children = w; buffer = b })) s.entered.keeps
-      (stays_keeps pins (subtree_of (record a { children = v })) (subtree_of (record a { children = w; buffer = b })) into.stays into.is_node.sizes);
-  weight = let l = into.weight in let e = s.entered.weight in omega (arith, l, e);
-  leaves = into.stays.leaves ∙ s.entered.leaves;
-}
+-- the leaves that went with a child, the cache lost
+pub stepped_forgets : {A : Type 0} (a : Inside A) (v : Vec (Child A) A) (i bytes : ℕ) (x y z : Subtree) (came : List (Child A)) (pins : TenantPins) (cache cache' : Cache) → IsNode a → IsNext a i bytes x → IsSqueezed x y → Steps pins y z came → v.items ≡ take (i + 1) (set a.children.items i (in_child.Node z)) ++ (came ++ drop (i + 1) (set a.children.items i (in_child.Node z)))
+    → ForgetsCame y z came cache cache' → Forgets (leaves_in (parts_of a.children.items)) (leaves_in (parts_of v.items)) cache cache'
+stepped_forgets {A} a v i bytes x y z came pins cache cache' node n q s items f =
+    forgets_within (leaves_in (before_of a i)) x.leaves (z.leaves ++ leaves_of came) (leaves_in (after_of a i)) (leaves_in (parts_of a.children.items)) (leaves_in (parts_of v.items)) cache cache'
+    (subst (λ ls. Forgets ls (z.leaves ++ leaves_of came) cache cache') (squeezed_same x y q).0.leaves f)
+    (ap leaves_in (old_parts a i (in_child.Node x) n.at) ∙ flat_map-append (λ (p : Part). p.leaves) (before_of a i) (node_part x ∷ after_of a i))
+    are
+  where
+    parts : parts_of v.items ≡ before_of a i ++ ((node_part z ∷ parts_of came) ++ after_of a i)
+    parts =
+        ap parts_of (items ∙ behind_set a.children.items i (in_child.Node z) came (inside_of a.children.items i (in_child.Node x) n.at))
+        ∙ map-append part_of (take i a.children.items) ((in_child.Node z ∷ came) ++ drop (i + 1) a.children.items)
+        ∙ (λ j. sym (take-map part_of i a.children.items) j ++ (map-append part_of (in_child.Node z ∷ came) (drop (i + 1) a.children.items) ∙ (λ k. (node_part z ∷ parts_of came) ++ sym (drop-map part_of (i + 1) a.children.items) k)) j)
 
--- ---- the child's answer
+    are : leaves_in (parts_of v.items) ≡ leaves_in (before_of a i) ++ ((z.leaves ++ leaves_of came) ++ leaves_in (after_of a i))
+    are =
+        ap leaves_in parts ∙ flat_map-append (λ (p : Part). p.leaves) (before_of a i) ((node_part z ∷ parts_of came) ++ after_of a i)
+        ∙ ap (λ l. leaves_in (before_of a i) ++ l) (flat_map-append (λ (p : Part). p.leaves) (node_part z ∷ parts_of came) (after_of a i))
 
--- the child means the same, whatever its step answered
-pub either : {T E : Type 0} (pins : TenantPins) (y z : Subtree) (r : Result T E) → OnOk r (Flushes pins y z) → OnErr r (Keeps pins y z) → Keeps pins y z
-either pins y z (Ok x) f k = f.keeps
-either pins y z (Err e) f k = k
+-- ---- results
 
 pub on_ok : {T E : Type 0} (r : Result T E) {P : Type 0} → P → OnOk r P
 on_ok (Ok x) p = p

@@ -1,5 +1,5 @@
 -- A node after messages moved below it, or were merged into its leaves.
-use Rattle.std.specs.Prelude.{◌≡◌, ℕ, ◌<◌, List}
+use Rattle.std.specs.Prelude.{◌≡◌, ℕ, ◌<◌, ◌≤◌, List}
 use Rattle.stow_leaf.specs.Replacements.{GiveWay, AreThere, HasShortValues}
 use Rattle.stow_tree_model.specs.Agreement.{TenantPins}
 use Rattle.stow_tree_model.specs.Keys.{tenant_of}
@@ -31,7 +31,13 @@ pub record Keeps (pins : TenantPins) (old new : Subtree) : Type 0 where
   pub means : (key : List ℕ) → MeanTheSame (pins (tenant_of key))
       (ops_in (messages_of old) key) (ops_in (messages_of new) key)
 
--- and its messages are fewer, or nearer to the leaves
+-- a root means the same under the pins, whatever height it has, and its messages are fewer, or nearer
+-- to the leaves
 pub record Flushes (pins : TenantPins) (old new : Subtree) : Type 0 where
-  pub keeps : Keeps pins old new
+  pub low : new.low ≡ old.low
+  pub shape : new.shape ≡ old.shape
+  pub capacity : new.buffer.capacity ≡ old.buffer.capacity
+  pub few : new.width ≤ new.shape.fan_out
+  pub means : (key : List ℕ) → MeanTheSame (pins (tenant_of key))
+      (ops_in (messages_of old) key) (ops_in (messages_of new) key)
   pub lighter : new.weight < old.weight

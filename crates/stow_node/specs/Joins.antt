@@ -1,12 +1,14 @@
 -- Small leaves that become one with a neighbour.
-use Rattle.std.specs.Prelude.{◌≡◌, ◌⊎◌, ℕ, zero, suc, ◌*◌, ◌<◌, ◌≤◌, List, ◌∷◌, ◌++◌, map, length, slice_get, Some, Option, None, Bool, true, false}
+use Rattle.std.specs.Prelude.{◌≡◌, ◌⊎◌, ℕ, zero, suc, ◌*◌, ◌<◌, ◌≤◌, List, [], ◌∷◌, ◌++◌, map, length, slice_get, Some, Option, None, Bool, true, false}
 use Rattle.stow_leaf.specs.Intervals.{top_key}
 use Rattle.stow_leaf.specs.LeafRows.{LeafRows, leaf_rows, LeavesTo}
 use Rattle.stow_leaf.specs.declared.leaf.Leaf.{Leaf}
+use Rattle.stow_leaf_cache.specs.Cache.{Cache}
 use Rattle.stow_page.specs.Format.{packed_page}
 use Rattle.stow_tree_model.specs.Version.{Version}
 use Rattle.stow_node.specs.declared.child.Child.{Child}
 use Rattle.stow_node.specs.declared.child.Child.TheVariants as in_child
+use Rattle.stow_node.specs.Forgets.{cache_without}
 use Rattle.stow_node.specs.Nodes.{parts_of}
 use Rattle.stow_node.specs.Parts.{leaves_in}
 
@@ -38,6 +40,18 @@ JoinTimes (suc n) target old new = (middle : List LeafRows) × JoinTimes n targe
 -- some joins, or none
 abbrev pub AreJoined : ℕ → List LeafRows → List LeafRows → Type 0
 AreJoined target old new = (n : ℕ) × JoinTimes n target old new
+
+-- the fences of all leaves that were joined
+abbrev pub joined_fences : (n target : ℕ) (old new : List LeafRows) → JoinTimes n target old new
+    → List (List ℕ)
+joined_fences zero target old new same = []
+joined_fences (suc n) target old new times =
+    times.2.upper.0 ∷ times.2.lower.0 ∷ joined_fences n target old times.0 times.1
+
+-- some joins, or none, and the cache lost just the leaves that were joined
+pub record JoinsAll (target : ℕ) (old new : List LeafRows) (cache cache' : Cache) : Type 0 where
+  pub joined : AreJoined target old new
+  pub lost : cache' ≡ cache_without (joined_fences joined.0 target old new joined.1) cache
 
 -- no neighbours are left that are to join
 abbrev pub NoneToJoin : ℕ → List LeafRows → Type 0
@@ -79,6 +93,13 @@ with_joined pair rows =
 abbrev pub IsJoinOf : ℕ → List Version → List Version → Option (List Version) → Type 0
 IsJoinOf target lower upper (Some rows) = AreToJoin target lower upper × (rows ≡ lower ++ upper)
 IsJoinOf target lower upper None = AreToJoin target lower upper → ⊥
+
+-- the cache lost both leaves of the pair, if they were joined
+abbrev pub LosesPair : {A : Type 0} {children : List (Child A)} {i : ℕ} → Pair children i
+    → Cache → Cache → Bool → Type 0
+LosesPair pair cache cache' true =
+    cache' ≡ cache_without (pair.upper.low ∷ pair.lower.low ∷ []) cache
+LosesPair pair cache cache' false = cache' ≡ cache
 
 -- the pair is joined, or is not to join
 abbrev pub JoinsPair : {A : Type 0} (target : ℕ) {children : List (Child A)} {i : ℕ}

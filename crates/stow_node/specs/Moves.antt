@@ -1,5 +1,5 @@
 -- Messages on their way down.
-use Rattle.std.specs.Prelude.{◌≡◌, ℕ, ◌+◌, ◌*◌, ◌<◌, ◌≤◌, List, [], length, slice_index_or, slice_get, slice_set, Some}
+use Rattle.std.specs.Prelude.{◌≡◌, ℕ, ◌+◌, ◌*◌, ◌/◌, ◌<◌, ◌≤◌, List, length, max, slice_index_or, slice_get, slice_set, Some}
 use Rattle.std.specs.List.{sum_by}
 use Rattle.stow_message.specs.MessageBuf.{MessageList, message_list, with_messages, without_range}
 use Rattle.stow_message.specs.Packed.{message_size}
@@ -33,6 +33,11 @@ pub record IsSqueezed (old new : Subtree) : Type 0 where
   pub used : ℕ
   pub is : new ≡ record old { buffer = message_list old.buffer.messages used old.buffer.capacity }
   pub fewer : used ≤ old.buffer.used
+
+-- the larger of so many bytes and a quarter of the block doesn't fit, even once dead bytes are dropped
+abbrev pub LacksRoom : ℕ → Subtree → Type 0
+LacksRoom bytes t =
+    t.buffer.capacity < sum_by message_size t.buffer.messages + max bytes (t.shape.buffer / 4)
 
 -- the bytes of a child's messages in the buffer above it
 abbrev pub bytes_for : List Part → MessageList → ℕ → Part → ℕ
@@ -75,13 +80,3 @@ pub record HandsDown {A : Type 0} (children : List (Child A)) (i : ℕ) (b : Mes
   pub into : children' ≡ slice_set children i
       (in_child.Node (accepted (messages_for (parts_of children) b i node) node))
   pub from : b' ≡ without_range node.low (high_of (parts_of children) i) b
-
--- a node above this one, which is its only child
-abbrev pub raised : Subtree → Subtree
-raised t =
-    record t {
-      height = t.height + 1;
-      width = 1;
-      buffer = message_list [] 0 t.shape.buffer;
-      deeper = buffered t;
-    }

@@ -1,6 +1,6 @@
 -- What a node keeps.
-use Rattle.std.specs.Prelude.{◌≡◌, ℕ, ◌+◌, ◌*◌, ◌<◌, ◌≤◌, List, [], ◌∷◌, ◌++◌, map, length, IsSome}
-use Rattle.std.specs.List.{AllByRecursion}
+use Rattle.std.specs.Prelude.{◌≡◌, ℕ, ◌+◌, ◌*◌, ◌<◌, ◌≤◌, List, [], ◌∷◌, ◌++◌, map, length, IsSome, Option, None}
+use Rattle.std.specs.List.{AllByRecursion, flat_map}
 use Rattle.stow_tree_model.specs.Messages.{ops_in}
 use Rattle.stow_tree_model.specs.TreeMessage.{TreeMessage}
 use Rattle.stow_node.specs.declared.child.Child.{Child}
@@ -8,7 +8,7 @@ use Rattle.stow_node.specs.declared.child.Child.TheVariants as in_child
 use Rattle.stow_leaf.specs.declared.leaf.Leaf.{Leaf}
 use Rattle.stow_node.specs.declared.node.Node.TheInside.{Inside}
 use Rattle.stow_node.specs.declared.shape.Shape.{Shape}
-use Rattle.stow_node.specs.Subtree.{Subtree, buffered}
+use Rattle.stow_node.specs.Subtree.{Subtree, buffered, right_above_leaves, lower_height, deepest_buffer}
 use Rattle.stow_leaf.specs.LeafRows.{LeafRows, row_messages}
 use Rattle.stow_leaf.specs.Replacements.{IsLeafSize}
 use Rattle.stow_node.specs.Parts.{Part, TiledTo, low_or, messages_in, leaves_in, weight_in}
@@ -41,6 +41,23 @@ part_of (in_child.Node node) = node_part node
 abbrev pub parts_of : {A : Type 0} → List (Child A) → List Part
 parts_of children = map part_of children
 
+-- a child's messages in the buffers right above the leaves
+abbrev pub nearest_of : {A : Type 0} → Child A → List TreeMessage
+nearest_of (in_child.Leaf leaf) = []
+nearest_of (in_child.Node node) = right_above_leaves node
+
+abbrev pub nearest_in : {A : Type 0} → List (Child A) → List TreeMessage
+nearest_in children = flat_map nearest_of children
+
+-- how high a child's deepest buffer stands that holds a message
+abbrev pub deepest_of : {A : Type 0} → Child A → Option ℕ
+deepest_of (in_child.Leaf leaf) = None
+deepest_of (in_child.Node node) = deepest_buffer node
+
+abbrev pub deepest_in : {A : Type 0} → List (Child A) → Option ℕ
+deepest_in [] = None
+deepest_in (child ∷ children) = lower_height (deepest_of child) (deepest_in children)
+
 -- each message of a key is newer than those of the key below
 pub record AreNewer (upper lower : List TreeMessage) : Type 0 where
   pub above : (key : List ℕ) (n k : ℕ) → IsSome (ops_in upper key n) → IsSome (ops_in lower key k)
@@ -50,11 +67,11 @@ pub record AreNewer (upper lower : List TreeMessage) : Type 0 where
 abbrev pub AreLeafSizes : ℕ → List LeafRows → Type 0
 AreLeafSizes target leaves = AllByRecursion (λ leaf. IsLeafSize target leaf.1) leaves
 
--- a node grows as its parent does, and stands above leaves
+-- a node grows as its parent does, stands above leaves, and has no more children than it may
 abbrev pub HasShape : {A : Type 0} → Shape → Child A → Type 0
 HasShape shape (in_child.Leaf leaf) = Unit {0}
 HasShape shape (in_child.Node node) = (node.shape ≡ shape) × (node.buffer.capacity ≡ shape.buffer)
-    × (1 ≤ node.height)
+    × (1 ≤ node.height) × (node.width ≤ shape.fan_out)
 
 -- a child stands one level lower, and grows as its parent does
 pub record IsBelow {A : Type 0} (height : ℕ) (shape : Shape) (child : Child A) : Type 0 where
@@ -70,6 +87,8 @@ subtree_of a =
       shape = a.shape;
       buffer = a.buffer;
       deeper = messages_in (parts_of a.children.items);
+      nearest = nearest_in a.children.items;
+      deepest = deepest_in a.children.items;
       leaves = leaves_in (parts_of a.children.items);
       weight = a.height * length a.buffer.messages + weight_in (parts_of a.children.items);
     }
@@ -78,7 +97,7 @@ pub record IsNode {A : Type 0} (a : Inside A) : Type 0 where
   pub tiled : TiledTo top_key (parts_of a.children.items)
   pub first : low_or top_key (parts_of a.children.items) ≡ a.low
   pub level : AllByRecursion (IsBelow a.height a.shape) a.children.items
-  pub wide : (1 ≤ length a.children.items) × (length a.children.items ≤ a.shape.fan_out)
+  pub some : 1 ≤ length a.children.items
   pub fits : a.buffer.capacity ≡ a.shape.buffer
   pub from : AreWithin a.low top_key a.buffer.messages
   pub newer : AreNewer a.buffer.messages
@@ -92,6 +111,8 @@ pub record AreChildren {A : Type 0} (t : Subtree) (children : List (Child A)) : 
   pub some : 1 ≤ length children
   pub low : low_or top_key (parts_of children) ≡ t.low
   pub deeper : t.deeper ≡ messages_in (parts_of children)
+  pub nearest : t.nearest ≡ nearest_in children
+  pub deepest : t.deepest ≡ deepest_in children
   pub leaves : t.leaves ≡ leaves_in (parts_of children)
   pub tiled : TiledTo top_key (parts_of children)
   pub level : AllByRecursion (IsBelow t.height t.shape) children

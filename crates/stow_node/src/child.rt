@@ -2,7 +2,6 @@
 ghost use Rattle.std.specs.Prelude.{◌≡◌, ◌<◌, length, true};
 ghost use Rattle.std.specs.Ordering.{is_lt};
 ghost use Rattle.stow_bytes.specs.Bytes.{bytes_cmp};
-ghost use Rattle.stow_node.specs.Entering.{width_of, places_of};
 ghost use Rattle.stow_node.specs.Nodes.{part_of, parts_of};
 ghost use Rattle.stow_node.specs.Parts.{low_or, high_of, IsFor};
 ghost use Rattle.stow_leaf.specs.Intervals.{top_key, spans};
@@ -29,26 +28,6 @@ impl<A: Allocator> Child<A> {
         match self {
             Child::Leaf(leaf) => leaf.low.as_key(),
             Child::Node(node) => node.low(),
-        }
-    }
-
-    /// How many children it has, a leaf none.
-    pub(crate) fn width(&self) -> usize
-        ensures { result ≡ width_of self.now }
-    {
-        match self {
-            Child::Leaf(_) => 0,
-            Child::Node(node) => node.width(),
-        }
-    }
-
-    /// How many more children a step into it may bring, a leaf none.
-    pub(crate) fn places(&self) -> usize
-        ensures { result ≡ places_of self.now }
-    {
-        match self {
-            Child::Leaf(_) => 0,
-            Child::Node(node) => node.places(),
         }
     }
 }

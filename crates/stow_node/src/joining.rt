@@ -4,7 +4,7 @@ ghost use Rattle.stow_page.specs.Format.{packed_page};
 ghost use Rattle.stow_merge.specs.Pages.{KeysBelow};
 ghost use Rattle.stow_node.specs.declared.child.Child.TheVariants as in_child;
 ghost use Rattle.stow_node.specs.Forgets.{Forgets};
-ghost use Rattle.stow_node.specs.Joins.{IsSmall, AreToJoin, IsJoinOf, IsLeafAt, Pair, with_joined, JoinsPair, AreLeaves, leaves_of, AreJoined, NoneToJoin};
+ghost use Rattle.stow_node.specs.Joins.{IsSmall, AreToJoin, IsJoinOf, IsLeafAt, Pair, with_joined, JoinsPair, AreLeaves, leaves_of, JoinsAll, LosesPair, NoneToJoin};
 
 use crate::child::Child;
 use std::alloc::{AllocError, Allocator};
@@ -85,7 +85,10 @@ fn join_pair<A: Allocator + Copy>(
     requires { Pair children.old.items index }
     ensures ok { (pair : Pair children.old.items index)
         → IfOk result (JoinsPair target pair children.new.items) }
+    ensures lost { (pair : Pair children.old.items index)
+        → IfOk result (LosesPair pair cache.old cache.new) }
     ensures err { OnErr result (children.new.items ≡ children.old.items) }
+    ensures same { OnErr result (cache.new ≡ cache.old) }
     ensures cache { Forgets (leaves_of children.old.items) (leaves_of children.new.items)
         cache.old cache.new }
 {
@@ -101,7 +104,7 @@ fn join_pair<A: Allocator + Copy>(
 }
 
 /// Joins small leaves with a neighbour, from the lowest on, until no two are left that are to become one. The cache forgets
-/// the leaves that were joined. Where memory is refused some of them may be joined.
+/// the leaves that were joined, and no others. Where memory is refused some of them may be joined.
 pub(crate) fn join_small<A: Allocator + Copy>(
     alloc: A,
     children: &mut Vec<Child<A>, A>,
@@ -110,8 +113,8 @@ pub(crate) fn join_small<A: Allocator + Copy>(
 ) -> Result<(), AllocError>
     requires some { 0 < length children.old.items }
     requires leaves { AreLeaves children.old.items }
-    ensures joined { AreJoined target (leaves_of children.old.items)
-        (leaves_of children.new.items) }
+    ensures joined { JoinsAll target (leaves_of children.old.items)
+        (leaves_of children.new.items) cache.old cache.new }
     ensures leaves { AreLeaves children.new.items }
     ensures none { OnOk result (NoneToJoin target (leaves_of children.new.items)) }
     ensures cache { Forgets (leaves_of children.old.items) (leaves_of children.new.items)

@@ -1,25 +1,35 @@
 //! Inner nodes.
-ghost use Rattle.std.specs.Prelude.{◌≡◌, ◌↔◌, ◌+◌, ◌<◌, ◌≤◌, IsTrue, [], ◌∷◌, length, true, false, IfOk, OnOk, OnErr};
+ghost use Rattle.std.specs.Prelude.{◌≡◌, ◌↔◌, ◌+◌, ◌-◌, ◌^◌, ◌<◌, ◌≤◌, ◌++◌, ℕ, IsTrue, [], ◌∷◌, length, true, false, IfOk, OnOk, OnErr};
 ghost use Rattle.std.specs.List.{sum_by};
+ghost use Rattle.std.specs.Vec.{vec_capacity};
 ghost use Rattle.stow_merge.specs.Pins.{pins_in};
 ghost use Rattle.stow_message.specs.MessageBuf.{Fits, without_range};
 ghost use Rattle.stow_message.specs.Packed.{message_size};
 ghost use Rattle.stow_message.specs.Rising.{in_range};
+ghost use Rattle.stow_tree_model.specs.Agreement.{TenantPins};
 ghost use Rattle.stow_tree_model.specs.TreeMessage.{message_of};
-ghost use Rattle.stow_node.specs.Flushes.{AreShort, Keeps, Flushes};
+ghost use Rattle.stow_node.specs.Flushes.{AreShort, Flushes};
 ghost use Rattle.stow_node.specs.Forgets.{Forgets};
 ghost use Rattle.stow_node.specs.Halves.{AreHalves};
-ghost use Rattle.stow_node.specs.Joins.{NoneToJoin};
-ghost use Rattle.stow_node.specs.Moves.{accepted, CanAccept, IsSqueezed, Stays, raised};
-ghost use Rattle.stow_node.specs.Nodes.{AreChildren};
-ghost use Rattle.stow_node.specs.Subtree.{first_subtree, messages_of, places_at};
+ghost use Rattle.stow_node.specs.Joins.{leaves_of};
+ghost use Rattle.stow_node.specs.Moves.{accepted, CanAccept, IsSqueezed, Stays};
+ghost use Rattle.stow_node.specs.Nodes.{AreChildren, AreLeafSizes, node_part};
+ghost use Rattle.stow_leaf.specs.Intervals.{top_key};
+ghost use Rattle.stow_node.specs.Parts.{IsTile};
+ghost use Rattle.stow_node.specs.Regroups.{Grows, Steps, Stands, AreBehind, ForgetsCame};
+ghost use Rattle.stow_node.specs.Rooms.{AreShells, HasRoom, groups};
+ghost use Rattle.stow_node.specs.Subtree.{Subtree, first_subtree, messages_of};
+ghost use Rattle.stow_node.specs.Ways.{Goes, StepsDown};
 
-use crate::absorbing::absorb;
-use crate::child::{Child, top_key};
-use crate::entering::next_child;
-use crate::joining::join_small;
+use crate::absorbing::merged;
+use crate::child::{Child, high_after, top_key};
+use crate::coming::{moved_from, take_in};
+use crate::counting::{groups, room_for, share_of_last};
+use crate::fence::Fence;
 use crate::moving::{bytes_for, hand_down, heaviest};
+use crate::room::Room;
 use crate::shape::Shape;
+use crate::shell::{MOST_FENCE, Shell};
 use std::alloc::{AllocError, Allocator, Global};
 use std::marker::Model;
 use std::mem;
@@ -34,11 +44,14 @@ use stow_tree_model::message::Message;
 use stow_tree_model::tenant_key::TenantKey;
 use stow_tree_model::tenant_key_buf::TenantKeyBuf;
 
+/// The most levels of a root that may become higher. No memory holds as many, each with a block of its own.
+const MOST_HEIGHT: u64 = 9_223_372_036_854_775_808;
+
 /// A node with a buffer of messages, and all that stands below it.
 #[cycle(node)]
 #[derive(Drop)]
 pub struct Node<A: Allocator = Global> {
-    low: TenantKeyBuf<A>,
+    low: Fence<A>,
     height: u64,
     shape: Shape,
     buffer: MessageBuf<A>,
@@ -67,17 +80,18 @@ impl<A: Allocator> Model for Node<A> {
 impl<A: Allocator + Copy> Node<A> {
     /// A node above one empty leaf, for all keys.
     pub fn first(alloc: A, shape: Shape) -> Result<Node<A>, AllocError>
-        requires { 1 ≤ shape.fan_out }
         ensures { IfOk result (λ n. n ≡ first_subtree shape) }
     {
         let leaf = Leaf {
             low: TenantKeyBuf::new(alloc, 0, &[])?,
             rows: Rows::new(alloc, PackedRows::new(alloc)?)?,
         };
+        let fence = Vec::with_capacity(alloc, MOST_FENCE)?;
+        let low = Fence::copied(fence, leaf.low.as_key());
         let mut children = Vec::new(alloc);
         children.push(Child::Leaf(leaf))?;
         Ok(Node {
-            low: TenantKeyBuf::new(alloc, 0, &[])?,
+            low,
             height: 1,
             shape,
             buffer: MessageBuf::with_capacity(alloc, shape.buffer as usize)?,
@@ -87,98 +101,191 @@ impl<A: Allocator + Copy> Node<A> {
 }
 
 impl<A: Allocator + Copy> Node<A> {
-    /// Puts a node above this one, which becomes its only child. Where memory is refused nothing has changed. More levels
-    /// than 2^64 - 1, each with a block of its own, no memory holds, and none is asked for them.
-    pub fn raise(&mut self, alloc: A) -> Result<(), AllocError>
-        ensures raised { OnOk result (self.new ≡ raised self.old) }
-        ensures same { OnErr result (self.new ≡ self.old) }
-    {
-        let Some(height) = self.height.checked_add(1) else {
-            return Err(AllocError);
-        };
-        let low = TenantKeyBuf::from_key(alloc, self.low.as_key())?;
-        let buffer = MessageBuf::with_capacity(alloc, self.shape.buffer as usize)?;
-        let mut children = Vec::with_capacity(alloc, 1)?;
-        let lower = Node {
-            low: mem::replace(&mut self.low, low),
-            height: self.height,
-            shape: self.shape,
-            buffer: mem::replace(&mut self.buffer, buffer),
-            children: mem::replace(&mut self.children, Vec::new(alloc)),
-        };
-        children.push(Child::Node(lower)).unwrap();
-        self.children = children;
-        self.height = height;
-        Ok(())
-    }
-}
-
-impl<A: Allocator + Copy> Node<A> {
-    /// Cuts it in two: half of the children stay with what is theirs, and the others are in the node that is answered.
-    /// Where memory is refused nothing has changed.
-    pub(crate) fn split(&mut self, alloc: A) -> Result<Node<A>, AllocError>
-        requires { 2 ≤ self.old.width }
-        ensures halves { IfOk result (λ upper. AreHalves self.old self.new upper) }
-        ensures same { OnErr result (self.new ≡ self.old) }
+    /// Cuts it before the child at `at`: the children from there on, with what is theirs, are in the node that is
+    /// answered. It asks for no memory.
+    fn cut_off(&mut self, at: usize, shell: Shell<A>) -> Node<A>
+        requires inside { (0 < at) × (at < self.old.width) }
+        requires few { self.old.width ≤ self.old.shape.fan_out + at }
+        requires shape { shell ≡ self.old.shape }
+        ensures halves { AreHalves self.old self.new result }
+        ensures width { self.new.width ≡ at }
     {
         let _len = self.buffer.len();
         let _used = self.buffer.used();
-        let half = self.width() / 2;
-        let low = TenantKeyBuf::from_key(alloc, self.children[half].low())?;
-        let mut buffer = MessageBuf::with_capacity(alloc, self.shape.buffer as usize)?;
-        let children = self.children.split_off(half)?;
+        let (list, mut buffer, fence) = shell.into_parts();
+        let low = Fence::copied(fence, self.children[at].low());
+        let children = moved_from(&mut self.children, at, list);
         self.buffer.move_range(low.as_key(), top_key(), &mut buffer);
-        Ok(Node {
+        Node {
             low,
             height: self.height,
             shape: self.shape,
             buffer,
             children,
-        })
+        }
+    }
+
+    /// Cuts it, where it has too many children, into as few nodes as hold them, evenly, or full ones first. It keeps the
+    /// lowest; the others come behind it. It asks for no memory.
+    fn settle(&mut self, room: &mut Room<A>, full: bool)
+        requires fan_out { 1 ≤ self.old.shape.fan_out }
+        requires none { room.old.came.items ≡ [] }
+        requires came { groups self.old.shape.fan_out self.old.width
+            ≤ vec_capacity room.old.came + 1 }
+        requires shells { AreShells (groups self.old.shape.fan_out self.old.width - 1)
+            self.old.shape room.old.shells.items }
+        ensures settles { (pins : TenantPins)
+            → Grows pins self.old self.new room.new.came.items }
+        ensures count { length room.new.came.items + 1
+            ≡ groups self.old.shape.fan_out self.old.width }
+        ensures room { (rest : ℕ) → AreShells ((groups self.old.shape.fan_out self.old.width - 1)
+            + rest) self.old.shape room.old.shells.items
+            → AreShells rest self.old.shape room.new.shells.items }
+        ensures capacity { vec_capacity room.old.came ≤ vec_capacity room.new.came }
+        ensures wides { room.new.wides ≡ room.old.wides }
+    {
+        let fan_out = self.shape().fan_out as usize;
+        let mut groups = groups(fan_out, self.width());
+        while groups > 1 {
+            let width = self.width();
+            let at = width - share_of_last(fan_out, width, groups, full);
+            let node = self.cut_off(at, room.shell());
+            room.bring(node);
+            groups -= 1;
+        }
     }
 }
 
 impl<A: Allocator + Copy> Node<A> {
-    /// Merges messages for a leaf into it, of a node right above leaves: the leaf for which most bytes are buffered. What
-    /// comes in its place has two places more at least. Then small leaves are joined with a neighbour. Where memory is refused
-    /// it means what it did.
-    pub(crate) fn flush_leaf(
+    /// Merges all messages for a leaf into it, of a node right above leaves: the leaf for which most bytes are buffered. Then
+    /// small leaves are joined with a neighbour. Where memory is refused nothing has changed.
+    fn merge_leaf(
         &mut self,
         alloc: A,
         pins: &Pins<A>,
         cache: &mut LeafCache<A>,
-    ) -> Result<(), AllocError>
+        above: &[usize],
+    ) -> Result<Room<A>, AllocError>
         requires level { self.old.height ≡ 1 }
         requires some { 0 < length self.old.buffer.messages }
-        requires places { self.old.width + 2 ≤ self.old.shape.fan_out }
+        requires fan_out { 1 ≤ self.old.shape.fan_out }
         requires short { AreShort (messages_of self.old) }
-        ensures ok { OnOk result (Flushes (pins_in pins.now) self.old self.new) }
-        ensures joined { OnOk result (NoneToJoin self.old.shape.leaf self.new.leaves) }
-        ensures err { OnErr result (Keeps (pins_in pins.now) self.old self.new) }
-        ensures cache { Forgets self.old.leaves self.new.leaves cache.old cache.new }
+        ensures ok { IfOk result (λ room. Steps (pins_in pins.now) self.old self.new room.came.items) }
+        ensures goes { IfOk result (λ room. Goes self.old.height (pins_in pins.now) self.old self.new
+            room.came.items cache.old cache.new) }
+        ensures room { IfOk result (HasRoom self.old.shape above.now) }
+        ensures err { OnErr result (self.new ≡ self.old) }
+        ensures cache { IfOk result (λ room. ForgetsCame self.old self.new room.came.items
+            cache.old cache.new) }
+        ensures kept { OnErr result (Forgets self.old.leaves self.old.leaves cache.old cache.new) }
     {
         let index = heaviest(self.children.as_slice(), &self.buffer);
-        let most = self.shape.fan_out as usize - self.width() + 1;
         let target = self.shape.leaf;
-        cache.forget(self.children[index].low().bytes);
-        absorb(
+        let fresh = merged(
             alloc,
-            &mut self.children,
+            self.children.as_slice(),
             index,
-            &mut self.buffer,
+            &self.buffer,
             pins,
             target,
-            most,
+            cache,
         )?;
-        join_small(alloc, &mut self.children, target, cache)
+        let mut room = room_for(alloc, self.shape, fresh.len(), above)?;
+        let full = self.children.len() - index == 1;
+        let high = high_after(self.children.as_slice(), index);
+        self.buffer.drop_range(self.children[index].low(), high);
+        self.children = fresh;
+        self.settle(&mut room, full);
+        Ok(room)
     }
 }
 
 impl<A: Allocator + Copy> Node<A> {
     /// One step of its messages towards the leaves: those for the child for which most bytes are buffered move into that
-    /// child's buffer. Where they don't fit there, dead bytes dropped, the step is that child's own; right above leaves
-    /// messages are merged into one. A child that lacks places for its own step is cut in two first. Where memory is
-    /// refused it means what it did.
+    /// child's buffer. Where they don't fit there, dead bytes dropped, the step is that child's own; right above leaves all
+    /// messages for one are merged into it. The nodes that are to stand behind it come with the room for more above it, where
+    /// nodes of the widths in `above` stand. Where memory is refused no message has moved.
+    fn step_below(
+        &mut self,
+        alloc: A,
+        pins: &Pins<A>,
+        spare: &mut RawBuf<A>,
+        cache: &mut LeafCache<A>,
+        above: &mut Vec<usize, A>,
+    ) -> Result<Room<A>, AllocError>
+        requires some { 0 < length self.old.buffer.messages }
+        requires few { self.old.width ≤ self.old.shape.fan_out }
+        requires fan_out { 4 ≤ self.old.shape.fan_out }
+        requires short { AreShort (messages_of self.old) }
+        requires spare { self.old.buffer.capacity ≤ spare.old.capacity }
+        ensures ok { IfOk result (λ room. Steps (pins_in pins.now) self.old self.new room.came.items) }
+        ensures goes { IfOk result (λ room. Goes self.old.height (pins_in pins.now) self.old self.new
+            room.came.items cache.old cache.new) }
+        ensures room { IfOk result (HasRoom self.old.shape above.old.items) }
+        ensures err { OnErr result (Stays self.old self.new) }
+        ensures cache { IfOk result (λ room. ForgetsCame self.old self.new room.came.items
+            cache.old cache.new) }
+        ensures kept { OnErr result (Forgets self.old.leaves self.old.leaves cache.old cache.new) }
+        ensures spare { spare.new.capacity ≡ spare.old.capacity }
+    {
+        let _used = self.buffer.used();
+        let _len = self.buffer.len();
+        if self.height == 1 {
+            return self.merge_leaf(alloc, pins, cache, above.as_slice());
+        }
+        let index = heaviest(self.children.as_slice(), &self.buffer);
+        let bytes = bytes_for(self.children.as_slice(), index, &self.buffer);
+        let ample = self.shape.ample(bytes);
+        let full = self.children.len() - index == 1;
+        above.insert(0, self.children.len())?;
+        match &mut self.children[index] {
+            Child::Leaf(_) => unreachable!(),
+            Child::Node(node) => {
+                if !node.makes_room(bytes, ample, spare) {
+                    let mut room = node.step_below(alloc, pins, spare, cache, above)?;
+                    take_in(&mut self.children, index, &mut room);
+                    self.settle(&mut room, full);
+                    return Ok(room);
+                }
+            }
+        }
+        hand_down(&mut self.children, index, &mut self.buffer);
+        Ok(Room::none(alloc))
+    }
+
+    /// Puts a node above this one and those that came behind it, or as many as it takes. It asks for no memory.
+    fn rise(&mut self, room: &mut Room<A>)
+        requires came { 0 < length room.old.came.items }
+        requires room { HasRoom self.old.shape [] room.old }
+        requires fan_out { 4 ≤ self.old.shape.fan_out }
+        requires height { self.old.height + 1 < 2 ^ 64 }
+        requires are { AreBehind self.old room.old.came.items }
+        ensures rises { (pins : TenantPins) (x : Subtree) → Stands pins x self.old room.old.came.items
+            → Stands pins x self.new room.new.came.items }
+        ensures leaves { self.new.leaves ++ leaves_of room.new.came.items
+            ≡ self.old.leaves ++ leaves_of room.old.came.items }
+        ensures fewer { length room.new.came.items < length room.old.came.items }
+        ensures room { HasRoom self.old.shape [] room.new }
+        ensures height { self.new.height ≡ self.old.height + 1 }
+    {
+        let shell = room.shell();
+        let (list, buffer, fence) = shell.into_parts();
+        let low = Fence::copied(fence, self.low.as_key());
+        let lower = Node {
+            low: mem::replace(&mut self.low, low),
+            height: self.height,
+            shape: self.shape,
+            buffer: mem::replace(&mut self.buffer, buffer),
+            children: mem::replace(&mut self.children, list),
+        };
+        self.children.push(Child::Node(lower)).unwrap();
+        take_in(&mut self.children, 0, room);
+        self.height += 1;
+        self.settle(room, true);
+    }
+
+    /// One step of a root's messages towards the leaves (`step_below`). Where nodes come behind it, it becomes higher. Where
+    /// memory is refused no message has moved.
     pub fn step(
         &mut self,
         alloc: A,
@@ -187,33 +294,26 @@ impl<A: Allocator + Copy> Node<A> {
         cache: &mut LeafCache<A>,
     ) -> Result<(), AllocError>
         requires some { 0 < length self.old.buffer.messages }
-        requires shape { 4 ≤ self.old.shape.fan_out }
-        requires places { self.old.width + places_at self.old.height ≤ self.old.shape.fan_out }
+        requires few { self.old.width ≤ self.old.shape.fan_out }
+        requires fan_out { 4 ≤ self.old.shape.fan_out }
         requires short { AreShort (messages_of self.old) }
         requires spare { self.old.buffer.capacity ≤ spare.old.capacity }
         ensures ok { OnOk result (Flushes (pins_in pins.now) self.old self.new) }
-        ensures err { OnErr result (Keeps (pins_in pins.now) self.old self.new) }
+        ensures down { OnOk result (StepsDown A (pins_in pins.now) self.old self.new
+            cache.old cache.new) }
+        ensures err { OnErr result (Stays self.old self.new) }
         ensures cache { Forgets self.old.leaves self.new.leaves cache.old cache.new }
         ensures spare { spare.new.capacity ≡ spare.old.capacity }
     {
-        let _used = self.buffer.used();
-        let _len = self.buffer.len();
-        if self.height == 1 {
-            return self.flush_leaf(alloc, pins, cache);
+        let _shape = self.shape();
+        if self.height() > MOST_HEIGHT {
+            return Err(AllocError);
         }
-        let fan_out = self.shape.fan_out as usize;
-        let index = next_child(alloc, &mut self.children, &self.buffer, fan_out)?;
-        let bytes = bytes_for(self.children.as_slice(), index, &self.buffer);
-        let ample = self.shape.ample(bytes);
-        match &mut self.children[index] {
-            Child::Leaf(_) => unreachable!(),
-            Child::Node(node) => {
-                if !node.makes_room(bytes, ample, spare) {
-                    return node.step(alloc, pins, spare, cache);
-                }
-            }
+        let mut above = Vec::new(alloc);
+        let mut room = self.step_below(alloc, pins, spare, cache, &mut above)?;
+        while !room.came.is_empty() {
+            self.rise(&mut room);
         }
-        hand_down(&mut self.children, index, &mut self.buffer);
         Ok(())
     }
 }
@@ -236,22 +336,17 @@ impl<A: Allocator> Node<A> {
     /// How many children it has.
     pub fn width(&self) -> usize
         ensures width { result ≡ self.now.width }
-        ensures few { result ≤ self.now.shape.fan_out }
+        ensures some { 1 ≤ result }
     {
         self.children.len()
-    }
-
-    /// How many more children a step may bring: leaves in a leaf's place, or a half of a child.
-    pub fn places(&self) -> usize
-        ensures { result ≡ places_at self.now.height }
-    {
-        if self.height == 1 { 2 } else { 1 }
     }
 
     /// How large it may grow. Its buffer's block has the node size.
     pub fn shape(&self) -> Shape
         ensures shape { result ≡ self.now.shape }
         ensures block { self.now.buffer.capacity ≡ self.now.shape.buffer }
+        ensures sizes { AreLeafSizes self.now.shape.leaf self.now.leaves }
+        ensures tile { IsTile (node_part self.now) top_key }
     {
         self.shape
     }

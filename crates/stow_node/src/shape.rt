@@ -1,5 +1,5 @@
 //! How large the parts of a tree may grow.
-ghost use Rattle.std.specs.Prelude.{◌≤◌};
+ghost use Rattle.std.specs.Prelude.{◌≡◌, ◌≤◌, ◌/◌, max};
 
 /// How large the parts of a tree may grow.
 #[derive(Clone, Copy)]
@@ -16,6 +16,7 @@ impl Shape {
     /// How many bytes of a buffer are to be free once messages moved to make room for so many: at least a quarter of the block,
     /// since all that stay are copied for it.
     pub fn ample(self, bytes: usize) -> usize
+        ensures is { result ≡ max bytes (self.buffer / 4) }
         ensures least { bytes ≤ result }
         ensures most { bytes ≤ self.buffer → result ≤ self.buffer }
     {

@@ -1,62 +1,56 @@
--- What is charged where there are no snapshots.
-use Rattle.std.proofs.Common.{◌≡◌, ℕ, Bool, true, false, List, [], ◌∷◌, ◌++◌, length, refl, ap, ◌∙◌, sym, arith, append-nil, map as each}
-use Rattle.std.specs.Prelude.{T, ◌==◌, ◌&&◌, ◌||◌, sum_by, if◌then◌else◌}
-use Rattle.std.specs.List.{list_any, flat_map}
+-- What versions cost, each once, list by list.
+use Rattle.std.specs.Option.{SomeIff}
+use Rattle.std.specs.Prelude.{Option}
+use Rattle.std.proofs.Common.{◌≡◌, ◌<◌, ◌^◌, ℕ, ◌+◌, Bool, true, false, List, [], ◌∷◌, ◌++◌, ap, ◌∙◌, sym, subst, arith, cond, zero-add, eqb}
+use Rattle.std.specs.Prelude.{filter, not, sum_by, ◌&&◌, ◌||◌, Some, None}
 use Rattle.std.specs.Str.{bytes_eq}
-use Rattle.std.specs.declared.cmp.Ordering.{Ordering}
-use Rattle.std.specs.declared.cmp.Ordering.TheVariants.{Less, Equal, Greater}
-use Rattle.std.specs.Ordering.{is_eq, is_lt, nat_cmp}
 use Rattle.std.specs.FinMap as map
-use Rattle.std.specs.FinMap.{is_sorted}
-use Rattle.std.specs.FinMap.Entries.{below_all}
-use Rattle.std.proofs.lemmas.Map.Text.{is_eq-slice_cmp}
-use Rattle.stow_bytes.specs.Bytes.{bytes_cmp}
-use Rattle.stow_model.specs.Store.{Rows, Shown, cost, is_same_version, distinct, charge, usage}
-use Rattle.stow_plain.specs.declared.plain_store.PlainStore.{PlainStore}
-use Rattle.stow_plain.specs.OwnRun.{store_of}
+use Rattle.std.proofs.lemmas.List.Folds.{list_any-append}
+use Rattle.std.proofs.lemmas.List.Sums.{sum_by-cons}
+use Rattle.stow_model.specs.Store.{Version, Rows, Shown, cost, is_same_version, distinct}
+use Rattle.stow_ledger.specs.Shown.{is_in, cost_of_all}
+use Rattle.stow_ledger.proofs.Costs.{Once}
+use Rattle.stow_ledger.proofs.RowLemmas.{in_rows, is_row, once_rows}
+use Rattle.stow_plain.specs.Contents.{cost_beside}
 
-first : (a b : Bool) → T (a && b) → T a
-first true b p = tt
-first false b p = p
+split : (es others : List Shown) → Once es → cost_of_all (es ++ others) ≡ sum_by cost (filter (λ shown. not (is_in shown others)) es) + cost_of_all others
+split [] others once = sym (zero-add (cost_of_all others))
+split (e ∷ es) others (n, once) =
+    let later : List Shown = distinct (es ++ others) in
+    let kept : List Shown = filter (λ shown. not (is_in shown others)) es in
+    let same : is_in e (es ++ others) ≡ is_in e others = list_any-append (is_same_version e) es others ∙ ap (λ b. b || is_in e others) n in
+    let rest : sum_by cost later ≡ sum_by cost kept + cost_of_all others = split es others once in
+    ap (λ b. sum_by cost (cond b later (e ∷ later))) same
+    ∙ elim (is_in e others) as (λ b. sum_by cost (cond b later (e ∷ later)) ≡ sum_by cost (cond (not b) (e ∷ kept) kept) + cost_of_all others) [
+      | true ↦ rest
+      | false ↦ sum_by-cons cost e later ∙ ap (λ n. cost e + n) rest ∙ moved (cost e) (sum_by cost kept) (cost_of_all others) ∙ ap (λ n. n + cost_of_all others) (sym (sum_by-cons cost e kept))
+    ]
+  where
+    moved : (a b c : ℕ) → a + (b + c) ≡ (a + b) + c
+    moved a b c = omega arith
 
-second : (a b : Bool) → T (a && b) → T b
-second true b p = p
-second false b p = absurd p
+-- rows first, but for what is shown after them
+pub split_cost : (rows : Rows) (others : List Shown) → cost_of_all (map.entries rows ++ others) ≡ cost_beside rows others + cost_of_all others
+split_cost rows others = split (map.entries rows) others (once_rows rows)
 
-never_both : (o : Ordering) → T (is_lt o) → is_eq o ≡ false
-never_both Less p = refl
-never_both Equal p = absurd p
-never_both Greater p = refl
+-- ---- whether rows have a version
 
--- a key that is below another is another
-apart : (a b : Shown) → T (is_lt (bytes_cmp a.0 b.0)) → is_same_version a b ≡ false
-apart a b below =
-    let differ : bytes_eq a.0 b.0 ≡ false = sym (is_eq-slice_cmp a.0 b.0) ∙ never_both (bytes_cmp a.0 b.0) below in
-    ap (λ t. t && ((a.1.number == b.1.number) && bytes_eq a.1.value b.1.value)) differ
+pub has_none : (rows : Rows) (key : List ℕ) (version : Version) → map.get rows key ≡ None → false ≡ is_in (key, version) (map.entries rows)
+has_none rows key version none = sym (in_rows rows (key, version) ∙ ap (λ o. is_row o version) none)
 
-none_same : (a : Shown) (es : List Shown) → T (below_all bytes_cmp a.0 es) → list_any (is_same_version a) es ≡ false
-none_same a [] below = refl
-none_same a (b ∷ es) below = ap (λ t. t || list_any (is_same_version a) es) (apart a b (first _ _ below)) ∙ none_same a es (second _ _ below)
+pub has_some : (rows : Rows) (key : List ℕ) (version own : Version) (same : Bool) → map.get rows key ≡ Some own → same ≡ bytes_eq version.value own.value → (eqb version.number own.number && same) ≡ is_in (key, version) (map.entries rows)
+has_some rows key version own same found e =
+    ap (λ b. eqb version.number own.number && b) e
+    ∙ sym (in_rows rows (key, version) ∙ ap (λ o. is_row o version) found)
 
-distinct_sorted : (es : List Shown) → T (is_sorted bytes_cmp es) → distinct es ≡ es
-distinct_sorted [] sorted = refl
-distinct_sorted (e ∷ es) sorted =
-    ap (λ t. if t then distinct es else e ∷ distinct es) (none_same e es (first _ _ sorted))
-    ∙ ap (λ t. e ∷ t) (distinct_sorted es (second _ _ sorted))
+-- ---- sums so far
 
-no_entries : {X : Type 0} (es : List X) → length es ≡ 0 → es ≡ []
-no_entries [] e = refl
-no_entries (x ∷ es) e = absurd (omega arith)
+pub none_when : (r : Option ℕ) (P : Type 0) (v : ℕ) → r ≡ None → (P → ⊥) → SomeIff r P v
+none_when r P v e never = subst (λ o. SomeIff o P v) (sym e) never
 
-pub charge_of_rows : {A : Type 0} (s : PlainStore A) → charge (store_of s) ≡ sum_by cost (map.entries s.rows)
-unfolding charge
-charge_of_rows s =
-    let none : map.entries (map.empty {X = Rows} {R = nat_cmp}) ≡ [] = no_entries (map.entries map.empty) (sym (map.len-entries map.empty) ∙ map.len-empty nat_cmp Rows) in
-    ap (λ es. sum_by cost (distinct (map.entries s.rows ++ flat_map map.entries (each (λ e. e.1) es)))) none
-    ∙ ap (λ es. sum_by cost (distinct es)) (append-nil (map.entries s.rows))
-    ∙ ap (sum_by cost) (distinct_sorted (map.entries s.rows) (map.entries_sorted s.rows))
+-- a part that doesn't fit makes the whole too much
+pub too_much : (so_far part later whole : ℕ) {left : ℕ} → (so_far + part < 2 ^ 64 → ⊥) → left ≡ part + later → so_far + left ≡ whole → whole < 2 ^ 64 → ⊥
+too_much so_far part later whole never e f l = never (omega arith)
 
-pub usage_of_rows : {A : Type 0} (s : PlainStore A) (rows cost : ℕ) → rows ≡ map.len s.rows → cost ≡ charge (store_of s)
-    → record { rows = rows; charge = cost; quota = s.quota; writes = s.last; commands = s.commands; refusals = s.refusals; snapshots = 0 } ≡ usage (store_of s)
-unfolding usage
-usage_of_rows s rows cost r c = λ i. record { rows = r i; charge = c i; quota = s.quota; writes = s.last; commands = s.commands; refusals = s.refusals; snapshots = sym (map.len-empty nat_cmp Rows) i }
+pub next_total : (so_far part later whole total : ℕ) {left : ℕ} → so_far + part < 2 ^ 64 → total ≡ so_far + part → left ≡ part + later → so_far + left ≡ whole → record { fits : total < 2 ^ 64; costs : total + later ≡ whole }
+next_total so_far part later whole total l t e f = record { fits = omega arith; costs = omega arith }

@@ -53,7 +53,10 @@ module _ {K A : Type 0} (bytes : K → List ℕ) where
   get-rows : (q : List ℕ) (es : List (K × PlainVersion A)) → map.get (rows_of bytes es) q ≡ version_in (lookup (key_at bytes q) es)
   get-rows q es = map.get-from_entries nat_list_cmp_total (entries_of bytes es) q ∙ found q es
 
-  -- ---- a value is looked up
+  -- ---- a version is looked up
+
+  pub version-rows : (q : List ℕ) (es : List (K × PlainVersion A)) (rows : Rows) (o : Option (PlainVersion A)) → rows_of bytes es ≡ rows → o ≡ lookup (key_at bytes q) es → map.get rows q ≡ version_in o
+  version-rows q es rows o view e = sym (ap (λ r. map.get r q) view) ∙ get-rows q es ∙ sym (ap version_in e)
 
   pub value-rows : (q : List ℕ) (es : List (K × PlainVersion A)) (rows : Rows) (o : Option (PlainVersion A)) → rows_of bytes es ≡ rows → o ≡ lookup (key_at bytes q) es → value_in (version_in o) ≡ value_in (map.get rows q)
   value-rows q es rows o view e = ap (λ x. value_in (version_in x)) e ∙ sym (ap value_in (get-rows q es)) ∙ ap (λ r. value_in (map.get r q)) view

@@ -1,2 +1,3 @@
 pub mod PlainMap
+pub mod Contents
 pub mod OwnRun

@@ -1,8 +1,9 @@
 -- What the types of the plain run stand for.
-use Rattle.std.specs.Prelude.{◌≡◌}
-use Rattle.std.specs.FinMap as map
+use Rattle.std.specs.Prelude.{◌≡◌, ◌≤◌}
+use Rattle.stow_bytes.specs.Limits.{number_limit}
 use Rattle.stow_model.specs.Reply.{reply_of}
 use Rattle.stow_model.specs.declared.reply.Reply.{Reply}
+use Rattle.stow_model.specs.declared.usage.Usage.{Usage}
 use Rattle.stow_model.specs.Store.{Store, Request, OwnEvent, Asked, Answer}
 use Rattle.stow_plain.specs.declared.plain_request.PlainRequest.{PlainRequest}
 use Rattle.stow_plain.specs.declared.plain_store.PlainStore.{PlainStore}
@@ -17,10 +18,10 @@ asked request = Asked (request_of request)
 abbrev pub store_of : {A : Type 0} → PlainStore A → Store
 store_of s =
     record {
-      rows = s.rows;
+      rows = s.contents.rows;
       last = s.last;
-      snapshots = map.empty;
-      next = s.next;
+      snapshots = s.contents.snapshots;
+      next = s.contents.next;
       quota = s.quota;
       commands = s.commands;
       refusals = s.refusals;

@@ -1,5 +1,6 @@
 //! One tenant's own run over a list of requests.
-ghost use Rattle.std.specs.Prelude.{◌≡◌, IfOk, map, reverse};
+ghost use Rattle.std.specs.Prelude.{◌≡◌, ◌≤◌, IfOk, map, reverse};
+ghost use Rattle.stow_bytes.specs.Limits.{number_limit};
 ghost use Rattle.stow_model.specs.Store.{store_after, replies_after};
 ghost use Rattle.stow_model.specs.Reply.{reply_of};
 ghost use Rattle.stow_plain.specs.OwnRun.{asked, store_of};
@@ -15,6 +16,7 @@ pub fn own_run<A: Allocator + Copy>(
     quota: u64,
     requests: &[PlainRequest<A>],
 ) -> Result<PlainRun<A>, AllocError>
+    requires { quota ≤ number_limit }
     ensures store { IfOk result (λ run. store_of run.store
         ≡ store_after quota (reverse (map asked requests.now))) }
     ensures replies { IfOk result (λ run. reverse (map reply_of run.replies.items)

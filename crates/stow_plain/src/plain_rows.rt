@@ -1,13 +1,18 @@
 //! The rows of one tenant, as a sorted map.
-ghost use Rattle.std.specs.Prelude.{◌≡◌, ◌<◌, ◌^◌, ◌++◌, ◌∷◌, [], map as list_map, sum_by};
+ghost use Rattle.std.specs.Prelude.{◌≡◌, ◌+◌, ◌<◌, ◌^◌, ◌++◌, ◌∷◌, [], map as list_map};
 ghost use Rattle.std.specs.Prelude.{IfOk, OnOk, OnErr};
 ghost use Rattle.std.specs.Option.{option_copied, SomeIff};
 ghost use Rattle.std.specs.List.{flat_map};
 ghost use Rattle.std.specs.FinMap as map;
 ghost use Rattle.stow_model.specs.LentWords.{words_in};
-ghost use Rattle.stow_model.specs.Store.{cost, count_rows, item_or_null, length_or_zero, row_items, rows_within, rows_without, value_in};
+ghost use Rattle.stow_ledger.specs.Shown.{is_in};
+ghost use Rattle.stow_model.specs.Reply.{reply_of};
+ghost use Rattle.stow_model.specs.Store.{count_rows, get_reply, item_or_null, length_or_zero, row_items, rows_within, rows_without, value_in};
 ghost use Rattle.stow_model.specs.Store as meant;
+ghost use Rattle.stow_plain.specs.Contents.{cost_beside, shown_in};
+ghost use Rattle.stow_plain.specs.PlainMap.{version_of};
 
+use crate::plain_snapshot::PlainSnapshot;
 use crate::plain_version::PlainVersion;
 use std::alloc::{AllocError, Allocator, Global};
 use std::collections::BTreeMap;
@@ -15,6 +20,7 @@ use std::marker::Model;
 use stow_bytes::byte_string::ByteString;
 use stow_model::items::Items;
 use stow_model::lent_words::LentWords;
+use stow_model::reply::Reply;
 
 /// Keys in byte order, each with its version.
 #[derive(Drop)]
@@ -98,6 +104,16 @@ impl<A: Allocator + Copy> PlainRows<A> {
         Ok(items)
     }
 
+    /// What a GET of the key is told.
+    pub fn get(&self, alloc: A, key: &[u8]) -> Result<Reply<A>, AllocError>
+        ensures { IfOk result (λ r. reply_of r ≡ get_reply key.now self.now) }
+    {
+        match self.value(key) {
+            None => Ok(Reply::Null),
+            Some(value) => Ok(Reply::Bulk(ByteString::from_slice(alloc, value)?)),
+        }
+    }
+
     /// How many of the keys have a row, each as often as it is named.
     pub fn count(&self, keys: LentWords<'_>) -> usize
         ensures count { result ≡ count_rows self.now (words_in keys.entry) }
@@ -138,19 +154,49 @@ impl<A: Allocator + Copy> PlainRows<A> {
         Ok(items)
     }
 
-    /// What the rows cost, if it is below 2^64: of each the bytes of its key and of its value, and 16.
-    pub fn cost(&self) -> Option<u64>
-        ensures { SomeIff result (sum_by cost (map.entries self.now) < 2 ^ 64)
-            (sum_by cost (map.entries self.now)) }
+    /// Whether a key has this version.
+    pub fn has(&self, key: &[u8], version: &PlainVersion<A>) -> bool
+        ensures { result ≡ is_in (key.now, version_of version.now) (map.entries self.now) }
     {
-        let mut total: u64 = 0;
+        match self.rows.get(key) {
+            None => false,
+            Some(own) => version.number == own.number
+                && version.value.as_slice() == own.value.as_slice(),
+        }
+    }
+
+    /// What a sum becomes by the rows that none of the copies shows, if it stays below 2^64: by each, the bytes of its key
+    /// and of its value, and 16.
+    pub fn cost_beside(&self, sum: u64, copies: &[PlainSnapshot<A>]) -> Option<u64>
+        ensures { SomeIff result (sum + cost_beside self.now (shown_in copies.now) < 2 ^ 64)
+            (sum + cost_beside self.now (shown_in copies.now)) }
+    {
+        let mut total = sum;
         for (key, version) in self.rows.iter() {
-            total = total
-                .checked_add(key.len() as u64)?
-                .checked_add(version.value.len() as u64)?
-                .checked_add(16)?;
+            if !is_shown(copies, key.as_slice(), version) {
+                total = total
+                    .checked_add(key.len() as u64)?
+                    .checked_add(version.value.len() as u64)?
+                    .checked_add(16)?;
+            }
         }
         Some(total)
+    }
+
+    /// A copy of the rows in which a key has this version.
+    pub fn with(
+        &self,
+        alloc: A,
+        key: &[u8],
+        number: u64,
+        value: &[u8],
+    ) -> Result<PlainRows<A>, AllocError>
+        ensures { IfOk result (λ rows. rows
+            ≡ map.insert self.now key.now (record { number = number; value = value.now })) }
+    {
+        let mut rows = self.clone()?;
+        rows.insert(alloc, key, number, value)?;
+        Ok(rows)
     }
 
     /// Gives a key a version. An `Err` changes nothing.
@@ -203,6 +249,22 @@ impl<A: Allocator + Clone> Clone for PlainRows<A> {
             rows: self.rows.clone()?,
         })
     }
+}
+
+/// Whether a copy has this version of the key.
+fn is_shown<A: Allocator + Copy>(
+    copies: &[PlainSnapshot<A>],
+    key: &[u8],
+    version: &PlainVersion<A>,
+) -> bool
+    ensures { result ≡ is_in (key.now, version_of version.now) (shown_in copies.now) }
+{
+    for copy in copies {
+        if copy.rows.has(key, version) {
+            return true;
+        }
+    }
+    false
 }
 
 /// Whether the key is in an interval, which an empty upper end leaves open.

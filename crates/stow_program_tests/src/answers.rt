@@ -97,7 +97,8 @@ fn worked_requests(rt: HostRuntime) -> Result<(), Fail> {
 }
 
 /// Scripts, and what their lines are told. The third has two tenants with the same key; the fourth a blank, a byte with no
-/// other form, and a fault, after which the connection is closed.
+/// other form, and a fault, after which the connection is closed; in the last the operator lowers cap's quota below what cap is
+/// charged, and ann's to nothing.
 const SCRIPTS: &str = r"open 1
 piece 1 *3\r\n$4\r\nAUTH\r\n$3\r\nann\r\n$2\r\nbc\r\n
 serve 1
@@ -189,6 +190,44 @@ reply +OK\r\n
 reply $2\r\n\\\xe9\r\n
 resized
 resized
+====
+open 1
+piece 1 auth cap abc\r\nset a {0..83|x}\r\n
+serve 1
+serve 1
+quota cap 50
+usage cap
+piece 1 usage\r\n*3\r\n$3\r\nSET\r\n$1\r\nb\r\n$0\r\n\r\n*3\r\n$6\r\nAPPEND\r\n$1\r\na\r\n$0\r\n\r\nset a x\r\n
+serve 1
+serve 1
+quota ann 0
+serve 1
+serve 1
+piece 1 set a {0..34|x}\r\nset a {0..33|x}\r\nusage\r\n
+serve 1
+serve 1
+serve 1
+usage cap
+usage ann
+----
+open
+taken
+reply +OK\r\n
+reply +OK\r\n
+set
+cap rows=1 charge=100 quota=50 writes=1 commands=1 refusals=0 snapshots=0
+taken
+reply *14\r\n$4\r\nrows\r\n:1\r\n$6\r\ncharge\r\n:100\r\n$5\r\nquota\r\n:50\r\n$6\r\nwrites\r\n:1\r\n$8\r\ncommands\r\n:2\r\n$8\r\nrefusals\r\n:0\r\n$9\r\nsnapshots\r\n:0\r\n
+reply -QUOTA byte quota exceeded\r\n
+set
+reply :83\r\n
+reply +OK\r\n
+taken
+reply -QUOTA byte quota exceeded\r\n
+reply +OK\r\n
+reply *14\r\n$4\r\nrows\r\n:1\r\n$6\r\ncharge\r\n:50\r\n$5\r\nquota\r\n:50\r\n$6\r\nwrites\r\n:4\r\n$8\r\ncommands\r\n:8\r\n$8\r\nrefusals\r\n:2\r\n$9\r\nsnapshots\r\n:0\r\n
+cap rows=1 charge=50 quota=50 writes=4 commands=8 refusals=2 snapshots=0
+ann rows=0 charge=0 quota=0 writes=0 commands=0 refusals=0 snapshots=0
 ";
 
 #[test]

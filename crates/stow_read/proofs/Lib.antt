@@ -10,5 +10,9 @@ pub mod NextKeys
 pub mod NextMessages
 pub mod NextRows
 pub mod NextBelow
+pub mod FirstKeys
 pub mod Ranged
+pub mod Walks
+pub mod Heads
+pub mod NextNumbers
 pub mod Ways

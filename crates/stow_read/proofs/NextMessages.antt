@@ -41,7 +41,7 @@ below_is start true m is =
     ∙ ap (λ o. not (is_lt o)) (sym (nat_list_cmp_total.antisymm start m.key))
 below_is start false m is = below_zero (bytes_cmp m.key start) m.number is.is_numbered.0 ∙ not_not (lt m.key start)
 
-valid_at : (ms : List TreeMessage) (i : ℕ) (w : TreeMessage) → All IsMessage ms → i < length ms → get_or ms i w ≡ w → IsMessage w
+pub valid_at : (ms : List TreeMessage) (i : ℕ) (w : TreeMessage) → All IsMessage ms → i < length ms → get_or ms i w ≡ w → IsMessage w
 valid_at ms i w valid inside e = subst IsMessage e (valid i w inside)
 
 -- a message of a key from the start on stands at the count or behind it
@@ -64,7 +64,7 @@ none_before ms start after count m valid up is inside at key f l n = none_unless
     let more = (below_tells (m.key, 0) ms i w up within).0 later in
     absurd (omega (arith, fewer, more, b))))
 
-each_there : (ms : List TreeMessage) → AllByRecursion (λ (m : TreeMessage). IsSome (ops_in ms m.key m.number)) ms
+pub each_there : (ms : List TreeMessage) → AllByRecursion (λ (m : TreeMessage). IsSome (ops_in ms m.key m.number)) ms
 each_there [] = tt
 each_there (m ∷ ms) = (ap is_some (ops_in-at m ms), more ms (each_there ms)) where
   more : (xs : List TreeMessage) → AllByRecursion (λ (x : TreeMessage). IsSome (ops_in ms x.key x.number)) xs → AllByRecursion (λ (x : TreeMessage). IsSome (ops_in (m ∷ ms) x.key x.number)) xs

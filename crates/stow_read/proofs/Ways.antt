@@ -206,6 +206,10 @@ ready_for t way key to at l = record {
 pub told_by_way : {A : Type 0} (t : Subtree) (way : Way A) (key to : List ℕ) (at : ℕ) → IsAt t way key to → latest (way_ops way key) at ≡ latest (ops_in (messages_of t) key) at
 told_by_way t way key to at is = latest_same (way_ops way key) (ops_in (messages_of t) key) at (λ n l. sym ((has_own t way key to is).messages n))
 
+-- all of it
+pub all_by_way : {A : Type 0} (t : Subtree) (way : Way A) (key to : List ℕ) → IsAt t way key to → way_ops way key ≡ ops_in (messages_of t) key
+all_by_way t way key to is = λ i n. sym ((has_own t way key to is).messages n) i
+
 -- the levels before the place have been looked at
 pub record IsLookedDown {A : Type 0} (levels : List (Level A)) (rows : Operations) (key : List ℕ) (at i : ℕ) (old now : SuffixList) : Type 0 where
   pub so_far : continued old (latest (ops_down key (buffers_of levels) rows) at) ≡ continued now (latest (ops_down key (buffers_of (drop i levels)) rows) at)

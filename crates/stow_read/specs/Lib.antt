@@ -6,4 +6,5 @@ pub mod Path
 pub mod Versions
 pub mod NextKey
 pub mod Range
+pub mod Walk
 pub mod Way

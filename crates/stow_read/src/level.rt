@@ -4,7 +4,8 @@ ghost use Rattle.stow_tree_model.specs.Messages.{ops_in};
 ghost use Rattle.stow_read.specs.NextKey.{IsNextKey};
 ghost use Rattle.stow_read.specs.Way.{key_in};
 
-use crate::next_key::{Start, next_in_buffer};
+use crate::next_key::next_in_buffer;
+use crate::start::Start;
 use std::alloc::Allocator;
 use stow_message::message_buf::MessageBuf;
 use stow_tree_model::tenant_key::TenantKey;

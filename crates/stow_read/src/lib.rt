@@ -4,7 +4,8 @@
 //! leaves' rows stand for (`messages_of`). Messages in a buffer are newer than those below it, so the first ones found from
 //! the top are the newest. A range goes down once a leaf: the buffers on the way and the leaf's rows have all that is told of
 //! the leaf's keys, so the next one is the lowest of their next ones (`way`). Where the leaf ends, the next key is looked for
-//! in the buffers from the top on and in the leaves from there on (`next_key`).
+//! in the buffers from the top on and in the leaves from there on (`next_key`). A walk goes from key to key as a range does
+//! (`stepping`), and copies no value.
 //!
 //! A body that always answers `AllocError` meets each contract here: tests call each with ample memory, and with each
 //! request refused. How much of a node a read looks at stands in no contract. `leaf_for` may answer none, or another leaf of
@@ -22,9 +23,15 @@ pub mod lent_value;
 mod level;
 pub mod lookup;
 mod next_key;
+mod next_number;
 mod path;
 pub mod range;
 pub mod row;
+pub mod row_head;
+pub mod start;
+mod stepping;
 mod suffixes;
+mod value_head;
 pub mod versions;
+pub mod walk;
 mod way;

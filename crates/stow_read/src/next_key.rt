@@ -11,19 +11,13 @@ ghost use Rattle.stow_tree_model.specs.Messages.{ops_in};
 ghost use Rattle.stow_read.specs.NextKey.{IsNextKey, IsEnd, IsFromPart, passed_number};
 
 use crate::guesses::Guesses;
+use crate::start::Start;
 use std::alloc::Allocator;
 use stow_message::message_buf::MessageBuf;
 use stow_node::child::{Child, child_for};
 use stow_node::node::Node;
 use stow_page::rows::Rows;
 use stow_tree_model::tenant_key::TenantKey;
-
-/// Where keys are looked for from: this key on, or after it.
-#[derive(Clone, Copy)]
-pub(crate) struct Start<'a> {
-    pub(crate) key: TenantKey<'a>,
-    pub(crate) after: bool,
-}
 
 /// Whether a key stands below another.
 pub(crate) fn is_below(key: TenantKey<'_>, other: TenantKey<'_>) -> bool

@@ -1,18 +1,15 @@
 //! The first keys of an interval that have a value.
-ghost use Rattle.std.specs.Prelude.{◌≡◌, IfOk, IfSome, map, option_map, true, false};
-ghost use Rattle.stow_leaf.specs.Intervals.{top_key, spans};
+ghost use Rattle.std.specs.Prelude.{◌≡◌, IfOk, map};
 ghost use Rattle.stow_node.specs.Subtree.{messages_of};
 ghost use Rattle.stow_tree_model.specs.Messages.{ops_in};
 ghost use Rattle.stow_read.specs.Found.{found_value};
-ghost use Rattle.stow_read.specs.NextKey.{IsNextKey};
 ghost use Rattle.stow_read.specs.Range.{IsRange, key_value};
-ghost use Rattle.stow_read.specs.Way.{key_in, IsAt};
 
-use crate::descent::may_hold;
 use crate::found::Found;
 use crate::guesses::Guesses;
-use crate::next_key::{Start, is_below, next_key};
 use crate::row::Row;
+use crate::start::Start;
+use crate::stepping::{first_key, step};
 use crate::way::Way;
 use std::alloc::{AllocError, Allocator};
 use stow_bytes::byte_string::ByteString;
@@ -28,57 +25,6 @@ fn owned<A: Allocator + Copy>(alloc: A, found: Found<'_, A>) -> Result<ByteStrin
         Found::Lent(lent) => ByteString::from_slice(alloc, lent.value),
         Found::Folded(folded) => Ok(folded.value),
     }
-}
-
-/// The lowest key from `from` on and below `to` that has messages.
-fn first_key<'a, A: Allocator>(
-    node: &'a Node<A>,
-    from: TenantKey<'_>,
-    to: TenantKey<'_>,
-    guesses: &mut Guesses,
-) -> Option<TenantKey<'a>>
-    ensures { IsNextKey (ops_in (messages_of node.now)) from.entry.bytes.now false
-        to.entry.bytes.now (option_map (λ key. key.bytes.now) result) }
-{
-    let _children = node.children();
-    let mut key = from;
-    if is_below(from, node.low()) {
-        key = node.low();
-    }
-    if may_hold(node, key) {
-        next_key(node, Start { key, after: false }, to, guesses, 0)
-    } else {
-        None
-    }
-}
-
-/// The lowest key behind this one and below `to` that has messages. The way stands at it.
-fn step<'a, A: Allocator + Copy>(
-    alloc: A,
-    node: &'a Node<A>,
-    way: &mut Way<'a, A>,
-    key: TenantKey<'_>,
-    to: TenantKey<'_>,
-    guesses: &mut Guesses,
-) -> Result<Option<TenantKey<'a>>, AllocError>
-    requires inside { spans node.now.low top_key key.bytes.now ≡ true }
-    requires at { IsAt node.now way.old key.bytes.now to.bytes.now }
-    ensures next { IfOk result (λ next. IsNextKey (ops_in (messages_of node.now)) key.entry.bytes.now true
-        to.entry.bytes.now (key_in next)) }
-    ensures at { IfOk result (λ next. IfSome next
-        (λ k. IsAt node.now way.new k.bytes.now to.entry.bytes.now)) }
-{
-    let _children = node.children();
-    if let Some(next) = way.pass(key, to) {
-        if is_below(next, way.end) {
-            return Ok(Some(next));
-        }
-    }
-    let Some(next) = next_key(node, Start { key, after: true }, to, guesses, 0) else {
-        return Ok(None);
-    };
-    *way = Way::to(alloc, node, next, to, guesses)?;
-    Ok(Some(next))
 }
 
 /// The first `count` keys from `from` on and below `to` that have a value at a number by all messages of the node, in
@@ -97,7 +43,11 @@ pub fn range<A: Allocator + Copy>(
     let _children = node.children();
     let mut rows = Vec::new(alloc);
     let mut guesses = Guesses::none();
-    let Some(first) = first_key(node, from, to, &mut guesses) else {
+    let start = Start {
+        key: from,
+        after: false,
+    };
+    let Some(first) = first_key(node, start, to, &mut guesses) else {
         return Ok(rows);
     };
     let mut way = Way::to(alloc, node, first, to, &guesses)?;

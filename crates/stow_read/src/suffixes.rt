@@ -1,13 +1,16 @@
 //! What the appends on the way down add to a value further below.
-ghost use Rattle.std.specs.Prelude.{◌≡◌, ◌+◌, ◌++◌, [], ◌∷◌, ℕ, List, IfOk, OnOk, map};
+ghost use Rattle.std.specs.Prelude.{◌≡◌, ◌+◌, ◌^◌, ◌<◌, ◌++◌, [], ◌∷◌, ℕ, List, IfOk, OnOk, length, map, sum_by};
 ghost use Rattle.std.specs.Option.{option_map};
 ghost use Rattle.stow_tree_model.specs.Messages.{ops_in};
-ghost use Rattle.stow_tree_model.specs.Operations.{bytes_or_none};
+ghost use Rattle.stow_tree_model.specs.Operations.{bytes_or_none, value_in};
+ghost use Rattle.stow_tree_model.specs.Value.{IsValue};
 ghost use Rattle.stow_read.specs.Suffixes.{suffixes_of, with_suffix, continued, extended, Carries, bytes_lent};
 ghost use Rattle.stow_read.specs.Found.{found_value, lent_of};
+ghost use Rattle.stow_read.specs.Walk.{head_of};
 
 use crate::found::Found;
 use crate::lent_value::LentValue;
+use crate::value_head::ValueHead;
 use std::alloc::{AllocError, Allocator};
 use stow_bytes::byte_string::ByteString;
 use stow_message::message_buf::MessageBuf;
@@ -83,11 +86,14 @@ impl<'a, A: Allocator + Copy> Suffixes<'a, A> {
         Ok(Look::Deeper)
     }
 
-    /// How many bytes the suffixes have.
-    fn size(&self) -> usize {
+    /// How many bytes the suffixes have, where a number of bytes can tell.
+    fn size(&self) -> usize
+        ensures { sum_by length (bytes_lent self.now.suffixes.items) < 2 ^ 64
+            → result ≡ sum_by length (bytes_lent self.now.suffixes.items) }
+    {
         let mut size: usize = 0;
-        for suffix in self.suffixes.as_slice() {
-            size = size.saturating_add(suffix.len());
+        for i in 0..self.suffixes.len() {
+            size = size.saturating_add(self.suffixes[i].len());
         }
         size
     }
@@ -128,5 +134,28 @@ impl<'a, A: Allocator + Copy> Suffixes<'a, A> {
         let number = self.number;
         let value = self.folded(alloc, below)?;
         Ok(Some(Found::Folded(NumberedValue { number, value })))
+    }
+
+    /// What is told of the value that the key has, given what it has below the suffixes.
+    pub(crate) fn head_on(&self, base: Option<LentValue<'_>>) -> Option<ValueHead>
+        requires { IsValue (value_in (continued (suffixes_of self.now) (option_map lent_of base))) }
+        ensures { result ≡ option_map head_of
+            (continued (suffixes_of self.now) (option_map lent_of base.entry)) }
+    {
+        if self.suffixes.is_empty() {
+            let lent = base?;
+            return Some(ValueHead {
+                number: lent.number,
+                length: lent.value.len() as u32,
+            });
+        }
+        let below = match base {
+            None => 0,
+            Some(lent) => lent.value.len(),
+        };
+        Some(ValueHead {
+            number: self.number,
+            length: (below + self.size()) as u32,
+        })
     }
 }

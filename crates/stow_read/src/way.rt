@@ -5,10 +5,12 @@
 ghost use Rattle.std.specs.Prelude.{◌≡◌, true, false, IfOk, IfSome};
 ghost use Rattle.std.specs.Option.{option_map};
 ghost use Rattle.stow_leaf.specs.Intervals.{top_key, spans};
-ghost use Rattle.stow_tree_model.specs.Operations.{latest};
+ghost use Rattle.stow_tree_model.specs.Operations.{latest, value_in};
+ghost use Rattle.stow_tree_model.specs.Value.{IsValue};
 ghost use Rattle.stow_read.specs.Found.{found_value, lent_of};
 ghost use Rattle.stow_read.specs.NextKey.{IsNextKey};
 ghost use Rattle.stow_read.specs.Suffixes.{suffixes_of, continued};
+ghost use Rattle.stow_read.specs.Walk.{head_of, IsHeadOf, IsNext};
 ghost use Rattle.stow_read.specs.Way.{buffers_of, key_in, is_next, lower_key, lower_next, least_of, AreNext, row_ops, way_ops, IsReadyFor, StandsAt, IsAt, IsSameWay};
 
 use crate::descent::below_until;
@@ -17,13 +19,18 @@ use crate::getting::value_in_rows;
 use crate::guesses::Guesses;
 use crate::lent_value::LentValue;
 use crate::level::Level;
-use crate::next_key::{Start, is_below, next_in_rows};
+use crate::next_key::{is_below, next_in_rows};
+use crate::next_number::{number_in_buffer, number_in_rows};
+use crate::row_head::RowHead;
+use crate::start::Start;
 use crate::suffixes::{Look, Suffixes};
+use crate::value_head::ValueHead;
 use std::alloc::{AllocError, Allocator};
 use stow_node::child::Child;
 use stow_node::node::Node;
 use stow_page::rows::Rows;
 use stow_tree_model::tenant_key::TenantKey;
+use stow_tree_model::tenant_key_buf::TenantKeyBuf;
 
 /// All that a node has of the keys of one leaf: what the buffers on the way down to it and its rows have of them.
 #[derive(Drop)]
@@ -214,5 +221,76 @@ impl<'a, A: Allocator + Copy> Way<'a, A> {
         let mut suffixes = Suffixes::new(alloc);
         let base = self.base(&mut suffixes, key, at)?;
         suffixes.on(alloc, base)
+    }
+
+    /// What is told of the value that the key has at a number.
+    fn value_head(
+        &self,
+        alloc: A,
+        key: TenantKey<'_>,
+        at: u64,
+    ) -> Result<Option<ValueHead>, AllocError>
+        requires ready { IsReadyFor self.now key.bytes.now }
+        requires short { IsValue (value_in (latest (way_ops self.now key.bytes.now) at)) }
+        ensures { IfOk result (λ head. head
+            ≡ option_map head_of (latest (way_ops self.now key.entry.bytes.now) at)) }
+    {
+        let mut suffixes = Suffixes::new(alloc);
+        let base = self.base(&mut suffixes, key, at)?;
+        Ok(suffixes.head_on(base))
+    }
+
+    /// The least number above this one of the key's rows.
+    fn next_row_number(&self, key: TenantKey<'_>, at: u64) -> Option<u64>
+        requires { IsReadyFor self.now key.bytes.now }
+        ensures { IsNext (row_ops self.now key.entry.bytes.now) at result }
+    {
+        if is_next(self.next_row, key) {
+            number_in_rows(self.rows, key, at, self.place.saturating_add(1))
+        } else {
+            None
+        }
+    }
+
+    /// The least number above this one of the key's messages: those in a buffer are newer than those below it.
+    fn next_number(&self, key: TenantKey<'_>, at: u64) -> Option<u64>
+        requires { IsReadyFor self.now key.bytes.now }
+        ensures { IsNext (way_ops self.now key.entry.bytes.now) at result }
+    {
+        let mut next = self.next_row_number(key, at);
+        let mut i = self.levels.len();
+        while i > 0 {
+            i -= 1;
+            let level = &self.levels[i];
+            if next.is_none() && is_next(level.next, key) {
+                next = number_in_buffer(level.buffer, key, at, level.place);
+            }
+        }
+        next
+    }
+
+    /// The key with what is told of the value that it has at a number, and its next number.
+    pub(crate) fn head(
+        &self,
+        alloc: A,
+        key: TenantKey<'_>,
+        at: u64,
+    ) -> Result<Option<RowHead<A>>, AllocError>
+        requires ready { IsReadyFor self.now key.bytes.now }
+        requires short { IsValue (value_in (latest (way_ops self.now key.bytes.now) at)) }
+        ensures { IfOk result (λ head. IsHeadOf key.entry.bytes.now
+            (way_ops self.now key.entry.bytes.now) at head) }
+    {
+        let Some(value) = self.value_head(alloc, key, at)? else {
+            return Ok(None);
+        };
+        let next = self.next_number(key, at);
+        let key = TenantKeyBuf::from_key(alloc, key)?;
+        Ok(Some(RowHead {
+            key,
+            number: value.number,
+            length: value.length,
+            next,
+        }))
     }
 }

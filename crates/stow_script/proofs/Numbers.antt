@@ -14,10 +14,10 @@ own = numerals_by_value AreDigits tells_by_index
 pub is_number : (text : List ℕ) (low high value : ℕ) → IsMagnitude text (Some value) → low ≤ value → value ≤ high → IsNumber low high text value
 is_number text low high value is from to = (from, to, sym is.1)
 
-pub no_number : (text : List ℕ) (low high : ℕ) → high < 2 ^ 32 → IsMagnitude text None → IsNoNumber low high text
+pub no_number : (text : List ℕ) (low high : ℕ) → high < 10 ^ 19 → IsMagnitude text None → IsNoNumber low high text
 no_number text low high small none n is = let few : n ≤ high = is.1 in none n (omega arith) (sym is.2)
 
-pub out_of_limits : (text : List ℕ) (low high value : ℕ) → high < 2 ^ 32 → IsMagnitude text (Some value) → (low ≤ value → value ≤ high → ⊥) → IsNoNumber low high text
+pub out_of_limits : (text : List ℕ) (low high value : ℕ) → high < 10 ^ 19 → IsMagnitude text (Some value) → (low ≤ value → value ≤ high → ⊥) → IsNoNumber low high text
 out_of_limits text low high value small is out n other =
     let few : value < 10 ^ 19 = is.0 in
     let from : low ≤ n = other.0 in

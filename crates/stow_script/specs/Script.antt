@@ -1,9 +1,13 @@
--- A script: lines that ask for events, or for the shape of the tree. This product's own grammar.
-use Rattle.std.specs.Prelude.{◌≡◌, ℕ, ◌+◌, ◌≤◌, ◌==◌, List, [], ◌∷◌, ◌++◌, length, codes, ◌⊎◌}
-use Rattle.std.specs.List.{slice_split}
+-- A script: lines that ask for events, for the shape of the tree, or for what a tenant uses. This product's own
+-- grammar, over the tenants of the service.
+use Rattle.std.specs.Prelude.{◌≡◌, ◌≢◌, ℕ, ◌+◌, ◌≤◌, ◌==◌, List, [], ◌∷◌, ◌++◌, Some, length, codes, ◌⊎◌}
+use Rattle.std.specs.List.{All, slice_split}
 use Rattle.std.specs.Fmt.{decimal}
+use Rattle.stow_bytes.specs.Limits.{number_limit}
+use Rattle.stow_login.specs.Entries.{index_named}
 use Rattle.stow_model.specs.Limits.{cache_limit}
-use Rattle.stow_model.specs.Event.{Event, event_of, On, By, Open, Piece, Serve, Close, Plan, Merge, Install, Resize}
+use Rattle.stow_model.specs.Login.{Entry}
+use Rattle.stow_model.specs.Event.{Event, event_of, On, By, SetQuota, Open, Piece, Serve, Close, Plan, Merge, Install, Resize}
 use Rattle.stow_script.specs.declared.script_line.ScriptLine as coded
 use Rattle.stow_script.specs.declared.script_line.ScriptLine.TheVariants as in_code
 use Rattle.stow_script.specs.Text.{StandsFor}
@@ -14,11 +18,14 @@ pub data Line : Type 0 where
   Asks : Event → Line
   -- how large the tree is
   Shape : Line
+  -- what the tenant of this index uses
+  Usage : ℕ → Line
 
 -- what the code's type stands for, whatever allocator it has its memory from
 abbrev pub line_of : {A : Type 0} → coded.ScriptLine A → Line
 line_of (in_code.Event e) = Asks (event_of e)
 line_of in_code.Shape = Shape
+line_of (in_code.Usage tenant) = Usage tenant
 
 -- the word that begins an event's line
 abbrev pub word_of : Event → List ℕ
@@ -30,6 +37,7 @@ word_of (By (Plan f)) = codes "plan"
 word_of (By (Merge f)) = codes "merge"
 word_of (By (Install f)) = codes "install"
 word_of (By (Resize n)) = codes "resize"
+word_of (SetQuota tenant quota) = codes "quota"
 
 -- the number within these limits whose decimal text this is: no sign, no leading zero
 abbrev pub IsNumber : ℕ → ℕ → List ℕ → ℕ → Type 0
@@ -41,26 +49,40 @@ IsConnection text c = IsNumber 1 65535 text c
 abbrev pub IsFlusher : List ℕ → ℕ → Type 0
 IsFlusher text f = IsNumber 1 64 text f
 
+-- fields are separated by a space, and have none
+abbrev pub IsField : List ℕ → Type 0
+IsField text = All (λ b. b ≢ 32) text
+
+-- the name of a tenant, by its index
+abbrev pub IsName : List Entry → List ℕ → ℕ → Type 0
+IsName entries text tenant = IsField text × (index_named entries text ≡ Some tenant)
+
 -- what stands behind the word and a space
-abbrev pub IsArgument : List ℕ → Event → Type 0
-IsArgument text (On c Open) = IsConnection text c
-IsArgument text (On c (Piece bytes)) = (number : List ℕ) × (rest : List ℕ)
+abbrev pub IsArgument : List Entry → List ℕ → Event → Type 0
+IsArgument entries text (On c Open) = IsConnection text c
+IsArgument entries text (On c (Piece bytes)) = (number : List ℕ) × (rest : List ℕ)
     × (text ≡ number ++ 32 ∷ rest) × IsConnection number c × StandsFor rest bytes
-IsArgument text (On c Serve) = IsConnection text c
-IsArgument text (On c Close) = IsConnection text c
-IsArgument text (By (Plan f)) = IsFlusher text f
-IsArgument text (By (Merge f)) = IsFlusher text f
-IsArgument text (By (Install f)) = IsFlusher text f
-IsArgument text (By (Resize n)) = IsNumber 0 cache_limit text n
+IsArgument entries text (On c Serve) = IsConnection text c
+IsArgument entries text (On c Close) = IsConnection text c
+IsArgument entries text (By (Plan f)) = IsFlusher text f
+IsArgument entries text (By (Merge f)) = IsFlusher text f
+IsArgument entries text (By (Install f)) = IsFlusher text f
+IsArgument entries text (By (Resize n)) = IsNumber 0 cache_limit text n
+IsArgument entries text (SetQuota tenant quota) = (name : List ℕ) × (number : List ℕ)
+    × (text ≡ name ++ 32 ∷ number) × IsName entries name tenant
+    × IsNumber 0 number_limit number quota
 
 -- the line asks for the event
-abbrev pub AsksForEvent : List ℕ → Event → Type 0
-AsksForEvent line e = (text : List ℕ) × (line ≡ word_of e ++ 32 ∷ text) × IsArgument text e
+abbrev pub AsksForEvent : List Entry → List ℕ → Event → Type 0
+AsksForEvent entries line e = (text : List ℕ) × (line ≡ word_of e ++ 32 ∷ text)
+    × IsArgument entries text e
 
 -- the line asks for this
-abbrev pub AsksFor : List ℕ → Line → Type 0
-AsksFor line (Asks e) = AsksForEvent line e
-AsksFor line Shape = line ≡ codes "shape"
+abbrev pub AsksFor : List Entry → List ℕ → Line → Type 0
+AsksFor entries line (Asks e) = AsksForEvent entries line e
+AsksFor entries line Shape = line ≡ codes "shape"
+AsksFor entries line (Usage tenant) = (name : List ℕ) × (line ≡ codes "usage" ++ 32 ∷ name)
+    × IsName entries name tenant
 
 -- an empty line, or a comment, which begins with `#`
 abbrev pub IsSkipped : List ℕ → Type 0
@@ -68,8 +90,8 @@ IsSkipped [] = Unit {0}
 IsSkipped (first ∷ rest) = first ≡ 35
 
 -- neither
-abbrev pub IsBad : List ℕ → Type 0
-IsBad line = ¬ IsSkipped line × ((asked : Line) → ¬ AsksFor line asked)
+abbrev pub IsBad : List Entry → List ℕ → Type 0
+IsBad entries line = ¬ IsSkipped line × ((asked : Line) → ¬ AsksFor entries line asked)
 
 -- the lines of a script; behind the last LF there is one that is empty, or the last one, which
 -- lacks its LF
@@ -77,19 +99,19 @@ abbrev pub lines_of : List ℕ → List (List ℕ)
 lines_of text = slice_split (λ b. b == 10) text
 
 -- these lines ask for this, in order
-abbrev pub AskFor : List (List ℕ) → List Line → Type 0
-AskFor [] asked = asked ≡ []
-AskFor (line ∷ lines) asked = (IsSkipped line × AskFor lines asked)
-    ⊎ ((first : Line) × (later : List Line) × (asked ≡ first ∷ later) × AsksFor line first
-    × AskFor lines later)
+abbrev pub AskFor : List Entry → List (List ℕ) → List Line → Type 0
+AskFor entries [] asked = asked ≡ []
+AskFor entries (line ∷ lines) asked = (IsSkipped line × AskFor entries lines asked)
+    ⊎ ((first : Line) × (later : List Line) × (asked ≡ first ∷ later)
+    × AsksFor entries line first × AskFor entries lines later)
 
 -- the first bad line, by its number, counted from 1
-pub record IsFirstBad (lines : List (List ℕ)) (number : ℕ) : Type 0 where
+pub record IsFirstBad (entries : List Entry) (lines : List (List ℕ)) (number : ℕ) : Type 0 where
   pub front : List (List ℕ)
   pub line : List ℕ
   pub back : List (List ℕ)
   pub at : lines ≡ front ++ line ∷ back
   pub number_is : number ≡ length front + 1
-  pub bad : IsBad line
+  pub bad : IsBad entries line
   pub asked : List Line
-  pub good : AskFor front asked
+  pub good : AskFor entries front asked

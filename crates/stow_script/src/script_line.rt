@@ -9,4 +9,6 @@ pub enum ScriptLine<A: Allocator = Global> {
     Event(Event<A>),
     /// How large the tree of all rows is.
     Shape,
+    /// What the tenant of this index uses.
+    Usage(u32),
 }

@@ -3,4 +3,6 @@
 mod alone;
 mod held;
 mod refusals;
+mod skipped;
+mod snapshots;
 mod worked;

@@ -23,7 +23,10 @@ pub(crate) fn core_of<A: Allocator + Copy>(
     ensures { IfOk result IsNewCore }
 {
     let tenants = Tenants::read(alloc, global, text).map_err(|_| AllocError)?;
-    Core::new(alloc, Arc::new(alloc, tenants)?, shape).map_err(|_| AllocError)
+    match Core::new(alloc, Arc::new(alloc, tenants)?, shape) {
+        Ok(core) => Ok(core),
+        Err(_) => Err(AllocError),
+    }
 }
 
 /// A new core of the three tenants, in the smallest shape.

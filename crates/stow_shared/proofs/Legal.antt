@@ -1,26 +1,48 @@
 -- Journals that lead to a core, one step on.
-use Rattle.std.proofs.Common.{◌≡◌, ◌≢◌, ℕ, Bool, true, false, List, [], ◌∷◌, refl, ap, ◌∙◌, sym, subst, eq-eqb}
+use Rattle.std.proofs.Common.{◌≡◌, ◌≢◌, ℕ, ◌<◌, Bool, true, false, List, [], ◌∷◌, length, None, Some, refl, ap, ◌∙◌, sym, subst, eq-eqb, ⊎_elim, inl, inr, arith}
 use mathlib.Core.Bool.{false≢true}
-use Rattle.std.specs.Prelude.{if◌then◌else◌, ◌==◌}
+use Rattle.std.specs.Prelude.{◌⊎◌, if◌then◌else◌, ◌==◌}
 use Rattle.std.specs.List.{AllByRecursion}
 use Rattle.std.proofs.lemmas.Bool.{eqb-true}
+use Rattle.std.proofs.lemmas.Bool.Decides.{leb_tells}
 use Rattle.stow_model.specs.Login as login
 use Rattle.stow_model.specs.Login.{IsTenant, quota_of}
 use Rattle.stow_model.specs.Reply.{Reply}
-use Rattle.stow_model.specs.Store.{Store, OwnEvent, Asked, Answer, answer, answer_with, store_after, replies_after}
-use Rattle.stow_core.specs.State.{CoreState, store_of, IsNewCore}
-use Rattle.stow_shared.specs.Entries.{Entry, call_entry, resize_entry}
+use Rattle.stow_model.specs.Store.{Store, OwnEvent, Asked, GivenQuota, Answer, answer, answer_with, store_after, replies_after}
+use Rattle.stow_core.specs.State.{CoreState, store_of, shared_of, IsNewCore, GivesQuota, Keeps}
+use Rattle.stow_state.specs.State.{SharedState, IsSound}
+use Rattle.stow_state.specs.Steps.{Call, Maintenance}
+use Rattle.stow_state.proofs.Steps.{step_is_there_law, stays_sound_law}
+use Rattle.stow_state.specs.Steps as in_state
+use Rattle.stow_shared.specs.Entries.{Entry, call_entry, resize_entry, quota_entry}
 use Rattle.stow_shared.specs.Journals.{line_in, told_in, IsAnswered, IsLegal, with_entry}
-use Rattle.stow_shared.specs.Books.{IsKept, StoresStay, Serves}
+use Rattle.stow_shared.specs.Books.{IsKept, IsBook, Serves}
+
+-- an index is a tenant's, or none's
+pub tenant_or_not : (entries : List login.Entry) (t : ℕ) → IsTenant entries t ⊎ (¬ IsTenant entries t)
+tenant_or_not entries t =
+    ⊎_elim
+    (λ low. ⊎_elim
+    (λ high. inl (low.1, high.1))
+    (λ high. inr (λ is. let above : length entries < t = high.1 in absurd (omega (arith, above, is.1))))
+    (leb_tells t (length entries)))
+    (λ low. inr (λ is. let below : t < 1 = low.1 in absurd (omega (arith, below, is.0))))
+    (leb_tells 1 t)
 
 -- ---- the empty journal
 
-pub legal_new : (core : CoreState) → IsNewCore core → IsLegal [] core
+legal_new : (core : CoreState) → IsNewCore core → IsLegal [] core
 unfolding line_in told_in store_after replies_after
 legal_new core new = record {
   told = λ tenant is. refl;
   stores = λ tenant is. new.stores tenant;
   answered = tt;
+}
+
+pub book_new : (keeps : Bool) (core : CoreState) → IsNewCore core → IsBook keeps [] core
+book_new keeps core new = record {
+  sound = subst IsSound (sym new.shared) (stays_sound_law.of_new (quota_of core.entries));
+  kept = λ is. legal_new core new;
 }
 
 -- ---- where no store moves
@@ -34,17 +56,32 @@ same_stores es old new tenant store e is = is ∙ ap (λ t. store_after (quota_o
 as_tenant : (old new : List login.Entry) (tenant : ℕ) → new ≡ old → IsTenant new tenant → IsTenant old tenant
 as_tenant old new tenant e is = let P : List login.Entry → Type 0 = λ t. IsTenant t tenant in subst P e is
 
-pub legal_same : (es : List Entry) (old new : CoreState) → StoresStay old new → IsLegal es old → IsLegal es new
+pub legal_same : (es : List Entry) (old new : CoreState) → Keeps old new → IsLegal es old → IsLegal es new
 legal_same es old new same legal =
     let P : List login.Entry → Type 0 = λ t. AllByRecursion (λ entry. IsAnswered t entry.step) es in
     record {
-      told = λ tenant is. same_replies es old.entries new.entries tenant same.tenants (legal.told tenant (as_tenant old.entries new.entries tenant same.tenants is));
-      stores = λ tenant is. same_stores es old.entries new.entries tenant (store_of new tenant) same.tenants (same.stores tenant ∙ legal.stores tenant (as_tenant old.entries new.entries tenant same.tenants is));
-      answered = subst P (sym same.tenants) legal.answered;
+      told = λ tenant is. same_replies es old.entries new.entries tenant same.entries (legal.told tenant (as_tenant old.entries new.entries tenant same.entries is));
+      stores = λ tenant is. same_stores es old.entries new.entries tenant (store_of new tenant) same.entries (same.stores tenant ∙ legal.stores tenant (as_tenant old.entries new.entries tenant same.entries is));
+      answered = subst P (sym same.entries) legal.answered;
     }
 
-pub kept_same : (keeps : Bool) (es : List Entry) (old new : CoreState) → StoresStay old new → IsKept keeps es old → IsKept keeps es new
-kept_same keeps es old new same kept is = legal_same es old new same (kept is)
+-- nothing is a step of maintenance
+pub keeps_itself : (core : CoreState) → IsSound (shared_of core) → Keeps core core
+unfolding in_state.moved in_state.reply_to
+keeps_itself core sound = record {
+  stores = λ t. refl;
+  entries = refl;
+  gives_way = record { sound = sound; step = step_is_there_law (shared_of core) Maintenance sound tt };
+}
+
+pub sound_kept : (old new : CoreState) → Keeps old new → IsSound (shared_of new)
+sound_kept old new same = stays_sound_law.of_step (shared_of old) (shared_of new) Maintenance None same.gives_way.sound same.gives_way.step
+
+pub book_same : (keeps : Bool) (es : List Entry) (old new : CoreState) → Keeps old new → IsBook keeps es old → IsBook keeps es new
+book_same keeps es old new same book = record {
+  sound = sound_kept old new same;
+  kept = λ is. legal_same es old new same (book.kept is);
+}
 
 -- ---- a change of the cache's size
 
@@ -56,9 +93,12 @@ legal_resize n leaves es core legal = record {
   answered = (tt, legal.answered);
 }
 
-pub kept_resize : (keeps : Bool) (n leaves : ℕ) (es : List Entry) (core : CoreState) → IsKept keeps es core → IsKept keeps (with_entry keeps (resize_entry n leaves) es) core
+kept_resize : (keeps : Bool) (n leaves : ℕ) (es : List Entry) (core : CoreState) → IsKept keeps es core → IsKept keeps (with_entry keeps (resize_entry n leaves) es) core
 kept_resize true n leaves es core kept is = legal_resize n leaves es core (kept is)
 kept_resize false n leaves es core kept is = kept is
+
+pub book_resize : (keeps : Bool) (n leaves : ℕ) (es : List Entry) (core : CoreState) → IsBook keeps es core → IsBook keeps (with_entry keeps (resize_entry n leaves) es) core
+book_resize keeps n leaves es core book = record { sound = book.sound; kept = kept_resize keeps n leaves es core book.kept }
 
 -- ---- a call
 
@@ -77,6 +117,11 @@ stored_here false quota store words line is e = e refl
 differs : (t tenant : ℕ) → (t == tenant) ≡ false → tenant ≢ t
 differs t tenant away e = false≢true (sym away ∙ eq-eqb t tenant (sym e))
 
+-- a request to which nothing was refused
+alone : (store next : Store) (words : List (List ℕ)) (told : Reply) → ◌≡◌ {A = Answer} (next, told) (answer_with store (record { words = words; is_refused = false })) → ◌≡◌ {A = Answer} (next, told) (answer store words)
+unfolding answer_with
+alone store next words told is = is
+
 -- the caller's own answer, as its run over its line gives it
 own_answer : (t : ℕ) (words : List (List ℕ)) (told : Reply) (es : List Entry) (old new : CoreState) → Serves old t words told new → IsLegal es old → (tenant : ℕ) → IsTenant old.entries tenant → (t == tenant) ≡ true
     → ◌≡◌ {A = Answer} (store_of new tenant, told) (answer (store_after (quota_of old.entries tenant) (line_in tenant es)) words)
@@ -84,7 +129,7 @@ own_answer t words told es old new serves legal tenant is here =
     let same : t ≡ tenant = eqb-true t tenant here in
     let P : ℕ → Type 0 = λ n. ◌≡◌ {A = Answer} (store_of new n, told) (answer (store_of old n) words) in
     let Q : ℕ → Type 0 = λ n. IsTenant old.entries n in
-    subst P same (serves.own (subst Q (sym same) is)) ∙ ap (λ store. answer store words) (legal.stores tenant is)
+    subst P same (alone (store_of old t) (store_of new t) words told (serves.own (subst Q (sym same) is)).alone) ∙ ap (λ store. answer store words) (legal.stores tenant is)
 
 legal_call_old : (n t : ℕ) (words : List (List ℕ)) (told : Reply) (es : List Entry) (old new : CoreState) → Serves old t words told new → IsLegal es old → (tenant : ℕ) → IsTenant old.entries tenant
     → (told_in tenant (call_entry n t words told ∷ es) ≡ replies_after (quota_of old.entries tenant) (line_in tenant (call_entry n t words told ∷ es)))
@@ -104,9 +149,95 @@ legal_call n t words told es old new serves legal =
     record {
       told = λ tenant is. same_replies (call_entry n t words told ∷ es) old.entries new.entries tenant serves.tenants (here tenant (as_tenant old.entries new.entries tenant serves.tenants is)).0;
       stores = λ tenant is. same_stores (call_entry n t words told ∷ es) old.entries new.entries tenant (store_of new tenant) serves.tenants (here tenant (as_tenant old.entries new.entries tenant serves.tenants is)).1;
-      answered = subst P (sym serves.tenants) ((λ no. (serves.stranger no).0), legal.answered);
+      answered = subst P (sym serves.tenants) ((λ no. (serves.stranger no).told_is), legal.answered);
     }
 
-pub kept_call : (keeps : Bool) (n t : ℕ) (words : List (List ℕ)) (told : Reply) (es : List Entry) (old new : CoreState) → Serves old t words told new → IsKept keeps es old → IsKept keeps (with_entry keeps (call_entry n t words told) es) new
+kept_call : (keeps : Bool) (n t : ℕ) (words : List (List ℕ)) (told : Reply) (es : List Entry) (old new : CoreState) → Serves old t words told new → IsKept keeps es old → IsKept keeps (with_entry keeps (call_entry n t words told) es) new
 kept_call true n t words told es old new serves kept is = legal_call n t words told es old new serves (kept is)
 kept_call false n t words told es old new serves kept is = absurd (false≢true is)
+
+pub book_call : (keeps : Bool) (n t : ℕ) (words : List (List ℕ)) (told : Reply) (es : List Entry) (old new : CoreState) → Serves old t words told new → IsBook keeps es old → IsBook keeps (with_entry keeps (call_entry n t words told) es) new
+book_call keeps n t words told es old new serves book = record {
+  sound = ⊎_elim
+      (λ (is : IsTenant old.entries t). stays_sound_law.of_step (shared_of old) (shared_of new) (Call t (Asked (record { words = words; is_refused = false }))) (Some told) book.sound (serves.own is).step)
+      (λ (no : ¬ IsTenant old.entries t). subst (λ c. IsSound (shared_of c)) (sym (serves.stranger no).unchanged) book.sound)
+      (tenant_or_not old.entries t);
+  kept = kept_call keeps n t words told es old new serves book.kept;
+}
+
+-- ---- a quota
+
+-- what a quota leaves as it was
+record Stays (old : CoreState) (t : ℕ) (new : CoreState) : Type 0 where
+  pub entries : new.entries ≡ old.entries
+  pub others : (other : ℕ) → t ≢ other → store_of new other ≡ store_of old other
+  pub sound : IsSound (shared_of old) → IsSound (shared_of new)
+
+stays : (old : CoreState) (t quota : ℕ) (new : CoreState) → GivesQuota old t quota new → Stays old t new
+stays old t quota new gives =
+    ⊎_elim
+    (λ (is : IsTenant old.entries t).
+    let m = gives.own is in
+    record {
+      entries = m.entries;
+      others = λ other differ. m.others other (λ e. differ (sym e));
+      sound = λ sound. stays_sound_law.of_step (shared_of old) (shared_of new) (Call t (GivenQuota quota)) None sound (m.step (GivenQuota quota) None refl);
+    })
+    (λ (no : ¬ IsTenant old.entries t).
+    let same = gives.stranger no in
+    record {
+      entries = ap (λ c. c.entries) same;
+      others = λ other differ. ap (λ c. store_of c other) same;
+      sound = λ sound. subst (λ c. IsSound (shared_of c)) (sym same) sound;
+    })
+    (tenant_or_not old.entries t)
+
+given_here : (here : Bool) (first quota : ℕ) (store : Store) (line : List OwnEvent) → (here ≡ true → store ≡ record (store_after first line) { quota = quota }) → (here ≡ false → store ≡ store_after first line)
+    → store ≡ store_after first (if here then GivenQuota quota ∷ line else line)
+unfolding store_after
+given_here true first quota store line is e = is refl
+given_here false first quota store line is e = e refl
+
+untold_here : (here : Bool) (first quota : ℕ) (replies : List Reply) (line : List OwnEvent) → replies ≡ replies_after first line → replies ≡ replies_after first (if here then GivenQuota quota ∷ line else line)
+unfolding replies_after
+untold_here true first quota replies line e = e
+untold_here false first quota replies line e = e
+
+legal_quota_old : (n t quota : ℕ) (es : List Entry) (old new : CoreState) → GivesQuota old t quota new → IsLegal es old → (tenant : ℕ) → IsTenant old.entries tenant
+    → (told_in tenant (quota_entry n t quota ∷ es) ≡ replies_after (quota_of old.entries tenant) (line_in tenant (quota_entry n t quota ∷ es)))
+    × (store_of new tenant ≡ store_after (quota_of old.entries tenant) (line_in tenant (quota_entry n t quota ∷ es)))
+unfolding line_in told_in
+legal_quota_old n t quota es old new gives legal tenant is = (
+  untold_here (t == tenant) (quota_of old.entries tenant) quota (told_in tenant es) (line_in tenant es) (legal.told tenant is),
+  given_here (t == tenant) (quota_of old.entries tenant) quota (store_of new tenant) (line_in tenant es)
+      (λ here. own_quota t quota old new gives tenant is here ∙ ap (λ (store : Store). record store { quota = quota }) (legal.stores tenant is))
+      (λ away. (stays old t quota new gives).others tenant (λ same. differs t tenant away (sym same)) ∙ legal.stores tenant is),
+)
+  where
+    own_quota : (t quota : ℕ) (old new : CoreState) → GivesQuota old t quota new → (tenant : ℕ) → IsTenant old.entries tenant → (t == tenant) ≡ true → store_of new tenant ≡ record (store_of old tenant) { quota = quota }
+    own_quota t quota old new gives tenant is here =
+        let same : t ≡ tenant = eqb-true t tenant here in
+        let P : ℕ → Type 0 = λ x. store_of new x ≡ record (store_of old x) { quota = quota } in
+        let Q : ℕ → Type 0 = λ x. IsTenant old.entries x in
+        subst P same (gives.own (subst Q (sym same) is)).own
+
+legal_quota : (n t quota : ℕ) (es : List Entry) (old new : CoreState) → GivesQuota old t quota new → IsLegal es old → IsLegal (quota_entry n t quota ∷ es) new
+legal_quota n t quota es old new gives legal =
+    let P : List login.Entry → Type 0 = λ e. AllByRecursion (λ entry. IsAnswered e entry.step) (quota_entry n t quota ∷ es) in
+    let here = legal_quota_old n t quota es old new gives legal in
+    let same = (stays old t quota new gives).entries in
+    record {
+      told = λ tenant is. same_replies (quota_entry n t quota ∷ es) old.entries new.entries tenant same (here tenant (as_tenant old.entries new.entries tenant same is)).0;
+      stores = λ tenant is. same_stores (quota_entry n t quota ∷ es) old.entries new.entries tenant (store_of new tenant) same (here tenant (as_tenant old.entries new.entries tenant same is)).1;
+      answered = subst P (sym same) (tt, legal.answered);
+    }
+
+kept_quota : (keeps : Bool) (n t quota : ℕ) (es : List Entry) (old new : CoreState) → GivesQuota old t quota new → IsKept keeps es old → IsKept keeps (with_entry keeps (quota_entry n t quota) es) new
+kept_quota true n t quota es old new gives kept is = legal_quota n t quota es old new gives (kept is)
+kept_quota false n t quota es old new gives kept is = absurd (false≢true is)
+
+pub book_quota : (keeps : Bool) (n t quota : ℕ) (es : List Entry) (old new : CoreState) → GivesQuota old t quota new → IsBook keeps es old → IsBook keeps (with_entry keeps (quota_entry n t quota) es) new
+book_quota keeps n t quota es old new gives book = record {
+  sound = (stays old t quota new gives).sound book.sound;
+  kept = kept_quota keeps n t quota es old new gives book.kept;
+}

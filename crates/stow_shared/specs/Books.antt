@@ -1,12 +1,12 @@
 -- What stands under the lock, and its steps.
-use Rattle.std.specs.Prelude.{◌≡◌, ℕ, Bool, true, List, ◌⊎◌}
+use Rattle.std.specs.Prelude.{◌≡◌, ℕ, Bool, true, false, List, ◌⊎◌}
 use Rattle.stow_model.specs.declared.refusal.Refusal.TheVariants as refusal
 use Rattle.stow_model.specs.Login.{IsTenant}
 use Rattle.stow_model.specs.Reply.{Reply}
 use Rattle.stow_model.specs.Reply as reply
-use Rattle.stow_model.specs.Store.{Answer, answer}
-use Rattle.stow_core.specs.State.{CoreState, store_of, OthersStay, Resized}
-use Rattle.stow_shared.specs.Entries.{Entry, call_entry, resize_entry}
+use Rattle.stow_core.specs.State.{CoreState, shared_of, AnswersRequest, RefusesCall, GivesQuota, Keeps, OthersStay, Resized}
+use Rattle.stow_state.specs.State.{IsSound}
+use Rattle.stow_shared.specs.Entries.{Entry, call_entry, resize_entry, quota_entry}
 use Rattle.stow_shared.specs.Journals.{with_entry, IsLegal}
 use Rattle.stow_shared.specs.Seats.{SeatState, with_receipt, with_refusal}
 
@@ -19,19 +19,19 @@ pub record BookState : Type 0 where
 abbrev pub IsKept : Bool → List Entry → CoreState → Type 0
 IsKept keeps entries core = keeps ≡ true → IsLegal entries core
 
--- no store moved
-pub record StoresStay (old new : CoreState) : Type 0 where
-  pub stores : (tenant : ℕ) → store_of new tenant ≡ store_of old tenant
-  pub tenants : new.entries ≡ old.entries
+-- what the book's type keeps: the state that all tenants share is sound, and the journal leads to it
+pub record IsBook (keeps : Bool) (entries : List Entry) (core : CoreState) : Type 0 where
+  pub sound : IsSound (shared_of core)
+  pub kept : IsKept keeps entries core
 
--- the words were answered in the caller's own store, as its own step says, to which nothing was
--- refused; an index that is no tenant's was refused; no other store moved
+-- The words were answered in the caller's own store, as its own step says, to which nothing was
+-- refused, and that is a step of the state that all share. An index that is no tenant's was refused, and
+-- nothing changed. No other store moved.
 pub record Serves (old : CoreState) (tenant : ℕ) (words : List (List ℕ)) (told : Reply)
     (new : CoreState) : Type 0 where
   pub own : IsTenant old.entries tenant
-      → ◌≡◌ {A = Answer} (store_of new tenant, told) (answer (store_of old tenant) words)
-  pub stranger : ¬ (IsTenant old.entries tenant)
-      → (told ≡ reply.Error refusal.NotAuthenticated) × ((t : ℕ) → store_of new t ≡ store_of old t)
+      → AnswersRequest old new tenant (record { words = words; is_refused = false }) told
+  pub stranger : ¬ (IsTenant old.entries tenant) → RefusesCall old told new
   pub others : OthersStay old new tenant
   pub tenants : new.entries ≡ old.entries
 
@@ -43,7 +43,7 @@ pub record Adds (keeps : Bool) (entry : Entry) (old : List Entry) (seat : SeatSt
 
 -- memory was refused: nothing was added and no store moved
 pub record Leaves (old new : BookState) : Type 0 where
-  pub core : StoresStay old.core new.core
+  pub core : Keeps old.core new.core
   pub journal : new.entries ≡ old.entries
 
 -- a call that was answered, with its one entry and receipt
@@ -53,22 +53,30 @@ pub record AnswersCall (keeps : Bool) (old : BookState) (seat : SeatState) (tena
   pub adds : Adds keeps (call_entry seat.number tenant words told) old.entries seat new.entries
       seat'
 
--- a call that memory was refused to, which its seat counts
-pub record RefusesCall (old : BookState) (seat : SeatState) (told : Reply) (new : BookState)
-    (seat' : SeatState) : Type 0 where
+-- a call that memory was refused to, which its seat counts; of an index that is no tenant's nothing changed
+pub record LacksMemory (old : BookState) (seat : SeatState) (tenant : ℕ) (told : Reply)
+    (new : BookState) (seat' : SeatState) : Type 0 where
   pub says : told ≡ reply.Error refusal.OutOfMemory
   pub leaves : Leaves old new
+  pub stranger : ¬ (IsTenant old.core.entries tenant) → new.core ≡ old.core
   pub counted : seat' ≡ with_refusal seat
 
 -- the step of a call
 abbrev pub CallStep : Bool → BookState → SeatState → ℕ → List (List ℕ) → Reply → BookState
     → SeatState → Type 0
 CallStep keeps old seat tenant words told new seat' =
-    AnswersCall keeps old seat tenant words told new seat' ⊎ RefusesCall old seat told new seat'
+    AnswersCall keeps old seat tenant words told new seat'
+    ⊎ LacksMemory old seat tenant told new seat'
 
 -- the step of another size of the cache, with its one entry and receipt
 pub record Resizes (keeps : Bool) (old : BookState) (seat : SeatState) (leaves : ℕ)
     (new : BookState) (seat' : SeatState) : Type 0 where
-  pub core : StoresStay old.core new.core
+  pub core : Keeps old.core new.core
   pub cache : Resized leaves old.core new.core
   pub adds : Adds keeps (resize_entry seat.number leaves) old.entries seat new.entries seat'
+
+-- the step of a quota for a tenant, with its one entry and receipt
+pub record Orders (keeps : Bool) (old : BookState) (seat : SeatState) (tenant quota : ℕ)
+    (new : BookState) (seat' : SeatState) : Type 0 where
+  pub core : GivesQuota old.core tenant quota new.core
+  pub adds : Adds keeps (quota_entry seat.number tenant quota) old.entries seat new.entries seat'

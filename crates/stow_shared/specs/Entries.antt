@@ -11,6 +11,8 @@ pub data Step : Type 0 where
   Call : ℕ → List (List ℕ) → Reply → Step
   -- the cache was asked to hold so many leaves, and does
   Resize : ℕ → Step
+  -- the operator gave the tenant of this index this quota
+  Quota : ℕ → ℕ → Step
 
 pub record Entry : Type 0 where
   pub seat : ℕ
@@ -24,10 +26,15 @@ call_entry seat tenant words told = record { seat = seat; step = Call tenant wor
 abbrev pub resize_entry : ℕ → ℕ → Entry
 resize_entry seat leaves = record { seat = seat; step = Resize leaves }
 
+-- a quota in an entry
+abbrev pub quota_entry : ℕ → ℕ → ℕ → Entry
+quota_entry seat tenant quota = record { seat = seat; step = Quota tenant quota }
+
 -- what the code's types stand for, whatever allocator they have their memory from
 abbrev pub step_of : {A : Type 0} → coded_step.Step A → Step
 step_of (in_code.Call tenant words told) = Call tenant words (reply_of told)
 step_of (in_code.Resize leaves) = Resize leaves
+step_of (in_code.Quota tenant quota) = Quota tenant quota
 
 abbrev pub entry_of : {A : Type 0} → coded_entry.Entry A → Entry
 entry_of entry = record { seat = entry.seat; step = step_of entry.step }

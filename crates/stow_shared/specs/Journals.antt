@@ -6,9 +6,9 @@ use Rattle.stow_model.specs.Login as login
 use Rattle.stow_model.specs.Login.{IsTenant, quota_of}
 use Rattle.stow_model.specs.Reply.{Reply}
 use Rattle.stow_model.specs.Reply as reply
-use Rattle.stow_model.specs.Store.{OwnEvent, Asked, store_after, replies_after}
+use Rattle.stow_model.specs.Store.{OwnEvent, Asked, GivenQuota, store_after, replies_after}
 use Rattle.stow_core.specs.State.{CoreState, store_of}
-use Rattle.stow_shared.specs.Entries.{Step, Call, Resize, Entry}
+use Rattle.stow_shared.specs.Entries.{Step, Call, Resize, Quota, Entry}
 
 -- the journal, or a seat's receipts, with an entry more where entries are kept
 abbrev pub with_entry : Bool → Entry → List Entry → List Entry
@@ -22,8 +22,10 @@ abbrev pub with_request : ℕ → Step → List OwnEvent → List OwnEvent
 with_request tenant (Call index words told) line =
     if index == tenant then Asked (record { words = words; is_refused = false }) ∷ line else line
 with_request tenant (Resize leaves) line = line
+with_request tenant (Quota index quota) line =
+    if index == tenant then GivenQuota quota ∷ line else line
 
--- the tenant's line: its calls, over all seats, to none of which memory was refused
+-- the tenant's line: its calls, over all seats, to none of which memory was refused, and the quotas that it was given
 unfoldable pub line_in : ℕ → List Entry → List OwnEvent
 line_in tenant [] = []
 line_in tenant (newest ∷ earlier) = with_request tenant newest.step (line_in tenant earlier)
@@ -32,6 +34,7 @@ abbrev pub with_told : ℕ → Step → List Reply → List Reply
 with_told tenant (Call index words told) replies =
     if index == tenant then told ∷ replies else replies
 with_told tenant (Resize leaves) replies = replies
+with_told tenant (Quota index quota) replies = replies
 
 -- what the tenant was told
 unfoldable pub told_in : ℕ → List Entry → List Reply
@@ -43,6 +46,7 @@ abbrev pub IsAnswered : List login.Entry → Step → Type 0
 IsAnswered tenants (Call index words told) = ¬ (IsTenant tenants index)
     → told ≡ reply.Error refusal.NotAuthenticated
 IsAnswered tenants (Resize leaves) = Unit {0}
+IsAnswered tenants (Quota index quota) = Unit {0}
 
 -- the journal leads from empty stores to the core: each tenant was told what its own run over its
 -- line tells, and its store is the last of that run; a change of the cache's size changes no store

@@ -1,9 +1,7 @@
 -- A seat: what it was told under the lock.
-use Rattle.std.specs.Prelude.{◌≡◌, ℕ, Bool, List, [], ◌⊎◌}
-use Rattle.stow_model.specs.declared.refusal.Refusal.TheVariants as refusal
+use Rattle.std.specs.Prelude.{◌≡◌, ℕ, Bool, List, [], if◌then◌else◌}
 use Rattle.stow_model.specs.Reply.{Reply}
-use Rattle.stow_model.specs.Reply as reply
-use Rattle.stow_model.specs.Store.{one_more}
+use Rattle.stow_model.specs.Store.{one_more, is_out_of_memory}
 use Rattle.stow_shared.specs.Entries.{Entry, call_entry}
 use Rattle.stow_shared.specs.Journals.{with_entry}
 
@@ -26,8 +24,11 @@ with_receipt keeps entry seat = record seat { receipts = with_entry keeps entry 
 abbrev pub with_refusal : SeatState → SeatState
 with_refusal seat = record seat { refused = one_more seat.refused }
 
--- a call was answered and gained its receipt, or memory was refused to it
+-- the seat after a call, by what it was told: a refused call more where that is want of memory, and else its receipt
+abbrev pub after_call : Bool → ℕ → List (List ℕ) → Reply → SeatState → SeatState
+after_call keeps tenant words told seat =
+    if is_out_of_memory told then with_refusal seat
+    else with_receipt keeps (call_entry seat.number tenant words told) seat
+
 abbrev pub SeatCalls : Bool → SeatState → ℕ → List (List ℕ) → Reply → SeatState → Type 0
-SeatCalls keeps old tenant words told new =
-    (new ≡ with_receipt keeps (call_entry old.number tenant words told) old)
-    ⊎ ((told ≡ reply.Error refusal.OutOfMemory) × (new ≡ with_refusal old))
+SeatCalls keeps old tenant words told new = new ≡ after_call keeps tenant words told old

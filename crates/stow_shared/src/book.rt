@@ -1,11 +1,12 @@
 //! What the lock holds.
 ghost use Rattle.std.specs.Prelude.{◌≡◌, ◌↔◌, ◌≤◌, IsTrue, IfOk, OnOk, OnErr, [], true};
+ghost use Rattle.stow_bytes.specs.Limits.{number_limit};
 ghost use Rattle.stow_core.specs.State.{IsNewCore};
 ghost use Rattle.stow_model.specs.Reply.{reply_of};
 ghost use Rattle.stow_shared.specs.Books.{Adds};
 ghost use Rattle.stow_shared.specs.Closed.{IsWhole};
 ghost use Rattle.stow_shared.specs.Copies.{AreCopies, AreAlike, copied};
-ghost use Rattle.stow_shared.specs.Entries.{call_entry, entry_of, entries_of, resize_entry};
+ghost use Rattle.stow_shared.specs.Entries.{call_entry, entry_of, entries_of, quota_entry, resize_entry};
 
 use crate::closing::{are_of_seats, are_one_each, have_receipts};
 use crate::copies::Copies;
@@ -31,18 +32,18 @@ pub struct Book<J: Journal, A: Allocator + Copy = Global> {
 }
 
 impl<J: Journal, A: Allocator + Copy> Model for Book<J, A> {
-    ghost use Rattle.stow_shared.specs.Books.{BookState, IsKept};
+    ghost use Rattle.stow_shared.specs.Books.{BookState, IsBook};
     ghost use Rattle.stow_shared.specs.Entries.{entries_of};
 
     ghost Value = { BookState };
 
     ghost view = { λ b. record { core = b.core; entries = entries_of b.journal.items } };
 
-    ghost invariant = { λ b. IsKept J.keeps (entries_of b.journal.items) b.core };
+    ghost invariant = { λ b. IsBook J.keeps (entries_of b.journal.items) b.core };
 }
 
 impl<J: Journal, A: Allocator + Copy> Book<J, A> {
-    ghost use Rattle.stow_shared.specs.Books.{CallStep, Resizes, Leaves, IsKept};
+    ghost use Rattle.stow_shared.specs.Books.{CallStep, Orders, Resizes, Leaves, IsKept};
 
     /// A book of a core in which every store is empty.
     pub fn new(alloc: A, core: Core<A>) -> Book<J, A>
@@ -126,6 +127,35 @@ impl<J: Journal, A: Allocator + Copy> Book<J, A> {
         self.journal.push_reserved(resized(number, leaves));
         Ok(())
     }
+
+    /// The step of a quota for a tenant, in bytes; it is a step where the number is no tenant's too, and changes nothing
+    /// then. Where entries are kept their room may be refused; then nothing changes and nothing is added.
+    pub fn set_quota(
+        &mut self,
+        seat: &mut Seat<J, A>,
+        tenant: u32,
+        quota: u64,
+    ) -> Result<(), AllocError>
+        requires { quota ≤ number_limit }
+        ensures ok { OnOk result
+            (Orders J.keeps self.old seat.old tenant quota self.new seat.new) }
+        ensures err { OnErr result ((self.new ≡ self.old) × (seat.new ≡ seat.old)) }
+        ensures memory { OnErr result (J.keeps ≡ true) }
+    {
+        keep_quota(&mut self.journal, seat, tenant, quota)?;
+        self.core.set_quota(tenant, quota);
+        Ok(())
+    }
+}
+
+/// The entry of a seat that gave a tenant a quota.
+fn ordered<A: Allocator>(seat: u32, tenant: u32, quota: u64) -> Entry<A>
+    ensures { entry_of result ≡ quota_entry seat tenant quota }
+{
+    Entry {
+        seat,
+        step: Step::Quota(tenant, quota),
+    }
 }
 
 /// The entry of a seat that gave the cache another size.
@@ -175,6 +205,29 @@ fn keep_call<J: Journal, A: Allocator + Copy>(
         },
     )?;
     Ok(prepared)
+}
+
+/// Adds the entry of a quota to the journal, and the same to the seat's receipts, where they are kept. An `Err` adds
+/// nothing.
+fn keep_quota<J: Journal, A: Allocator + Copy>(
+    journal: &mut Vec<Entry<A>, A>,
+    seat: &mut Seat<J, A>,
+    tenant: u32,
+    quota: u64,
+) -> Result<(), AllocError>
+    ensures ok { OnOk result
+        (Adds J.keeps (quota_entry seat.old.number tenant quota)
+        (entries_of journal.old.items) seat.old (entries_of journal.new.items) seat.new) }
+    ensures err { OnErr result ((journal.new.items ≡ journal.old.items) × (seat.new ≡ seat.old)) }
+    ensures memory { OnErr result (J.keeps ≡ true) }
+{
+    if !J::is_kept() {
+        return Ok(());
+    }
+    let number = seat.number();
+    let entry = ordered(number, tenant, quota);
+    keep(journal, seat, entry, ordered(number, tenant, quota))?;
+    Ok(())
 }
 
 /// Adds an entry to the journal, and the same to the seat's receipts. An `Err` adds nothing.

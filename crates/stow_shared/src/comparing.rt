@@ -79,6 +79,7 @@ fn same_step<A: Allocator>(a: &Step<A>, b: &Step<A>) -> bool
             t == u && same_words(words, others) && same_reply(told, reply)
         }
         (Step::Resize(m), Step::Resize(n)) => m == n,
+        (Step::Quota(t, m), Step::Quota(u, n)) => t == u && m == n,
         _ => false,
     }
 }

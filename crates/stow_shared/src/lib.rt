@@ -1,15 +1,16 @@
 //! A core that threads share, behind a lock, with a journal of what was done under it.
 //!
-//! What the lock holds is a `Book`, the core and its journal, and what is done under it is one `Step` at a time: a call, or a
-//! change of the cache's size. Planning and installing of merges, and quotas, are to be more cases of `Step`. A thread takes
-//! steps from a `Seat`. Over `Kept` each step leaves its entry in the journal and the same entry, as a receipt, in its seat.
-//! Room for both, copies of words and reply too, is got before the step, so a step that memory is refused to leaves neither
-//! and moves no store, and a call so refused is counted in its seat. `Book`'s type keeps that the journal leads from empty
-//! stores to the core (`specs/Journals.antt`): each tenant was told what its own run over its own calls tells, alone, and
-//! its store is the last of that run. Over `Unkept` there is no journal, and a call copies nothing and asks for no memory
-//! beside the core's own.
+//! What the lock holds is a `Book`, the core and its journal, and what is done under it is one `Step` at a time: a call, a
+//! change of the cache's size, or a quota for a tenant. Of the five kinds of step that there are to be, planning and installing
+//! of merges are still missing. A thread takes steps from a `Seat`. Over `Kept` each step leaves its entry in the journal and
+//! the same entry, as a receipt, in its seat. Room for both, copies of words and reply too, is got before the step, so a step
+//! that memory is refused to leaves neither and moves no store, and a call so refused is counted in its seat. Each step of the
+//! `Book` is one of the state that all tenants share, or leaves it to others that mean the same (`specs/Books.antt`). Its type
+//! keeps that this state is sound and that the journal leads from empty stores to the core (`specs/Journals.antt`): each tenant
+//! was told what its own run over its own calls and quotas tells, alone, and its store is the last of that run. Over `Unkept`
+//! there is no journal, and a step copies nothing and asks for no memory beside the core's own.
 //!
-//! Of a value under a lock a proof knows what its type keeps and nothing else. So what `Shared::call` and `Shared::resize`
+//! Of a value under a lock a proof knows what its type keeps and nothing else. So what `Shared::call`, `resize` and `set_quota`
 //! promise is what their seat gained, and `Shared::close` compares what is handed back with what the lock held. Where it
 //! answers `Ok`, the core's tenants are those that were opened, the journal leads to the core, each seat's receipts are the
 //! journal's entries of its number, in order, and no entry is of anything else: what the seats were told is a legal

@@ -96,8 +96,8 @@ impl<J: Journal, A: Allocator> Seat<J, A> {
 }
 
 impl<J: Journal, A: Allocator + Copy> Seat<J, A> {
-    ghost use Rattle.stow_core.specs.State.{Resized};
-    ghost use Rattle.stow_shared.specs.Books.{StoresStay};
+    ghost use Rattle.stow_core.specs.State.{shared_of, Keeps, Resized};
+    ghost use Rattle.stow_state.specs.State.{IsSound};
     ghost use Rattle.stow_shared.specs.Entries.{entry_of};
 
     /// Asks the core's cache to hold so many leaves, and adds the receipt of it. An `Err` adds none.
@@ -107,11 +107,12 @@ impl<J: Journal, A: Allocator + Copy> Seat<J, A> {
         leaves: usize,
         receipt: Entry<A>,
     ) -> Result<(), AllocError>
+        requires { IsSound (shared_of core.old) }
         ensures ok { OnOk result
             (self.new ≡ record self.old { receipts = entry_of receipt ∷ self.old.receipts }) }
         ensures err { OnErr result (self.new ≡ self.old) }
         ensures core { OnOk result (Resized leaves core.old core.new) }
-        ensures stores { StoresStay core.old core.new }
+        ensures keeps { Keeps core.old core.new }
     {
         self.receipts.reserve(1)?;
         core.resize(leaves)?;

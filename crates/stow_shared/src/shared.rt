@@ -1,10 +1,11 @@
 //! A core that threads share.
-ghost use Rattle.std.specs.Prelude.{◌≡◌, ◌≤◌, IfOk, IfErr, OnOk, OnErr};
+ghost use Rattle.std.specs.Prelude.{◌≡◌, ◌≤◌, true, IfOk, IfErr, OnOk, OnErr};
+ghost use Rattle.stow_bytes.specs.Limits.{number_limit};
 ghost use Rattle.std.specs.Arc.{arc_value};
 ghost use Rattle.stow_core.specs.State.{IsNewCore};
 ghost use Rattle.stow_model.specs.Reply.{reply_of};
 ghost use Rattle.stow_shared.specs.Closed.{Closes};
-ghost use Rattle.stow_shared.specs.Entries.{resize_entry};
+ghost use Rattle.stow_shared.specs.Entries.{quota_entry, resize_entry};
 ghost use Rattle.stow_shared.specs.Opened.{AreNewSeats, IsFaultOf, IsSeatCount, Opens};
 ghost use Rattle.stow_shared.specs.Seats.{SeatCalls, with_receipt};
 
@@ -115,6 +116,24 @@ impl<J: Journal, A: Allocator + Copy> Shared<J, A> {
         ensures err { OnErr result (seat.new ≡ seat.old) }
     {
         self.book.lock(rt).resize(seat, leaves)
+    }
+
+    /// Gives a tenant another quota, in bytes, while the lock is held. A number that is no tenant's changes nothing. The seat
+    /// gains the receipt of it where entries are kept, for which memory may be refused.
+    pub fn set_quota<R: Wait>(
+        &self,
+        rt: &R,
+        seat: &mut Seat<J, A>,
+        tenant: u32,
+        quota: u64,
+    ) -> Result<(), AllocError>
+        requires { quota ≤ number_limit }
+        ensures ok { OnOk result
+            (seat.new ≡ with_receipt J.keeps (quota_entry seat.old.number tenant quota) seat.old) }
+        ensures err { OnErr result (seat.new ≡ seat.old) }
+        ensures memory { OnErr result (J.keeps ≡ true) }
+    {
+        self.book.lock(rt).set_quota(seat, tenant, quota)
     }
 
     /// Takes the core and the journal out of the lock, where all that is handed back belongs together, which is

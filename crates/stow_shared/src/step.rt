@@ -10,4 +10,6 @@ pub enum Step<A: Allocator = Global> {
     Call(u32, Words<A>, Reply<A>),
     /// The cache was asked to hold so many leaves, and does.
     Resize(usize),
+    /// The operator gave the tenant of this index this quota, in bytes.
+    Quota(u32, u64),
 }

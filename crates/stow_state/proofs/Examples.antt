@@ -1,6 +1,7 @@
 -- The definitions at examples.
-use Rattle.std.proofs.Common.{◌≡◌, ◌≢◌, ℕ, ◌<◌, Bool, true, false, List, [], ◌∷◌, ◌++◌, Some, None, is_some, refl, ap, ◌∙◌, sym, subst, arith, ⊎_elim, inr, cond}
-use Rattle.std.specs.Prelude.{map, filter, not, if◌then◌else◌, ◌==◌, codes, IfSome}
+use Rattle.std.proofs.Common.{◌≡◌, ◌≢◌, ℕ, ◌<◌, Bool, true, false, List, [], ◌∷◌, ◌++◌, Some, None, is_some, refl, ap, ◌∙◌, sym, subst, arith, ⊎_elim, inl, inr, cond, nat_lt}
+use Rattle.std.specs.Prelude.{map, filter, not, if◌then◌else◌, ◌==◌, ◌&&◌, codes, IfSome, Option, sum_by}
+use Rattle.std.specs.List.{flat_map}
 use Rattle.std.specs.Ordering.{nat_cmp, eq_by_cmp}
 use Rattle.std.specs.Option.{unwrap_or}
 use Rattle.std.specs.Cmp.{nat_cmp_total}
@@ -12,7 +13,11 @@ use Rattle.std.specs.List.Sorted.{IsStrictlySortedBy}
 use Rattle.std.proofs.lemmas.Bool.{cond-false}
 use Rattle.stow_bytes.specs.Bytes.{bytes_cmp}
 use Rattle.stow_model.specs.Command.{reading}
-use Rattle.stow_model.specs.Store.{Rows, Version, empty_store, answer, answer_with, outcome}
+use Rattle.stow_model.specs.declared.refusal.Refusal.TheVariants as refusal
+use Rattle.stow_model.specs.declared.simple_string.SimpleString.TheVariants as simple
+use Rattle.stow_model.specs.Reply.{Reply}
+use Rattle.stow_model.specs.Reply as reply
+use Rattle.stow_model.specs.Store.{Store, Answer, Rows, Version, cost, distinct, charge, empty_store, counted, refused, step, answer, answer_with, outcome}
 use Rattle.stow_tree_model.specs.Keys.{packed, own_key, tenant_of}
 use Rattle.stow_tree_model.specs.Op.{Put, Gone}
 use Rattle.stow_tree_model.specs.TreeMessage.{TreeMessage}
@@ -36,7 +41,7 @@ use Rattle.stow_state.specs.Steps.{Call, Maintenance, moved, reply_to, SharedSte
 use Rattle.stow_state.specs.Examples.{version, one_row, message, three_messages, of_two_tenants, OfRows, two_rows, other_row, OfChanges, OfSnapshots, with_snapshot, written_tenant, of_two_writers, OfViews, set_a, no_writes, told_ok, with_messages_and_snapshot, OfSteps, store_of_one, OfWrites, Examples}
 use Rattle.stow_state.proofs.Rows.{rows_by_value_law, same_rows}
 use Rattle.stow_state.proofs.Changes.{changes-none, writes_are_written_law}
-use Rattle.stow_state.proofs.Snapshots.{get-numbers_of, entries-empty}
+use Rattle.stow_state.proofs.Snapshots.{get-numbers_of, no_entries, entries-empty}
 use Rattle.stow_state.proofs.Steps.{new_sound, step_sound, step_is_there_law, new_view}
 
 -- ---- rows
@@ -203,19 +208,36 @@ of_views = record {
 
 -- ---- steps
 
+before_set : Store
+before_set = counted (empty_store 18)
+
+after_set : Store
+after_set = record (counted (empty_store 18)) { rows = one_row (version 1 (codes "x")); last = 1 }
+
+charge_of_one : charge after_set ≡ 18
+unfolding charge after_set
+charge_of_one = λ i. sum_by cost (distinct (row i ++ flat_map finite.entries (map (λ (e : ℕ × Rows). e.1) (no_entries nat_cmp Rows i))))
+  where
+    row : finite.entries (one_row (version 1 (codes "x"))) ≡ (codes "a", version 1 (codes "x")) ∷ []
+    row = finite.entries-insert nat_list_cmp_total finite.empty (codes "a") (version 1 (codes "x")) ∙ ap (put bytes_cmp (codes "a") (version 1 (codes "x"))) (no_entries bytes_cmp Version)
+
+first_step : ◌≡◌ {A = Store × Option Reply} (step (empty_store 18) set_a) (after_set, told_ok)
+unfolding answer answer_with outcome reading after_set before_set
+first_step = ap (λ c. let a : Answer = if nat_lt 18 c && nat_lt (charge before_set) c then refused (record before_set { refusals = 1 }) refusal.QuotaExceeded else (after_set, reply.Simple simple.Ok) in (a.0, Some a.1)) charge_of_one
+
 ok_reply : reply_to no_writes (Call 1 set_a) ≡ told_ok
-unfolding reply_to view answer answer_with outcome reading
-ok_reply = refl
+unfolding reply_to
+ok_reply = ap (λ (s : Store). (step s set_a).1) (new_view (λ tenant. 18) 1) ∙ ap (λ (p : Store × Option Reply). p.1) first_step
 
 one_last : ((moved no_writes (Call 1 set_a)).tenants 1).last ≡ 1
-unfolding moved view answer answer_with outcome reading
-one_last = refl
+unfolding moved after_set
+one_last = ap (λ (s : Store). (step s set_a).0.last) (new_view (λ tenant. 18) 1) ∙ ap (λ (p : Store × Option Reply). p.0.last) first_step
 
 the_call : SharedStep no_writes (Call 1 set_a) told_ok (moved no_writes (Call 1 set_a))
-the_call = subst (λ r. SharedStep no_writes (Call 1 set_a) r (moved no_writes (Call 1 set_a))) ok_reply (step_is_there_law no_writes (Call 1 set_a) (new_sound (λ tenant. 9)) (omega arith))
+the_call = subst (λ r. SharedStep no_writes (Call 1 set_a) r (moved no_writes (Call 1 set_a))) ok_reply (step_is_there_law no_writes (Call 1 set_a) (new_sound (λ tenant. 18)) (omega arith))
 
 sound_after : IsSound (moved no_writes (Call 1 set_a))
-sound_after = step_sound no_writes (moved no_writes (Call 1 set_a)) (Call 1 set_a) told_ok (new_sound (λ tenant. 9)) the_call
+sound_after = step_sound no_writes (moved no_writes (Call 1 set_a)) (Call 1 set_a) told_ok (new_sound (λ tenant. 18)) the_call
 
 idle : (state : SharedState) → IsSound state → SharedStep state Maintenance None state
 unfolding moved reply_to
@@ -270,7 +292,7 @@ of_steps = record {
 
 of_writes : OfWrites
 of_writes = record {
-  once = record { rows_move = inr (refl, writes_are_written_law.of_one finite.empty (codes "a") (codes "x") 1); snapshots_stay = refl };
+  once = record { rows_move = inr (refl, writes_are_written_law.of_one finite.empty (codes "a") (codes "x") 1); snapshots_move = inl refl; ids_below = λ id l. finite.get-empty nat_cmp id };
   not_twice = λ w. ⊎_elim (λ (k : KeepsRows (empty_store 9) (store_of_one 2)). let e = k.0 in absurd (omega arith)) (λ (k : WritesRows (empty_store 9) (store_of_one 2)). let e = k.0 in absurd (omega arith)) w.rows_move;
   writes = (refl, writes_are_written_law.of_one finite.empty (codes "a") (codes "x") 1);
   not_writes = λ k. let e = k.0 in absurd (omega arith);

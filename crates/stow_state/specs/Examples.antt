@@ -132,8 +132,9 @@ set_a = Asked (record {
   is_refused = false;
 })
 
+-- nothing is written yet, and the row is as much as may be charged
 abbrev pub no_writes : SharedState
-no_writes = new_state (λ tenant. 9)
+no_writes = new_state (λ tenant. 18)
 
 abbrev pub told_ok : Option Reply
 told_ok = Some (reply.Simple simple.Ok)

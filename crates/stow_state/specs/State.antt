@@ -1,5 +1,5 @@
 -- The state of all tenants, in one set of messages, and one tenant's own store in it.
-use Rattle.std.specs.Prelude.{ℕ, List, [], ◌∷◌}
+use Rattle.std.specs.Prelude.{◌≡◌, ℕ, ◌≤◌, List, [], ◌∷◌, None}
 use Rattle.std.specs.Ordering.{nat_cmp}
 use Rattle.std.specs.FinMap.{FinMap}
 use Rattle.std.specs.FinMap as map
@@ -59,11 +59,17 @@ pins_in state tenant = map.values (state.tenants tenant).snapshots
 abbrev pub lasts_in : SharedState → TenantBounds
 lasts_in state tenant = (state.tenants tenant).last
 
--- no message and no snapshot of a tenant is above its last write
+-- no snapshot has this id or a later one
+abbrev pub IdsBelow : {X : Type 0} → ℕ → FinMap nat_cmp X → Type 0
+IdsBelow next snapshots = (id : ℕ) → next ≤ id → map.get snapshots id ≡ None
+
+-- no message and no snapshot of a tenant is above its last write, and its next snapshot's id is new
 pub record IsSound (state : SharedState) : Type 0 where
   pub messages_below : (key : List ℕ)
       → NoneAbove (lasts_in state (tenant_of key)) (ops_of state.messages key)
   pub pins_below : PinsBelow (pins_in state) (lasts_in state)
+  pub ids_below : (tenant : ℕ)
+      → IdsBelow (state.tenants tenant).next (state.tenants tenant).snapshots
 
 -- nothing but a quota
 abbrev pub new_tenant : ℕ → TenantState

@@ -1,17 +1,17 @@
 -- The steps of the shared state.
-use Rattle.std.specs.Prelude.{◌≡◌, ◌≢◌, ◌⊎◌, ℕ, suc, List, [], ◌∷◌, Option, None, if◌then◌else◌, ◌==◌}
+use Rattle.std.specs.Prelude.{◌≡◌, ◌≢◌, ◌⊎◌, ℕ, suc, List, [], ◌∷◌, Option, Some, None, if◌then◌else◌, ◌==◌}
 use Rattle.std.specs.Ordering.{nat_cmp}
 use Rattle.std.specs.FinMap.{FinMap}
 use Rattle.std.specs.FinMap as map
 use Rattle.std.specs.Option.{unwrap_or}
 use Rattle.stow_model.specs.Reply.{Reply}
-use Rattle.stow_model.specs.Store.{Store, OwnEvent, step, store_after, replies_after, with_reply}
+use Rattle.stow_model.specs.Store.{Store, Rows, OwnEvent, step, store_after, replies_after, with_reply}
 use Rattle.stow_tree_model.specs.TreeMessage.{TreeMessage}
-use Rattle.stow_tree_model.specs.Messages.{with_all}
+use Rattle.stow_tree_model.specs.Messages.{Messages, with_all}
 use Rattle.stow_tree_model.specs.Agreement.{Agree}
 use Rattle.stow_state.specs.Rows.{IsIndex}
 use Rattle.stow_state.specs.Changes.{changes, AreWritten}
-use Rattle.stow_state.specs.State.{TenantState, SharedState, view, pins_in, lasts_in, IsSound, new_state}
+use Rattle.stow_state.specs.State.{TenantState, SharedState, copies, view, pins_in, lasts_in, IdsBelow, IsSound, new_state}
 
 -- what comes to the shared state
 pub data SharedEvent : Type 0 where
@@ -123,16 +123,33 @@ abbrev pub WritesRows : Store → Store → Type 0
 WritesRows before after = (after.last ≡ suc before.last)
     × AreWritten (suc before.last) before.rows after.rows
 
--- one write at most, and no snapshot comes or goes
+-- no snapshot comes or goes
+abbrev pub KeepsSnapshots : Store → Store → Type 0
+KeepsSnapshots before after = after.snapshots ≡ before.snapshots
+
+-- a snapshot goes, stays, or is new and shows these rows
+abbrev pub SnapshotMoves : Rows → Option Rows → Option Rows → Type 0
+SnapshotMoves rows before after = (after ≡ None)
+    ⊎ ((after ≡ before) ⊎ ((before ≡ None) × (after ≡ Some rows)))
+
+-- snapshots go, or come and show the present rows, while no row changes
+pub record MovesSnapshots (before after : Store) : Type 0 where
+  pub rows : KeepsRows before after
+  pub each : (id : ℕ)
+      → SnapshotMoves before.rows (map.get before.snapshots id) (map.get after.snapshots id)
+
+-- one write at most, or snapshots that come or go; an id is used once
 pub record WritesOnce (before after : Store) : Type 0 where
   pub rows_move : KeepsRows before after ⊎ WritesRows before after
-  pub snapshots_stay : after.snapshots ≡ before.snapshots
+  pub snapshots_move : KeepsSnapshots before after ⊎ MovesSnapshots before after
+  pub ids_below : IdsBelow after.next after.snapshots
 
 -- ---- the laws
 
 -- a tenant's own step writes once at most
 abbrev pub OwnStepWrites : Type 0
-OwnStepWrites = (store : Store) (event : OwnEvent) → WritesOnce store (step store event).0
+OwnStepWrites = (store : Store) (event : OwnEvent) → IdsBelow store.next store.snapshots
+    → WritesOnce store (step store event).0
 
 -- a call is the caller's own step
 abbrev pub CallIsOwnStep : Type 0
@@ -193,6 +210,47 @@ pub record StepsByParts : Type 0 where
   pub of_maintenance : (old new : SharedState) → new.tenants ≡ old.tenants
       → Agree old.messages new.messages (pins_in old) (lasts_in old)
       → SharedStep old Maintenance None new
+
+-- The numbers of snapshots after one was taken are those before, and the last write's for the new
+-- id; after one was dropped, those before without it.
+pub record NumbersMove : Type 0 where
+  pub of_take : (m : Messages) (tenant : ℕ) (own : TenantState) (rows : Rows)
+      → IdsBelow own.next own.snapshots
+      → numbers_of own (map.keys
+      (map.insert (copies m tenant (map.entries own.snapshots)) own.next rows))
+      ≡ map.insert own.snapshots own.next own.last
+  pub of_drop : (m : Messages) (tenant id : ℕ) (own : TenantState)
+      → numbers_of own (map.keys
+      (map.remove (copies m tenant (map.entries own.snapshots)) id))
+      ≡ map.remove own.snapshots id
+
+-- The tenant's store becomes this one, which one write or its snapshots lead to, and messages may then
+-- give way.
+pub record LeadsTo (old : SharedState) (tenant : ℕ) (store : Store) (new : SharedState) : Type 0 where
+  pub has_index : IsIndex tenant
+  pub writes_once : WritesOnce (view old tenant) store
+  pub tenants_are : new.tenants ≡ (after_call old tenant store).tenants
+  pub messages_agree : Agree (after_call old tenant store).messages new.messages
+      (pins_in (after_call old tenant store)) (lasts_in (after_call old tenant store))
+
+-- the tenant has the store, no other store moves, and whatever event leads to the store is this step
+pub record LeadsAlone (old : SharedState) (tenant : ℕ) (store : Store)
+    (new : SharedState) : Type 0 where
+  pub sound : IsSound new
+  pub own : view new tenant ≡ store
+  pub others : (other : ℕ) → IsIndex other → other ≢ tenant → view new other ≡ view old other
+  pub step : (event : OwnEvent) (told : Option Reply)
+      → ◌≡◌ {A = Store × Option Reply} (step (view old tenant) event) (store, told)
+      → SharedStep old (Call tenant event) told new
+
+-- what leads a tenant's store to another does so alone, and the messages of its change do lead there
+pub record StoresLead : Type 0 where
+  pub alone : (old new : SharedState) (tenant : ℕ) (store : Store) → IsSound old
+      → LeadsTo old tenant store new → LeadsAlone old tenant store new
+  pub exactly : (old new : SharedState) (tenant : ℕ) (store : Store) → IsSound old
+      → IsIndex tenant → WritesOnce (view old tenant) store
+      → new.tenants ≡ (after_call old tenant store).tenants
+      → new.messages ≡ (after_call old tenant store).messages → LeadsTo old tenant store new
 
 -- messages may give way before a call too: that and the call together are the call's step
 abbrev pub StepsAfterMaintenance : Type 0

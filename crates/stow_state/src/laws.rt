@@ -2,7 +2,7 @@
 ghost use Rattle.stow_state.specs.Changes.{ChangesByRows, ChangesOnce, OwnRowsMove, EarlierRowsStay, WritesAreWritten, RowsAreBelow, WritesByMessages};
 ghost use Rattle.stow_state.specs.Examples.{Examples};
 ghost use Rattle.stow_state.specs.Rows.{RowsByValue, OtherRowsStay, AgreeingRows, IntervalInOrder};
-ghost use Rattle.stow_state.specs.Steps.{OwnStepWrites, CallIsOwnStep, OtherViewsStay, StaysSound, StepIsThere, StepsByParts, StepsAfterMaintenance, RunsAlone, TwoSharedRuns};
+ghost use Rattle.stow_state.specs.Steps.{OwnStepWrites, CallIsOwnStep, OtherViewsStay, StaysSound, StepIsThere, StepsByParts, StoresLead, NumbersMove, StepsAfterMaintenance, RunsAlone, TwoSharedRuns};
 
 /// A tenant's rows are what its keys have by the messages.
 pub fn rows_by_value()
@@ -87,6 +87,16 @@ pub fn step_is_there()
 /// A call is a step where the messages were added that the tenant's own step asks for, and a set that agrees is one too.
 pub fn steps_by_parts()
     ensures { StepsByParts }
+{}
+
+/// What leads a tenant's store to another leaves every other tenant's, and is the step of each event that leads there.
+pub fn stores_lead()
+    ensures { StoresLead }
+{}
+
+/// The numbers of snapshots after one was taken, and after one was dropped.
+pub fn numbers_move()
+    ensures { NumbersMove }
 {}
 
 /// Messages may give way before a call too: that and the call together are the call's step.

@@ -4,13 +4,18 @@ use Rattle.std.specs.Prelude.{codes, IfErr, IfOk, MatchResult, OnOk, OnErr}
 use Rattle.std.specs.Result.{IsErrAnd, is_err}
 use Rattle.std.specs.declared.vec.Vec.{Vec}
 use Rattle.std.proofs.lemmas.List.{take_all, take_more, take-append-drop, map-append}
+use Rattle.std.specs.List.{All}
+use Rattle.std.proofs.lemmas.List.Elements.{All-nil, All-cons}
 use Rattle.std.specs.Io.KnownBytes.{Appends, Keeps}
 use Rattle.std.proofs.KnownBytes.{Appends-nil, Appends-trans, Appends-kept}
 use Rattle.std.specs.declared.io.Error.{Error}
 use Rattle.std.specs.declared.io.ErrorKind.{ErrorKind}
 use Rattle.std.specs.declared.io.ErrorKind.TheVariants as kind
 use Rattle.std.specs.IoError.{error_kind}
-use Rattle.stow_model.specs.Event.{Event, event_of, On, By}
+use Rattle.stow_login.proofs.Named.{named_within}
+use Rattle.stow_login.proofs.Same.{mapped_at, length_of_map}
+use Rattle.stow_model.specs.Event.{Event, event_of, On, By, SetQuota}
+use Rattle.stow_model.specs.Login.{Entry}
 use Rattle.stow_model.specs.declared.event.Event as coded
 use Rattle.stow_model.specs.Reply.{encoding}
 use Rattle.stow_model.specs.Event as event
@@ -28,8 +33,8 @@ use Rattle.stow_tasks.specs.Read.{IsScriptRead}
 use Rattle.stow_script.specs.Text.{text_of}
 use Rattle.stow_run.specs.Statuses.{failure_at, failure_of_kind}
 use Rattle.stow_script.specs.declared.script_line.ScriptLine as script_line
-use Rattle.stow_script.specs.Script.{Line, line_of}
-use Rattle.stow_tasks.specs.Told.{CarriesOut, CarriesOutPart, EndsTelling, IsCarriedOut, IsDone, IsIdle, IsScript, IsScripted, IsToldLine, Leads, LineLeads, Progress}
+use Rattle.stow_script.specs.Script.{AskFor, AsksFor, Asks, Line, Shape, Usage, line_of, lines_of}
+use Rattle.stow_tasks.specs.Told.{CarriesOut, CarriesOutPart, EndsTelling, IsCarriedOut, IsDone, IsIdle, IsScript, IsOfTenant, IsScripted, IsToldLine, Leads, LineLeads, Progress}
 
 -- ---- one line more
 
@@ -40,6 +45,40 @@ leads_more old [] lines mid l new text h leads =
 leads_more old (first ∷ asked) lines mid l new text h leads =
     let more = leads_more h.0 asked h.2 mid l new text h.5 leads in
     (h.0, h.1, h.2 ++ (text ++ 10 ∷ []), h.3, ap (λ ls. ls ++ (text ++ 10 ∷ [])) h.4 ∙ append_assoc h.1 (10 ∷ h.2) (text ++ 10 ∷ []), more)
+
+-- the tenants stay
+line_tenants : (l : Line) (old : HouseState) (text : List ℕ) (new : HouseState) → LineLeads l old text new → new.core.entries ≡ old.core.entries
+line_tenants (Asks e) old text new leads = leads.1.tenants
+line_tenants Shape old text new leads = ap (λ (h : HouseState). h.core.entries) leads.3
+line_tenants (Usage tenant) old text new leads = ap (λ (h : HouseState). h.core.entries) leads.1
+
+pub led_tenants : (old : HouseState) (asked : List Line) (lines : List ℕ) (new : HouseState) → Leads old asked lines new → new.core.entries ≡ old.core.entries
+led_tenants old [] lines new h = ap (λ (x : HouseState). x.core.entries) h.1
+led_tenants old (first ∷ asked) lines new h = led_tenants h.0 asked h.2 new h.5 ∙ line_tenants first old h.1 h.0 h.3
+
+-- the tenants whom a script's lines are of are there
+of_tenant : (entries : List Entry) (line : List ℕ) (l : Line) → AsksFor entries line l → IsOfTenant entries l
+of_tenant entries line (Asks e) h = tt
+of_tenant entries line Shape h = tt
+of_tenant entries line (Usage tenant) h = named_within entries h.0 tenant h.2.1
+
+pub of_tenants : (entries : List Entry) (lines : List (List ℕ)) (asked : List Line) → AskFor entries lines asked → All (IsOfTenant entries) asked
+of_tenants entries [] asked h = subst (All (IsOfTenant entries)) (sym h) (All-nil (IsOfTenant entries))
+of_tenants entries (line ∷ lines) asked (inl h) = of_tenants entries lines asked h.1
+of_tenants entries (line ∷ lines) asked (inr h) =
+    subst (All (IsOfTenant entries)) (sym h.2) (All-cons (IsOfTenant entries) h.0 h.1 (of_tenant entries line h.0 h.3) (of_tenants entries lines h.1 h.4))
+
+pub lines_of_tenants : {A Z : Type 0} (entries entries' : List Entry) (text : List ℕ) (r : Result (Vec (script_line.ScriptLine A) Z) Failure) → entries ≡ entries' → IsScriptRead entries text r
+    → IfOk r (λ lines. All (IsOfTenant entries') (map line_of lines.items))
+lines_of_tenants entries entries' text (Ok lines) same h = subst (λ es. All (IsOfTenant es) (map line_of lines.items)) same (of_tenants entries (lines_of text) (map line_of lines.items) h)
+lines_of_tenants entries entries' text (Err f) same h = tt
+
+-- .. and so is that of each line
+pub of_tenant_at : {A : Type 0} (entries entries' : List Entry) (lines : List (script_line.ScriptLine A)) (i : ℕ) (l : script_line.ScriptLine A) → entries ≡ entries' → All (IsOfTenant entries) (map line_of lines) → i < length lines → l ≡ get_or lines i l
+    → IsOfTenant entries' (line_of l)
+of_tenant_at entries entries' lines i l same all lt is =
+    subst (λ es. IsOfTenant es (line_of l)) same
+    (subst (IsOfTenant entries) (sym (mapped_at line_of lines i l lt is)) (all i (line_of l) (length_of_map line_of lines i lt)))
 
 -- this was done; of the lines that tell it some were written, and the rest waits
 pub record IsToldSoFar (done : List Line) (old new : Progress) (waiting : List ℕ) : Type 0 where
@@ -129,6 +168,9 @@ a_text (By (event.Install f)) r can = subst (λ s. (text : List ℕ) × IsText (
 a_text (By (event.Resize n)) r (inl (few, inl done)) = subst (λ s. (text : List ℕ) × IsText (By (event.Resize n)) s text) (sym done) (codes "resized", refl)
 a_text (By (event.Resize n)) r (inl (few, inr void)) = subst (λ s. (text : List ℕ) × IsText (By (event.Resize n)) s text) (sym void) (codes "memory", refl)
 a_text (By (event.Resize n)) r (inr refused) = subst (λ s. (text : List ℕ) × IsText (By (event.Resize n)) s text) (sym refused.1) (codes "refused", refl)
+a_text (SetQuota tenant quota) Done can = (codes "set", refl)
+a_text (SetQuota tenant quota) Refused can = (codes "refused", refl)
+a_text (SetQuota tenant quota) _ can = absurd can
 
 -- what tells the last line was not kept
 pub told_refused : (asked done later : List Line) (old mid : Progress) (waiting front : List ℕ) (l : Line) (house : HouseState) (written : Written)

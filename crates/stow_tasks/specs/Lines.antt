@@ -5,6 +5,7 @@ use Rattle.stow_model.specs.Event.{Event, event_of, ConnectionEvent, FlusherEven
 use Rattle.stow_model.specs.declared.event.Event as coded
 use Rattle.stow_house.specs.declared.step_result.StepResult as result
 use Rattle.stow_model.specs.Event as event
+use Rattle.stow_model.specs.declared.usage.Usage.{Usage}
 use Rattle.stow_model.specs.Reply.{encoding}
 use Rattle.stow_house.specs.StepResult.{StepResult, step_result_of, Done, Answered, More, Blank, NoJob, Refused, NoMemory}
 use Rattle.stow_tree.specs.declared.shape_report.ShapeReport.{ShapeReport}
@@ -44,9 +45,16 @@ IsFlusherText (event.Resize n) Refused text = text ≡ codes "refused"
 IsFlusherText (event.Resize n) NoMemory text = text ≡ codes "memory"
 IsFlusherText (event.Resize n) _ text = ⊥
 
+-- the same of a quota for a tenant
+abbrev pub IsOrderText : StepResult → List ℕ → Type 0
+IsOrderText Done text = text ≡ codes "set"
+IsOrderText Refused text = text ≡ codes "refused"
+IsOrderText _ text = ⊥
+
 abbrev pub IsText : Event → StepResult → List ℕ → Type 0
 IsText (event.On c e) r text = IsConnectionText e r text
 IsText (event.By e) r text = IsFlusherText e r text
+IsText (event.SetQuota tenant quota) r text = IsOrderText r text
 
 -- the text and a line's end are written behind what there was
 abbrev pub WritesLine : {A : Type 0} → coded.Event A → result.StepResult A → List ℕ → List ℕ
@@ -61,3 +69,23 @@ shape_text report =
     ++ codes " leaves " ++ decimal report.leaves
     ++ codes " buffered " ++ decimal report.buffered
     ++ codes " cached " ++ decimal report.cached
+
+-- a tenant's name, and what its rows are charged, in decimal numbers
+abbrev pub sizes_text : List ℕ → Usage → List ℕ
+sizes_text name u =
+    name
+    ++ codes " rows=" ++ decimal u.rows
+    ++ codes " charge=" ++ decimal u.charge
+    ++ codes " quota=" ++ decimal u.quota
+
+-- what is counted for a tenant
+abbrev pub counts_text : Usage → List ℕ
+counts_text u =
+    codes " writes=" ++ decimal u.writes
+    ++ codes " commands=" ++ decimal u.commands
+    ++ codes " refusals=" ++ decimal u.refusals
+    ++ codes " snapshots=" ++ decimal u.snapshots
+
+-- a tenant's name, and what it uses
+abbrev pub usage_text : List ℕ → Usage → List ℕ
+usage_text name u = sizes_text name u ++ counts_text u

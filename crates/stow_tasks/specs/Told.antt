@@ -4,28 +4,41 @@ use Rattle.std.specs.Io.KnownBytes.{Appends}
 use Rattle.stow_house.specs.declared.house.House.{House}
 use Rattle.stow_house.specs.StepResult.{StepResult}
 use Rattle.stow_house.specs.Steps.{HouseState, IsStepOf, Stands, state_of}
-use Rattle.stow_core.specs.State.{CoreState, IsNewCore}
+use Rattle.stow_login.specs.Entries.{name_of}
+use Rattle.stow_core.specs.State.{CoreState, store_of, IsNewCore}
 use Rattle.stow_workers.specs.Failures.{HasFailed}
 use Rattle.stow_workers.specs.Sent.{Begins, Written, written_of}
 use Rattle.stow_run.specs.declared.failure.Failure.{Failure}
 use Rattle.stow_run.specs.declared.failure.Failure.TheVariants.{BadLine, InputOutput, Memory}
 use Rattle.stow_run.specs.declared.failure.Place.TheVariants as place
-use Rattle.stow_model.specs.Login.{Entry}
+use Rattle.stow_model.specs.Login.{Entry, IsTenant}
+use Rattle.stow_model.specs.Store.{usage}
 use Rattle.stow_run.specs.declared.job.Task.{Task}
 use Rattle.stow_run.specs.declared.job.Task.TheVariants as task
 use Rattle.stow_tree.specs.declared.shape_report.ShapeReport.{ShapeReport}
 use Rattle.stow_tree.specs.Reports.{IsReport}
 use Rattle.stow_tasks.specs.Ends.{Unread}
-use Rattle.stow_tasks.specs.Lines.{IsText, shape_text}
+use Rattle.stow_tasks.specs.Lines.{IsText, shape_text, usage_text}
 use Rattle.stow_tasks.specs.Pipes.{IsPiped}
-use Rattle.stow_script.specs.Script.{AskFor, Asks, IsFirstBad, Line, Shape, lines_of}
+use Rattle.stow_script.specs.Script.{AskFor, Asks, IsFirstBad, Line, Shape, Usage, lines_of}
 
--- an event is a step of the house, and its line is that of the answer; the other line tells how
--- large the house's tree is, which stays as it is
+-- what a tenant uses
+abbrev pub usage_of : CoreState → ℕ → List ℕ
+usage_of core tenant = usage_text (name_of core.entries tenant) (usage (store_of core tenant))
+
+-- the tenant whom the line is of, if it is of one, is there
+abbrev pub IsOfTenant : List Entry → Line → Type 0
+IsOfTenant entries (Asks e) = Unit {0}
+IsOfTenant entries Shape = Unit {0}
+IsOfTenant entries (Usage tenant) = IsTenant entries tenant
+
+-- an event is a step of the house, and its line is that of the answer; the other lines tell how
+-- large the house's tree is, and what a tenant uses, and change nothing
 abbrev pub LineLeads : Line → HouseState → List ℕ → HouseState → Type 0
 LineLeads (Asks e) old text new = (r : StepResult) × IsStepOf old e r new × IsText e r text
 LineLeads Shape old text new = (report : ShapeReport) × IsReport old.core.tree report
     × (text ≡ shape_text report) × (new ≡ old)
+LineLeads (Usage tenant) old text new = (text ≡ usage_of old.core tenant) × (new ≡ old)
 
 -- what the lines ask for was done one after another, and these are the lines that were told of it
 abbrev pub Leads : HouseState → List Line → List ℕ → HouseState → Type 0
@@ -84,24 +97,26 @@ IsCarriedOut asked old new (Err failure) =
 abbrev pub IsIdle : Progress → Progress → Type 0
 IsIdle old new = (new.house ≡ old.house) × (new.written ≡ old.written)
 
--- all of a reader's bytes are a script that asks for this
-abbrev pub IsScript : Option (List ℕ) → List Line → Type 0
-IsScript known asked = (text : List ℕ) × IfSome known (λ bytes. text ≡ bytes)
-    × AskFor (lines_of text) asked
+-- all of a reader's bytes are a script that asks for this, of these tenants
+abbrev pub IsScript : List Entry → Option (List ℕ) → List Line → Type 0
+IsScript entries known asked = (text : List ℕ) × IfSome known (λ bytes. text ≡ bytes)
+    × AskFor entries (lines_of text) asked
 
-abbrev pub IsBadScript : Option (List ℕ) → ℕ → Type 0
-IsBadScript known number = (text : List ℕ) × IfSome known (λ bytes. text ≡ bytes)
-    × IsFirstBad (lines_of text) number
+abbrev pub IsBadScript : List Entry → Option (List ℕ) → ℕ → Type 0
+IsBadScript entries known number = (text : List ℕ) × IfSome known (λ bytes. text ≡ bytes)
+    × IsFirstBad entries (lines_of text) number
 
 -- what a reader's script leads to: nothing before the whole of it was read
 abbrev pub IsScripted : Option (List ℕ) → Progress → Progress → Result (Unit {0}) Failure → Type 0
-IsScripted known old new (Ok done) = (asked : List Line) × IsScript known asked
-    × CarriesOut asked old new
-IsScripted known old new (Err (BadLine number stumble)) = IsBadScript known number × IsIdle old new
+IsScripted known old new (Ok done) = (asked : List Line)
+    × IsScript old.house.core.entries known asked × CarriesOut asked old new
+IsScripted known old new (Err (BadLine number stumble)) =
+    IsBadScript old.house.core.entries known number × IsIdle old new
 IsScripted known old new (Err (InputOutput place.Input error)) = IsIdle old new
 IsScripted known old new (Err failure) =
     EndsTelling failure old.written.failures new.written.failures × (IsIdle old new
-    ⊎ ((asked : List Line) × IsScript known asked × CarriesOutPart asked old new))
+    ⊎ ((asked : List Line) × IsScript old.house.core.entries known asked
+    × CarriesOutPart asked old new))
 
 -- a connection through a new core of these tenants, which memory may be wanting for
 abbrev pub IsPipeServed : List Entry → Unread → Unread → Written → Written

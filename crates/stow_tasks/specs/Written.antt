@@ -18,6 +18,7 @@ done_text (event.By (event.Plan f)) = codes "job"
 done_text (event.By (event.Merge f)) = codes "merged"
 done_text (event.By (event.Install f)) = codes "done"
 done_text (event.By (event.Resize n)) = codes "resized"
+done_text (event.SetQuota tenant quota) = codes "set"
 
 abbrev pub written_text : Event → StepResult → List ℕ
 written_text e Done = done_text e

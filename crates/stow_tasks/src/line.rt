@@ -5,7 +5,7 @@ ghost use Rattle.std.specs.Io.{StartsWith};
 ghost use Rattle.stow_model.specs.Event.{event_of};
 ghost use Rattle.stow_model.specs.Reply.{encoding, reply_of};
 ghost use Rattle.stow_house.specs.StepResult.{step_result_of, CanAnswer};
-ghost use Rattle.stow_tasks.specs.Lines.{WritesLine, shape_text};
+ghost use Rattle.stow_tasks.specs.Lines.{WritesLine, counts_text, shape_text, sizes_text, usage_text};
 ghost use Rattle.stow_tasks.specs.Written.{done_text, written};
 ghost use Rattle.stow_script.specs.Text.{text_of};
 
@@ -14,6 +14,7 @@ use std::alloc::{AllocError, Allocator};
 use stow_house::step_result::StepResult;
 use stow_model::event::Event;
 use stow_model::reply::Reply;
+use stow_model::usage::Usage;
 use stow_resp::encode::Encode;
 use stow_script::text::escape;
 use stow_tree::shape_report::ShapeReport;
@@ -110,6 +111,67 @@ fn push_count<A: Allocator>(name: &[u8], count: u64, out: &mut Vec<u8, A>) -> Re
     out.extend_from_slice(buffer.format(count).as_bytes())
 }
 
+/// Adds the line that tells what the tenant of this name uses, or nothing where memory is refused.
+pub fn write_usage<A: Allocator>(
+    name: &[u8],
+    usage: Usage,
+    out: &mut Vec<u8, A>,
+) -> Result<(), AllocError>
+    ensures ok { OnOk result
+        (out.new.items ≡ out.old.items ++ (usage_text name.now usage ++ 10 ∷ [])) }
+    ensures err { OnErr result (out.new.items ≡ out.old.items) }
+{
+    let whole = out.len();
+    let told = push_usage(name, usage, out);
+    if told.is_err() {
+        out.truncate(whole);
+    }
+    told
+}
+
+fn push_usage<A: Allocator>(
+    name: &[u8],
+    usage: Usage,
+    out: &mut Vec<u8, A>,
+) -> Result<(), AllocError>
+    ensures ok { OnOk result
+        (out.new.items ≡ out.old.items ++ (usage_text name.now usage ++ 10 ∷ [])) }
+    ensures front { StartsWith out.new.items out.old.items }
+{
+    push_sizes(name, usage, out)?;
+    push_counts(usage, out)
+}
+
+/// Adds a tenant's name, and what its rows are charged.
+fn push_sizes<A: Allocator>(
+    name: &[u8],
+    usage: Usage,
+    out: &mut Vec<u8, A>,
+) -> Result<(), AllocError>
+    ensures ok { OnOk result (out.new.items ≡ out.old.items ++ sizes_text name.now usage) }
+    ensures front { StartsWith out.new.items out.old.items }
+{
+    out.extend_from_slice(name)?;
+    push_count(b" rows=", usage.rows, out)?;
+    push_count(b" charge=", usage.charge, out)?;
+    push_count(b" quota=", usage.quota, out)?;
+    Ok(())
+}
+
+/// Adds what is counted for a tenant, and a line's end.
+fn push_counts<A: Allocator>(usage: Usage, out: &mut Vec<u8, A>) -> Result<(), AllocError>
+    ensures ok { OnOk result
+        (out.new.items ≡ out.old.items ++ (counts_text usage ++ 10 ∷ [])) }
+    ensures front { StartsWith out.new.items out.old.items }
+{
+    push_count(b" writes=", usage.writes, out)?;
+    push_count(b" commands=", usage.commands, out)?;
+    push_count(b" refusals=", usage.refusals, out)?;
+    push_count(b" snapshots=", usage.snapshots, out)?;
+    out.push(b'\n')?;
+    Ok(())
+}
+
 /// What is told of an event that was carried out and gives nothing.
 fn done<A: Allocator>(event: &Event<A>) -> &'static [u8]
     ensures { result.now ≡ done_text (event_of event.now) }
@@ -123,5 +185,6 @@ fn done<A: Allocator>(event: &Event<A>) -> &'static [u8]
         Event::Merge(_) => b"merged",
         Event::Install(_) => b"done",
         Event::Resize(_) => b"resized",
+        Event::Quota(_, _) => b"set",
     }
 }

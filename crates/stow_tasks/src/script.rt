@@ -1,19 +1,22 @@
-//! A script of events, and of questions how large the tree is.
-ghost use Rattle.std.specs.Prelude.{◌≡◌, ◌++◌, IfErr, IfSome, OnErr, OnOk, map};
+//! A script of events, and of questions how large the tree is and what a tenant uses.
+ghost use Rattle.std.specs.Prelude.{◌≡◌, ◌++◌, ◌∷◌, [], IfErr, IfOk, IfSome, OnErr, OnOk, map};
+ghost use Rattle.std.specs.List.{All};
 ghost use Rattle.stow_model.specs.Event.{event_of};
+ghost use Rattle.stow_model.specs.Login.{IsTenant};
 ghost use Rattle.stow_workers.specs.Sent.{WritesAll, written_of};
 ghost use Rattle.stow_tasks.specs.Ends.{InputFails, IsOfInput, IsOfOutput};
 ghost use Rattle.stow_tasks.specs.Lines.{WritesLine};
 ghost use Rattle.stow_tasks.specs.Read.{IsScriptRead};
 ghost use Rattle.stow_script.specs.Script.{line_of};
-ghost use Rattle.stow_tasks.specs.Told.{IsCarriedOut, IsDone, IsScripted, IsToldLine, progress_of};
+ghost use Rattle.stow_tasks.specs.Told.{IsCarriedOut, IsDone, IsOfTenant, IsScripted, IsToldLine, progress_of, usage_of};
 ghost use Rattle.stow_house.specs.Steps.{state_of};
 ghost use Rattle.stow_house.specs.StepResult.{step_result_of, CanAnswer};
 
-use crate::line::{write_result, write_shape};
+use crate::line::{write_result, write_shape, write_usage};
 use std::alloc::{AllocError, Allocator};
 use stow_house::house::House;
 use stow_house::step_result::StepResult;
+use stow_login::tenants::Tenants;
 use stow_model::event::Event;
 use stow_run::failure::{Failure, Place};
 use stow_script::reading::{cut, read_line};
@@ -47,7 +50,7 @@ pub fn script<'a, A: Allocator + Copy, R: Source, W: Sink>(
 {
     let mut text = Vec::new(alloc);
     read_all(input, &mut text)?;
-    let lines = read_script(alloc, text.as_slice())?;
+    let lines = read_lines(alloc, house, text.as_slice())?;
     carry_out(alloc, house, lines.as_slice(), output)
 }
 
@@ -79,6 +82,7 @@ fn carry_out<'a, A: Allocator + Copy, W: Sink>(
     lines: &[ScriptLine<A>],
     output: &mut W,
 ) -> Result<(), Failure<'a>>
+    requires { All (IsOfTenant (state_of house.old).core.entries) (map line_of lines.now) }
     ensures carried_out { IsCarriedOut (map line_of lines.now)
         (progress_of house.old (W.contents output.old) (W.failures output.old))
         (progress_of house.new (W.contents output.new) (W.failures output.new)) result }
@@ -105,6 +109,7 @@ fn carry_out_line<A: Allocator + Copy>(
     line: &ScriptLine<A>,
     answers: &mut Vec<u8, A>,
 ) -> Result<(), AllocError>
+    requires { IsOfTenant (state_of house.old).core.entries (line_of line.now) }
     ensures ok { OnOk result (IsToldLine (line_of line.now) (state_of house.old)
         (state_of house.new) answers.old.items answers.new.items) }
     ensures done { OnErr result (IsDone (line_of line.now) (state_of house.old)
@@ -117,7 +122,24 @@ fn carry_out_line<A: Allocator + Copy>(
             tell(alloc, event, &result, answers)
         }
         ScriptLine::Shape => write_shape(house.core().shape(), answers),
+        ScriptLine::Usage(tenant) => tell_usage(house, *tenant, answers),
     }
+}
+
+/// Adds the line that tells what a tenant uses, or nothing where memory is refused.
+pub(crate) fn tell_usage<A: Allocator + Copy>(
+    house: &House<A>,
+    tenant: u32,
+    answers: &mut Vec<u8, A>,
+) -> Result<(), AllocError>
+    requires { IsTenant (state_of house.now).core.entries tenant }
+    ensures ok { OnOk result (answers.new.items
+        ≡ answers.old.items ++ (usage_of (state_of house.now).core tenant ++ 10 ∷ [])) }
+    ensures err { OnErr result (answers.new.items ≡ answers.old.items) }
+{
+    let core = house.core();
+    let usage = core.usage(tenant);
+    write_usage(core.tenants().name(tenant), usage, answers)
 }
 
 /// Adds the line of an event, or nothing where memory is refused.
@@ -152,12 +174,26 @@ pub fn finish<'a, W: Sink>(bytes: &[u8], output: &mut W) -> Result<(), Failure<'
     Place::Output.check(output.flush())
 }
 
-/// What a script's lines ask for, or the number of its first bad line, counted from 1.
-fn read_script<A: Allocator + Copy>(
+/// What a script's lines ask for of the house, or the number of its first bad line, counted from 1.
+pub(crate) fn read_lines<A: Allocator + Copy>(
     alloc: A,
+    house: &House<A>,
     text: &[u8],
 ) -> Result<Vec<ScriptLine<A>, A>, Failure<'static>>
-    ensures { IsScriptRead text.now result }
+    ensures read { IsScriptRead (state_of house.now).core.entries text.now result }
+    ensures tenants { IfOk result (λ lines. All
+        (IsOfTenant (state_of house.now).core.entries) (map line_of lines.items)) }
+{
+    read_script(alloc, house.core().tenants(), text)
+}
+
+/// What a script's lines ask for, of a service of these tenants, or the number of its first bad line, counted from 1.
+fn read_script<A: Allocator + Copy>(
+    alloc: A,
+    tenants: &Tenants<A>,
+    text: &[u8],
+) -> Result<Vec<ScriptLine<A>, A>, Failure<'static>>
+    ensures { IsScriptRead tenants.now text.now result }
 {
     let mut lines = Vec::new(alloc);
     let mut left = Some(text);
@@ -165,7 +201,7 @@ fn read_script<A: Allocator + Copy>(
     while let Some(rest) = left {
         let (line, after) = cut(rest, b'\n');
         number += 1;
-        match read_line(alloc, line) {
+        match read_line(alloc, tenants, line) {
             Ok(Some(asked)) => lines.push(asked).map_err(|_| Failure::Memory)?,
             Ok(None) => {}
             Err(TextFault::Malformed(word)) => {

@@ -6,22 +6,45 @@ use std::alloc::{AllocError, Allocator};
 pub type Told = (&'static str, &'static str);
 
 /// Every list.
-pub const ROWS: [&[Told]; 4] = [&KEYS, &NUMBERS, &RANGES, &CONDITIONS];
+pub const ROWS: [&[Told]; 8] = [
+    &EMPTY,
+    &KEYS,
+    &NUMBERS,
+    &RANGES,
+    &CONDITIONS,
+    &SNAPSHOTS,
+    &CHARGES,
+    &REMOVED,
+];
 
 const USED: &str = "-ERR value is not an integer or out of range\r\n";
 
 const OVER: &str = "-ERR increment or decrement would overflow\r\n";
 
-// The empty key and the empty value; repeats of a key; a deletion of nothing.
-const KEYS: [Told; 8] = [
+const NO_SNAPSHOT: &str = "-ERR no such snapshot\r\n";
+
+// The empty key and the empty value.
+const EMPTY: [Told; 4] = [
     ("SET '' ''", "+OK\r\n"),
     ("GET ''", "$0\r\n\r\n"),
     ("RANGE '' '' 10", "*2\r\n$0\r\n\r\n$0\r\n\r\n"),
+    (
+        "USAGE",
+        "*14\r\n$4\r\nrows\r\n:1\r\n$6\r\ncharge\r\n:16\r\n$5\r\nquota\r\n:1000000\r\n$6\r\nwrites\r\n:1\r\n$8\r\ncommands\r\n:4\r\n$8\r\nrefusals\r\n:0\r\n$9\r\nsnapshots\r\n:0\r\n",
+    ),
+];
+
+// Repeats of a key; a deletion of nothing.
+const KEYS: [Told; 6] = [
     ("SET k v", "+OK\r\n"),
     ("EXISTS k k", ":2\r\n"),
     ("DEL k k", ":1\r\n"),
     ("EXISTS k", ":0\r\n"),
     ("DEL k", ":0\r\n"),
+    (
+        "USAGE",
+        "*14\r\n$4\r\nrows\r\n:0\r\n$6\r\ncharge\r\n:0\r\n$5\r\nquota\r\n:1000000\r\n$6\r\nwrites\r\n:2\r\n$8\r\ncommands\r\n:6\r\n$8\r\nrefusals\r\n:0\r\n$9\r\nsnapshots\r\n:0\r\n",
+    ),
 ];
 
 // Numbers at both ends of their 64 bits, and values that are no numbers.
@@ -95,6 +118,65 @@ const CONDITIONS: [Told; 16] = [
     ("GET k", "$3\r\nuvw\r\n"),
     ("STRLEN z", ":0\r\n"),
     ("ECHO hi", "$2\r\nhi\r\n"),
+];
+
+// Two snapshots of the same rows; what one shows once the other is dropped; ids and words that name none.
+const SNAPSHOTS: [Told; 12] = [
+    ("SET a x", "+OK\r\n"),
+    ("SNAPSHOT TAKE", ":1\r\n"),
+    ("SNAPSHOT TAKE", ":2\r\n"),
+    ("SNAPSHOT DROP 1", "+OK\r\n"),
+    ("SET a y", "+OK\r\n"),
+    ("SNAPSHOT GET 2 a", "$1\r\nx\r\n"),
+    ("SNAPSHOT GET 1 a", NO_SNAPSHOT),
+    ("SNAPSHOT GET 0 a", NO_SNAPSHOT),
+    ("SNAPSHOT GET 01 a", USED),
+    ("SNAPSHOT FOO", "-ERR syntax error\r\n"),
+    ("SNAPSHOT LIST x", "-ERR wrong number of arguments\r\n"),
+    (
+        "USAGE",
+        "*14\r\n$4\r\nrows\r\n:1\r\n$6\r\ncharge\r\n:36\r\n$5\r\nquota\r\n:1000000\r\n$6\r\nwrites\r\n:2\r\n$8\r\ncommands\r\n:12\r\n$8\r\nrefusals\r\n:0\r\n$9\r\nsnapshots\r\n:1\r\n",
+    ),
+];
+
+// A version that two snapshots show is charged once, until both are dropped.
+const CHARGES: [Told; 9] = [
+    ("SET a 0123456789", "+OK\r\n"),
+    ("SNAPSHOT TAKE", ":1\r\n"),
+    ("SNAPSHOT TAKE", ":2\r\n"),
+    ("SET a 9876543210", "+OK\r\n"),
+    (
+        "USAGE",
+        "*14\r\n$4\r\nrows\r\n:1\r\n$6\r\ncharge\r\n:54\r\n$5\r\nquota\r\n:1000000\r\n$6\r\nwrites\r\n:2\r\n$8\r\ncommands\r\n:5\r\n$8\r\nrefusals\r\n:0\r\n$9\r\nsnapshots\r\n:2\r\n",
+    ),
+    ("SNAPSHOT DROP 1", "+OK\r\n"),
+    (
+        "USAGE",
+        "*14\r\n$4\r\nrows\r\n:1\r\n$6\r\ncharge\r\n:54\r\n$5\r\nquota\r\n:1000000\r\n$6\r\nwrites\r\n:2\r\n$8\r\ncommands\r\n:7\r\n$8\r\nrefusals\r\n:0\r\n$9\r\nsnapshots\r\n:1\r\n",
+    ),
+    ("SNAPSHOT DROP 2", "+OK\r\n"),
+    (
+        "USAGE",
+        "*14\r\n$4\r\nrows\r\n:1\r\n$6\r\ncharge\r\n:27\r\n$5\r\nquota\r\n:1000000\r\n$6\r\nwrites\r\n:2\r\n$8\r\ncommands\r\n:9\r\n$8\r\nrefusals\r\n:0\r\n$9\r\nsnapshots\r\n:0\r\n",
+    ),
+];
+
+// A row that was removed and a snapshot shows.
+const REMOVED: [Told; 8] = [
+    ("SET a x", "+OK\r\n"),
+    ("SNAPSHOT TAKE", ":1\r\n"),
+    ("DEL a", ":1\r\n"),
+    ("GET a", "$-1\r\n"),
+    ("SNAPSHOT RANGE 1 '' '' 9", "*2\r\n$1\r\na\r\n$1\r\nx\r\n"),
+    (
+        "USAGE",
+        "*14\r\n$4\r\nrows\r\n:0\r\n$6\r\ncharge\r\n:18\r\n$5\r\nquota\r\n:1000000\r\n$6\r\nwrites\r\n:2\r\n$8\r\ncommands\r\n:6\r\n$8\r\nrefusals\r\n:0\r\n$9\r\nsnapshots\r\n:1\r\n",
+    ),
+    ("SNAPSHOT DROP 1", "+OK\r\n"),
+    (
+        "USAGE",
+        "*14\r\n$4\r\nrows\r\n:0\r\n$6\r\ncharge\r\n:0\r\n$5\r\nquota\r\n:1000000\r\n$6\r\nwrites\r\n:2\r\n$8\r\ncommands\r\n:8\r\n$8\r\nrefusals\r\n:0\r\n$9\r\nsnapshots\r\n:0\r\n",
+    ),
 ];
 
 /// The bytes of a login of ann's and of a list's requests, in array form.

@@ -22,6 +22,9 @@ quota = 100
 /// The quota of ann and ben.
 pub const QUOTA: u64 = 1_000_000;
 
+/// The quota of cap.
+pub const SMALL_QUOTA: u64 = 100;
+
 /// Another tenant, and then ann, with the entry that she has among the three.
 pub const OTHERS: &str = "[[tenant]]
 name = \"zoe\"

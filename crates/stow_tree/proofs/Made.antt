@@ -1,5 +1,5 @@
 -- A tree as it is made, and as room is made in it.
-use Rattle.std.proofs.Common.{◌≡◌, ℕ, List, [], refl, ap, ◌∙◌, sym, subst, arith, Result, Ok, Err, OnOk}
+use Rattle.std.proofs.Common.{◌≡◌, ℕ, ◌≤◌, List, [], refl, ap, ◌∙◌, sym, subst, arith, Result, Ok, Err, OnOk}
 use Rattle.std.specs.Prelude.{Contains}
 use Rattle.std.specs.FinMap as finite
 use Rattle.stow_leaf.specs.Replacements.{HasShortValues}
@@ -27,6 +27,7 @@ pub new_is_tree : {A : Type 0} (new : Inside A) (shape : TreeShape) (nodes : Sha
 new_is_tree new shape nodes in_range is root spare cache = record {
   sizes = subst AreInRange (sym (ap (λ (t : Subtree). t.shape) whole)) in_range.nodes;
   low = ap (λ (t : Subtree). t.low) whole;
+  few = subst (λ (t : Subtree). t.width ≤ t.shape.fan_out) (sym whole) (let f = in_range.nodes.fan_out.0 in omega (arith, f));
   block =
       let a = ap (λ (t : Subtree). t.buffer.capacity) whole in
       let b = ap (λ (r : RawLists). r.capacity) spare in
@@ -46,10 +47,11 @@ unfolding tree_messages
 new_is_empty t shape e = ap (λ r. set_of (messages_of r)) e
 
 -- room was made
-pub room_kept : {A : Type 0} (old new : Inside A) (pins : TenantPins) → IsTree old → Stands pins old.root new.root → Forgets old.root.leaves new.root.leaves old.cache new.cache → new.spare.capacity ≡ old.spare.capacity → IsTree new
-room_kept old new pins tree stands forgets spare = record {
+pub room_kept : {A : Type 0} (old new : Inside A) (pins : TenantPins) → IsTree old → Stands pins old.root new.root → Forgets old.root.leaves new.root.leaves old.cache new.cache → new.spare.capacity ≡ old.spare.capacity → new.root.width ≤ new.root.shape.fan_out → IsTree new
+room_kept old new pins tree stands forgets spare few = record {
   sizes = subst AreInRange (sym stands.shape) tree.sizes;
   low = stands.low ∙ tree.low;
+  few = few;
   block =
       let a = stands.capacity in
       let b = tree.block in

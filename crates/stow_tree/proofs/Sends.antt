@@ -6,7 +6,7 @@ use Rattle.std.specs.declared.alloc.Allocator.{Ghosts}
 use Rattle.std.proofs.CrossingOver.{crosses}
 use Rattle.stow_leaf.proofs.leaf.Leaf.TheSendSync as leaf
 use Rattle.stow_message.proofs.message_buf.MessageBuf.TheSendSync as message_buf
-use Rattle.stow_tree_model.proofs.tenant_key_buf.TenantKeyBuf.TheSendSync as key_buf
+use Rattle.stow_node.proofs.fence.Fence.TheSendSync as fence
 use Rattle.stow_node.proofs.shape.Shape.TheSendSync as shape
 use Rattle.stow_node.proofs.node.Node.TheLaws.TheKnot as knot
 use Rattle.stow_node.specs.contracts.node.Node as node
@@ -17,7 +17,7 @@ use Rattle.stow_tree.specs.contracts.tree.Tree as tree
 pub node_sends : (A : RattleType) (g : Ghosts A.Denot) → IsSend A → IsSync A → Frees g g.dealloc_token → IsSend (node.the_field A g).row
 node_sends A g sent shared free =
     knot.send-Node A g
-    (search (as_row_send, key_buf.the_send, crosses, sendable) depth 8)
+    (search (as_row_send, fence.the_send, crosses, sendable) depth 8)
     (search (as_row_send, sendable))
     (search (as_row_send, shape.the_field_send, sendable) depth 8)
     (search (as_row_send, message_buf.the_send, crosses, sendable) depth 8)

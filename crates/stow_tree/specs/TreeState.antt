@@ -38,6 +38,7 @@ HoldsLeaves cache leaves = (leaf : LeafRows) → Contains cache.leaves leaf → 
 pub record IsTree {A : Type 0} (tree : Inside A) : Type 0 where
   pub sizes : AreInRange tree.root.shape
   pub low : tree.root.low ≡ packed 0 []
+  pub few : tree.root.width ≤ tree.root.shape.fan_out
   pub block : tree.root.buffer.capacity ≤ tree.spare.capacity
   pub short : AreShort (messages_of tree.root)
   pub held : HoldsLeaves tree.cache tree.root.leaves

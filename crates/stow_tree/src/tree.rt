@@ -8,8 +8,11 @@ ghost use Rattle.stow_node.specs.Moves.{IsSqueezed};
 ghost use Rattle.stow_read.specs.Found.{found_value};
 ghost use Rattle.stow_read.specs.Range.{IsRange, key_value};
 ghost use Rattle.stow_read.specs.Versions.{AreVersionsOf};
+ghost use Rattle.stow_read.specs.Walk.{IsWalk};
 ghost use Rattle.stow_tree_model.specs.Messages.{ops_of, value};
+ghost use Rattle.stow_tree_model.specs.Operations.{value_in};
 ghost use Rattle.stow_tree_model.specs.TreeMessage.{message_of};
+ghost use Rattle.stow_tree_model.specs.Value.{IsValue};
 ghost use Rattle.stow_tree_model.specs.VersionBuf.{version_of_buf};
 ghost use Rattle.stow_tree.specs.declared.tree_fault.TreeFault.TheVariants as fault;
 ghost use Rattle.stow_tree.specs.Putting.{bytes_of, CanReserve, IsReserved, Puts};
@@ -35,7 +38,10 @@ use stow_read::getting::get;
 use stow_read::leaf_for::leaf_for;
 use stow_read::range::range;
 use stow_read::row::Row;
+use stow_read::row_head::RowHead;
+use stow_read::start::Start;
 use stow_read::versions::versions;
+use stow_read::walk::walk;
 use stow_tree_model::message::Message;
 use stow_tree_model::tenant_key::TenantKey;
 use stow_tree_model::version_buf::VersionBuf;
@@ -169,8 +175,9 @@ impl<A: Allocator + Copy> Tree<A> {
         key: TenantKey<'_>,
         at: u64,
     ) -> Result<Option<Found<'_, A>>, AllocError>
-        ensures { IfOk result (λ found. option_map found_value found
+        ensures value { IfOk result (λ found. option_map found_value found
             ≡ value (tree_messages self.now) key.entry.bytes.now at) }
+        ensures short { IfOk result (λ found. IsValue (value_in (option_map found_value found))) }
     {
         Ok(get(alloc, &self.root, key, at)?.found)
     }
@@ -194,6 +201,22 @@ impl<A: Allocator + Copy> Tree<A> {
             offered += self.offer_first(&rows.as_slice()[offered..]);
         }
         Ok(rows)
+    }
+
+    /// The first `count` keys from the start on and below `to` that have a value at a number, in order, with what is told
+    /// of it: no value is copied, and no leaf held. A call that starts after the last key goes on from there.
+    pub fn walk(
+        &self,
+        alloc: A,
+        from: Start<'_>,
+        to: TenantKey<'_>,
+        at: u64,
+        count: usize,
+    ) -> Result<Vec<RowHead<A>, A>, AllocError>
+        ensures { IfOk result (λ rows. IsWalk (ops_of (tree_messages self.now)) from.entry.key.bytes.now
+            from.entry.after to.entry.bytes.now at count rows.items) }
+    {
+        walk(alloc, &self.root, from, to, at, count)
     }
 
     /// Holds the rows of the first key's leaf, and tells how many of the keys it reaches, one at least.

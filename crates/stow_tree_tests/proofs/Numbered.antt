@@ -74,7 +74,7 @@ accepted_below t m below key n s =
 
 pub flushed_below : (pins : TenantPins) (old new : Subtree) (n : ℕ) → Flushes pins old new → AreNumberedBelow (n + 1) old → AreNumberedBelow (n + 1) new
 flushed_below pins old new n f below key k s = ⊎_elim
-    (λ (l : n < k). absurd (none_some (ops_in (messages_of new) key k) (((f.keeps.means key).way n (λ j a. none_unless (ops_in (messages_of old) key j) (λ u. let b = below key j u in omega arith))).right_below k l) s))
+    (λ (l : n < k). absurd (none_some (ops_in (messages_of new) key k) (((f.means key).way n (λ j a. none_unless (ops_in (messages_of old) key j) (λ u. let b = below key j u in omega arith))).right_below k l) s))
     (λ (l : k ≤ n). omega arith)
     (cases_lt n k)
   where

@@ -25,6 +25,7 @@ fn put_a<A: Allocator>(node: &mut Node<A>)
     ensures short { AreShort (messages_of node.new) }
     ensures capacity { node.new.buffer.capacity ≡ node.old.buffer.capacity }
     ensures shape { node.new.shape ≡ node.old.shape }
+    ensures width { node.new.width ≡ node.old.width }
 {
     node.push(Message {
         key: TenantKey::from_packed(&[0, 0, 0, 1, b'a']),

@@ -5,7 +5,6 @@ use std::alloc::{AllocError, Allocator};
 use std::test::Fail;
 use stow_leaf::leaf::Leaf;
 use stow_leaf::making::lent_run;
-use stow_leaf::replacement::Replacement;
 use stow_merge::fitting::has_short_values;
 use stow_merge::pins::Pins;
 use stow_message::message_buf::MessageBuf;
@@ -37,15 +36,11 @@ fn put<A: Allocator + Copy>(
     Ok(fits)
 }
 
-/// What comes in the place of tenant 1's leaf without rows, within so many leaves: none where the buffer has no message
-/// for it.
+/// What comes in the place of tenant 1's leaf without rows: none where the buffer has no message for it.
 fn replaced<A: Allocator + Copy>(
     alloc: A,
     buffer: &MessageBuf<A>,
-    most: usize,
-) -> Result<Option<Replacement<A>>, AllocError>
-    requires { 3 ≤ most }
-{
+) -> Result<Option<Vec<Leaf<A>, A>>, AllocError> {
     let leaf = Leaf {
         low: TenantKeyBuf::new(alloc, 1, &[])?,
         rows: Rows::new(alloc, PackedRows::new(alloc)?)?,
@@ -57,7 +52,7 @@ fn replaced<A: Allocator + Copy>(
     if batch.is_empty() || !has_short_values(alloc, &leaf.rows, batch.as_slice(), &pins)? {
         return Ok(None);
     }
-    Ok(Some(leaf.replacement(alloc, buffer, high, &pins, 4096, most)?))
+    Ok(Some(leaf.replacement(alloc, buffer, high, &pins, 4096)?))
 }
 
 /// What comes in the leaf's place where these keys are set to values of so many bytes.
@@ -65,7 +60,7 @@ fn replaced_with<A: Allocator + Copy>(
     alloc: A,
     keys: &[u8],
     bytes: usize,
-) -> Result<Option<Replacement<A>>, AllocError> {
+) -> Result<Option<Vec<Leaf<A>, A>>, AllocError> {
     let mut buffer = MessageBuf::with_capacity(alloc, 131_072)?;
     let value = Vec::from_elem(alloc, b'x', bytes)?;
     for i in 0..keys.len() {
@@ -78,32 +73,28 @@ fn replaced_with<A: Allocator + Copy>(
             return Ok(None);
         }
     }
-    replaced(alloc, &buffer, 3)
+    replaced(alloc, &buffer)
 }
 
 #[test]
-fn messages_are_merged_as_far_as_there_are_places(rt: HostRuntime) -> Result<(), Fail> {
-    let cases: [(&[u8], usize, &[usize], &[u8]); 3] = [
-        (b"ab", 1, &[2], &[0, 0, 0, 2]),
-        (b"abcdefgh", 3_000, &[0, 1, 0], &[0, 0, 0, 1, b'b']),
-        (b" bcdefgh", 3_000, &[1, 1, 0], &[0, 0, 0, 1, b'c']),
+fn a_leaf_gives_way_to_all_pages(rt: HostRuntime) -> Result<(), Fail> {
+    let cases: [(&[u8], usize, &[usize]); 3] = [
+        (b"ab", 1, &[2]),
+        (b"abcdefgh", 3_000, &[1; 8]),
+        (b" bcdefgh", 3_000, &[1; 8]),
     ];
-    for (keys, bytes, rows, end) in cases {
-        let replacement = replaced_with(rt.alloc(), keys, bytes)?.ok_or(AllocError)?;
-        assert!(rt; replacement.end.as_key().bytes == end);
-        assert!(rt; replacement.leaves.len() == rows.len());
+    for (keys, bytes, rows) in cases {
+        let leaves = replaced_with(rt.alloc(), keys, bytes)?.ok_or(AllocError)?;
+        assert!(rt; leaves.len() == rows.len());
         for i in 0..rows.len() {
-            assert!(rt;
-                replacement.leaves[i].rows.len() == rows[i],
-                "leaf {i} of {keys:?}"
-            );
+            assert!(rt; leaves[i].rows.len() == rows[i], "leaf {i} of {keys:?}");
         }
-        assert!(rt; replacement.leaves[0].low.as_key().bytes == [0, 0, 0, 1].as_slice());
+        assert!(rt; leaves[0].low.as_key().bytes == [0, 0, 0, 1].as_slice());
     }
     Ok(())
 }
 
-/// Whether there are leaves in the place of one whose messages have more pages than places.
+/// Whether there are leaves in the place of one whose messages have many pages.
 fn is_replaced<A: Allocator + Copy>(alloc: A) -> bool {
     match replaced_with(alloc, b"abcdefgh", 3_000) {
         Ok(replaced) => replaced.is_some(),

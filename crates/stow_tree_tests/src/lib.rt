@@ -1,4 +1,4 @@
-//! Tests of the buffered tree's crates, from the raw block up to the tree.
+//! Tests of the buffered tree's crates, from the raw block up to the tree, and of what a drop leaves charged.
 //!
 //! They stand in a crate of their own for the gate's time: it proves a crate again with its tests, and these crates'
 //! proofs are the dearest. A module is named after the crate that it tests.

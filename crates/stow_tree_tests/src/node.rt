@@ -3,13 +3,12 @@ ghost use Rattle.std.specs.Prelude.{◌≡◌, ℕ, ◌+◌, ◌<◌, ◌≤◌,
 ghost use Rattle.stow_tree_model.specs.Keys.{packed};
 ghost use Rattle.stow_node.specs.Flushes.{AreShort};
 ghost use Rattle.stow_tree_tests.specs.Ready.{IsReadyAbove};
-ghost use Rattle.stow_node.specs.Subtree.{messages_of, places_at};
+ghost use Rattle.stow_node.specs.Subtree.{messages_of};
 
 use std::alloc::{AllocError, Allocator};
 use std::test::Fail;
 use stow_leaf_cache::leaf_cache::LeafCache;
 use stow_merge::pins::Pins;
-use stow_node::child::Child;
 use stow_node::node::Node;
 use stow_node::shape::Shape;
 use stow_raw::raw_buf::RawBuf;
@@ -49,19 +48,6 @@ fn put_a<A: Allocator>(node: &mut Node<A>)
     });
 }
 
-/// A node above another.
-fn two_levels<A: Allocator + Copy>(alloc: A) -> Result<Node<A>, AllocError>
-    ensures none { IfOk result (λ n. messages_of n ≡ []) }
-    ensures low { IfOk result (λ n. n.low ≡ packed 0 []) }
-    ensures room { IfOk result (λ n. (n.buffer.used ≡ 0) × (n.buffer.capacity ≡ 131072)) }
-    ensures places { IfOk result (λ n. n.width + places_at n.height ≤ n.shape.fan_out) }
-    ensures shape { IfOk result (λ n. 4 ≤ n.shape.fan_out) }
-{
-    let mut node = Node::first(alloc, smallest())?;
-    node.raise(alloc)?;
-    Ok(node)
-}
-
 /// Puts a message into a node without any, and takes a step.
 fn put_and_step<A: Allocator + Copy>(
     alloc: A,
@@ -73,7 +59,7 @@ fn put_and_step<A: Allocator + Copy>(
     requires none { messages_of node.old ≡ [] }
     requires low { node.old.low ≡ packed 0 [] }
     requires room { node.old.buffer.used + 23 ≤ node.old.buffer.capacity }
-    requires places { node.old.width + places_at node.old.height ≤ node.old.shape.fan_out }
+    requires few { node.old.width ≤ node.old.shape.fan_out }
     requires shape { 4 ≤ node.old.shape.fan_out }
     requires spare { node.old.buffer.capacity ≤ spare.old.capacity }
 {
@@ -81,57 +67,9 @@ fn put_and_step<A: Allocator + Copy>(
     node.step(alloc, pins, spare, cache)
 }
 
-/// How many messages there are in the buffer of the first child.
-fn buffered_below<A: Allocator>(node: &Node<A>) -> usize {
-    match node.children().first() {
-        Some(Child::Node(lower)) => lower.buffer().len(),
-        Some(Child::Leaf(_)) | None => 0,
-    }
-}
-
-/// Whether a node above one child for all keys has this height.
-fn is_above_one<A: Allocator>(node: &Node<A>, height: u64) -> bool {
-    node.height() == height && node.width() == 1 && node.low().bytes == [0; 4].as_slice()
-}
-
-/// Whether a message moves out of the upper buffer of two into the lower one.
-fn moves_one_level<A: Allocator + Copy>(alloc: A) -> Result<bool, AllocError> {
-    let mut spare = RawBuf::with_capacity(alloc, 131_072)?;
-    let mut cache = LeafCache::new(alloc, 0)?;
-    let pins = Pins::new(alloc);
-    let mut node = two_levels(alloc)?;
-    let stands = is_above_one(&node, 2);
-    put_and_step(alloc, &mut node, &pins, &mut spare, &mut cache)?;
-    Ok(stands && node.buffer().len() == 0 && buffered_below(&node) == 1)
-}
-
-#[test]
-fn messages_move_one_level(rt: HostRuntime) -> Result<(), Fail> {
-    assert!(rt; moves_one_level(rt.alloc())?);
-    Ok(())
-}
-
-/// How many requests for memory a put and its way down make, if the nodes can be had.
-fn asked_below<B: Allocator>(heap: &Refusing<B>) -> Result<u64, AllocError> {
-    let mut spare = RawBuf::with_capacity(heap, 131_072)?;
-    let mut cache = LeafCache::new(heap, 0)?;
-    let pins = Pins::new(heap);
-    let mut node = two_levels(heap)?;
-    heap.set(Plan::RefuseAll);
-    put_and_step(heap, &mut node, &pins, &mut spare, &mut cache)?;
-    Ok(heap.asked())
-}
-
-#[test]
-fn moving_asks_for_no_memory(rt: HostRuntime) -> Result<(), Fail> {
-    let heap = Refusing::new(rt.alloc());
-    assert_eq!(rt; asked_below(&heap)?, 0);
-    Ok(())
-}
-
-/// Whether two levels can be had.
+/// Whether a first node can be had.
 fn is_made<A: Allocator + Copy>(alloc: A) -> bool {
-    two_levels(alloc).is_ok()
+    Node::first(alloc, smallest()).is_ok()
 }
 
 #[test]
@@ -143,7 +81,7 @@ fn making_withstands_each_refusal(rt: HostRuntime) -> Result<(), Fail> {
         heap.set(Plan::RefuseAt(n));
         assert!(rt; !is_made(&heap), "request {n}");
     }
-    assert!(rt; asked >= 9, "{asked} requests");
+    assert!(rt; asked >= 6, "{asked} requests");
     Ok(())
 }
 
@@ -169,8 +107,8 @@ fn a_leaf_takes_messages(rt: HostRuntime) -> Result<(), Fail> {
     Ok(())
 }
 
-/// Puts tenant 1's key of one byte into a node, or removes it, if the message fits there. Its number follows the last.
-fn put<A: Allocator>(node: &mut Node<A>, key: u8, last: u64, value: Option<&[u8]>) -> bool
+/// Puts tenant 1's key of this number into a node, or removes it, if the message fits there. Its own number follows the last.
+fn put<A: Allocator>(node: &mut Node<A>, key: u16, last: u64, value: Option<&[u8]>) -> bool
     requires few { last < 1000 }
     requires ready { IsReadyAbove last node.old }
     ensures { IsTrue result → IsReadyAbove (last + 1) node.new }
@@ -179,7 +117,8 @@ fn put<A: Allocator>(node: &mut Node<A>, key: u8, last: u64, value: Option<&[u8]
         Some(value) => Op::Put(value),
         None => Op::Gone,
     };
-    let packed = [0, 0, 0, 1, key];
+    let [high, low] = key.to_be_bytes();
+    let packed = [0, 0, 0, 1, high, low];
     let Some(made) = message(TenantKey::from_packed(&packed), last + 1, op) else {
         return false;
     };
@@ -190,32 +129,29 @@ fn put<A: Allocator>(node: &mut Node<A>, key: u8, last: u64, value: Option<&[u8]
     fits
 }
 
-/// The keys that the leaves are filled with.
-const KEYS: &[u8] = b"abcdefghijkl";
-
-/// Puts the keys into a node, or removes them, if all messages fit there.
-fn put_all<A: Allocator>(node: &mut Node<A>, last: u64, value: Option<&[u8]>) -> bool
-    requires few { last < 900 }
+/// Puts so many keys into a node, or removes them, if all messages fit there.
+fn put_all<A: Allocator>(node: &mut Node<A>, keys: u16, last: u64, value: Option<&[u8]>) -> bool
+    requires few { last + keys < 1000 }
     requires ready { IsReadyAbove last node.old }
-    ensures { IsTrue result → IsReadyAbove (last + 12) node.new }
+    ensures { IsTrue result → IsReadyAbove (last + keys) node.new }
 {
-    for i in 0..KEYS.len() {
-        if !put(node, KEYS[i], last + i as u64, value) {
+    for key in 0..keys {
+        if !put(node, key, last + u64::from(key), value) {
             return false;
         }
     }
     true
 }
 
-/// Takes a step, if there are messages and places for it.
+/// Takes a step, if there are messages for it.
 fn flush<A: Allocator + Copy>(alloc: A, node: &mut Node<A>) -> Result<(), AllocError>
     requires { AreShort (messages_of node.old) }
     ensures short { AreShort (messages_of node.new) }
     ensures ready { (last : ℕ) → IsReadyAbove last node.old → IsReadyAbove last node.new }
 {
     let shape = node.shape();
-    let free = shape.fan_out as usize - node.width();
-    if node.buffer().len() == 0 || shape.fan_out < 4 || free < node.places() {
+    let is_wide = node.width() > shape.fan_out as usize;
+    if node.buffer().len() == 0 || shape.fan_out < 4 || is_wide {
         return Ok(());
     }
     let mut spare = RawBuf::with_capacity(alloc, shape.buffer as usize)?;
@@ -234,11 +170,11 @@ fn to_empty<A: Allocator + Copy>(alloc: A) -> Result<Node<A>, AllocError>
     };
     let mut node = Node::first(alloc, shape)?;
     let value = Vec::from_elem(alloc, b'x', 1000)?;
-    if !put_all(&mut node, 0, Some(value.as_slice())) {
+    if !put_all(&mut node, 12, 0, Some(value.as_slice())) {
         return Err(AllocError);
     }
     flush(alloc, &mut node)?;
-    if !put_all(&mut node, 12, None) {
+    if !put_all(&mut node, 12, 12, None) {
         return Err(AllocError);
     }
     Ok(node)
@@ -256,7 +192,7 @@ fn widths<A: Allocator + Copy>(alloc: A) -> Result<[usize; 4], AllocError> {
     Ok([full, first, second, node.width()])
 }
 
-// A page of four keys with values of 1,000 bytes has 4,077 bytes: two of them are more than the target, and one fits
+// A page of four keys with values of 1,000 bytes has 4,081 bytes: two of them are more than the target, and one fits
 // with an empty one.
 #[test]
 fn emptied_leaves_are_joined(rt: HostRuntime) -> Result<(), Fail> {
@@ -296,5 +232,67 @@ fn joins_withstand_each_refusal(rt: HostRuntime) -> Result<(), Fail> {
         refusals = n + 1;
     }
     assert!(rt; refusals > 10, "{refusals} refusals");
+    Ok(())
+}
+
+/// How many messages of `to_spread` there are.
+const SPREAD: u16 = 301;
+
+/// A node above an empty leaf, and messages of which each takes a page of its own.
+fn to_spread<A: Allocator + Copy>(alloc: A) -> Result<Node<A>, AllocError>
+    ensures { IfOk result (λ node. AreShort (messages_of node)) }
+{
+    let shape = Shape {
+        buffer: 2_097_152,
+        leaf: 4096,
+        fan_out: 4,
+    };
+    let mut node = Node::first(alloc, shape)?;
+    let value = Vec::from_elem(alloc, b'x', 4000)?;
+    if !put_all(&mut node, SPREAD, 0, Some(value.as_slice())) {
+        return Err(AllocError);
+    }
+    Ok(node)
+}
+
+/// The levels, the children and the buffered messages of a node.
+fn sizes<A: Allocator>(node: &Node<A>) -> (u64, usize, usize) {
+    (node.height(), node.width(), node.buffer().len())
+}
+
+/// The sizes of a node once a step was refused its nth request, and once more with memory. `None` where it asked for fewer,
+/// `Err` where it did not answer that it was refused, or moved something.
+fn spread<B: Allocator>(
+    heap: &Refusing<B>,
+    n: u64,
+) -> Result<Option<(u64, usize, usize)>, AllocError> {
+    heap.set(Plan::Grant);
+    let mut node = to_spread(heap)?;
+    heap.set(Plan::RefuseAt(n));
+    let is_done = flush(heap, &mut node).is_ok();
+    if heap.asked() <= n {
+        return Ok(None);
+    }
+    if is_done || sizes(&node) != (1, 1, SPREAD as usize) {
+        return Err(AllocError);
+    }
+    heap.set(Plan::Grant);
+    flush(heap, &mut node)?;
+    Ok(Some(sizes(&node)))
+}
+
+// 301 leaves stand under 76 nodes, these under 19, these under 5, these under 2, and these under a new root.
+#[test]
+fn a_leaf_gives_way_to_any_number(rt: HostRuntime) -> Result<(), Fail> {
+    let heap = Refusing::new(rt.alloc());
+    let mut refusals = 0u64;
+    for n in 0..5000u64 {
+        let Some(sizes) = spread(&heap, n)? else {
+            break;
+        };
+        assert!(rt; sizes == (5, 2, 0), "request {n}");
+        refusals = n + 1;
+    }
+    assert!(rt; refusals > 1000, "{refusals} refusals");
     Ok(())
 }

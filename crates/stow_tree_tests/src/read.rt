@@ -49,8 +49,7 @@ fn key_outside() -> TenantKey<'static> {
 
 /// A node whose leaf has the value `x` of `a` at 1.
 fn with_row<A: Allocator + Copy>(alloc: A) -> Result<Node<A>, AllocError>
-    ensures below { IfOk result (λ node. AreNumberedBelow 2 node) }
-    ensures height { IfOk result (λ node. node.height ≡ 1) }
+    ensures { IfOk result (λ node. AreNumberedBelow 2 node) }
 {
     let shape = Shape {
         buffer: 131_072,
@@ -72,8 +71,7 @@ fn with_row<A: Allocator + Copy>(alloc: A) -> Result<Node<A>, AllocError>
 /// Puts a message into a node whose messages are numbered below it. Answers whether it could.
 fn put<A: Allocator + Copy>(node: &mut Node<A>, key: TenantKey<'_>, number: u64, op: Op<'_>) -> bool
     requires { AreNumberedBelow number node.old }
-    ensures below { AreNumberedBelow (number + 1) node.new }
-    ensures height { node.new.height ≡ node.old.height }
+    ensures { AreNumberedBelow (number + 1) node.new }
 {
     let Some(made) = message(key, number, op) else {
         return false;
@@ -88,12 +86,10 @@ fn put<A: Allocator + Copy>(node: &mut Node<A>, key: TenantKey<'_>, number: u64,
     true
 }
 
-/// Two levels above a leaf. Of `a` the leaf has a value; the lower node has more of it, and the root its removal and
-/// more again.
+/// A node above a leaf. Of `a` the leaf has a value; the node has more of it, its removal, and more again.
 fn tree<A: Allocator + Copy>(alloc: A) -> Result<Node<A>, AllocError> {
     let mut node = with_row(alloc)?;
     let second = put(&mut node, key_a(), 2, Op::Append(b"y"));
-    node.raise(alloc)?;
     let third = put(&mut node, key_a(), 3, Op::Gone);
     let fourth = put(&mut node, key_a(), 4, Op::Append(b"z"));
     if second && third && fourth {
@@ -223,12 +219,10 @@ fn a_key_outside_has_nothing(rt: HostRuntime) -> Result<(), Fail> {
     Ok(())
 }
 
-/// Two levels above a leaf. The leaf has a value of `a`, the lower node has one of `b`, and the root one of `c` and the
-/// removal of `b`.
+/// A node above a leaf. The leaf has a value of `a`, and the node one of `b`, one of `c` and the removal of `b`.
 fn tree_of_keys<A: Allocator + Copy>(alloc: A) -> Result<Node<A>, AllocError> {
     let mut node = with_row(alloc)?;
     let second = put(&mut node, key_b(), 2, Op::Put(b"y"));
-    node.raise(alloc)?;
     let third = put(&mut node, key_c(), 3, Op::Put(b"z"));
     let fourth = put(&mut node, key_b(), 4, Op::Gone);
     if second && third && fourth {

@@ -2,9 +2,11 @@
 //! tree which grows through all its shapes tells what a plain list of its messages tells.
 mod calls;
 mod changes;
+mod dropping;
 mod few;
 mod grown;
 mod numbered;
 mod random;
 mod refusals;
 mod run;
+mod walking;

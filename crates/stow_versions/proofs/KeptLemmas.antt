@@ -10,7 +10,7 @@ use Rattle.std.specs.FinMap as map
 use Rattle.stow_versions.specs.VersionsState.{VersionsState, AreVersions, IsReady, snapshot_limit}
 use Rattle.stow_versions.specs.VersionLists.{snapshots_of, ArePins, AreVersionLists}
 use Rattle.stow_versions.proofs.SnapshotLemmas.{keys_of, values_of, len_of, get_of, find_here, find_absent, place_is, rise_push, rise_remove, insert_push, remove_at}
-use Rattle.std.specs.Prelude.{◌==◌, Some, None}
+use Rattle.std.specs.Prelude.{◌==◌, Option, Some, None, IsSome, is_some, T}
 use Rattle.std.specs.List.{zip, position, remove}
 use Rattle.std.specs.FinMap.{find}
 use Rattle.std.proofs.Common.{get_or, length-append, ⊎_elim}
@@ -135,3 +135,14 @@ same_lists last next ids ids' numbers numbers' pins e f are = subst (λ xs. AreV
 -- and are seen the same
 pub same_seen : (last next room : ℕ) (ids ids' numbers numbers' : List ℕ) → ids' ≡ ids → numbers' ≡ numbers → ◌≡◌ {A = VersionsState} (record { last = last; snapshots = snapshots_of ids' numbers'; next = next; room = room }) (record { last = last; snapshots = snapshots_of ids numbers; next = next; room = room })
 same_seen last next room ids ids' numbers numbers' e f = λ i. record { last = last; snapshots = snapshots_of (e i) (f i); next = next; room = room }
+
+-- lists of the same length have it without a place too
+pub each_removed : (ids numbers : List ℕ) (i : ℕ) → length numbers ≡ length ids → i < length ids → length (remove numbers i) ≡ length (remove ids i)
+each_removed ids numbers i each l =
+    let inner : i < length numbers = omega (arith, each, l) in
+    let fewer_ids = length-remove ids i l in
+    let fewer_numbers = length-remove numbers i inner in
+    omega (arith, each, fewer_ids, fewer_numbers)
+
+pub absent_not_live : (o : Option ℕ) → o ≡ None → IsSome o → ⊥
+absent_not_live o e live = absurd (subst T (sym (sym (ap is_some e) ∙ live)) tt)

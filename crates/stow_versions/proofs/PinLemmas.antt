@@ -62,7 +62,7 @@ any_here [] i n d l e = absurd (omega arith)
 any_here (x ∷ xs) zero n d l e = ap (λ b. b || list_any (λ m. m == n) xs) (eq-eqb x n e)
 any_here (x ∷ xs) (suc i) n d l e = ap (λ b. (x == n) || b) (any_here xs i n d (omega arith) e) ∙ or_true (x == n)
 
-contains_from : (n : ℕ) (xs : List ℕ) → list_any (λ m. m == n) xs ≡ true → Contains xs n
+pub contains_from : (n : ℕ) (xs : List ℕ) → list_any (λ m. m == n) xs ≡ true → Contains xs n
 contains_from n [] h = absurd (subst T (sym h) tt)
 contains_from n (x ∷ xs) h = ⊎_elim
     (λ (e : x ≡ n). (0, omega arith, e))
@@ -74,7 +74,7 @@ pub same_contains : (xs ys : List ℕ) (n : ℕ) → list_any (λ m. m == n) xs 
 same_contains xs ys n e (k, l, at) = contains_from n ys (sym e ∙ any_here xs k n n l at)
 
 -- without a number: it isn't there, and every other stays
-any_without : (xs : List ℕ) (x n : ℕ) → list_any (λ m. m == n) (filter (λ p. not (p == x)) xs) ≡ (list_any (λ m. m == n) xs && not (x == n))
+pub any_without : (xs : List ℕ) (x n : ℕ) → list_any (λ m. m == n) (filter (λ p. not (p == x)) xs) ≡ (list_any (λ m. m == n) xs && not (x == n))
 any_without [] x n = refl
 any_without (y ∷ xs) x n = ⊎_elim
     (λ (e : y ≡ x).
@@ -145,3 +145,10 @@ pins_push pins new numbers n are rise members = record {
   rise = rise;
   same_members = λ k. members k ∙ ap (λ b. b || (n == k)) (are.same_members k) ∙ sym (any_push numbers n k);
 }
+
+-- without the number at a place, that number is among the others or not, and each other as before
+pub any_removed : (xs : List ℕ) (i x : ℕ) → i < length xs → get_or xs i 0 ≡ x → (n : ℕ) → list_any (λ m. m == n) xs ≡ (list_any (λ m. m == n) (remove xs i) || (x == n))
+any_removed xs i x l e n = ⊎_elim
+    (λ (s : x ≡ n). any_here xs i n 0 l (e ∙ s) ∙ sym (ap (λ b. list_any (λ m. m == n) (remove xs i) || b) (eq-eqb x n s) ∙ or_true (list_any (λ m. m == n) (remove xs i))))
+    (λ (ne : x ≢ n). sym (any_remove_other xs i n l (λ same. ne (sym e ∙ same))) ∙ sym (ap (λ b. list_any (λ m. m == n) (remove xs i) || b) (ne_eqb x n ne) ∙ or_false (list_any (λ m. m == n) (remove xs i))))
+    (cases_eq x n)

@@ -57,7 +57,7 @@ less_from x y t = ⊎_elim
     (λ (e : (y < x) × (nat_cmp x y ≡ Greater)). absurd (subst T (sym t ∙ ap is_lt e.1) tt)) h)
     (order_cases x y)
 
-same_is : (x y : ℕ) → x ≡ y → eq_by_cmp nat_cmp x y ≡ true
+pub same_is : (x y : ℕ) → x ≡ y → eq_by_cmp nat_cmp x y ≡ true
 same_is x y e = ap is_eq (equal_is x y e)
 
 other_is : (x y : ℕ) → x ≢ y → eq_by_cmp nat_cmp x y ≡ false

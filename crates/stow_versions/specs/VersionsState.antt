@@ -1,6 +1,6 @@
 -- What one tenant's versions are seen as.
-use Rattle.std.specs.Prelude.{ℕ, ◌+◌, ◌<◌, ◌≤◌, All, refl}
-use Rattle.std.specs.List.{AllPairs}
+use Rattle.std.specs.Prelude.{ℕ, ◌+◌, ◌<◌, ◌≤◌, ◌==◌, Bool, List, All, refl}
+use Rattle.std.specs.List.{AllPairs, list_any}
 use Rattle.std.specs.Ordering.{nat_cmp}
 use Rattle.std.specs.Coded.{Coded, code_by, coded×, coded_ℕ}
 use Rattle.std.specs.FinMap.{FinMap}
@@ -32,6 +32,10 @@ versions_code =
 -- nothing was written, and no snapshot was taken
 abbrev pub new_versions : VersionsState
 new_versions = record { last = 0; snapshots = map.empty; next = 1; room = 0 }
+
+-- the number is one of these
+abbrev pub is_among : ℕ → List ℕ → Bool
+is_among n numbers = list_any (λ m. m == n) numbers
 
 -- what holds of every tenant's versions
 pub record AreVersions (v : VersionsState) : Type 0 where

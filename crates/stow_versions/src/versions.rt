@@ -1,18 +1,18 @@
 //! One tenant's write numbers, snapshots and pins.
-ghost use Rattle.std.specs.Prelude.{◌≡◌, ℕ, ◌+◌, ◌<◌, ◌≤◌, ◌==◌, ◌||◌, ◌↔◌, not, filter, length, Contains, All, OnOk, OnErr, IfErr, IfSome, IfNone, IsTrue, IsFalse, slice_index, [], ◌∷◌, ◌++◌, vec_len};
+ghost use Rattle.std.specs.Prelude.{◌≡◌, ℕ, ◌+◌, ◌<◌, ◌≤◌, ◌==◌, ◌||◌, ◌↔◌, not, filter, length, Contains, All, OnOk, OnErr, IfOk, IfErr, IfSome, IfNone, IsSome, IsTrue, IsFalse, slice_index, [], ◌∷◌, ◌++◌, vec_len};
 ghost use Rattle.std.specs.List.{list_any, position, remove};
 ghost use Rattle.std.specs.List.Sorted.{IsStrictlyIncreasing};
 ghost use Rattle.std.specs.Vec.{vec_capacity};
 ghost use Rattle.std.specs.Result.{result_ok};
 ghost use Rattle.std.specs.FinMap as map;
 ghost use Rattle.stow_bytes.specs.Limits.{number_limit};
-ghost use Rattle.stow_versions.specs.VersionsState.{snapshot_limit, new_versions, AreVersions, IsReady};
+ghost use Rattle.stow_versions.specs.VersionsState.{snapshot_limit, new_versions, is_among, AreVersions, IsReady};
 ghost use Rattle.stow_versions.specs.VersionLists.{room_of, ArePins};
 ghost use Rattle.stow_versions.specs.declared.snapshot_fault.SnapshotFault.TheVariants.{TooMany, IdsUsedUp, OutOfMemory};
 
 use crate::no_such_snapshot::NoSuchSnapshot;
 use crate::snapshot_fault::SnapshotFault;
-use std::alloc::{Allocator, Global};
+use std::alloc::{AllocError, Allocator, Global};
 use std::marker::Model;
 use stow_bytes::limits::NUMBER_LIMIT;
 
@@ -70,6 +70,13 @@ impl<A: Allocator + Copy> Versions<A> {
         self.last
     }
 
+    /// The id of the next snapshot.
+    pub fn next(&self) -> u64
+        ensures { result ≡ self.now.next }
+    {
+        self.next
+    }
+
     /// The live snapshots' ids, rising.
     pub fn ids(&self) -> &[u64]
         ensures { result.now ≡ map.keys self.now.snapshots }
@@ -98,8 +105,25 @@ impl<A: Allocator + Copy> Versions<A> {
     pub fn pins(&self) -> &[u64]
         ensures rise { IsStrictlyIncreasing result.now }
         ensures members { (n : ℕ) → Contains result.now n ↔ Contains (map.values self.now.snapshots) n }
+        ensures among { (n : ℕ) → is_among n result.now ≡ is_among n (map.values self.now.snapshots) }
     {
         self.pins.as_slice()
+    }
+
+    /// The numbers of the live snapshots without one of them, in the order of their ids.
+    pub fn numbers_without(&self, alloc: A, id: u64) -> Result<Vec<u64, A>, AllocError>
+        requires { IsSome (map.get self.now.snapshots id) }
+        ensures { IfOk result (λ left. left.items ≡ map.values (map.remove self.now.snapshots id)) }
+    {
+        let mut left = Vec::new(alloc);
+        left.extend_from_slice(self.numbers.as_slice())?;
+        match place_of(&self.ids, id) {
+            None => Ok(left),
+            Some(place) => {
+                let _ = left.remove(place);
+                Ok(left)
+            }
+        }
     }
 
     /// One more write was made.
@@ -137,6 +161,8 @@ impl<A: Allocator + Copy> Versions<A> {
           next = self.old.next + 1;
           room = self.new.room;
         } }
+        ensures numbers { (n : ℕ) → is_among n (map.values self.new.snapshots)
+            ≡ (is_among n (map.values self.old.snapshots) || (self.old.last == n)) }
     {
         let id = self.next;
         self.next += 1;
@@ -154,6 +180,8 @@ impl<A: Allocator + Copy> Versions<A> {
           snapshots = map.remove self.old.snapshots id;
           room = self.new.room;
         }) }
+        ensures numbers { IfOk result (λ number. (n : ℕ) → is_among n (map.values self.old.snapshots)
+            ≡ (is_among n (map.values self.new.snapshots) || (number == n))) }
         ensures unchanged { OnErr result (self.new ≡ self.old) }
     {
         let place = match place_of(&self.ids, id) {

@@ -6,7 +6,7 @@ use Rattle.stow_model.specs.Event as event
 use Rattle.stow_model.specs.Reply.{Reply, encoding}
 use Rattle.stow_model.specs.Reply as reply
 use Rattle.stow_model.specs.Login.{Entry}
-use Rattle.stow_model.specs.Store.{OwnEvent, Asked, with_reply, is_out_of_memory}
+use Rattle.stow_model.specs.Store.{OwnEvent, Asked, GivenQuota, with_reply, is_out_of_memory}
 use Rattle.stow_model.specs.History.{ConnectionStep, Plain, Took, Broke, Service, request_of, served_as, told_by, Follows}
 
 pub data Exchange : Type 0 where
@@ -47,8 +47,10 @@ pub record Call : Type 0 where
   pub words : List (List ℕ)
   pub reply : Reply
 
+-- the words of a request; a quota has none, and comes on no connection
 abbrev pub words_of : OwnEvent → List (List ℕ)
 words_of (Asked request) = request.words
+words_of (GivenQuota quota) = []
 
 abbrev pub with_call : Option Service → Reply → List Call → List Call
 with_call None r calls = calls

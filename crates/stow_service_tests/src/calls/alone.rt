@@ -1,4 +1,5 @@
-//! Random requests of three tenants, each beside the tenant's own plain store.
+//! Random requests of three tenants, with snapshots that come and go and quotas that rise and fall, each beside the tenant's
+//! own plain store.
 use crate::making::core_of;
 use crate::text::filled_words;
 use std::alloc::{AllocError, Allocator, Global};
@@ -10,7 +11,7 @@ use stow_plain::plain_store::PlainStore;
 use stow_testing::lines::words_of;
 use stow_testing::random::Random;
 use stow_testing::replies::reply_text;
-use stow_testing::tenants::{QUOTA, THREE};
+use stow_testing::tenants::{QUOTA, SMALL_QUOTA, THREE};
 use stow_tree::tree_shape::{MOST_BUFFER, MOST_CACHE, MOST_FAN_OUT, MOST_LEAF, TreeShape};
 
 const KEYS: [&str; 6] = ["''", "a", "ab", "b", "b0", "c"];
@@ -27,8 +28,17 @@ const LARGEST: TreeShape = TreeShape {
 
 const NUMBERS: [&str; 5] = ["0", "1", "2", "3", "4"];
 
-/// A request's line: `k` and `l` are keys, `v` is a value, and `n` a number.
-const LINES: [&str; 16] = [
+/// The ids of snapshots that are asked for, of which most come to be.
+const IDS: [&str; 24] = [
+    "1", "2", "3", "4", "5", "6", "7", "8", "9", "10", "11", "12", "13", "14", "15", "16", "17",
+    "18", "19", "20", "21", "22", "23", "24",
+];
+
+/// Quotas that an operator gives. Some hold no row, and some all.
+const QUOTAS: [u64; 6] = [0, 40, 200, 30_000, 60_000, 1_000_000];
+
+/// A request's line: `k` and `l` are keys, `v` is a value, `n` a number, and `i` a snapshot's id.
+const LINES: [&str; 24] = [
     "GET k",
     "MGET k l k",
     "EXISTS k l k",
@@ -45,21 +55,30 @@ const LINES: [&str; 16] = [
     "DEL k l k",
     "ECHO v",
     "SET k v",
+    "SNAPSHOT TAKE",
+    "SNAPSHOT LIST",
+    "SNAPSHOT DROP i",
+    "SNAPSHOT DROP i",
+    "SNAPSHOT GET i k",
+    "SNAPSHOT RANGE i k l n",
+    "SNAPSHOT RANGE i '' '' 9",
+    "USAGE",
 ];
 
-/// A random request: its line, and what stands at `k` and `l`, and at `v` and `n`, in it.
-type Drawn = (
-    &'static str,
-    (&'static str, &'static str),
-    (&'static str, &'static str),
-);
-
-fn draw(random: &mut Random) -> Drawn {
-    let k = random.one_of(&KEYS);
-    let l = random.one_of(&KEYS);
-    let v = random.one_of(&VALUES);
-    let n = random.one_of(&NUMBERS);
-    (random.one_of(&LINES), (k, l), (v, n))
+/// A random request's line, and its words.
+fn draw<A: Allocator + Copy>(
+    alloc: A,
+    random: &mut Random,
+) -> Result<(&'static str, Words<A>), AllocError> {
+    let letters = [
+        ("k", random.one_of(&KEYS)),
+        ("l", random.one_of(&KEYS)),
+        ("v", random.one_of(&VALUES)),
+        ("n", random.one_of(&NUMBERS)),
+        ("i", random.one_of(&IDS)),
+    ];
+    let line = random.one_of(&LINES);
+    Ok((line, filled_words(alloc, line, &letters)?))
 }
 
 /// Whether the core and the tenant's own store tell words the same.
@@ -93,7 +112,7 @@ impl<A: Allocator + Copy> OwnStores<A> {
         OwnStores {
             first: PlainStore::new(alloc, QUOTA),
             second: PlainStore::new(alloc, QUOTA),
-            third: PlainStore::new(alloc, QUOTA),
+            third: PlainStore::new(alloc, SMALL_QUOTA),
         }
     }
 
@@ -107,25 +126,40 @@ impl<A: Allocator + Copy> OwnStores<A> {
     }
 }
 
-/// Random requests to a core and to the own stores; `None` where each is answered as alone, and else the first that isn't.
+/// Gives a random tenant a random quota, in the core and in its own store.
+fn give_quota<A: Allocator + Copy>(
+    core: &mut Core<A>,
+    stores: &mut OwnStores<A>,
+    random: &mut Random,
+) {
+    let tenant = random.below(3) + 1;
+    let quota = QUOTAS[random.below(6) as usize];
+    core.set_quota(tenant, quota);
+    stores.of(tenant).set_quota(quota);
+}
+
+/// Random requests to a core and to the own stores, and quotas; `None` where each is answered as alone, and else the first
+/// line that isn't.
 fn first_other<A: Allocator + Copy>(
     core: &mut Core<A>,
     stores: &mut OwnStores<A>,
     alloc: A,
-) -> Result<Option<Drawn>, AllocError> {
+) -> Result<Option<&'static str>, AllocError> {
     let mut random = Random::new(7);
-    for _ in 0..3_000 {
+    for _ in 0..2_500 {
+        if random.below(100) == 0 {
+            give_quota(core, stores, &mut random);
+        }
         let tenant = random.below(3) + 1;
-        let drawn = draw(&mut random);
-        let words = filled_words(alloc, drawn.0, drawn.1, drawn.2)?;
+        let (line, words) = draw(alloc, &mut random)?;
         if !is_alike(core, stores.of(tenant), alloc, tenant, words)? {
-            return Ok(Some(drawn));
+            return Ok(Some(line));
         }
     }
     Ok(None)
 }
 
-/// Whether each tenant has written more than a hundred times, and has the rows that its own store has.
+/// Whether each tenant has written more than a hundred times, and has the rows and the usage that its own store has.
 fn are_rows_alike<A: Allocator + Copy>(
     core: &mut Core<A>,
     stores: &mut OwnStores<A>,
@@ -133,8 +167,12 @@ fn are_rows_alike<A: Allocator + Copy>(
 ) -> Result<bool, AllocError> {
     for tenant in 1..4u32 {
         let alone = stores.of(tenant);
-        let words = words_of(alloc, "RANGE '' '' 1024")?;
-        if alone.last <= 100 || !is_alike(core, alone, alloc, tenant, words)? {
+        let rows = words_of(alloc, "RANGE '' '' 1024")?;
+        let usage = words_of(alloc, "USAGE")?;
+        if alone.last.get() <= 100
+            || !is_alike(core, alone, alloc, tenant, rows)?
+            || !is_alike(core, alone, alloc, tenant, usage)?
+        {
             return Ok(false);
         }
     }
@@ -146,14 +184,14 @@ fn other_of<A: Allocator + Copy>(
     alloc: A,
     global: Global,
     shape: TreeShape,
-) -> Result<Option<Drawn>, AllocError> {
+) -> Result<Option<&'static str>, AllocError> {
     let mut core = core_of(alloc, global, THREE, shape)?;
     let mut stores = OwnStores::new(alloc);
     let other = first_other(&mut core, &mut stores, alloc)?;
     if other.is_some() || are_rows_alike(&mut core, &mut stores, alloc)? {
         return Ok(other);
     }
-    Ok(Some(("the rows", ("", ""), ("", ""))))
+    Ok(Some("the rows"))
 }
 
 // Values that are long enough for many flushes are among them.

@@ -49,8 +49,7 @@ fn random_words<A: Allocator + Copy>(
     filled_words(
         alloc,
         random.one_of(&LINES),
-        (k.as_str(), l.as_str()),
-        (v, ""),
+        &[("k", k.as_str()), ("l", l.as_str()), ("v", v)],
     )
 }
 

@@ -243,16 +243,28 @@ fn reaches_leaves<A: Allocator + Copy>(
     Ok(done && before.height == 2 && core.shape().leaves > before.leaves)
 }
 
+/// How many long values there are where one more reaches the leaves below two levels, if fewer than forty.
+fn reaching<A: Allocator + Copy>(alloc: A, global: Global) -> Result<Option<u32>, AllocError> {
+    for keys in 7..40u32 {
+        if reaches_leaves(alloc, global, keys)? {
+            return Ok(Some(keys));
+        }
+    }
+    Ok(None)
+}
+
 // A node's buffer holds six of these values, so the seventh takes a flush, which asks for much more. Later one flush goes
 // through two levels: the root's messages are for a child whose own buffer is full.
 #[test]
 fn flushes_withstand_each_refusal(rt: HostRuntime) -> Result<(), Fail> {
     let global = rt.alloc();
     let heap = Refusing::new(global);
-    let asked = long_refusals(&heap, global, 6)?;
-    assert!(rt; asked.is_some_and(|asked| asked > 10), "{asked:?}");
-    assert!(rt; reaches_leaves(global, global, 14)?);
-    let asked = long_refusals(&heap, global, 14)?;
-    assert!(rt; asked.is_some_and(|asked| asked > 10), "{asked:?}");
+    let Some(keys) = reaching(global, global)? else {
+        panic!(rt; "no flush through two levels");
+    };
+    for keys in [6, keys] {
+        let asked = long_refusals(&heap, global, keys)?;
+        assert!(rt; asked.is_some_and(|asked| asked > 10), "{keys}: {asked:?}");
+    }
     Ok(())
 }

@@ -10,10 +10,10 @@ use stow_testing::replies::is_text;
 use stow_tree::shape_report::ShapeReport;
 
 /// What a tenant is told to a line.
-type Told = (u32, &'static str, &'static str);
+pub(crate) type Told = (u32, &'static str, &'static str);
 
 /// The first line to which a core tells something else; `None` where all are told this.
-fn first_other<A: Allocator + Copy>(
+pub(crate) fn first_other<A: Allocator + Copy>(
     core: &mut Core<A>,
     alloc: A,
     lines: &[Told],
@@ -27,7 +27,7 @@ fn first_other<A: Allocator + Copy>(
 }
 
 /// The first line to which a new core does.
-fn told_otherwise<A: Allocator + Copy>(
+pub(crate) fn told_otherwise<A: Allocator + Copy>(
     alloc: A,
     global: Global,
     lines: &[Told],

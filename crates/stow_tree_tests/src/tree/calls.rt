@@ -27,12 +27,12 @@ pub(crate) fn key_a() -> TenantKey<'static> {
 }
 
 /// Tenant 1's `b`.
-fn key_b() -> TenantKey<'static> {
+pub(crate) fn key_b() -> TenantKey<'static> {
     TenantKey::from_packed(&[0, 0, 0, 1, b'b'])
 }
 
 /// All keys of tenant 1.
-fn own_keys() -> Interval<'static> {
+pub(crate) fn own_keys() -> Interval<'static> {
     Interval {
         from: TenantKey::from_packed(&[0, 0, 0, 1]),
         to: TenantKey::from_packed(&[0, 0, 0, 2]),

@@ -72,16 +72,16 @@ fn leaves_become_few_again(rt: HostRuntime) -> Result<(), Fail> {
     Ok(())
 }
 
-// Of four places a node right above leaves fills two or three, and nodes are not joined: so the leaves stay many there.
+// Nodes are not joined, so at a fan-out of 4 the leaves become fewer and not few.
 #[test]
 fn leaves_become_fewer_in_the_smallest_shape(rt: HostRuntime) -> Result<(), Fail> {
     let Some(reports) = reports_of(rt.alloc(), 4)? else {
         panic!(rt; "they differ");
     };
+    assert!(rt; reports.grown.height >= 3, "{reports:?}");
     assert!(rt;
-        reports.grown.height == 6 && reports.last.height == 6,
+        reports.middle.leaves < reports.grown.leaves && reports.last.leaves < reports.middle.leaves,
         "{reports:?}"
     );
-    assert!(rt; reports.last.leaves < reports.middle.leaves, "{reports:?}");
     Ok(())
 }

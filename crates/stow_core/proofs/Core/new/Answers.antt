@@ -1,26 +1,18 @@
 use Rattle.std.proofs.lemmas.Grind.{common_steps}
-use Rattle.std.proofs.Common.{rules, ◌≡◌, ◌<◌, length, map, ap, ◌∙◌, arith, subst, sym}
+use Rattle.std.proofs.Common.{map, ap, ◌∙◌, arith, refl}
 use Rattle.std.proofs.lemmas.List.{length-map}
-use Rattle.stow_core.specs.State.{new_account}
-use Rattle.stow_core.proofs.Stores.{new_stores, new_below}
-use Rattle.stow_core.proofs.Shared.{new_shared}
+use Rattle.stow_core.specs.Tenancies.{new_tenancy, tenancy_of}
+use Rattle.stow_core.proofs.Made.{is_new, new_kept}
 use Rattle.stow_core.proofs.Core.new.Goals as goal
 
 pub returns-clause-empty : goal.returns-clause-empty
-returns-clause-empty g c =
-    let stores = new_stores c.args.tenants.value c.in_ok-accounts.accounts.items c.in_ok-tree.tree (c.in_ok-accounts.ensures.each ∙ ap (map new_account) c.deref.ensures) c.in_ok-tree.ensures.empty in
-    record { stores = stores; shared = new_shared c.args.tenants.value c.in_ok-accounts.accounts.items c.in_ok-tree.tree c.in_ok-tree.ensures.empty stores }
+returns-clause-empty g c = is_new _ c.new-pins.result (c.in_ok-tenancies.ensures.each ∙ ap (map new_tenancy) c.deref.ensures) c.in_ok-tree.ensures.empty
 
 pub invariant_of-result : goal.invariant_of-result
-invariant_of-result g c = record {
-  each = each;
-  few = c.in_ok-accounts.ensures.few;
-  below = new_below c.in_ok-accounts.accounts.items c.in_ok-tree.tree c.in_ok-tree.ensures.empty;
-  sizes = c.in_ok-tree.ensures.sizes;
-}
-  where
-    each : length c.in_ok-accounts.accounts.items ≡ length c.args.tenants.value
-    each = ap length (c.in_ok-accounts.ensures.each ∙ ap (map new_account) c.deref.ensures) ∙ length-map c.args.tenants.value new_account
+invariant_of-result g c =
+    let long = length-map c.in_ok-tenancies.tenancies.items tenancy_of in
+    let few = c.in_ok-tenancies.ensures.few in
+    new_kept _ c.new-pins.result (c.in_ok-tenancies.ensures.each ∙ ap (map new_tenancy) c.deref.ensures) c.in_ok-tree.ensures.empty (omega (arith, long, few)) c.new-pins.ensures refl c.in_ok-tree.ensures.sizes
 
 pub returns-in_err-tree-clause-entries : goal.returns-in_err-tree-clause-entries
 returns-in_err-tree-clause-entries g c = grind (arith, common_steps)

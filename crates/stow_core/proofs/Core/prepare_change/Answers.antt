@@ -1,20 +1,63 @@
-use Rattle.std.proofs.Common.{ap, sym, ◌∙◌}
+use Rattle.std.proofs.Common.{rules, ◌≡◌, Ok, ap, ◌∙◌, subst}
+use Rattle.std.specs.FinMap as finite
 use Rattle.stow_commands.specs.Commands.{update_of}
-use Rattle.stow_model.specs.Store.{value_in}
-use Rattle.stow_core.specs.State.{row_at}
+use Rattle.stow_commands.specs.Outcomes.{IsOutcome}
+use Rattle.stow_core.specs.State.{store_of, row_at}
+use Rattle.stow_core.proofs.Answered.{change_refused, changed_nothing, changed_whole, error_prepared, failed_prepared, only_counted_prepared, prepared_as, told_refused}
+use Rattle.stow_core.proofs.Kept.{keeps_itself}
 use Rattle.stow_core.proofs.Legality.{found_short}
-use Rattle.stow_core.proofs.Shared.{gives_way_same}
+use Rattle.stow_model.specs.Store.{outcome, value_in}
+use Rattle.stow_model.specs.declared.reply.Reply.TheVariants as told
+use Rattle.stow_tree_model.specs.Keys.{packed}
 use Rattle.stow_core.proofs.Core.prepare_change.Goals as goal
+
+pub returns-in_err-row : goal.returns-in_err-row
+returns-in_err-row g c = error_prepared c.args.self.now c.args.self.now c.args.tenant _ c.from_residual.result c.from_residual.ensures.0 (keeps_itself c.args.self.now c.requires.sound)
 
 pub prepare_write-requires-clause-short : goal.prepare_write-requires-clause-short
 prepare_write-requires-clause-short g c =
-    found_short (update_of c.args.update) (value_in (row_at c.args.self.now c.args.tenant c.args.key.now)) c.in-Ok-Written.field-0 c.in-Ok-Written.value c.in-Ok-Written.reply c.in-Ok-Written.field-0-is c.in-Ok-Written.ensures.outcome
+    let row = ap value_in (c.in_ok-row.ensures.row ∙ ap (λ rows. finite.get rows c.args.key.now) c.present.ensures.rows) in
+    let present = value_in (row_at c.args.self.now c.args.tenant c.args.key.now) in
+    let is = outcome (update_of c.args.update) present in
+    found_short (update_of c.args.update) present c.in-Ok-Written.field-0 c.in-Ok-Written.value c.in-Ok-Written.reply c.in-Ok-Written.field-0-is
+    (subst (λ r. IsOutcome r is) c.in-Ok-Written.is (subst (λ v. IsOutcome c.outcome.result (outcome (update_of c.args.update) v)) (c.value_in.ensures ∙ row) c.outcome.ensures))
 
-pub returns-in-Ok-Unchanged-clause-gives_way : goal.returns-in-Ok-Unchanged-clause-gives_way
-returns-in-Ok-Unchanged-clause-gives_way g c = gives_way_same _ c.requires.shared
+pub returns-in-Ok-Written : goal.returns-in-Ok-Written
+returns-in-Ok-Written g c =
+    let old = c.args.self.now in
+    let t = c.args.tenant in
+    let key = c.args.key.now in
+    let buffer : c.row.new.buffer.items ≡ packed t key = c.in_ok-row.ensures.buffer ∙ ap (λ u. packed u key) c.present.ensures.tenant in
+    let row = ap value_in (c.in_ok-row.ensures.row ∙ ap (λ rows. finite.get rows key) c.present.ensures.rows) in
+    let is = outcome (update_of c.args.update) (value_in (row_at old t key)) in
+    let said = subst (λ o. IsOutcome (Ok o) is) c.in-Ok-Written.field-0-is
+    (subst (λ r. IsOutcome r is) c.in-Ok-Written.is (subst (λ v. IsOutcome c.outcome.result (outcome (update_of c.args.update) v)) (c.value_in.ensures ∙ row) c.outcome.ensures)) in
+    prepared_as old c.prepare_write.new.self t _ _ c.prepare_write.result
+    (changed_whole (store_of old t) t c.row.new.buffer.items key c.in-Ok-Written.value (update_of c.args.update) c.in-Ok-Written.reply buffer said) c.prepare_write.ensures
 
-pub returns-in-Err-Refused-clause-gives_way : goal.returns-in-Err-Refused-clause-gives_way
-returns-in-Err-Refused-clause-gives_way g c = gives_way_same _ c.requires.shared
+pub returns-in-Ok-Unchanged : goal.returns-in-Ok-Unchanged
+returns-in-Ok-Unchanged g c =
+    let old = c.args.self.now in
+    let t = c.args.tenant in
+    let key = c.args.key.now in
+    let row = ap value_in (c.in_ok-row.ensures.row ∙ ap (λ rows. finite.get rows key) c.present.ensures.rows) in
+    let is = outcome (update_of c.args.update) (value_in (row_at old t key)) in
+    let said = subst (λ o. IsOutcome (Ok o) is) c.in-Ok-Unchanged.field-0-is
+    (subst (λ r. IsOutcome r is) c.in-Ok-Unchanged.is (subst (λ v. IsOutcome c.outcome.result (outcome (update_of c.args.update) v)) (c.value_in.ensures ∙ row) c.outcome.ensures)) in
+    only_counted_prepared old old t _ c.in-Ok-Unchanged.reply c.only_counted.result c.only_counted.ensures (keeps_itself old c.requires.sound) c.requires.is_tenant
+    (changed_nothing (store_of old t) key (update_of c.args.update) c.in-Ok-Unchanged.reply said)
 
-pub returns-in-Err-OutOfMemory-clause-gives_way : goal.returns-in-Err-OutOfMemory-clause-gives_way
-returns-in-Err-OutOfMemory-clause-gives_way g c = gives_way_same _ c.requires.shared
+pub returns-in-Err-Refused : goal.returns-in-Err-Refused
+returns-in-Err-Refused g c =
+    let old = c.args.self.now in
+    let t = c.args.tenant in
+    let key = c.args.key.now in
+    let row = ap value_in (c.in_ok-row.ensures.row ∙ ap (λ rows. finite.get rows key) c.present.ensures.rows) in
+    let is = outcome (update_of c.args.update) (value_in (row_at old t key)) in
+    let said = told_refused c.outcome.result c.in-Err-Refused.field-0 c.in-Err-Refused.refusal is c.in-Err-Refused.is (search rules)
+    (subst (λ v. IsOutcome c.outcome.result (outcome (update_of c.args.update) v)) (c.value_in.ensures ∙ row) c.outcome.ensures) in
+    only_counted_prepared old old t _ (told.Error c.in-Err-Refused.refusal) c.only_counted-in-Err-Refused.result c.only_counted-in-Err-Refused.ensures (keeps_itself old c.requires.sound) c.requires.is_tenant
+    (change_refused (store_of old t) key (update_of c.args.update) c.in-Err-Refused.refusal said)
+
+pub returns-in-Err-OutOfMemory : goal.returns-in-Err-OutOfMemory
+returns-in-Err-OutOfMemory g c = failed_prepared c.args.self.now c.args.self.now c.args.tenant _ _ (keeps_itself c.args.self.now c.requires.sound)

@@ -1,28 +1,67 @@
-use Rattle.std.proofs.Common.{arith}
-use Rattle.std.proofs.lemmas.Grind.{common_steps}
-use Rattle.stow_core.proofs.Shared.{gives_way_same}
+use Rattle.std.proofs.Common.{Ok, map, pos, refl, subst, sym}
+use Rattle.std.specs.FinMap as finite
+use Rattle.stow_commands.specs.Commands.{command_of}
+use Rattle.stow_commands.specs.declared.command.Command.TheVariants as command
+use Rattle.stow_core.specs.Prepared.{IsPrepared, serves}
+use Rattle.stow_core.specs.State.{store_of, rows_in}
+use Rattle.stow_core.proofs.Answered.{command_prepared, only_counted_prepared}
+use Rattle.stow_core.proofs.Kept.{keeps_itself}
+use Rattle.stow_model.specs.LentWords.{words_in}
+use Rattle.stow_model.specs.Reply as reply
+use Rattle.stow_model.specs.Store.{count_rows, counted, get_reply, id_items, item_or_null, length_or_zero, usage, usage_items}
 use Rattle.stow_core.proofs.Core.prepare_in.Goals as goal
 
-pub returns-in_err-from_slice-in-Echo-clause-gives_way : goal.returns-in_err-from_slice-in-Echo-clause-gives_way
-returns-in_err-from_slice-in-Echo-clause-gives_way g c = gives_way_same _ c.requires.shared
+pub returns-in-Ping : goal.returns-in-Ping
+returns-in-Ping g c =
+    let core = c.args.self.now in
+    subst (λ k. IsPrepared core c.args.tenant (serves (command_of k)) core (Ok c.only_counted.result)) (sym c.in-Ping.is)
+    (only_counted_prepared core core c.args.tenant _ _ c.only_counted.result c.only_counted.ensures (keeps_itself core c.requires.sound) c.requires.is_tenant refl)
 
-pub returns-in_err-reply-in-Get-clause-gives_way : goal.returns-in_err-reply-in-Get-clause-gives_way
-returns-in_err-reply-in-Get-clause-gives_way g c = gives_way_same _ c.requires.shared
+pub returns-in-Echo : goal.returns-in-Echo
+returns-in-Echo g c =
+    command_prepared c.args.self.now c.args.tenant c.args.command (command.Echo c.in-Echo.text) c.echo.result c.counted.result (reply.Bulk c.in-Echo.text.now) c.in-Echo.is c.counted.ensures c.requires.sound c.requires.is_tenant c.echo.ensures refl
 
-pub returns-in_err-reply-in-GetMany-clause-gives_way : goal.returns-in_err-reply-in-GetMany-clause-gives_way
-returns-in_err-reply-in-GetMany-clause-gives_way g c = gives_way_same _ c.requires.shared
+pub returns-in-Get : goal.returns-in-Get
+returns-in-Get g c =
+    let core = c.args.self.now in
+    let store = store_of core c.args.tenant in
+    let key = c.in-Get.key.now in
+    command_prepared core c.args.tenant c.args.command (command.Get c.in-Get.key) c.value.result c.counted-in-Get.result (get_reply key (rows_in core c.present-rows.result)) c.in-Get.is c.counted-in-Get.ensures c.requires.sound c.requires.is_tenant c.value.ensures
+    (λ i. (counted store, get_reply key (c.present-rows.ensures.rows i)))
 
-pub returns-in_err-reply-in-Exists-clause-gives_way : goal.returns-in_err-reply-in-Exists-clause-gives_way
-returns-in_err-reply-in-Exists-clause-gives_way g c = gives_way_same _ c.requires.shared
+pub returns-in-GetMany : goal.returns-in-GetMany
+returns-in-GetMany g c =
+    let core = c.args.self.now in
+    let store = store_of core c.args.tenant in
+    let keys = words_in c.in-GetMany.keys in
+    command_prepared core c.args.tenant c.args.command (command.GetMany c.in-GetMany.keys) c.values.result c.counted-in-GetMany.result (reply.Array (map (λ key. item_or_null (finite.get (rows_in core c.present-rows.result) key)) keys)) c.in-GetMany.is c.counted-in-GetMany.ensures
+    c.requires.sound c.requires.is_tenant c.values.ensures
+    (λ i. (counted store, reply.Array (map (λ key. item_or_null (finite.get (c.present-rows.ensures.rows i) key)) keys)))
 
-pub returns-in_err-reply-in-Length-clause-gives_way : goal.returns-in_err-reply-in-Length-clause-gives_way
-returns-in_err-reply-in-Length-clause-gives_way g c = gives_way_same _ c.requires.shared
+pub returns-in-Exists : goal.returns-in-Exists
+returns-in-Exists g c =
+    let core = c.args.self.now in
+    let store = store_of core c.args.tenant in
+    let keys = words_in c.in-Exists.keys in
+    command_prepared core c.args.tenant c.args.command (command.Exists c.in-Exists.keys) c.count_rows.result c.counted-in-Exists.result (reply.Integer (pos (count_rows (rows_in core c.present-rows.result) keys))) c.in-Exists.is c.counted-in-Exists.ensures
+    c.requires.sound c.requires.is_tenant c.count_rows.ensures
+    (λ i. (counted store, reply.Integer (pos (count_rows (c.present-rows.ensures.rows i) keys))))
 
-pub returns-clause-gives_way : goal.returns-clause-gives_way
-returns-clause-gives_way g c = gives_way_same _ c.requires.shared
+pub returns-in-Length : goal.returns-in-Length
+returns-in-Length g c =
+    let core = c.args.self.now in
+    let store = store_of core c.args.tenant in
+    let key = c.in-Length.key.now in
+    command_prepared core c.args.tenant c.args.command (command.Length c.in-Length.key) c.value_length.result c.counted-in-Length.result (reply.Integer (pos (length_or_zero (finite.get (rows_in core c.present-rows.result) key)))) c.in-Length.is c.counted-in-Length.ensures
+    c.requires.sound c.requires.is_tenant c.value_length.ensures
+    (λ i. (counted store, reply.Integer (pos (length_or_zero (finite.get (c.present-rows.ensures.rows i) key)))))
 
-pub returns-in-Range-clause-answer : goal.returns-in-Range-clause-answer
-returns-in-Range-clause-answer g c = grind (arith, common_steps)
+pub returns-in-ListSnapshots : goal.returns-in-ListSnapshots
+returns-in-ListSnapshots g c =
+    command_prepared c.args.self.now c.args.tenant c.args.command command.ListSnapshots c.snapshot_ids.result c.counted-in-ListSnapshots.result (reply.Array (id_items (store_of c.args.self.now c.args.tenant))) c.in-ListSnapshots.is c.counted-in-ListSnapshots.ensures
+    c.requires.sound c.requires.is_tenant c.snapshot_ids.ensures refl
 
-pub returns-clause-answer : goal.returns-clause-answer
-returns-clause-answer g c = grind (arith, common_steps)
+pub returns-in-ReportUsage : goal.returns-in-ReportUsage
+returns-in-ReportUsage g c =
+    command_prepared c.args.self.now c.args.tenant c.args.command command.ReportUsage c.usage_reply.result c.counted-in-ReportUsage.result (reply.Array (usage_items (usage (counted (store_of c.args.self.now c.args.tenant))))) c.in-ReportUsage.is c.counted-in-ReportUsage.ensures
+    c.requires.sound c.requires.is_tenant c.usage_reply.ensures refl

@@ -1,27 +1,31 @@
-use Rattle.std.proofs.Common.{rules, ◌≤◌, length, ap, ◌∙◌, subst, sym, arith}
-use Rattle.stow_core.proofs.Stores.{found_row, row_found, on_ok}
+use Rattle.std.proofs.Common.{◌∙◌, subst, sym}
+use Rattle.std.proofs.Common.{◌≡◌}
+use Rattle.std.specs.Prelude.{IfOk}
+use Rattle.std.specs.FinMap as finite
+use Rattle.stow_model.specs.Login.{IsTenant}
+use Rattle.stow_core.specs.Writes.{row_of}
+use Rattle.stow_core.specs.State.{CoreState, rows_in}
+use Rattle.stow_core.proofs.Stores.{low_index, row_found, row_short, on_ok}
 use Rattle.stow_tree.specs.TreeState.{tree_messages}
-use Rattle.stow_tree_model.specs.Keys.{packed, IsTenantKey}
+use Rattle.stow_tree_model.specs.Keys.{IsTenantKey}
 use Rattle.stow_tree_model.proofs.Packed.{IsTenantKey-packed}
-use Rattle.stow_core.specs.State.{row_at}
 use Rattle.stow_core.proofs.Core.row.Goals as goal
 
-pub from_packed-requires : goal.from_packed-requires
-from_packed-requires g c =
-    let high : c.args.tenant ≤ length c.self.inside.accounts.items = search rules in
-    let few = c.self.invariant.few in
-    subst IsTenantKey (sym (c.as_slice.ensures.value ∙ c.in_ok-pack_into.ensures)) (IsTenantKey-packed c.args.tenant c.args.key.now (omega (arith, high, few)) c.requires.short)
+pub from_packed-key-requires : goal.from_packed-key-requires
+from_packed-key-requires g c =
+    let index = low_index _ c.self.inside.pins c.args.rows.tenant c.self.invariant (subst (λ (s : CoreState). IsTenant s.entries c.args.rows.tenant) (sym c.self.view_is) c.requires.is_tenant) in
+    subst IsTenantKey (sym (c.as_slice.ensures.value ∙ c.in_ok-pack_into.ensures)) (IsTenantKey-packed c.args.rows.tenant c.args.key.now index c.requires.short)
 
 pub returns-clause-row : goal.returns-clause-row
 returns-clause-row g c =
-    let high : c.args.tenant ≤ length c.self.inside.accounts.items = search rules in
-    row_found c.get.result (tree_messages c.self.inside.tree) (packed c.args.tenant c.args.key.now) c.from_packed.result.bytes.now c.index.result.now.last (row_at c.args.self.now c.args.tenant c.args.key.now)
-    (c.from_packed.ensures ∙ c.as_slice.ensures.value ∙ c.in_ok-pack_into.ensures)
-    (found_row _ c.args.self.now c.args.tenant c.index.result.now c.args.key.now c.self.view_is c.requires.is_tenant.0 high c.index.ensures)
-    c.get.ensures
+    subst (λ (s : CoreState). IfOk c.get.result (λ row. row_of row ≡ finite.get (rows_in s c.args.rows) c.args.key.now)) c.self.view_is
+    (row_found c.get.result (tree_messages c.self.inside.tree) c.args.rows.tenant c.args.rows.number c.args.key.now c.from_packed-key.result.bytes.now
+    (c.from_packed-key.ensures ∙ c.as_slice.ensures.value ∙ c.in_ok-pack_into.ensures) c.get.ensures.value)
+
+pub returns-clause-short : goal.returns-clause-short
+returns-clause-short g c = row_short c.get.result c.get.ensures.short
 
 pub returns-clause-is_key : goal.returns-clause-is_key
 returns-clause-is_key g c =
-    let high : c.args.tenant ≤ length c.self.inside.accounts.items = search rules in
-    let few = c.self.invariant.few in
-    on_ok c.get.result (subst IsTenantKey (sym c.in_ok-pack_into.ensures) (IsTenantKey-packed c.args.tenant c.args.key.now (omega (arith, high, few)) c.requires.short))
+    let index = low_index _ c.self.inside.pins c.args.rows.tenant c.self.invariant (subst (λ (s : CoreState). IsTenant s.entries c.args.rows.tenant) (sym c.self.view_is) c.requires.is_tenant) in
+    on_ok c.get.result (subst IsTenantKey (sym c.in_ok-pack_into.ensures) (IsTenantKey-packed c.args.rows.tenant c.args.key.now index c.requires.short))

@@ -1,9 +1,9 @@
-use Rattle.std.proofs.Common.{ap, ◌∙◌, subst, sym, map, arith}
+use Rattle.std.proofs.Common.{◌∙◌, subst, sym, map, arith}
 use Rattle.stow_core.proofs.Within.{told_range}
 use Rattle.stow_read.specs.Range.{key_value, IsRange}
 use Rattle.stow_tree_model.specs.Messages.{ops_of}
 use Rattle.stow_tree.specs.TreeState.{tree_messages}
-use Rattle.stow_tree_model.specs.Keys.{packed, IsTenantKey}
+use Rattle.stow_tree_model.specs.Keys.{IsTenantKey}
 use Rattle.stow_tree_model.proofs.Packed.{IsTenantKey-packed}
 use Rattle.stow_core.proofs.ranging.first_rows.Goals as goal
 

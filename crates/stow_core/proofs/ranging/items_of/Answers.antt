@@ -1,9 +1,9 @@
-use Rattle.std.proofs.Common.{ap, ◌∙◌, subst, sym, map, ◌++◌}
+use Rattle.std.proofs.Common.{ap, ◌∙◌, subst, map, ◌++◌}
 use Rattle.std.specs.List.{AllByRecursion, flat_map}
 use Rattle.stow_core.specs.Ends.{row_bulks, IsWholeKey}
 use Rattle.stow_read.specs.Range.{key_value}
-use Rattle.stow_core.proofs.Stores.{take_all}
-use Rattle.stow_core.proofs.Told.{AreTold, one_more_told, keys_of}
+use Rattle.stow_core.proofs.Tenancies.{take_all}
+use Rattle.stow_core.proofs.Told.{one_more_told, keys_of}
 use Rattle.stow_core.proofs.ranging.items_of.Goals as goal
 
 pub loop-index-preserved : goal.loop-index-preserved

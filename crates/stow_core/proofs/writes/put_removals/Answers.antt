@@ -1,7 +1,7 @@
 use Rattle.std.proofs.Common.{refl, length, ◌<◌, rules, suc, drop}
 use Rattle.stow_core.specs.Writes.{removal_of, removals_of}
 use Rattle.stow_model.specs.LentWords.{words_in}
-use Rattle.stow_core.proofs.Room.{IsRemoving, first_reserved, first_to_remove, removing_on, removed_all, message_at}
+use Rattle.stow_core.proofs.Room.{first_reserved, first_to_remove, removing_on, removed_all, message_at}
 use Rattle.stow_core.proofs.writes.put_removals.Goals as goal
 
 pub loop-index-init : goal.loop-index-init

@@ -1,12 +1,6 @@
 use Rattle.std.proofs.lemmas.Grind.{common_steps}
-use Rattle.std.proofs.Common.{refl, length, ◌<◌, rules, subst, ap, sym, ◌∙◌, map, arith}
-use Rattle.stow_core.specs.Writes.{removal_of, removals_of}
+use Rattle.std.proofs.Common.{length, ◌<◌, rules, arith}
 use Rattle.stow_model.specs.LentWords.{words_in}
-use Rattle.stow_tree_model.specs.Agreement.{TenantPins}
-use Rattle.stow_tree.specs.Putting.{CanReserve, IsReserved}
-use Rattle.stow_tree.specs.TreeState.{tree_messages, AgreeUnder}
-use Rattle.stow_tree_model.specs.TreeMessage.{message_of}
-use Rattle.stow_core.proofs.Stores.{take_all}
 use Rattle.stow_core.proofs.Room.{message_at}
 use Rattle.stow_core.proofs.writes.reserve_removals.Goals as goal
 
@@ -14,9 +8,6 @@ pub removal_message-requires : goal.removal_message-requires
 removal_message-requires g c =
     let below : c.loop-index.index < length (words_in c.args.keys) = search rules in
     message_at c.args.number (words_in c.args.keys) c.loop-index.index c.get.result.now c.requires.messages below c.get.ensures
-
-pub returns-clause-agrees : goal.returns-clause-agrees
-returns-clause-agrees g c = subst (λ (pins : TenantPins). AgreeUnder pins (tree_messages c.args.tree.now) (tree_messages c.reserve.new.self)) (λ i t. c.new.ensures t i) c.reserve.ensures.agrees
 
 pub loop-index-preserved : goal.loop-index-preserved
 loop-index-preserved g c = grind (arith, common_steps)

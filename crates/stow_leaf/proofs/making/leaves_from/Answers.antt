@@ -1,4 +1,4 @@
-use Rattle.std.proofs.Common.{◌≡◌, ◌<◌, ◌≤◌, arith, ◌∙◌, ◌∷◌, ◌++◌, [], ap, sym, map}
+use Rattle.std.proofs.Common.{arith, ◌∙◌, ap, map}
 use Rattle.std.proofs.lemmas.Bool.Decides.{nat_tests}
 use Rattle.stow_leaf.specs.LeafRows.{leaf_rows}
 use Rattle.stow_leaf.specs.Making.{first_key}

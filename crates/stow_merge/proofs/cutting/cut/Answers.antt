@@ -30,8 +30,8 @@ loop-i-preserved g c =
           ])))
     ]
 
-pub returns : goal.returns
-returns g c =
+pub returns-clause-pages : goal.returns-clause-pages
+returns-clause-pages g c =
     let sizes = c.args.sizes.now in
     let at_end : c.loop-i.i ≡ length sizes = (let a = c.loop-i.auto.i-end in let b = c.loop-i-test.false in omega arith) in
     let so_far : SoFar sizes c.args.room c.loop-i.ends.items c.loop-i.from (length sizes) c.loop-i.page = subst (λ n. SoFar sizes c.args.room c.loop-i.ends.items c.loop-i.from n c.loop-i.page) at_end c.loop-i.invariant in

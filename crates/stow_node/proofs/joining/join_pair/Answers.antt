@@ -3,7 +3,7 @@ use Rattle.std.proofs.Common.{◌+◌, refl, ap, ◌∙◌, arith}
 use Rattle.std.specs.Prelude.{slice_get}
 use Rattle.stow_leaf.specs.declared.leaf.Leaf.{Leaf}
 use Rattle.stow_node.specs.Joins.{Pair}
-use Rattle.stow_node.proofs.Pairs.{lower_at, upper_at, pair_is, rows_below, not_to_join, to_join, forgets_pair}
+use Rattle.stow_node.proofs.Pairs.{lower_at, upper_at, pair_is, rows_below, not_to_join, to_join, forgets_pair, loses_pair}
 use Rattle.stow_node.proofs.joining.join_pair.Goals as goal
 
 pub leaf_at-lower-requires : goal.leaf_at-lower-requires
@@ -30,6 +30,13 @@ returns-clause-ok g c pair =
     to_join pair c.args.target c.leaf_at-lower.result.now c.leaf_at-upper.result.now c.in_ok-rows.field-0 c.in-Some.rows c.put_joined.new.children.items
     (pair_is pair c.as_slice.result.now c.as_slice-2.result.now c.leaf_at-lower.result.now c.leaf_at-upper.result.now c.as_slice.ensures.value c.as_slice-2.ensures.value c.leaf_at-lower.ensures c.leaf_at-upper.ensures)
     c.in_ok-rows.ensures c.in-Some.is (c.put_joined.ensures pair)
+
+pub returns-clause-lost : goal.returns-clause-lost
+returns-clause-lost g c pair =
+    let same = pair_is pair c.as_slice.result.now c.as_slice-2.result.now c.leaf_at-lower.result.now c.leaf_at-upper.result.now c.as_slice.ensures.value c.as_slice-2.ensures.value c.leaf_at-lower.ensures c.leaf_at-upper.ensures in
+    loses_pair pair c.as_key.result.bytes.now c.as_key-2.result.bytes.now c.args.cache.now c.forget.new.self c.forget-2.new.self
+    (c.as_key.ensures ∙ ap (λ (l : Leaf g.row.A.Denot). l.low) same.0) (c.as_key-2.ensures ∙ ap (λ (l : Leaf g.row.A.Denot). l.low) same.1)
+    c.forget.ensures.limit c.forget.ensures.leaves c.forget-2.ensures.limit c.forget-2.ensures.leaves
 
 pub returns-clause-cache : goal.returns-clause-cache
 returns-clause-cache g c =

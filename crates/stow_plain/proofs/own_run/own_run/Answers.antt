@@ -34,12 +34,6 @@ loop-request-preserved g c =
       replies = told ∙ replies-step quota (store_of old) (store_of c.step.new.self) (reply_of c.in_ok-step.field-0) request line (reverse (map reply_of c.loop-request.replies.items)) v.store done v.replies ∙ ap (replies_after quota) lines;
     }
 
-pub returns-in_err-step-clause-store : goal.returns-in_err-step-clause-store
-returns-in_err-step-clause-store g c = grind (arith, common_steps)
-
-pub returns-in_err-step-clause-replies : goal.returns-in_err-step-clause-replies
-returns-in_err-step-clause-replies g c = grind (arith, common_steps)
-
 pub returns-in_err-push-clause-store : goal.returns-in_err-push-clause-store
 returns-in_err-push-clause-store g c = grind (arith, common_steps)
 

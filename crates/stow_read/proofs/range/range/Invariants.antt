@@ -6,7 +6,8 @@ use Rattle.stow_tree_model.specs.Messages.{ops_in}
 use Rattle.stow_tree_model.specs.declared.tenant_key.TenantKey.{TenantKey}
 use Rattle.stow_read.specs.Range.{key_value}
 use Rattle.stow_read.specs.Way.{IsAt}
-use Rattle.stow_read.proofs.Ranged.{IsRangeSoFar, left_from}
+use Rattle.stow_read.proofs.FirstKeys.{left_from}
+use Rattle.stow_read.proofs.Ranged.{IsRangeSoFar}
 use Rattle.stow_read.proofs.range.range.Given as goal
 
 abbrev pub invariant-loop-next : goal.invariant-loop-next

@@ -3,9 +3,14 @@ use Rattle.stow_script.specs.Script.{line_of}
 use Rattle.stow_house.specs.Steps.{state_of}
 use Rattle.stow_workers.specs.Sent.{written_of}
 use Rattle.stow_tasks.specs.Told.{progress_of}
-use Rattle.stow_tasks.proofs.Telling.{HasWritten, all_begins, checked_ok, ended, ends_at_output, line_told, failed_write, finished_all, on_err, on_ok, part_told, refused_part, since, some_written, told_sent}
+use Rattle.stow_tasks.proofs.Telling.{HasWritten, all_begins, led_tenants, of_tenant_at, checked_ok, ended, ends_at_output, line_told, failed_write, finished_all, on_err, on_ok, part_told, refused_part, since, some_written, told_sent}
 use Rattle.stow_tasks.proofs.script.carry_out.Goals.{then-len-ge-ANSWERS+in_ok-check, else-len-ge-ANSWERS}
 use Rattle.stow_tasks.proofs.script.carry_out.Goals as goal
+
+pub carry_out_line-requires : goal.carry_out_line-requires
+carry_out_line-requires g c =
+    let house = state_of c.args.house.now in
+    of_tenant_at house.core.entries (state_of c.loop-line.house).core.entries c.args.lines.now c.loop-line.line-index c.line-item.result (sym (led_tenants house _ _ (state_of c.loop-line.house) c.loop-line.invariant.0.leads)) c.requires c.loop-line-test.true c.line-item.is
 
 pub returns-in_err-finish-clause-carried_out : goal.returns-in_err-finish-clause-carried_out
 returns-in_err-finish-clause-carried_out g c =

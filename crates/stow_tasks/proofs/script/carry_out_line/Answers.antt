@@ -5,6 +5,7 @@ use Rattle.stow_house.specs.Steps.{HouseState, state_of}
 use Rattle.stow_core.specs.State.{CoreState}
 use Rattle.stow_tree.specs.Reports.{IsReport}
 use Rattle.stow_tasks.specs.Lines.{shape_text}
+use Rattle.stow_tasks.specs.Told.{usage_of}
 use Rattle.stow_tasks.proofs.Telling.{a_text, err_so, ok_so}
 use Rattle.stow_tasks.proofs.script.carry_out_line.Goals as goal
 
@@ -22,3 +23,6 @@ pub returns-in-Shape-clause-done : goal.returns-in-Shape-clause-done
 returns-in-Shape-clause-done g c =
     let report = subst (λ (core : CoreState). IsReport core.tree c.shape.result) c.core.ensures c.shape.ensures in
     rw c.in-Shape.is (err_so c.write_shape.result (shape_text c.shape.result, (c.shape.result, report, refl, refl)))
+
+pub returns-in-Usage-clause-done : goal.returns-in-Usage-clause-done
+returns-in-Usage-clause-done g c = rw c.in-Usage.is (err_so c.tell_usage.result (usage_of (state_of c.args.house.now).core c.in-Usage.tenant, (refl, refl)))

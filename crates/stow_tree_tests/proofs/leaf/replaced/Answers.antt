@@ -20,8 +20,8 @@ has_short_values-requires g c =
     let are = lent_are c.as_slice.result.now c.in_ok-batch.batch.items c.in_range.result c.args.buffer.now.messages c.as_key.result.bytes.now c.in_ok-new.field-0 c.from_packed-high.result.bytes.now c.as_slice.ensures.value c.in_ok-batch.ensures c.in_range.ensures.messages c.as_key.ensures in
     rw are (filter_rises (is_between c.in_ok-new.field-0 c.from_packed-high.result.bytes.now) c.args.buffer.now.messages c.len-len.ensures.rising)
 
-pub replacement-requires-clause-can : goal.replacement-requires-clause-can
-replacement-requires-clause-can g c =
+pub replacement-requires : goal.replacement-requires
+replacement-requires g c =
     let are = lent_are c.as_slice.result.now c.in_ok-batch.batch.items c.in_range.result c.args.buffer.now.messages c.as_key.result.bytes.now c.in_ok-new.field-0 c.from_packed-high.result.bytes.now c.as_slice.ensures.value c.in_ok-batch.ensures c.in_range.ensures.messages c.as_key.ensures in
     can_replace_alone c.in_ok-new.field-0 c.from_packed-high.result.bytes.now c.in_ok-new-3.field-0 c.args.buffer.now.messages (pins_in c.new-pins.result) c.in_ok-new.ensures c.from_packed-high.ensures (c.in_ok-new-3.ensures ∙ c.in_ok-new-2.ensures)
     (has_messages c.as_slice.result.now c.in_ok-new.field-0 c.from_packed-high.result.bytes.now c.args.buffer.now.messages are (let n = c.as_slice.ensures.len in let e = c.is_empty.ensures in let f = c.if-is_empty.false in grind (arith, nat_tests, n, e, f)))

@@ -13,8 +13,8 @@ push-requires g c =
     (ap (λ (m : TreeMessage). spans c.args.node.now.low top_key m.key) made ∙ sym c.may_hold.ensures ∙ c.if-not-may_hold.false)
     (c.fits.ensures.0 c.if-not-fits.false)
 
-pub returns-clause-below : goal.returns-clause-below
-returns-clause-below g c =
+pub returns : goal.returns
+returns g c =
     let made = c.in-Some.ensures.made in
     subst (AreNumberedBelow (c.args.number + 1)) (sym c.push.ensures)
     (subst (λ n. AreNumberedBelow (n + 1) (accepted (message_of c.in-Some.made ∷ []) c.args.node.now)) (ap (λ (m : TreeMessage). m.number) made)

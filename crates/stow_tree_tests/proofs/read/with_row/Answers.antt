@@ -19,7 +19,7 @@ step-requires-clause-short g c =
     subst (λ (t : Subtree). AreShort (messages_of t)) (sym c.push.ensures)
     (short_alone c.in_ok-node.node _ (120 ∷ []) (ap messages_of c.in_ok-node.ensures) refl (omega arith))
 
-pub returns-clause-below : goal.returns-clause-below
-returns-clause-below g c =
+pub returns : goal.returns
+returns g c =
     flushed_below _ c.push.new.self c.step.new.self 1 c.in_ok-step.ensures.ok
     (subst (AreNumberedBelow 2) (sym c.push.ensures) (accepted_below c.in_ok-node.node _ (none_below c.in_ok-node.node 1 (ap messages_of c.in_ok-node.ensures))))

@@ -1,8 +1,7 @@
 use Rattle.std.proofs.Common.{◌≤◌, ◌<◌, refl, inl, inr, arith}
 use Rattle.stow_model.specs.Event as event
 use Rattle.stow_house.specs.StepResult.{Done, Refused, NoMemory}
-use Rattle.stow_core.proofs.Shared.{idle}
-use Rattle.stow_house.proofs.Stood.{flushed}
+use Rattle.stow_house.proofs.Stood.{flushed, idle}
 use Rattle.stow_house.proofs.house.House.resize.Goals as goal
 
 pub returns-then-leaves-gt-CACHE_LIMIT-clause-steps : goal.returns-then-leaves-gt-CACHE_LIMIT-clause-steps
@@ -11,8 +10,8 @@ returns-then-leaves-gt-CACHE_LIMIT-clause-steps g c =
 
 pub returns-in-Ok-clause-steps : goal.returns-in-Ok-clause-steps
 returns-in-Ok-clause-steps g c =
-    flushed _ _ (event.Resize c.args.leaves) Done (inl (omega arith, inl refl)) (λ d. refl) c.resize.ensures.entries c.resize.ensures.stores (λ _. c.resize.ensures.gives_way.step) c.in-Ok.ensures.ok
+    flushed _ _ (event.Resize c.args.leaves) Done (inl (omega arith, inl refl)) (λ d. refl) c.resize.ensures.keeps.entries c.resize.ensures.keeps.stores (λ _. c.resize.ensures.keeps.gives_way.step) c.in-Ok.ensures.ok
 
 pub returns-in-Err-clause-steps : goal.returns-in-Err-clause-steps
 returns-in-Err-clause-steps g c =
-    flushed _ _ (event.Resize c.args.leaves) NoMemory (inl (omega arith, inr refl)) (λ d. refl) c.resize.ensures.entries c.resize.ensures.stores (λ _. c.resize.ensures.gives_way.step) c.in-Err.ensures.err
+    flushed _ _ (event.Resize c.args.leaves) NoMemory (inl (omega arith, inr refl)) (λ d. refl) c.resize.ensures.keeps.entries c.resize.ensures.keeps.stores (λ _. c.resize.ensures.keeps.gives_way.step) c.in-Err.ensures.err

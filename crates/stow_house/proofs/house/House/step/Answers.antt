@@ -1,8 +1,7 @@
 use Rattle.std.proofs.Common.{refl}
 use Rattle.stow_model.specs.Event as event
 use Rattle.stow_house.specs.StepResult.{Refused, NoJob}
-use Rattle.stow_core.proofs.Shared.{idle}
-use Rattle.stow_house.proofs.Stood.{flushed}
+use Rattle.stow_house.proofs.Stood.{flushed, idle}
 use Rattle.stow_house.proofs.house.House.step.Goals as goal
 
 pub returns-in-Plan-clause-steps : goal.returns-in-Plan-clause-steps

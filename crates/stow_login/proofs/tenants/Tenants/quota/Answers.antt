@@ -4,9 +4,9 @@ use Rattle.stow_model.specs.Login.{quota_of, quota_from}
 use Rattle.stow_login.proofs.Listed.{has_index, quota_at}
 use Rattle.stow_login.proofs.tenants.Tenants.quota.Goals as goal
 
-pub returns : goal.returns
+pub returns-clause-quota : goal.returns-clause-quota
 unfolding quota_of
-returns g c =
+returns-clause-quota g c =
     let tenants = c.self.inside.tenants.items in
     let index = c.args.index in
     let low : 1 ≤ index = c.requires.0 in

@@ -5,9 +5,11 @@ pub returns : goal.returns
 returns g c =
     rw (← c.self.view_is) (rw c.as_slice.ensures.value (record {
       width = refl;
-      some = c.self.invariant.wide.0;
+      some = c.self.invariant.some;
       low = c.self.invariant.first;
       deeper = refl;
+      nearest = refl;
+      deepest = refl;
       leaves = refl;
       tiled = c.self.invariant.tiled;
       level = c.self.invariant.level;

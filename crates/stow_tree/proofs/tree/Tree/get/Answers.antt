@@ -1,8 +1,14 @@
-use Rattle.std.proofs.Common.{ap, ◌∙◌}
-use Rattle.stow_tree_model.specs.Operations.{Operations, latest}
-use Rattle.stow_tree.specs.TreeState.{TreeState}
+use Rattle.std.proofs.Common.{Option, ap, sym, ◌∙◌, subst}
+use Rattle.stow_tree_model.specs.Operations.{NumberedValue, Operations, latest, value_in}
+use Rattle.stow_tree_model.specs.Value.{IsValue}
+use Rattle.stow_tree.specs.TreeState.{TreeState, tree_messages}
+use Rattle.stow_tree_model.specs.Messages.{ops_of}
 use Rattle.stow_tree.proofs.Read.{root_ops}
 use Rattle.stow_tree.proofs.tree.Tree.get.Goals as goal
 
-pub returns : goal.returns
-returns g c = c.in_ok-get.ensures.value ∙ ap (λ (f : Operations). latest f c.args.at) (root_ops c.args.self.now c.self.inside.root c.args.key.bytes.now (ap (λ (t : TreeState). t.root) c.self.view_is))
+pub returns-clause-value : goal.returns-clause-value
+returns-clause-value g c = c.in_ok-get.ensures.value ∙ ap (λ (f : Operations). latest f c.args.at) (root_ops c.args.self.now c.self.inside.root c.args.key.bytes.now (ap (λ (t : TreeState). t.root) c.self.view_is))
+
+pub returns-clause-short : goal.returns-clause-short
+returns-clause-short g c =
+    subst (λ (v : Option NumberedValue). IsValue (value_in v)) (sym c.in_ok-get.ensures.value) (c.self.invariant.short c.args.key.bytes.now c.args.at)

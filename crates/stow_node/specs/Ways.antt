@@ -1,0 +1,91 @@
+-- The way of a step's messages.
+use Rattle.std.specs.Prelude.{◌≡◌, ◌⊎◌, ℕ, zero, suc, ◌+◌, ◌≤◌, List, [], ◌∷◌, ◌++◌, length, take, drop, slice_get, slice_set, Some}
+use Rattle.stow_leaf_cache.specs.Cache.{Cache}
+use Rattle.stow_message.specs.MessageBuf.{MessageList, without_range}
+use Rattle.stow_tree_model.specs.Agreement.{TenantPins}
+use Rattle.stow_node.specs.declared.child.Child.{Child}
+use Rattle.stow_node.specs.declared.child.Child.TheVariants as in_child
+use Rattle.stow_node.specs.Absorbs.{Merges}
+use Rattle.stow_node.specs.Joins.{leaves_of}
+use Rattle.stow_node.specs.Moves.{IsHeaviest, IsSqueezed, HandsDown, LacksRoom, bytes_for}
+use Rattle.stow_node.specs.Nodes.{node_part, parts_of, AreChildren}
+use Rattle.stow_node.specs.Parts.{high_of}
+use Rattle.stow_node.specs.Regroups.{Grows}
+use Rattle.stow_node.specs.Subtree.{Subtree}
+
+-- a node and those that came behind it hold what one with these children and messages would
+pub record IsCutFrom {A : Type 0} (pins : TenantPins) (children : List (Child A)) (b : MessageList)
+    (new : Subtree) (came : List (Child A)) : Type 0 where
+  pub whole : Subtree
+  pub stand : AreChildren whole children
+  pub own : whole.buffer ≡ b
+  pub grows : Grows pins whole new came
+
+-- the child for which most bytes are buffered, the leftmost of equals
+pub record Heaviest (A : Type 0) (old : Subtree) : Type 0 where
+  pub children : List (Child A)
+  pub stand : AreChildren old children
+  pub index : ℕ
+  pub most : IsHeaviest (parts_of children) old.buffer index
+
+-- right above leaves: all messages for the heaviest one leave the buffer and are merged into it
+pub record MergesHeaviest {A : Type 0} (pins : TenantPins) (old new : Subtree)
+    (came : List (Child A)) (cache cache' : Cache) : Type 0 where
+  pub to : Heaviest A old
+  pub fresh : List (Child A)
+  pub merges : Merges to.children to.index old.buffer.messages pins old.shape.leaf fresh
+      cache cache'
+  pub cut : IsCutFrom pins fresh (without_range merges.replaced.leaf.low
+      (high_of (parts_of to.children) to.index) old.buffer) new came
+
+-- the child takes all its messages out of the buffer above it
+pub record Takes {A : Type 0} (children : List (Child A)) (index : ℕ) (old new : Subtree)
+    (came : List (Child A)) (cache cache' : Cache) : Type 0 where
+  pub after : List (Child A)
+  pub down : HandsDown children index old.buffer after new.buffer
+  pub stand : AreChildren new after
+  pub none : came ≡ []
+  pub same : cache' ≡ cache
+
+-- it lacks room, so the step is the child's own, and what comes behind it stands there
+pub record Enters {A : Type 0}
+    (below : Subtree → Subtree → List (Child A) → Cache → Cache → Type 0) (pins : TenantPins)
+    (children : List (Child A)) (index : ℕ) (node old new : Subtree) (came : List (Child A))
+    (cache cache' : Cache) : Type 0 where
+  pub lacks : LacksRoom (bytes_for (parts_of children) old.buffer index (node_part node)) node
+  pub stepped : Subtree
+  pub behind : List (Child A)
+  pub steps : below node stepped behind cache cache'
+  pub cut : IsCutFrom pins (take index children
+      ++ ((in_child.Node stepped ∷ behind) ++ drop (index + 1) children)) old.buffer new came
+
+-- further up: the heaviest child, a node of which dead bytes may have gone, takes them or is entered
+pub record GoesOn {A : Type 0}
+    (below : Subtree → Subtree → List (Child A) → Cache → Cache → Type 0) (pins : TenantPins)
+    (old new : Subtree) (came : List (Child A)) (cache cache' : Cache) : Type 0 where
+  pub to : Heaviest A old
+  pub node : Subtree
+  pub at : slice_get to.children to.index ≡ Some (in_child.Node node)
+  pub ready : Subtree
+  pub squeezed : IsSqueezed node ready
+  pub way : Takes (slice_set to.children to.index (in_child.Node ready)) to.index old new came
+      cache cache' ⊎ Enters below pins to.children to.index ready old new came cache cache'
+
+-- the step of a node of this height goes down along the heaviest children
+abbrev pub Goes : {A : Type 0} → ℕ → TenantPins → Subtree → Subtree → List (Child A)
+    → Cache → Cache → Type 0
+Goes zero pins old new came cache cache' = ⊥
+Goes (suc zero) pins old new came cache cache' = MergesHeaviest pins old new came cache cache'
+Goes (suc (suc height)) pins old new came cache cache' =
+    GoesOn (Goes (suc height) pins) pins old new came cache cache'
+
+-- a root's step: it goes down along the heaviest children, and nodes that come behind the root get
+-- roots above them, at most one for each
+pub record StepsDown (A : Type 0) (pins : TenantPins) (old new : Subtree)
+    (cache cache' : Cache) : Type 0 where
+  pub stepped : Subtree
+  pub came : List (Child A)
+  pub goes : Goes old.height pins old stepped came cache cache'
+  pub alone : came ≡ [] → new ≡ stepped
+  pub height : new.height ≤ stepped.height + length came
+  pub leaves : new.leaves ≡ stepped.leaves ++ leaves_of came

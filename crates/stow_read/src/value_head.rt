@@ -1,0 +1,10 @@
+//! What is told of values.
+
+/// What is told of a value in place of its bytes.
+#[derive(Clone, Copy)]
+pub(crate) struct ValueHead {
+    /// The number of the write that made it.
+    pub(crate) number: u64,
+    /// How many bytes it has.
+    pub(crate) length: u32,
+}
