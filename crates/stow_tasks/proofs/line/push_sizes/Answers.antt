@@ -38,7 +38,7 @@ returns-in_err-push_count-3-clause-front g c =
     let named = c.extend_from_slice.new.self.items in
     let rows = c.push_count.new.out.items in
     let second = shorter out c.push_count-2.new.out.items rows (codes " charge=" ++ decimal u.charge) c.push_count-3.ensures.front
-        (c.in_ok-push_count-2.ensures.ok ∙ append_assoc rows (codes " charge=") (decimal u.charge)) in
+    (c.in_ok-push_count-2.ensures.ok ∙ append_assoc rows (codes " charge=") (decimal u.charge)) in
     let first = shorter out rows named (codes " rows=" ++ decimal u.rows) second
-        (c.in_ok-push_count.ensures.ok ∙ append_assoc named (codes " rows=") (decimal u.rows)) in
+    (c.in_ok-push_count.ensures.ok ∙ append_assoc named (codes " rows=") (decimal u.rows)) in
     shorter out named c.args.out.now.items c.args.name.now first c.in_ok-extend_from_slice.ensures.items
