@@ -138,6 +138,8 @@ fn matched(alloc: Global, words: &[String]) -> Result<ArgMatches<'_>, Error> {
     let command = command.subcommand(task(alloc, "pipe", pipe)?)?;
     let script = "Carries out the events of a script on standard input";
     let command = command.subcommand(task(alloc, "script", script)?)?;
+    let usage = "Carries out a script's events, and tells what each tenant uses then";
+    let command = command.subcommand(task(alloc, "usage", usage)?)?;
     let command = command.subcommand(serve(alloc)?)?;
     let command = command.subcommand(entry::command(alloc)?)?;
     let command = command.subcommand(check(alloc)?)?;
@@ -261,6 +263,7 @@ fn work_of<'a>(
     let job = match name {
         "serve" => Job::Serve(serving_of(matches).ok_or(nothing)??),
         "script" => Job::Input(Task::Script),
+        "usage" => Job::Input(Task::Usage),
         _ => Job::Input(Task::Pipe),
     };
     Ok(Wish::Work(Arguments {

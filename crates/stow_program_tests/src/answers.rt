@@ -1,8 +1,8 @@
 //! What connections and scripts are answered: worked examples, whose answers come from the service's description.
 use crate::given::Given;
 use crate::running::{
-    HELLO, HELLO_REPLIES, PIPE, SCRIPT, answers, answers_all, answers_each, answers_scripts, run,
-    wants,
+    HELLO, HELLO_REPLIES, PIPE, SCRIPT, USAGE, answers, answers_all, answers_each, answers_scripts,
+    run, wants,
 };
 use std::alloc::{AllocError, Allocator};
 use std::test::Fail;
@@ -230,9 +230,25 @@ cap rows=1 charge=50 quota=50 writes=4 commands=8 refusals=2 snapshots=0
 ann rows=0 charge=0 quota=0 writes=0 commands=0 refusals=0 snapshots=0
 ";
 
+/// A script, and what each tenant uses after it.
+const USAGES: &str = r"open 1
+piece 1 auth ann bc\r\nset a 0123456789\r\nget a\r\n
+serve 1
+serve 1
+serve 1
+shape
+usage ann
+quota cap 7
+----
+ann rows=1 charge=27 quota=1000000 writes=1 commands=2 refusals=0 snapshots=0
+ben rows=0 charge=0 quota=1000000 writes=0 commands=0 refusals=0 snapshots=0
+cap rows=0 charge=0 quota=7 writes=0 commands=0 refusals=0 snapshots=0
+";
+
 #[test]
 fn scripts_are_carried_out(rt: HostRuntime) -> Result<(), Fail> {
     answers_scripts(&rt, SCRIPT, SCRIPTS)?;
+    answers_scripts(&rt, USAGE, USAGES)?;
     answers(
         &rt,
         SCRIPT,

@@ -26,6 +26,8 @@ pub const PIPE: &str = "pipe --tenants three.toml";
 
 pub const SCRIPT: &str = "script --tenants three.toml";
 
+pub const USAGE: &str = "usage --tenants three.toml";
+
 pub const ENTRY: &str = "entry dora --quota 1000000";
 
 /// A login, a write and a read, and their replies.

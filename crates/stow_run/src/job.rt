@@ -8,6 +8,8 @@ pub enum Task {
     Pipe,
     /// Standard input is a script of events.
     Script,
+    /// Standard input is a script of events, and what each tenant uses after them is told.
+    Usage,
 }
 
 /// What the program is run for.

@@ -1,16 +1,22 @@
 -- What a script's lines lead to, and what is written of it.
-use Rattle.std.specs.Prelude.{◌≡◌, ℕ, List, [], ◌∷◌, ◌++◌, Option, Result, Ok, Err, IfSome, ◌⊎◌}
+use Rattle.std.specs.Prelude.{◌≡◌, ℕ, zero, suc, List, [], ◌∷◌, ◌++◌, length, map, Option, Result, Ok, Err, IfSome, ◌⊎◌}
 use Rattle.std.specs.Io.KnownBytes.{Appends}
+use Rattle.std.specs.declared.vec.Vec.{Vec}
 use Rattle.stow_house.specs.declared.house.House.{House}
 use Rattle.stow_house.specs.StepResult.{StepResult}
 use Rattle.stow_house.specs.Steps.{HouseState, IsStepOf, Stands, state_of}
+use Rattle.stow_house.specs.Outputs.{Told}
+use Rattle.stow_house.specs.Runs.{IsNewHouse, RunsOver}
+use Rattle.stow_house.specs.declared.mark.Mark.{Mark}
 use Rattle.stow_login.specs.Entries.{name_of}
 use Rattle.stow_core.specs.State.{CoreState, store_of, IsNewCore}
 use Rattle.stow_workers.specs.Failures.{HasFailed}
-use Rattle.stow_workers.specs.Sent.{Begins, Written, written_of}
+use Rattle.stow_workers.specs.Sent.{Begins, Written, WritesAll, written_of}
 use Rattle.stow_run.specs.declared.failure.Failure.{Failure}
 use Rattle.stow_run.specs.declared.failure.Failure.TheVariants.{BadLine, InputOutput, Memory}
 use Rattle.stow_run.specs.declared.failure.Place.TheVariants as place
+use Rattle.stow_model.specs.Event.{Event, event_of}
+use Rattle.stow_model.specs.declared.event.Event as coded
 use Rattle.stow_model.specs.Login.{Entry, IsTenant}
 use Rattle.stow_model.specs.Store.{usage}
 use Rattle.stow_run.specs.declared.job.Task.{Task}
@@ -118,6 +124,57 @@ IsScripted known old new (Err failure) =
     ⊎ ((asked : List Line) × IsScript old.house.core.entries known asked
     × CarriesOutPart asked old new))
 
+-- ---- what all tenants use
+
+-- the events among what lines ask for
+abbrev pub events_in : List Line → List Event
+events_in [] = []
+events_in (Asks e ∷ asked) = e ∷ events_in asked
+events_in (Shape ∷ asked) = events_in asked
+events_in (Usage tenant ∷ asked) = events_in asked
+
+-- the events that a script's lines ask for, or the number of its first bad line
+abbrev pub AreEventsRead : {A Z : Type 0} → List Entry → List ℕ
+    → Result (Vec (coded.Event A) Z) Failure → Type 0
+AreEventsRead entries text (Ok events) = (asked : List Line)
+    × AskFor entries (lines_of text) asked × (map event_of events.items ≡ events_in asked)
+AreEventsRead entries text (Err (BadLine number stumble)) = IsFirstBad entries (lines_of text) number
+AreEventsRead entries text (Err Memory) = Unit {0}
+AreEventsRead entries text (Err _) = ⊥
+
+-- what each of the first tenants uses, a line each
+abbrev pub usages_up_to : ℕ → CoreState → List ℕ
+usages_up_to zero core = []
+usages_up_to (suc n) core = usages_up_to n core ++ (usage_of core (suc n) ++ 10 ∷ [])
+
+-- .. and each tenant, in the file's order
+abbrev pub usages_of : CoreState → List ℕ
+usages_of core = usages_up_to (length core.entries) core
+
+-- events were run, and what each tenant uses then was written, or a beginning of it
+pub record Reports (events : List Event) (old new : Progress) (r : Result (Unit {0}) Failure)
+    : Type 0 where
+  pub told : List Told
+  pub marks : List Mark
+  pub runs : RunsOver old.house events told marks new.house
+  pub written : WritesAll r (usages_of new.house.core) old.written new.written
+
+-- .. or memory was refused, or the output failed
+abbrev pub IsReported : List Event → Progress → Progress → Result (Unit {0}) Failure → Type 0
+IsReported events old new (Ok done) = Reports events old new (Ok done)
+IsReported events old new (Err failure) =
+    EndsTelling failure old.written.failures new.written.failures
+    × ((new.written ≡ old.written) ⊎ Reports events old new (Err failure))
+
+-- what a reader's script leads to, where its lines aren't told: nothing before the whole of it was read
+abbrev pub IsUsage : Option (List ℕ) → Progress → Progress → Result (Unit {0}) Failure → Type 0
+IsUsage known old new (Err (BadLine number stumble)) =
+    IsBadScript old.house.core.entries known number × IsIdle old new
+IsUsage known old new (Err (InputOutput place.Input error)) = IsIdle old new
+IsUsage known old new r = ((r ≡ Err Memory) × IsIdle old new)
+    ⊎ ((asked : List Line) × IsScript old.house.core.entries known asked
+    × IsReported (events_in asked) old new r)
+
 -- a connection through a new core of these tenants, which memory may be wanting for
 abbrev pub IsPipeServed : List Entry → Unread → Unread → Written → Written
     → Result (Unit {0}) Failure → Type 0
@@ -133,9 +190,19 @@ IsScriptServed entries known old new r = ((r ≡ Err Memory) × (new ≡ old))
     × IsScripted known (record { house = start; written = old })
     (record { house = end; written = new }) r)
 
+-- the usage of the tenants of a new house after a script's events, which memory may be wanting for
+abbrev pub IsUsageServed : List Entry → Option (List ℕ) → Written → Written
+    → Result (Unit {0}) Failure → Type 0
+IsUsageServed entries known old new r = ((r ≡ Err Memory) × (new ≡ old))
+    ⊎ ((start : HouseState) × (end : HouseState) × IsNewHouse start × (start.core.entries ≡ entries)
+    × IsUsage known (record { house = start; written = old })
+    (record { house = end; written = new }) r)
+
 -- what was read, from what there was to what is left, was served as the task says
 abbrev pub IsTaskServed : Task → List Entry → Unread → Unread → Written → Written
     → Result (Unit {0}) Failure → Type 0
 IsTaskServed task.Script entries unread left old new r =
     IsScriptServed entries unread.bytes old new r
+IsTaskServed task.Usage entries unread left old new r =
+    IsUsageServed entries unread.bytes old new r
 IsTaskServed task.Pipe entries unread left old new r = IsPipeServed entries unread left old new r

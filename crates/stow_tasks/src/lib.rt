@@ -1,6 +1,7 @@
-//! What the program does with standard input: a pipe, or a script.
+//! What the program does with standard input: a pipe, a script, or what each tenant uses after a script.
 //!
-//! It makes a new service, and answers the bytes of one connection (`pipe`) or carries a script's events out (`script`).
+//! It makes a new service, and answers the bytes of one connection (`pipe`), carries a script's events out and tells what they
+//! lead to (`script`), or runs them and tells what each tenant uses then (`usage`).
 //! Proved of it: what it does (`service::serve`) returns; a script is read as `specs/Read.antt` says; of a reader and a writer
 //! that tell their bytes, what is written are the lines of its events' results (`specs/Told.antt`), all of them where it ends
 //! well; of a pipe over these, the bytes are served and answered as `serve_connection` says (`specs/Pipes.antt`); input or
@@ -13,3 +14,4 @@ pub mod new_core;
 pub mod pipe;
 pub mod script;
 pub mod service;
+pub mod usage;

@@ -7,6 +7,7 @@ ghost use Rattle.stow_tasks.specs.Told.{IsTaskServed};
 use crate::new_core::new_core;
 use crate::pipe::pipe;
 use crate::script::script;
+use crate::usage::usage;
 use std::alloc::{AllocError, Allocator};
 use std::io::{Read, Write};
 use std::sync::Arc;
@@ -38,5 +39,6 @@ pub fn serve<'a, A: Allocator + Copy, R: Read, W: Write>(
     match task {
         Task::Pipe => pipe(alloc, &tenants, &mut core, input, output),
         Task::Script => script(alloc, &mut House::new(alloc, core), input, output),
+        Task::Usage => usage(alloc, &mut House::new(alloc, core), input, output),
     }
 }

@@ -44,6 +44,7 @@ pub mod counted;
 pub mod gate;
 pub mod laws;
 pub mod open_gate;
+mod parting;
 pub mod place;
 pub mod pool;
 pub mod pool_fault;

@@ -3,6 +3,7 @@ ghost use Rattle.stow_workers.specs.Pools.{HasCalled};
 
 use crate::counted::Counted;
 use crate::gate::Gate;
+use crate::parting::part;
 use crate::served::Served;
 use crate::serving::serve_connection;
 use crossbeam_channel::Receiver;
@@ -30,7 +31,8 @@ impl<'a, R: Wait, J: Journal, G: Gate, A: Allocator + Copy> Workplace<'a, R, J, 
         ensures { HasCalled J.keeps seat result }
     {
         for stream in self.streams.iter(self.rt) {
-            self.serve(&stream, &mut seat);
+            let served = self.serve(&stream, &mut seat);
+            part(&stream, served);
         }
         seat
     }
