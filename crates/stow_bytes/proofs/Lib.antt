@@ -1,1 +1,2 @@
 pub mod ByteKeys
+pub mod Words

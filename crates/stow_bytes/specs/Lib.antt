@@ -1,2 +1,3 @@
 pub mod Bytes
 pub mod Limits
+pub mod Words

@@ -4,6 +4,7 @@ ghost use Rattle.std.specs.Ordering.{nat_cmp};
 ghost use Rattle.std.specs.Cmp.Lexicographic.{pointwise, slice_cmp, texts_ties, texts_po, nat_list_eq_equiv, nat_list_cmp_total};
 ghost use Rattle.std.specs.Cmp.{partial_equiv_from_equiv};
 
+use crate::compare::compare;
 use std::alloc::{AllocError, Allocator, Global};
 use std::cmp::Ordering;
 use std::marker::Model;
@@ -106,6 +107,6 @@ impl<A: Allocator> Ord for ByteString<A> {
     ghost matches_eq = { texts_ties };
 
     fn cmp(&self, other: &Self) -> Ordering {
-        self.as_slice().cmp(other.as_slice())
+        compare(self.as_slice(), other.as_slice())
     }
 }

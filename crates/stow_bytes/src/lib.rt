@@ -6,4 +6,5 @@
 #![tactic(auto)]
 
 pub mod byte_string;
+pub mod compare;
 pub mod limits;

@@ -3,7 +3,7 @@ use Rattle.std.proofs.Common.{◌≡◌, ◌≢◌, ℕ, zero, suc, ◌+◌, ◌
 use Rattle.std.specs.Option.{unwrap_or, option_map}
 use Rattle.std.specs.List.{slice_get, AllByRecursion}
 use Rattle.std.specs.List.Sorted.{IsStrictlySortedBy}
-use Rattle.std.specs.Cmp.{tied_itself}
+use Rattle.std.specs.Cmp.{tied_itself, first_so}
 use Rattle.std.proofs.lemmas.Map.Lookups.{exact_bytes}
 use Rattle.std.specs.Cmp.Lexicographic.{bytes_decides, nat_list_cmp_total}
 use Rattle.std.specs.Str.{bytes_eq}
@@ -150,16 +150,18 @@ pub found_none : (rows : List Version) (key : List ℕ) (number count : ℕ) →
 unfolding version_at
 found_none rows key number count h e = last_none (is_up_to key number) rows (λ i v f. above_not_up_to key number v (h.above i v (omega arith) f))
 
-pub found_it : (rows : List Version) (key : List ℕ) (number count i : ℕ) (v : Version) → IsCountUpTo rows (key, number) count → count ≡ i + 1 → slice_get rows i ≡ Some v → v.key ≡ key → version_at rows key number ≡ Some v
+pub found_it : (rows : List Version) (key : List ℕ) (number count i : ℕ) (v : Version) → IsCountUpTo rows (key, number) count → count ≡ i + 1 → slice_get rows i ≡ Some v → is_up_to key number v ≡ true → version_at rows key number ≡ Some v
 unfolding version_at
-found_it rows key number count i v h e f same =
-    last_at (is_up_to key number) rows i v f (not_above_up_to key number v (h.up_to i v (omega arith) f) same)
-    (λ j w low g. above_not_up_to key number w (h.above j w (omega arith) g))
+found_it rows key number count i v h e f is =
+    last_at (is_up_to key number) rows i v f is (λ j w low g. above_not_up_to key number w (h.above j w (omega arith) g))
 
-pub found_other : (rows : List Version) (key : List ℕ) (number count i : ℕ) (v : Version) → VersionsRise rows → IsCountUpTo rows (key, number) count → count ≡ i + 1 → slice_get rows i ≡ Some v → v.key ≢ key → version_at rows key number ≡ None
+pub found_other : (rows : List Version) (key : List ℕ) (number count i : ℕ) (v : Version) → VersionsRise rows → IsCountUpTo rows (key, number) count → count ≡ i + 1 → slice_get rows i ≡ Some v → is_up_to key number v ≡ false → version_at rows key number ≡ None
 unfolding version_at
-found_other rows key number count i v rise h e f ne = last_none (is_up_to key number) rows none
+found_other rows key number count i v rise h e f isnt = last_none (is_up_to key number) rows none
   where
+    ne : v.key ≢ key
+    ne same = true≢false (sym (not_above_up_to key number v (h.up_to i v (omega arith) f) same) ∙ isnt)
+
     none : (j : ℕ) (w : Version) → slice_get rows j ≡ Some w → is_up_to key number w ≡ false
     none j w g = ⊎_elim
         (λ (same : j ≡ i). other_key key number w (λ k. ne (ap (λ o. (unwrap_or o v).key) (sym f ∙ ap (slice_get rows) (sym same) ∙ g) ∙ k)))
@@ -239,6 +241,52 @@ counted_all rows place count h e = narrowed_last rows place count (length rows) 
 pub counted_here : (rows : List Version) (place : Place) (count : ℕ) (v : Version) → VersionsRise rows → IsNarrowed rows place count (length rows) → slice_get rows count ≡ Some v → is_above place v ≡ true → IsCountUpTo rows place count
 counted_here rows place count v rise h e is =
     narrowed_last rows place count count (narrowed_down rows place count (length rows) count v rise h (omega arith) (slice_get_within rows count v e) e is) (omega arith)
+
+-- ---- a version where a hint says
+
+-- what stands above one of the key's versions up to the number, and isn't one, stands above the place
+above_beside : (key : List ℕ) (number : ℕ) (v w : Version) → is_up_to key number v ≡ true → is_up_to key number w ≡ false → place_cmp (version_place v) (version_place w) ≡ Less → is_above (key, number) w ≡ true
+above_beside key number v w is isnt l = ⊎_elim
+    (λ (y : is_above (key, number) w ≡ true). y)
+    (λ (n : is_above (key, number) w ≡ false). absurd (by n (bytes_cmp key w.key) refl))
+    (cases_Bool (is_above (key, number) w))
+  where
+    same : key ≡ v.key
+    same = (bytes_decides key v.key).0 (first_so (bytes_eq key v.key) (nat_le v.number number) is)
+
+    by : is_above (key, number) w ≡ false → (r : Ordering) → bytes_cmp key w.key ≡ r → ⊥
+    by n Less e = true≢false (sym (ap (λ r. is_lt (ordering_then r (nat_cmp number w.number))) e) ∙ n)
+    by n Equal e = true≢false (sym (not_above_up_to key number w n (sym (exact_bytes key w.key e))) ∙ isnt)
+    by n Greater e =
+        let wrong : Greater ≡ Less = sym (ap (λ r. ordering_then r (nat_cmp v.number w.number)) (ap (λ k. bytes_cmp k w.key) (sym same) ∙ e)) ∙ l in
+        cc
+
+-- the key's version up to the number, where the next one is none, is the newest
+newest : (rows : List Version) (key : List ℕ) (number i : ℕ) (v : Version) → VersionsRise rows → slice_get rows i ≡ Some v → is_up_to key number v ≡ true
+    → ((w : Version) → slice_get rows (i + 1) ≡ Some w → is_up_to key number w ≡ false) → slice_get rows i ≡ version_at rows key number
+unfolding version_at
+newest rows key number i v rise e is next = e ∙ sym (last_at (is_up_to key number) rows i v e is later)
+  where
+    later : (j : ℕ) (w : Version) → i < j → slice_get rows j ≡ Some w → is_up_to key number w ≡ false
+    later j w low f = ⊎_elim
+        (λ (same : j ≡ i + 1). next w (subst (λ k. slice_get rows k ≡ Some w) same f))
+        (λ (c : (j < i + 1) ⊎ (i + 1 < j)). ⊎_elim
+        (λ (l : j < i + 1). absurd (omega arith))
+        (λ (l : i + 1 < j).
+        let within = slice_get_within rows j w f in
+        let u : Version = get_or rows (i + 1) v in
+        let there : slice_get rows (i + 1) ≡ Some u = slice_get-get_or rows (i + 1) v (omega arith) in
+        let above = above_beside key number v u is (next u there) (versions_rise_at rows i (i + 1) v u rise (omega arith) e there) in
+        above_not_up_to key number w (above_later (key, number) (version_place u) (version_place w) above (versions_rise_at rows (i + 1) j u w rise l there f)))
+        c)
+        (cases_order j (i + 1))
+
+pub newest_last : (rows : List Version) (key : List ℕ) (number i : ℕ) (v : Version) → VersionsRise rows → slice_get rows i ≡ Some v → is_up_to key number v ≡ true → i + 1 ≡ length rows → slice_get rows i ≡ version_at rows key number
+newest_last rows key number i v rise e is last = newest rows key number i v rise e is (λ w f. let within = slice_get_within rows (i + 1) w f in absurd (omega arith))
+
+pub newest_before : (rows : List Version) (key : List ℕ) (number i : ℕ) (v w : Version) → VersionsRise rows → slice_get rows i ≡ Some v → is_up_to key number v ≡ true → slice_get rows (i + 1) ≡ Some w → is_up_to key number w ≡ false
+    → slice_get rows i ≡ version_at rows key number
+newest_before rows key number i v w rise e is f isnt = newest rows key number i v rise e is (λ u g. subst (λ x. is_up_to key number x ≡ false) (same_at rows (i + 1) w u f g) isnt)
 
 -- ---- a version behind them
 

@@ -15,6 +15,7 @@
 
 pub mod big_endian;
 pub mod entry;
+mod hint;
 pub mod laws;
 pub mod packed_rows;
 pub mod page;

@@ -4,12 +4,14 @@ ghost use Rattle.std.specs.List.{All};
 ghost use Rattle.stow_tree_model.specs.Version.{version_of};
 ghost use Rattle.stow_tree_model.specs.Order.{VersionsRise};
 ghost use Rattle.stow_page.specs.Format.{packed_page, AreVersions};
-ghost use Rattle.stow_page.specs.Rows.{HasRoomFor, entry_of, with_count, is_above, IsCountUpTo, version_at};
+ghost use Rattle.stow_page.specs.Rows.{HasRoomFor, IsBlock, rows_in, entry_of, with_count, is_above, is_up_to, IsCountUpTo, version_at};
 
 use crate::entry::{append_entry, entry_size, lent_version};
+use crate::hint::Hint;
 use std::alloc::{AllocError, Allocator, Global};
 use std::cmp::Ordering;
 use std::marker::Model;
+use stow_bytes::compare::compare;
 use stow_tree_model::tenant_key::TenantKey;
 use stow_tree_model::version::Version;
 
@@ -19,6 +21,7 @@ use stow_tree_model::version::Version;
 pub struct PackedRows<A: Allocator = Global> {
     bytes: Vec<u8, A>,
     places: Vec<u32, A>,
+    hint: Hint<A>,
 }
 
 impl<A: Allocator> Model for PackedRows<A> {
@@ -43,6 +46,7 @@ impl<A: Allocator + Copy> PackedRows<A> {
         Ok(PackedRows {
             bytes,
             places: Vec::new(alloc),
+            hint: Hint::new(alloc),
         })
     }
 
@@ -57,6 +61,7 @@ impl<A: Allocator + Copy> PackedRows<A> {
         ensures { IfOk result (λ r. r ≡ lower.now ++ upper.now) }
     {
         let (_, entries) = upper.bytes.as_slice().split_at(5);
+        let hint = Hint::new(alloc);
         let mut bytes = Vec::with_capacity(alloc, lower.bytes.len() + entries.len())?;
         bytes.extend_from_slice(lower.bytes.as_slice())?;
         bytes.extend_from_slice(entries)?;
@@ -68,7 +73,11 @@ impl<A: Allocator + Copy> PackedRows<A> {
             from,
         )?;
         write_count(&mut bytes, places.len() as u32);
-        Ok(PackedRows { bytes, places })
+        Ok(PackedRows {
+            bytes,
+            places,
+            hint,
+        })
     }
 }
 
@@ -82,6 +91,21 @@ impl<A: Allocator> PackedRows<A> {
     {
         append_placed(&mut self.bytes, &mut self.places, version)?;
         write_count(&mut self.bytes, self.places.len() as u32);
+        Ok(())
+    }
+
+    /// Makes look-ups of keys fast, until versions are added.
+    pub(crate) fn note_keys(&mut self) -> Result<(), AllocError>
+        ensures { self.new ≡ self.old }
+    {
+        self.hint.reserve(self.places.len())?;
+        if !self.hint.is_empty() {
+            note_newest(
+                &mut self.hint,
+                self.bytes.as_slice(),
+                self.places.as_slice(),
+            );
+        }
         Ok(())
     }
 
@@ -114,8 +138,7 @@ impl<A: Allocator> PackedRows<A> {
         ensures version { slice_get self.now index ≡ Some (version_of result) }
         ensures rise { VersionsRise self.now }
     {
-        let place = self.places[index] as usize;
-        lent_version(self.bytes.as_slice().split_at(place).1)
+        lent_at(self.bytes.as_slice(), self.places.as_slice(), index)
     }
 
     /// The version stands above all of them.
@@ -180,8 +203,34 @@ impl<A: Allocator> PackedRows<A> {
     }
 
     /// The newest version of the key numbered at most this, lent. It is found the faster the nearer the guess is to its
-    /// place.
+    /// place; with a guess beyond all places the hint makes one.
     pub fn version_at(&self, key: TenantKey<'_>, number: u64, guess: usize) -> Option<Version<'_>>
+        ensures { option_map version_of result ≡ version_at self.now key.entry.bytes.now number }
+    {
+        if guess <= self.len() {
+            return self.version_near(key, number, guess);
+        }
+        let index = self.hint.index_of(key.bytes);
+        if self.is_newest(index, key, number) {
+            return Some(self.get(index));
+        }
+        self.version_near(key, number, index)
+    }
+
+    /// Whether the newest version of the key numbered at most this stands at the index.
+    fn is_newest(&self, index: usize, key: TenantKey<'_>, number: u64) -> bool
+        ensures within { IsTrue result → index < length self.now }
+        ensures newest { IsTrue result
+            → slice_get self.now index ≡ version_at self.now key.entry.bytes.now number }
+    {
+        if index >= self.len() || !is_up_to(self.get(index), key, number) {
+            return false;
+        }
+        index + 1 == self.len() || !is_up_to(self.get(index + 1), key, number)
+    }
+
+    /// The newest version of the key numbered at most this, lent, by a search that begins at the guess.
+    fn version_near(&self, key: TenantKey<'_>, number: u64, guess: usize) -> Option<Version<'_>>
         ensures { option_map version_of result ≡ version_at self.now key.entry.bytes.now number }
     {
         let count = self.count_near(key, number, guess);
@@ -189,7 +238,7 @@ impl<A: Allocator> PackedRows<A> {
             return None;
         }
         let version = self.get(count - 1);
-        if version.key.bytes == key.bytes {
+        if is_up_to(version, key, number) {
             Some(version)
         } else {
             None
@@ -197,11 +246,42 @@ impl<A: Allocator> PackedRows<A> {
     }
 }
 
+/// The version whose entry stands at the place with this index, lent.
+fn lent_at<'a>(bytes: &'a [u8], places: &[u32], index: usize) -> Version<'a>
+    requires block { IsBlock bytes.now places.now }
+    requires within { index < length places.now }
+    ensures { slice_get (rows_in bytes.now places.now) index ≡ Some (version_of result) }
+{
+    let place = places[index] as usize;
+    lent_version(bytes.split_at(place).1)
+}
+
+/// Notes where the newest version of each key stands.
+fn note_newest<A: Allocator>(hint: &mut Hint<A>, bytes: &[u8], places: &[u32])
+    requires { IsBlock bytes.now places.now }
+{
+    for index in 0..places.len() {
+        let key = lent_at(bytes, places, index).key.bytes;
+        if index + 1 == places.len()
+            || compare(key, lent_at(bytes, places, index + 1).key.bytes).is_ne()
+        {
+            hint.note(key, index);
+        }
+    }
+}
+
+/// The version is the key's, and numbered at most this.
+fn is_up_to(version: Version<'_>, key: TenantKey<'_>, number: u64) -> bool
+    ensures { result ≡ is_up_to key.entry.bytes.now number (version_of version.entry) }
+{
+    compare(key.bytes, version.key.bytes).is_eq() && version.number <= number
+}
+
 /// The version stands above the key and number.
 fn stands_above(version: Version<'_>, key: TenantKey<'_>, number: u64) -> bool
     ensures { result ≡ is_above (key.entry.bytes.now, number) (version_of version.entry) }
 {
-    match key.bytes.cmp(version.key.bytes) {
+    match compare(key.bytes, version.key.bytes) {
         Ordering::Less => true,
         Ordering::Equal => number < version.number,
         Ordering::Greater => false,

@@ -49,6 +49,8 @@ impl<A: Allocator> Rows<A> {
     pub fn new(alloc: A, packed: PackedRows<A>) -> Result<Rows<A>, AllocError>
         ensures { IfOk result (λ r. r ≡ packed) }
     {
+        let mut packed = packed;
+        packed.note_keys()?;
         Ok(Rows {
             packed: Arc::new(alloc, packed)?,
         })
