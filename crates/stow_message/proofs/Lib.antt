@@ -1,4 +1,5 @@
 pub mod RisingLaws
+pub mod Marked
 pub mod Merged
 pub mod Placed
 pub mod Pushed

@@ -39,7 +39,7 @@ impl<A: Allocator> Model for MessageBuf<A> {
 
     ghost view = { λ b. message_list (messages_in b.raw) (raw_used b.raw) b.raw.capacity };
 
-    ghost invariant = { λ b. IsMarked b.raw b.filter.marks.items };
+    ghost invariant = { λ b. IsMarked b.raw b.filter };
 }
 
 /// Whether the message stands below the key and number.
@@ -132,7 +132,7 @@ fn is_slot_below<A: Allocator>(raw: &RawBuf<A>, index: usize, message: Message<'
 /// Adds the key of each message to the filter.
 fn mark_all<A: Allocator>(raw: &RawBuf<A>, filter: &mut Filter<A>)
     requires filled { IsFilled raw.now }
-    ensures { Covers filter.new.marks.items (messages_in raw.now) }
+    ensures { Covers filter.new (messages_in raw.now) }
 {
     for i in 0..raw.slot_count() {
         let message = read_message(raw, raw.slot(i) as usize);
@@ -143,8 +143,8 @@ fn mark_all<A: Allocator>(raw: &RawBuf<A>, filter: &mut Filter<A>)
 /// Drops the marks of keys that left, where they may be many.
 fn renew_marks<A: Allocator>(raw: &RawBuf<A>, filter: &mut Filter<A>)
     requires filled { IsFilled raw.now }
-    requires covers { Covers filter.old.marks.items (messages_in raw.now) }
-    ensures { Covers filter.new.marks.items (messages_in raw.now) }
+    requires covers { Covers filter.old (messages_in raw.now) }
+    ensures { Covers filter.new (messages_in raw.now) }
 {
     if filter.is_stale(raw.slot_count()) {
         filter.clear();

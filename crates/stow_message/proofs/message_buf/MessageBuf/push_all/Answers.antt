@@ -1,4 +1,4 @@
-use Rattle.std.proofs.Common.{ℕ, List, Bool, ◌∙◌, ◌+◌, ◌<◌, length, refl, ap, sym, subst, arith, length-append}
+use Rattle.std.proofs.Common.{ℕ, List, ◌∙◌, ◌+◌, ◌<◌, length, refl, ap, sym, subst, arith, length-append}
 use Rattle.stow_raw.specs.RawBuf.{RawLists, raw_used}
 use Rattle.stow_tree_model.specs.TreeMessage.{TreeMessage, message_of}
 use Rattle.stow_message.specs.Packed.{all_bytes}
@@ -79,21 +79,21 @@ loop-new-preserved g c =
             c.if-is_slot_below.at (omega (arith, w.at-is, w.size.ensures)))
       ];
       marks = elim c.if-is_slot_below.branch [
-        | then-is_slot_below w ↦ ap (λ self. self.filter.marks.items) w.self-inside-is ∙ l.invariant.marks
-        | else-is_slot_below w ↦ ap (λ self. self.filter.marks.items) w.self-inside-is ∙ l.invariant.marks
+        | then-is_slot_below w ↦ ap (λ self. self.filter) w.self-inside-is ∙ l.invariant.marks
+        | else-is_slot_below w ↦ ap (λ self. self.filter) w.self-inside-is ∙ l.invariant.marks
       ];
     }
 
 pub invariant_of-self : goal.invariant_of-self
 invariant_of-self g c = let l = c.loop-new in
-    let marks = c.add_all.new.self.marks.items in
+    let marks = c.add_all.new.self in
     record {
       filled = now_filled c.args.self.now c.args.run.now c.requires.room c.requires.valid l.self-inside.raw l.new l.old l.place l.at l.invariant.filling c.requires.rising c.requires.new (omega (arith, c.loop-new-test.false, c.len-count.ensures));
-      covers = subst (λ (bits : List Bool). Covers bits (messages_in l.self-inside.raw)) (sym l.invariant.marks) (subst (Covers marks)
+      covers = subst (λ (bits : List ℕ). Covers bits (messages_in l.self-inside.raw)) (sym l.invariant.marks) (subst (Covers marks)
           (sym (ap (λ (w : MessageList). w.messages) (now_seen c.args.self.now c.args.run.now c.requires.room c.requires.valid l.self-inside.raw l.new l.old l.place l.at l.invariant.filling c.requires.rising c.requires.new (omega (arith, c.loop-new-test.false, c.len-count.ensures)))))
           (covers_all_placed marks c.args.run.now c.args.self.now.messages c.add_all.ensures.added
-          (covers_more c.self.inside.filter.marks.items marks c.args.self.now.messages c.add_all.ensures.stay
-          (covered c.self.inside.raw c.self.inside.filter.marks.items c.args.self.now c.self.view_is c.self.invariant.covers))));
+          (covers_more c.self.inside.filter marks c.args.self.now.messages c.add_all.ensures.stay
+          (covered c.self.inside.raw c.self.inside.filter c.args.self.now c.self.view_is c.self.invariant.covers))));
     }
 
 pub returns : goal.returns

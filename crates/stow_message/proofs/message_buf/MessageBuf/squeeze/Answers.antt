@@ -1,4 +1,4 @@
-use Rattle.std.proofs.Common.{Bool, List, ap, sym, subst, arith}
+use Rattle.std.proofs.Common.{ℕ, List, ap, sym, subst, arith}
 use Rattle.stow_tree_model.specs.TreeMessage.{message_of}
 use Rattle.stow_message.specs.Filter.{Covers}
 use Rattle.stow_message.specs.MessageBuf.{MessageList}
@@ -42,11 +42,11 @@ push_front-requires g c = (end c.self.inside.raw c.self.invariant.filled c.args.
 pub renew_marks-requires : goal.renew_marks-requires
 renew_marks-requires g c =
     let e = (end c.self.inside.raw c.self.invariant.filled c.args.self.now c.self.view_is c.loop-i.i c.loop-i.self-inside.raw c.loop-i.invariant.raw c.loop-i.spare _ c.loop-i.invariant.spare (omega (arith, c.loop-i-test.false, c.slot_count-i-end.ensures)) _ c.front_len.ensures _ c.bytes.ensures _ c.clear_front.ensures) in
-    let marks = c.self.inside.filter.marks.items in
+    let marks = c.self.inside.filter in
     record {
       filled = e.filled _ c.push_front.ensures;
-      covers = subst (Covers c.loop-i.self-inside.filter.marks.items) (sym (ap (λ (w : MessageList). w.messages) (e.is _ c.push_front.ensures)))
-          (subst (λ (bits : List Bool). Covers bits c.args.self.now.messages) (sym c.loop-i.invariant.marks)
+      covers = subst (Covers c.loop-i.self-inside.filter) (sym (ap (λ (w : MessageList). w.messages) (e.is _ c.push_front.ensures)))
+          (subst (λ (bits : List ℕ). Covers bits c.args.self.now.messages) (sym c.loop-i.invariant.marks)
           (covered c.self.inside.raw marks c.args.self.now c.self.view_is c.self.invariant.covers));
     }
 
