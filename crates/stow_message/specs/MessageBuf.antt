@@ -70,6 +70,16 @@ message_list_code =
 abbrev pub messages_in : RawLists → List TreeMessage
 messages_in raw = map (λ slot. message_at (drop slot raw.front)) raw.slots
 
+-- the messages at the places of the slots from the index on
+abbrev pub messages_from : RawLists → ℕ → List TreeMessage
+messages_from raw from = map (λ slot. message_at (drop slot raw.front)) (drop from raw.slots)
+
+-- each slot from the index on names a message, and they rise
+pub record IsFilledFrom (raw : RawLists) (from : ℕ) : Type 0 where
+  pub whole : AllByRecursion (λ slot. BeginsWith (drop slot raw.front)) (drop from raw.slots)
+  pub rising : MessagesRise (messages_from raw from)
+  pub small : length raw.front + 4 * length raw.slots < 4294967296
+
 -- each slot names a message, and they rise
 pub record IsFilled (raw : RawLists) : Type 0 where
   pub whole : AllByRecursion (λ slot. BeginsWith (drop slot raw.front)) raw.slots

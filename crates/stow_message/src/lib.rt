@@ -15,6 +15,7 @@ pub mod laws;
 pub mod message_buf;
 pub mod newest;
 pub mod run;
+mod slots;
 
 pub use stow_tree_model::message::Message;
 pub use stow_tree_model::op::Op;

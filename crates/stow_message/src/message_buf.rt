@@ -7,13 +7,14 @@ ghost use Rattle.stow_raw.specs.RawBuf.{raw_lists, RawFits};
 ghost use Rattle.stow_message.specs.Filter.{Covers};
 ghost use Rattle.stow_message.specs.MessageBuf.{message_list, messages_in, Fits, IsFilled, with_message, with_messages, without_batch, without_range};
 ghost use Rattle.stow_message.specs.Packed.{message_bytes, message_size, message_at, IsMessage, BeginsWith, all_bytes};
-ghost use Rattle.stow_message.specs.Rising.{is_below, below, placed, IsNew, of_key, in_range, out_of_range, all_placed, AreNew, is_same, is_first, is_first_below, AreHeld, without};
+ghost use Rattle.stow_message.specs.Rising.{is_below, below, placed, IsNew, of_key, in_range, out_of_range, all_placed, AreNew, is_same, is_first, AreHeld, without};
 ghost use Rattle.std.specs.List.{All, AllByRecursion, sum_by, remove_range};
 
 use crate::filter::Filter;
 use crate::head::{HEAD, SLOT, kind, op_with, read_head, size, write_head};
 use crate::newest::Newest;
 use crate::run::Run;
+use crate::slots::{move_slots, search_between, search_from};
 use std::alloc::{AllocError, Allocator, Global};
 use std::cmp::Ordering;
 use std::marker::Model;
@@ -43,7 +44,7 @@ impl<A: Allocator> Model for MessageBuf<A> {
 }
 
 /// Whether the message stands below the key and number.
-fn is_message_below(message: Message<'_>, key: &[u8], number: u64) -> bool
+pub(crate) fn is_message_below(message: Message<'_>, key: &[u8], number: u64) -> bool
     ensures { result ≡ is_below (key.now, number) (message_of message.entry) }
 {
     match message.key.bytes.cmp(key) {
@@ -74,7 +75,7 @@ fn is_same(a: Message<'_>, b: Message<'_>) -> bool
 }
 
 /// The message that begins `at` bytes into the front.
-fn read_message<A: Allocator>(raw: &RawBuf<A>, at: usize) -> Message<'_>
+pub(crate) fn read_message<A: Allocator>(raw: &RawBuf<A>, at: usize) -> Message<'_>
     requires begins { BeginsWith (drop at raw.now.front) }
     requires small { length raw.now.front < 2 ^ 32 }
     ensures { message_of result ≡ message_at (drop at raw.now.front) }
@@ -109,23 +110,6 @@ fn append_all<A: Allocator, B: Allocator>(raw: &mut RawBuf<A>, run: &Run<'_, B>)
 {
     for i in 0..run.len() {
         append(raw, run.get(i));
-    }
-}
-
-/// Whether a slot is at `index`, and its message stands below this one.
-fn is_slot_below<A: Allocator>(raw: &RawBuf<A>, index: usize, message: Message<'_>) -> bool
-    requires begin { AllByRecursion (λ slot. BeginsWith (drop slot raw.now.front))
-        (drop index raw.now.slots) }
-    requires small { length raw.now.front < 2 ^ 32 }
-    ensures below { result ≡ is_first_below (message_of message.entry)
-        (map (λ slot. message_at (drop slot raw.now.front)) (drop index raw.now.slots)) }
-    ensures within { IsTrue result → index < length raw.now.slots }
-{
-    if index < raw.slot_count() {
-        let held = read_message(raw, raw.slot(index) as usize);
-        is_message_below(held, message.key.bytes, message.number)
-    } else {
-        false
     }
 }
 
@@ -244,25 +228,7 @@ impl<A: Allocator> MessageBuf<A> {
         ensures valid { All IsMessage self.now.messages }
         ensures small { length self.now.messages < 4294967296 }
     {
-        self.search_between(0, self.len(), key, number)
-    }
-
-    /// The first index from `low` on whose message doesn't stand below the key and number: it is at most `high`.
-    fn search_between(&self, mut low: usize, mut high: usize, key: &[u8], number: u64) -> usize
-        requires order { (low ≤ high) × (high ≤ length self.now.messages) }
-        requires end { below (key.now, number) self.now.messages ≤ high }
-        requires rising { MessagesRise self.now.messages }
-        ensures { result ≡ max (below (key.now, number) self.now.messages) low }
-    {
-        while low < high {
-            let middle = low + (high - low) / 2;
-            if is_message_below(self.message(middle), key, number) {
-                low = middle + 1;
-            } else {
-                high = middle;
-            }
-        }
-        low
+        search_between(&self.raw, 0, self.len(), key, number)
     }
 
     /// The first index from `from` on whose message doesn't stand below the key and number, in steps that double.
@@ -270,17 +236,7 @@ impl<A: Allocator> MessageBuf<A> {
         requires { from ≤ length self.now.messages }
         ensures { result ≡ max (below (key.now, number) self.now.messages) from }
     {
-        let len = self.len();
-        let (mut low, mut step) = (from, 1);
-        while low + step <= len {
-            let last = low + step - 1;
-            if !is_message_below(self.message(last), key, number) {
-                return self.search_between(low, last, key, number);
-            }
-            low = last + 1;
-            step *= 2;
-        }
-        self.search_between(low, len, key, number)
+        search_from(&self.raw, from, key, number)
     }
 
     /// How many messages stand below the key and number. The search is the shorter the nearer the guess is.
@@ -408,7 +364,8 @@ impl<A: Allocator> MessageBuf<A> {
         self.raw.remove_slots(index, count);
     }
 
-    /// Puts the messages of a run to their places, in one pass over the slots.
+    /// Puts the messages of a run to their places. Each is searched from the place of the one before on, and the slots between are
+    /// moved unread.
     fn push_all<B: Allocator>(&mut self, run: &Run<'_, B>)
         requires room { self.old.used + sum_by message_size run.now ≤ self.old.capacity }
         requires valid { All IsMessage run.now }
@@ -422,19 +379,15 @@ impl<A: Allocator> MessageBuf<A> {
         append_all(&mut self.raw, run);
         let count = run.len();
         self.raw.add_slots(count);
-        let (mut place, mut new, mut old) = (0, 0, count);
-        while new < count {
+        let mut old = count;
+        for new in 0..count {
             let message = run.get(new);
-            if is_slot_below(&self.raw, old, message) {
-                let slot = self.raw.slot(old);
-                self.raw.set_slot(place, slot);
-                old += 1;
-            } else {
-                self.raw.set_slot(place, at as u32);
-                at += size(message) - SLOT;
-                new += 1;
-            }
-            place += 1;
+            let end = search_from(&self.raw, old, message.key.bytes, message.number);
+            let gap = count - new;
+            move_slots(&mut self.raw, old - gap, old, end - old);
+            self.raw.set_slot(end - gap, at as u32);
+            at += size(message) - SLOT;
+            old = end;
         }
     }
 
