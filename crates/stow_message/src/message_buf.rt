@@ -1,7 +1,7 @@
 //! A buffer of packed messages.
 ghost use Rattle.std.specs.Prelude.{◌≡◌, ◌+◌, ◌-◌, ◌*◌, ◌^◌, ◌<◌, ◌≤◌, ◌==◌, [], ◌++◌, length, map, take, drop, max, reverse, slice_index_or, IfOk, IsTrue, ◌↔◌, false};
 ghost use Rattle.std.specs.Ordering.{is_lt, is_eq};
-ghost use Rattle.stow_tree_model.specs.TreeMessage.{message_of};
+ghost use Rattle.stow_tree_model.specs.TreeMessage.{TreeMessage, message_of};
 ghost use Rattle.stow_tree_model.specs.Order.{place_cmp, place_of, MessagesRise};
 ghost use Rattle.stow_raw.specs.RawBuf.{raw_lists, RawFits};
 ghost use Rattle.stow_message.specs.Filter.{Covers};
@@ -90,6 +90,16 @@ pub(crate) fn read_message<A: Allocator>(raw: &RawBuf<A>, at: usize) -> Message<
     }
 }
 
+/// The bytes of the packed message that begins `at` bytes into the front.
+fn packed_at<A: Allocator>(raw: &RawBuf<A>, at: usize) -> &[u8]
+    requires begins { BeginsWith (drop at raw.now.front) }
+    requires small { length raw.now.front < 2 ^ 32 }
+    ensures { result.now ≡ message_bytes (message_at (drop at raw.now.front)) }
+{
+    let head = read_head(raw.bytes(at, HEAD));
+    raw.bytes(at, HEAD + head.key_len + head.value_len)
+}
+
 /// Packs the message after the bytes at the front.
 fn append<A: Allocator>(raw: &mut RawBuf<A>, message: Message<'_>)
     requires { RawFits raw.old (length (message_bytes (message_of message))) }
@@ -102,14 +112,14 @@ fn append<A: Allocator>(raw: &mut RawBuf<A>, message: Message<'_>)
     raw.push_front(message.op.carried());
 }
 
-/// Packs the messages of a run after the bytes at the front.
+/// Copies the packed messages of a run behind the bytes at the front.
 fn append_all<A: Allocator, B: Allocator>(raw: &mut RawBuf<A>, run: &Run<'_, B>)
     requires { RawFits raw.old (length (all_bytes run.now)) }
     ensures { raw.new
         ≡ raw_lists (raw.old.front ++ all_bytes run.now) raw.old.slots raw.old.capacity }
 {
     for i in 0..run.len() {
-        append(raw, run.get(i));
+        raw.push_front(run.packed(i));
     }
 }
 
@@ -219,6 +229,15 @@ impl<A: Allocator> MessageBuf<A> {
         ensures { message_of result ≡ slice_index_or self.now.messages index (message_of result) }
     {
         read_message(&self.raw, self.raw.slot(index) as usize)
+    }
+
+    /// The bytes of the packed message at `index`, lent.
+    pub(crate) fn packed(&self, index: usize) -> &[u8]
+        requires { index < length self.now.messages }
+        ensures { (none : TreeMessage)
+            → result.now ≡ message_bytes (slice_index_or self.now.messages index none) }
+    {
+        packed_at(&self.raw, self.raw.slot(index) as usize)
     }
 
     /// How many messages stand below the key and number.
@@ -487,9 +506,8 @@ impl<A: Allocator> MessageBuf<A> {
     {
         spare.reset();
         for i in 0..self.raw.slot_count() {
-            let message = read_message(&self.raw, self.raw.slot(i) as usize);
             let at = spare.front_len() as u32;
-            append(spare, message);
+            spare.push_front(packed_at(&self.raw, self.raw.slot(i) as usize));
             self.raw.set_slot(i, at);
         }
         self.raw.clear_front();
