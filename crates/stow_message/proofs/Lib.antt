@@ -1,5 +1,7 @@
 pub mod RisingLaws
+pub mod Marked
 pub mod Merged
+pub mod Moved
 pub mod Placed
 pub mod Pushed
 pub mod Covered
@@ -7,6 +9,7 @@ pub mod Ranges
 pub mod Reading
 pub mod Removed
 pub mod RisingLists
+pub mod Searched
 pub mod Squeezed
 pub mod Stored
 pub mod Taken

@@ -1,20 +1,22 @@
 -- A block into which the messages of a run are put, in one pass over its slots.
-use Rattle.std.proofs.Common.{◌≡◌, ℕ, zero, ◌+◌, ◌-◌, ◌*◌, ◌<◌, ◌≤◌, Bool, true, false, List, ◌∷◌, ◌++◌, map, length, take, drop, get_or, replicate, sym, ap, subst, ◌∙◌, arith, drop-drop, length-append, length-take, length-drop, take-append-drop}
-use Rattle.std.proofs.lemmas.List.{get_or-map, length-replicate, drop_at, drop_all}
+use Rattle.std.proofs.Common.{◌≡◌, ℕ, zero, ◌+◌, ◌-◌, ◌*◌, ◌<◌, ◌≤◌, false, List, ◌∷◌, ◌++◌, map, length, take, drop, get_or, replicate, sym, ap, subst, ◌∙◌, arith, drop-drop, length-append, length-take, length-drop, take-append-drop}
+use Rattle.std.proofs.Math.Seq.{take-add}
+use Rattle.std.proofs.lemmas.List.{get_or-map, length-map, length-replicate, drop_at, drop_all, drop_more, take_at}
 use Rattle.std.specs.Prelude.{slice_set}
-use Rattle.std.specs.List.{All, AllByRecursion, sum_by}
+use Rattle.std.specs.List.{All, AllByRecursion, sum_by, remove_range, drop-map}
 use Rattle.stow_tree_model.specs.TreeMessage.{TreeMessage}
-use Rattle.stow_tree_model.specs.Order.{MessagesRise}
+use Rattle.stow_tree_model.specs.Order.{place_of, MessagesRise}
 use Rattle.stow_raw.specs.RawBuf.{RawLists, raw_lists, raw_used}
 use Rattle.stow_message.specs.Packed.{message_bytes, message_size, IsMessage, message_at, BeginsWith, all_bytes, places_from}
-use Rattle.stow_message.specs.MessageBuf.{MessageList, message_list, messages_in, IsFilled}
-use Rattle.stow_message.specs.Rising.{is_first_below, all_placed, AreNew}
+use Rattle.stow_message.specs.MessageBuf.{MessageList, message_list, messages_in, messages_from, IsFilled, IsFilledFrom}
+use Rattle.stow_message.specs.Rising.{is_first_below, below, all_placed, AreNew}
 use Rattle.stow_message.proofs.Reading.{length-message_bytes}
 use Rattle.stow_message.proofs.Pushed.{all_still_there, all_still_read, slots_of_messages}
-use Rattle.stow_message.proofs.Placed.{itself, merged, map_merged, merged_is, merged_next, all_merged, length-merged, all_placed_rises, all_other, sum-all_placed}
-use Rattle.stow_message.proofs.Removed.{all_dropped}
-use Rattle.stow_message.proofs.RisingLists.{all_by}
-use Rattle.stow_message.proofs.Squeezed.{length-places, place_is, all_bytes-more, all_sizes, places_read, places_begin, slot_moved, slot_after, taken_within}
+use Rattle.stow_message.proofs.Placed.{itself, merged, map_merged, merged_is, merged_next, passes, all_merged, length-merged, all_placed_rises, all_other, sum-all_placed}
+use Rattle.stow_message.proofs.Removed.{all_dropped, rest_rises}
+use Rattle.stow_message.proofs.RisingLists.{all_by, below_within}
+use Rattle.stow_message.proofs.Searched.{first_not_below}
+use Rattle.stow_message.proofs.Squeezed.{length-places, place_is, all_bytes-more, all_sizes, places_read, places_begin, slot_moved, taken_within}
 use Rattle.stow_message.proofs.Taken.{from_drop}
 
 -- a list whose first part was written over is the same from a later place on
@@ -96,6 +98,14 @@ module _ (raw : RawLists) (run : List TreeMessage) where
       pub slots_stay : length now.slots ≡ length run + length raw.slots
       slots_stay = omega (arith, ap (λ (r : RawLists). length r.slots) w.raw_is, length-append (take k slots) (drop k wide), length-take k slots, length-drop k wide, k_within, length-slots, length-wide)
 
+      pub same_messages : messages_from now o ≡ map at (drop o wide)
+      same_messages = λ j. map (λ slot. message_at (drop slot ((w.raw_is j).front))) (same_old j)
+
+      pub old_rising : MessagesRise (messages_from now o)
+      old_rising = let j = o - length run in
+          subst MessagesRise (sym (same_messages ∙ ap (map at) (old_ones o w.within.1) ∙ sym (drop-map at j raw.slots) ∙ ap (drop j) (all_still_read raw.front (all_bytes run) raw.slots h.whole)))
+          (rest_rises (messages_in raw) 0 j (omega arith) h.rising)
+
       pub front_stays : now.front ≡ front
       front_stays = ap (λ (r : RawLists). r.front) w.raw_is
 
@@ -112,9 +122,6 @@ module _ (raw : RawLists) (run : List TreeMessage) where
         here_place : here ≡ get_or places n here
         here_place = omega (arith, w.here_is, place_is (length raw.front) run n here lt)
 
-        test_is : (t : Bool) → t ≡ is_first_below m (map (λ slot. message_at (drop slot now.front)) (drop o now.slots)) → t ≡ is_first_below m (map at (drop o wide))
-        test_is t e = e ∙ (λ j. is_first_below m (map (λ slot. message_at (drop slot (front_stays j))) (same_old j)))
-
         written : (s : ℕ) (l : List ℕ) → drop k slots ≡ s ∷ l → (new : RawLists) → new ≡ raw_lists now.front (slice_set now.slots k s) now.capacity
             → (new ≡ raw_lists front (take (k + 1) slots ++ drop (k + 1) wide) raw.capacity) × (drop (k + 1) slots ≡ l)
         written s l e new g = let first = from_drop slots k s l e in (
@@ -123,19 +130,46 @@ module _ (raw : RawLists) (run : List TreeMessage) where
           first.2,
         )
 
-        -- the next slot of the block stands below
-        pub old_goes : true ≡ is_first_below m (map (λ slot. message_at (drop slot now.front)) (drop o now.slots)) → o < length now.slots → (s : ℕ) → s ≡ get_or now.slots o 0
-            → (new : RawLists) → new ≡ raw_lists now.front (slice_set now.slots k s) now.capacity → Merging new n (o + 1) (k + 1) here
-        old_goes t less s e new g = let same : s ≡ get_or wide o 0 = e ∙ ap (λ (r : RawLists). get_or r.slots o 0) w.raw_is ∙ slot_after slots wide k o 0 k_within (omega (arith, w.counts, w.within)) (omega (arith, less, slots_stay, length-wide)) in
-            let on = w.rest ∙ merged_next at places wide n o 0 m true place_within place_names (test_is true t) ∙ ap (λ x. x ∷ merged at (drop n places) (drop (o + 1) wide)) (sym same) in
-            let both = written s (merged at (drop n places) (drop (o + 1) wide)) on new g in
-            record { raw_is = both.0; rest = both.1; here_is = w.here_is; counts = omega (arith, w.counts); within = (w.within.0, omega (arith, w.within), omega (arith, less, slots_stay)) }
+        -- the slots of the block that stand below
+        abbrev pub passed : ℕ
+        passed = below (place_of m) (map at (drop o wide))
+
+        few : passed ≤ length (drop o wide)
+        few = omega (arith, below_within (place_of m) (map at (drop o wide)), length-map (drop o wide) at)
+
+        rest_passed : drop k slots ≡ take passed (drop o wide) ++ merged at (drop n places) (drop (o + passed) wide)
+        rest_passed = let x = get_or places n 0 in let more = drop_more places n 0 place_within in let olds = drop o wide in
+            let same : passed ≡ below (place_of (at x)) (map at olds) = ap (λ (q : TreeMessage). below (place_of q) (map at olds)) place_names in
+            w.rest ∙ ap (λ l. merged at l olds) more ∙ passes at x (merged at (drop (n + 1) places)) olds passed (omega (arith, same))
+            ∙ (λ j. take passed olds ++ merged at (sym more j) (drop-drop passed o wide j))
+
+        first_few : length (take passed (drop o wide)) ≡ passed
+        first_few = omega (arith, length-take passed (drop o wide), few)
+
+        slots_passed : take (k + passed) (take k slots ++ drop o wide) ≡ take (k + passed) slots
+        slots_passed = let olds = drop o wide in let starts = take k slots in let long : length starts ≡ k = omega (arith, length-take k slots, k_within) in
+            take-add k passed (starts ++ olds) ∙ (λ j. take_at starts olds k long j ++ take passed (drop_at starts olds k long j))
+            ∙ ap (λ l. starts ++ l) (sym (ap (take passed) rest_passed ∙ take_at (take passed olds) (merged at (drop n places) (drop (o + passed) wide)) passed first_few))
+            ∙ sym (take-add k passed slots)
+
+        pub old_go : (new : RawLists) → new ≡ raw_lists now.front (take (k + passed) (remove_range now.slots k o) ++ drop (k + passed) now.slots) now.capacity → Merging new n (o + passed) (k + passed) here
+        old_go new g = let starts = take k slots in let long : length starts ≡ k = omega (arith, length-take k slots, k_within) in
+            let begin : take k now.slots ≡ starts = ap (λ (r : RawLists). take k r.slots) w.raw_is ∙ take_at starts (drop k wide) k long in
+            let end : drop (k + passed) now.slots ≡ drop (k + passed) wide = ap (λ (r : RawLists). drop (k + passed) r.slots) w.raw_is ∙ drop_after slots wide k (k + passed) k_within (omega arith) in
+            record {
+              raw_is = g ∙ (λ j. raw_lists ((w.raw_is j).front) (take (k + passed) (begin j ++ same_old j) ++ end j) ((w.raw_is j).capacity))
+                  ∙ ap (λ l. raw_lists front (l ++ drop (k + passed) wide) raw.capacity) slots_passed;
+              rest = sym (drop-drop passed k slots) ∙ ap (drop passed) rest_passed ∙ drop_at (take passed (drop o wide)) (merged at (drop n places) (drop (o + passed) wide)) passed first_few;
+              here_is = w.here_is;
+              counts = omega (arith, w.counts);
+              within = (w.within.0, omega (arith, w.within), omega (arith, few, length-drop o wide, length-wide, w.within));
+            }
 
         -- the run's next message comes
-        pub new_goes : false ≡ is_first_below m (map (λ slot. message_at (drop slot now.front)) (drop o now.slots)) → (new : RawLists) → new ≡ raw_lists now.front (slice_set now.slots k here) now.capacity
+        pub new_goes : false ≡ is_first_below m (map at (drop o wide)) → (new : RawLists) → new ≡ raw_lists now.front (slice_set now.slots k here) now.capacity
             → (there : ℕ) → there + 4 ≡ here + message_size m → Merging new (n + 1) o (k + 1) there
         new_goes t new g there e = let place : get_or places n 0 ≡ here = omega (arith, w.here_is, place_is (length raw.front) run n 0 lt) in
-            let on = w.rest ∙ merged_next at places wide n o 0 m false place_within place_names (test_is false t) ∙ ap (λ x. x ∷ merged at (drop (n + 1) places) (drop o wide)) place in
+            let on = w.rest ∙ merged_next at places wide n o 0 m false place_within place_names t ∙ ap (λ x. x ∷ merged at (drop (n + 1) places) (drop o wide)) place in
             let both = written here (merged at (drop (n + 1) places) (drop o wide)) on new g in
             let more : all_bytes (take (n + 1) run) ≡ all_bytes (take n run) ++ message_bytes m = all_bytes-more run n m lt is in
             record {
@@ -200,9 +234,6 @@ module _ (v : MessageList) (run : List TreeMessage) (room : v.used + sum_by mess
     pub slots_now : length now.slots ≡ length run + length v.messages
     slots_now = omega (arith, slots_stay w.raw run w.filled ok now n o k here w.merging, same_count)
 
-    pub places_left : n < length run → k < length run + length v.messages
-    places_left lt = omega (arith, w.merging.counts, w.merging.within, same_count, lt)
-
     pub front_small : length now.front + 4 * (length run + length v.messages) < 4294967296
     front_small = omega (
       arith,
@@ -219,17 +250,47 @@ module _ (v : MessageList) (run : List TreeMessage) (room : v.used + sum_by mess
     pub here_small : here < 4294967296
     here_small = omega (arith, here_within w.raw run w.filled ok now n o k here w.merging, ap length (front_stays w.raw run w.filled ok now n o k here w.merging), front_small)
 
-    pub begin_here : AllByRecursion (λ slot. BeginsWith (drop slot now.front)) (drop o now.slots)
-    begin_here = old_begin w.raw run w.filled ok now n o k here w.merging
+    pub old_within : o ≤ length now.slots
+    old_within = omega (arith, slots_now, same_count, w.merging.within)
 
-    module _ (lt : n < length run) (m : TreeMessage) (is : m ≡ get_or run n m) where
-      pub old_next : true ≡ is_first_below m (map (λ slot. message_at (drop slot now.front)) (drop o now.slots)) → o < length now.slots → (s : ℕ) → s ≡ get_or now.slots o 0
-          → (new : RawLists) → new ≡ raw_lists now.front (slice_set now.slots k s) now.capacity → Filling v run new n (o + 1) (k + 1) here
-      old_next t less s e new g = record { raw = w.raw; filled = w.filled; seen = w.seen; merging = old_goes w.raw run w.filled ok now n o k here w.merging lt m is t less s e new g }
+    pub place_here : (k + length run ≡ n + o) × (n ≤ length run) × (length run ≤ o)
+    place_here = (w.merging.counts, w.merging.within.0, w.merging.within.1)
 
-      pub new_next : false ≡ is_first_below m (map (λ slot. message_at (drop slot now.front)) (drop o now.slots)) → (new : RawLists) → new ≡ raw_lists now.front (slice_set now.slots k here) now.capacity
-          → (there : ℕ) → there + 4 ≡ here + message_size m → Filling v run new (n + 1) o (k + 1) there
-      new_next t new g there e = record { raw = w.raw; filled = w.filled; seen = w.seen; merging = new_goes w.raw run w.filled ok now n o k here w.merging lt m is t new g there e }
+    pub filled_here : IsFilledFrom now o
+    filled_here = record {
+      whole = old_begin w.raw run w.filled ok now n o k here w.merging;
+      rising = old_rising w.raw run w.filled ok now n o k here w.merging;
+      small = omega (arith, front_small, slots_now);
+    }
+
+    -- the slots below the run's next message go before it, and it comes
+    module _ (lt : n < length run) (m : TreeMessage) (is : m ≡ get_or run n m) (end : ℕ) (e : end ≡ o + below (place_of m) (messages_from now o)) where
+      abbrev olds : List ℕ
+      olds = drop o (wide w.raw run)
+
+      abbrev count : ℕ
+      count = passed w.raw run w.filled ok now n o k here w.merging lt m is
+
+      end_is : end ≡ o + count
+      end_is = e ∙ ap (λ l. o + below (place_of m) l) (same_messages w.raw run w.filled ok now n o k here w.merging)
+
+      test : false ≡ is_first_below m (map (at w.raw run) (drop (o + count) (wide w.raw run)))
+      test = first_not_below m (map (at w.raw run) olds) ∙ ap (is_first_below m) (drop-map (at w.raw run) count olds ∙ ap (map (at w.raw run)) (drop-drop count o (wide w.raw run)))
+
+      pub end_within : (o ≤ end) × (end ≤ length now.slots) × (end + n ≤ k + end + length run)
+      end_within = (omega (arith, end_is), omega (arith, end_is, few w.raw run w.filled ok now n o k here w.merging lt m is, length-drop o (wide w.raw run), length-wide w.raw run, same_count, slots_now, w.merging.within), omega (arith, w.merging.within))
+
+      pub next : (to c : ℕ) → to ≡ k → c ≡ end - o → (moved : RawLists) → moved ≡ raw_lists now.front (take (to + c) (remove_range now.slots to o) ++ drop (to + c) now.slots) now.capacity
+          → (i : ℕ) → i ≡ k + c → (new : RawLists) → new ≡ raw_lists moved.front (slice_set moved.slots i here) moved.capacity
+          → (there : ℕ) → there + 4 ≡ here + message_size m → (k₂ : ℕ) → k₂ ≡ k + c + 1 → Filling v run new (n + 1) end k₂ there
+      next to c start size moved g i place new f there after k₂ last =
+          let many : c ≡ count = omega (arith, size, end_is) in
+          let went = old_go w.raw run w.filled ok now n o k here w.merging lt m is moved
+          (g ∙ (λ j. raw_lists now.front (take (start j + many j) (remove_range now.slots (start j) o) ++ drop (start j + many j) now.slots) now.capacity)) in
+          let came = new_goes w.raw run w.filled ok moved n (o + count) (k + count) here went lt m is test new
+          (f ∙ (λ j. raw_lists moved.front (slice_set moved.slots ((place ∙ ap (λ x. k + x) many) j) here) moved.capacity)) there after in
+          let last_is : k + count + 1 ≡ k₂ = omega (arith, last, many) in
+          record { raw = w.raw; filled = w.filled; seen = w.seen; merging = subst (λ (p : ℕ × ℕ). Merging w.raw run new (n + 1) p.0 p.1 there) (λ j. (sym end_is j, last_is j)) came }
 
     module _ (rise : MessagesRise run) (new : AreNew run v.messages) (past : length run ≤ n) where
       are_new : AreNew run (messages_in w.raw)

@@ -1,5 +1,5 @@
 -- Messages that are put to their places in a rising list.
-use Rattle.std.proofs.Common.{◌≡◌, ℕ, suc, ◌+◌, ◌<◌, Bool, true, false, List, [], ◌∷◌, map, length, drop, get_or, refl, sym, ap, ◌∙◌, arith, drop-drop}
+use Rattle.std.proofs.Common.{◌≡◌, ℕ, zero, suc, ◌+◌, ◌<◌, ◌≤◌, Bool, true, false, List, [], ◌∷◌, ◌++◌, map, length, take, drop, get_or, refl, sym, ap, ◌∙◌, arith, drop-drop}
 use Rattle.std.proofs.lemmas.List.{drop_more, get_or-drop}
 use Rattle.std.proofs.lemmas.List.Sums.{sum_by-cons}
 use Rattle.std.specs.Prelude.{if◌then◌else◌}
@@ -9,7 +9,7 @@ use Rattle.std.specs.List.Sorted.{IsStrictlySortedBy}
 use Rattle.stow_tree_model.specs.TreeMessage.{TreeMessage}
 use Rattle.stow_tree_model.specs.Order.{place_cmp, place_of, MessagesRise}
 use Rattle.stow_message.specs.Packed.{message_size}
-use Rattle.stow_message.specs.Rising.{is_below, is_first_below, placed, all_placed, AreNew}
+use Rattle.stow_message.specs.Rising.{is_below, is_first_below, below, placed, all_placed, AreNew}
 use Rattle.stow_message.proofs.RisingLists.{AllAbove, above_all, all_by, lt_is, new_rises, sum-placed}
 
 abbrev Other : TreeMessage → TreeMessage → Type 0
@@ -107,6 +107,16 @@ length-put_in f x n rest h (y ∷ ys) = step (is_below (place_of (f x)) (f y)) (
 pub length-merged : {X : Type 0} (f : X → TreeMessage) (xs ys : List X) → length (merged f xs ys) ≡ length xs + length ys
 length-merged f [] ys = omega arith
 length-merged f (x ∷ xs) ys = length-put_in f x (length xs) (merged f xs) (λ l. length-merged f xs l) ys
+
+-- while the second list's messages stand below the first one's next, they come first
+pub passes : {X : Type 0} (f : X → TreeMessage) (x : X) (rest : List X → List X) (ys : List X) (b : ℕ) → b ≤ below (place_of (f x)) (map f ys) → put_in f x rest ys ≡ take b ys ++ put_in f x rest (drop b ys)
+passes f x rest ys zero le = refl
+passes f x rest [] (suc b) le = absurd (omega (arith, le))
+passes f x rest (y ∷ ys) (suc b) le = step (is_below (place_of (f x)) (f y)) le (passes f x rest ys b) where
+  step : (t : Bool) → suc b ≤ (if t then suc (below (place_of (f x)) (map f ys)) else 0) → (b ≤ below (place_of (f x)) (map f ys) → put_in f x rest ys ≡ take b ys ++ put_in f x rest (drop b ys))
+      → (if t then y ∷ put_in f x rest ys else x ∷ rest (y ∷ ys)) ≡ y ∷ (take b ys ++ put_in f x rest (drop b ys))
+  step true le on = ap (λ l. y ∷ l) (on (omega (arith, le)))
+  step false le on = absurd (omega (arith, le))
 
 -- the first of two merged lists
 merged_step : {X : Type 0} (f : X → TreeMessage) (x d : X) (xs ys : List X) → merged f (x ∷ xs) ys ≡ (if is_first_below (f x) (map f ys) then get_or ys 0 d ∷ merged f (x ∷ xs) (drop 1 ys) else x ∷ merged f xs ys)

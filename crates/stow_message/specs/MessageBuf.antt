@@ -1,5 +1,5 @@
 -- What a contract sees of a `MessageBuf`.
-use Rattle.std.specs.Prelude.{◌≡◌, ℕ, ◌+◌, ◌-◌, ◌*◌, ◌≤◌, ◌<◌, List, Bool, length, map, refl, drop}
+use Rattle.std.specs.Prelude.{◌≡◌, ℕ, ◌+◌, ◌-◌, ◌*◌, ◌≤◌, ◌<◌, List, length, map, refl, drop}
 use Rattle.std.specs.Coded.{Coded, code_by, coded×, coded_list, coded_ℕ}
 use Rattle.stow_raw.specs.RawBuf.{RawLists, raw_used}
 use Rattle.stow_tree_model.specs.Op.{Op, Put, Gone, Append, bytes_in}
@@ -70,6 +70,16 @@ message_list_code =
 abbrev pub messages_in : RawLists → List TreeMessage
 messages_in raw = map (λ slot. message_at (drop slot raw.front)) raw.slots
 
+-- the messages at the places of the slots from the index on
+abbrev pub messages_from : RawLists → ℕ → List TreeMessage
+messages_from raw from = map (λ slot. message_at (drop slot raw.front)) (drop from raw.slots)
+
+-- each slot from the index on names a message, and they rise
+pub record IsFilledFrom (raw : RawLists) (from : ℕ) : Type 0 where
+  pub whole : AllByRecursion (λ slot. BeginsWith (drop slot raw.front)) (drop from raw.slots)
+  pub rising : MessagesRise (messages_from raw from)
+  pub small : length raw.front + 4 * length raw.slots < 4294967296
+
 -- each slot names a message, and they rise
 pub record IsFilled (raw : RawLists) : Type 0 where
   pub whole : AllByRecursion (λ slot. BeginsWith (drop slot raw.front)) raw.slots
@@ -77,7 +87,7 @@ pub record IsFilled (raw : RawLists) : Type 0 where
   pub live : sum_by message_size (messages_in raw) ≤ raw_used raw
   pub within : (raw_used raw ≤ raw.capacity) × (raw.capacity < 4294967296)
 
--- .. and each one's key has its mark
-pub record IsMarked (raw : RawLists) (marks : List Bool) : Type 0 where
+-- .. and each one's key has its marks
+pub record IsMarked (raw : RawLists) (words : List ℕ) : Type 0 where
   pub filled : IsFilled raw
-  pub covers : Covers marks (messages_in raw)
+  pub covers : Covers words (messages_in raw)

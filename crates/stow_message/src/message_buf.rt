@@ -1,19 +1,20 @@
 //! A buffer of packed messages.
 ghost use Rattle.std.specs.Prelude.{◌≡◌, ◌+◌, ◌-◌, ◌*◌, ◌^◌, ◌<◌, ◌≤◌, ◌==◌, [], ◌++◌, length, map, take, drop, max, reverse, slice_index_or, IfOk, IsTrue, ◌↔◌, false};
 ghost use Rattle.std.specs.Ordering.{is_lt, is_eq};
-ghost use Rattle.stow_tree_model.specs.TreeMessage.{message_of};
+ghost use Rattle.stow_tree_model.specs.TreeMessage.{TreeMessage, message_of};
 ghost use Rattle.stow_tree_model.specs.Order.{place_cmp, place_of, MessagesRise};
 ghost use Rattle.stow_raw.specs.RawBuf.{raw_lists, RawFits};
 ghost use Rattle.stow_message.specs.Filter.{Covers};
 ghost use Rattle.stow_message.specs.MessageBuf.{message_list, messages_in, Fits, IsFilled, with_message, with_messages, without_batch, without_range};
 ghost use Rattle.stow_message.specs.Packed.{message_bytes, message_size, message_at, IsMessage, BeginsWith, all_bytes};
-ghost use Rattle.stow_message.specs.Rising.{is_below, below, placed, IsNew, of_key, in_range, out_of_range, all_placed, AreNew, is_same, is_first, is_first_below, AreHeld, without};
+ghost use Rattle.stow_message.specs.Rising.{is_below, below, placed, IsNew, of_key, in_range, out_of_range, all_placed, AreNew, is_same, is_first, AreHeld, without};
 ghost use Rattle.std.specs.List.{All, AllByRecursion, sum_by, remove_range};
 
 use crate::filter::Filter;
 use crate::head::{HEAD, SLOT, kind, op_with, read_head, size, write_head};
 use crate::newest::Newest;
 use crate::run::Run;
+use crate::slots::{move_slots, search_between, search_from};
 use std::alloc::{AllocError, Allocator, Global};
 use std::cmp::Ordering;
 use std::marker::Model;
@@ -39,11 +40,11 @@ impl<A: Allocator> Model for MessageBuf<A> {
 
     ghost view = { λ b. message_list (messages_in b.raw) (raw_used b.raw) b.raw.capacity };
 
-    ghost invariant = { λ b. IsMarked b.raw b.filter.marks.items };
+    ghost invariant = { λ b. IsMarked b.raw b.filter };
 }
 
 /// Whether the message stands below the key and number.
-fn is_message_below(message: Message<'_>, key: &[u8], number: u64) -> bool
+pub(crate) fn is_message_below(message: Message<'_>, key: &[u8], number: u64) -> bool
     ensures { result ≡ is_below (key.now, number) (message_of message.entry) }
 {
     match message.key.bytes.cmp(key) {
@@ -74,7 +75,7 @@ fn is_same(a: Message<'_>, b: Message<'_>) -> bool
 }
 
 /// The message that begins `at` bytes into the front.
-fn read_message<A: Allocator>(raw: &RawBuf<A>, at: usize) -> Message<'_>
+pub(crate) fn read_message<A: Allocator>(raw: &RawBuf<A>, at: usize) -> Message<'_>
     requires begins { BeginsWith (drop at raw.now.front) }
     requires small { length raw.now.front < 2 ^ 32 }
     ensures { message_of result ≡ message_at (drop at raw.now.front) }
@@ -89,6 +90,16 @@ fn read_message<A: Allocator>(raw: &RawBuf<A>, at: usize) -> Message<'_>
     }
 }
 
+/// The bytes of the packed message that begins `at` bytes into the front.
+fn packed_at<A: Allocator>(raw: &RawBuf<A>, at: usize) -> &[u8]
+    requires begins { BeginsWith (drop at raw.now.front) }
+    requires small { length raw.now.front < 2 ^ 32 }
+    ensures { result.now ≡ message_bytes (message_at (drop at raw.now.front)) }
+{
+    let head = read_head(raw.bytes(at, HEAD));
+    raw.bytes(at, HEAD + head.key_len + head.value_len)
+}
+
 /// Packs the message after the bytes at the front.
 fn append<A: Allocator>(raw: &mut RawBuf<A>, message: Message<'_>)
     requires { RawFits raw.old (length (message_bytes (message_of message))) }
@@ -101,38 +112,21 @@ fn append<A: Allocator>(raw: &mut RawBuf<A>, message: Message<'_>)
     raw.push_front(message.op.carried());
 }
 
-/// Packs the messages of a run after the bytes at the front.
+/// Copies the packed messages of a run behind the bytes at the front.
 fn append_all<A: Allocator, B: Allocator>(raw: &mut RawBuf<A>, run: &Run<'_, B>)
     requires { RawFits raw.old (length (all_bytes run.now)) }
     ensures { raw.new
         ≡ raw_lists (raw.old.front ++ all_bytes run.now) raw.old.slots raw.old.capacity }
 {
     for i in 0..run.len() {
-        append(raw, run.get(i));
-    }
-}
-
-/// Whether a slot is at `index`, and its message stands below this one.
-fn is_slot_below<A: Allocator>(raw: &RawBuf<A>, index: usize, message: Message<'_>) -> bool
-    requires begin { AllByRecursion (λ slot. BeginsWith (drop slot raw.now.front))
-        (drop index raw.now.slots) }
-    requires small { length raw.now.front < 2 ^ 32 }
-    ensures below { result ≡ is_first_below (message_of message.entry)
-        (map (λ slot. message_at (drop slot raw.now.front)) (drop index raw.now.slots)) }
-    ensures within { IsTrue result → index < length raw.now.slots }
-{
-    if index < raw.slot_count() {
-        let held = read_message(raw, raw.slot(index) as usize);
-        is_message_below(held, message.key.bytes, message.number)
-    } else {
-        false
+        raw.push_front(run.packed(i));
     }
 }
 
 /// Adds the key of each message to the filter.
 fn mark_all<A: Allocator>(raw: &RawBuf<A>, filter: &mut Filter<A>)
     requires filled { IsFilled raw.now }
-    ensures { Covers filter.new.marks.items (messages_in raw.now) }
+    ensures { Covers filter.new (messages_in raw.now) }
 {
     for i in 0..raw.slot_count() {
         let message = read_message(raw, raw.slot(i) as usize);
@@ -143,8 +137,8 @@ fn mark_all<A: Allocator>(raw: &RawBuf<A>, filter: &mut Filter<A>)
 /// Drops the marks of keys that left, where they may be many.
 fn renew_marks<A: Allocator>(raw: &RawBuf<A>, filter: &mut Filter<A>)
     requires filled { IsFilled raw.now }
-    requires covers { Covers filter.old.marks.items (messages_in raw.now) }
-    ensures { Covers filter.new.marks.items (messages_in raw.now) }
+    requires covers { Covers filter.old (messages_in raw.now) }
+    ensures { Covers filter.new (messages_in raw.now) }
 {
     if filter.is_stale(raw.slot_count()) {
         filter.clear();
@@ -237,6 +231,15 @@ impl<A: Allocator> MessageBuf<A> {
         read_message(&self.raw, self.raw.slot(index) as usize)
     }
 
+    /// The bytes of the packed message at `index`, lent.
+    pub(crate) fn packed(&self, index: usize) -> &[u8]
+        requires { index < length self.now.messages }
+        ensures { (none : TreeMessage)
+            → result.now ≡ message_bytes (slice_index_or self.now.messages index none) }
+    {
+        packed_at(&self.raw, self.raw.slot(index) as usize)
+    }
+
     /// How many messages stand below the key and number.
     fn search(&self, key: &[u8], number: u64) -> usize
         ensures count { result ≡ below (key.now, number) self.now.messages }
@@ -244,25 +247,7 @@ impl<A: Allocator> MessageBuf<A> {
         ensures valid { All IsMessage self.now.messages }
         ensures small { length self.now.messages < 4294967296 }
     {
-        self.search_between(0, self.len(), key, number)
-    }
-
-    /// The first index from `low` on whose message doesn't stand below the key and number: it is at most `high`.
-    fn search_between(&self, mut low: usize, mut high: usize, key: &[u8], number: u64) -> usize
-        requires order { (low ≤ high) × (high ≤ length self.now.messages) }
-        requires end { below (key.now, number) self.now.messages ≤ high }
-        requires rising { MessagesRise self.now.messages }
-        ensures { result ≡ max (below (key.now, number) self.now.messages) low }
-    {
-        while low < high {
-            let middle = low + (high - low) / 2;
-            if is_message_below(self.message(middle), key, number) {
-                low = middle + 1;
-            } else {
-                high = middle;
-            }
-        }
-        low
+        search_between(&self.raw, 0, self.len(), key, number)
     }
 
     /// The first index from `from` on whose message doesn't stand below the key and number, in steps that double.
@@ -270,17 +255,7 @@ impl<A: Allocator> MessageBuf<A> {
         requires { from ≤ length self.now.messages }
         ensures { result ≡ max (below (key.now, number) self.now.messages) from }
     {
-        let len = self.len();
-        let (mut low, mut step) = (from, 1);
-        while low + step <= len {
-            let last = low + step - 1;
-            if !is_message_below(self.message(last), key, number) {
-                return self.search_between(low, last, key, number);
-            }
-            low = last + 1;
-            step *= 2;
-        }
-        self.search_between(low, len, key, number)
+        search_from(&self.raw, from, key, number)
     }
 
     /// How many messages stand below the key and number. The search is the shorter the nearer the guess is.
@@ -408,7 +383,8 @@ impl<A: Allocator> MessageBuf<A> {
         self.raw.remove_slots(index, count);
     }
 
-    /// Puts the messages of a run to their places, in one pass over the slots.
+    /// Puts the messages of a run to their places. Each is searched from the place of the one before on, and the slots between are
+    /// moved unread.
     fn push_all<B: Allocator>(&mut self, run: &Run<'_, B>)
         requires room { self.old.used + sum_by message_size run.now ≤ self.old.capacity }
         requires valid { All IsMessage run.now }
@@ -422,19 +398,15 @@ impl<A: Allocator> MessageBuf<A> {
         append_all(&mut self.raw, run);
         let count = run.len();
         self.raw.add_slots(count);
-        let (mut place, mut new, mut old) = (0, 0, count);
-        while new < count {
+        let mut old = count;
+        for new in 0..count {
             let message = run.get(new);
-            if is_slot_below(&self.raw, old, message) {
-                let slot = self.raw.slot(old);
-                self.raw.set_slot(place, slot);
-                old += 1;
-            } else {
-                self.raw.set_slot(place, at as u32);
-                at += size(message) - SLOT;
-                new += 1;
-            }
-            place += 1;
+            let end = search_from(&self.raw, old, message.key.bytes, message.number);
+            let gap = count - new;
+            move_slots(&mut self.raw, old - gap, old, end - old);
+            self.raw.set_slot(end - gap, at as u32);
+            at += size(message) - SLOT;
+            old = end;
         }
     }
 
@@ -534,9 +506,8 @@ impl<A: Allocator> MessageBuf<A> {
     {
         spare.reset();
         for i in 0..self.raw.slot_count() {
-            let message = read_message(&self.raw, self.raw.slot(i) as usize);
             let at = spare.front_len() as u32;
-            append(spare, message);
+            spare.push_front(packed_at(&self.raw, self.raw.slot(i) as usize));
             self.raw.set_slot(i, at);
         }
         self.raw.clear_front();

@@ -1,6 +1,7 @@
 //! Messages of a buffer, lent.
 ghost use Rattle.std.specs.Prelude.{◌≡◌, ◌<◌, length, slice_index_or};
-ghost use Rattle.stow_tree_model.specs.TreeMessage.{message_of};
+ghost use Rattle.stow_tree_model.specs.TreeMessage.{TreeMessage, message_of};
+ghost use Rattle.stow_message.specs.Packed.{message_bytes};
 
 use crate::message_buf::MessageBuf;
 use std::alloc::{Allocator, Global};
@@ -45,5 +46,14 @@ impl<'a, A: Allocator> Run<'a, A> {
         ensures { message_of result ≡ slice_index_or self.now index (message_of result) }
     {
         self.buf.message(self.from + index)
+    }
+
+    /// The bytes of the packed message at `index`, lent.
+    pub(crate) fn packed(&self, index: usize) -> &'a [u8]
+        requires { index < length self.now }
+        ensures { (none : TreeMessage)
+            → result.now ≡ message_bytes (slice_index_or self.now index none) }
+    {
+        self.buf.packed(self.from + index)
     }
 }

@@ -4,4 +4,4 @@ use Rattle.stow_message.specs.MessageBuf.{messages_in}
 use Rattle.stow_message.proofs.message_buf.mark_all.Given as goal
 
 abbrev pub invariant-loop-i : goal.invariant-loop-i
-invariant-loop-i g l = Covers l.filter.marks.items (take l.i (messages_in l.raw))
+invariant-loop-i g l = Covers l.filter (take l.i (messages_in l.raw))

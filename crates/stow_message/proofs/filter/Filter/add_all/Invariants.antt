@@ -4,6 +4,6 @@ use Rattle.stow_message.proofs.filter.Filter.add_all.Given as goal
 
 abbrev pub invariant-loop-i : goal.invariant-loop-i
 invariant-loop-i g l = record {
-  covers : Covers l.self.marks.items (take l.i l.run);
-  stay : (other : List ℕ) → may_have l.fn.self.marks.items other ≡ true → may_have l.self.marks.items other ≡ true;
+  covers : Covers l.self (take l.i l.run);
+  stay : (other : List ℕ) → may_have l.fn.self other ≡ true → may_have l.self other ≡ true;
 }

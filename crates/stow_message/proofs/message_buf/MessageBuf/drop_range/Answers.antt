@@ -1,4 +1,4 @@
-use Rattle.std.proofs.Common.{◌≡◌, ◌+◌, ◌-◌, ◌*◌, ◌≤◌, length, ap, sym, ◌∙◌, arith}
+use Rattle.std.proofs.Common.{◌≡◌, ◌+◌, ◌-◌, ◌*◌, length, ap, sym, ◌∙◌, arith}
 use Rattle.std.specs.List.{remove_range}
 use Rattle.stow_message.specs.MessageBuf.{message_list}
 use Rattle.stow_message.specs.Rising.{in_range}

@@ -8,8 +8,8 @@ use Rattle.stow_message.proofs.message_buf.MessageBuf.of_key_near.Goals as goal
 pub returns-then-not-may_have : goal.returns-then-not-may_have
 returns-then-not-may_have g c =
     c.none.ensures
-    ∙ sym (ap reverse (none_marked c.self.inside.filter.marks.items c.args.key.bytes.now c.args.self.now.messages (sym c.may_have.ensures ∙ c.if-not-may_have.true)
-    (covered c.self.inside.raw c.self.inside.filter.marks.items c.args.self.now c.self.view_is c.self.invariant.covers)))
+    ∙ sym (ap reverse (none_marked c.self.inside.filter c.args.key.bytes.now c.args.self.now.messages (sym c.may_have.ensures ∙ c.if-not-may_have.true)
+    (covered c.self.inside.raw c.self.inside.filter c.args.self.now c.self.view_is c.self.invariant.covers)))
 
 pub search_from-to-requires : goal.search_from-to-requires
 search_from-to-requires g c = omega (arith, c.count_below-from.ensures.count, below_within (c.args.key.bytes.now, 0) c.args.self.now.messages)

@@ -15,13 +15,13 @@ insert_slot-requires g c = (push c.self.inside.raw c.self.invariant.filled c.arg
 pub invariant_of-self : goal.invariant_of-self
 invariant_of-self g c =
     let put = push c.self.inside.raw c.self.invariant.filled c.args.self.now c.self.view_is c.args.message c.requires c.append.new.raw c.append.ensures _ c.search-index.ensures.count in
-    let marks = c.add.new.self.marks.items in
+    let marks = c.add.new.self in
     record {
       filled = put.filled _ _ c.front_len-at.ensures c.insert_slot.ensures;
       covers = subst (Covers marks) (sym (ap (λ (w : MessageList). w.messages) (put.is _ _ c.front_len-at.ensures c.insert_slot.ensures)))
           (covers_placed marks (message_of c.args.message) c.args.self.now.messages c.add.ensures.added
-          (covers_more c.self.inside.filter.marks.items marks c.args.self.now.messages c.add.ensures.stay
-          (covered c.self.inside.raw c.self.inside.filter.marks.items c.args.self.now c.self.view_is c.self.invariant.covers)));
+          (covers_more c.self.inside.filter marks c.args.self.now.messages c.add.ensures.stay
+          (covered c.self.inside.raw c.self.inside.filter c.args.self.now c.self.view_is c.self.invariant.covers)));
     }
 
 pub returns : goal.returns

@@ -1,4 +1,4 @@
-use Rattle.std.proofs.Common.{ℕ, List, Bool, ◌∙◌, ◌+◌, ◌<◌, length, refl, ap, sym, subst, arith, length-append}
+use Rattle.std.proofs.Common.{ℕ, List, ◌≡◌, ◌+◌, ◌-◌, ◌<◌, ◌≤◌, length, refl, ap, sym, subst, arith, length-append}
 use Rattle.stow_raw.specs.RawBuf.{RawLists, raw_used}
 use Rattle.stow_tree_model.specs.TreeMessage.{TreeMessage, message_of}
 use Rattle.stow_message.specs.Packed.{all_bytes}
@@ -6,9 +6,9 @@ use Rattle.stow_message.specs.Filter.{Covers}
 use Rattle.stow_message.specs.MessageBuf.{MessageList, messages_in}
 use Rattle.stow_message.proofs.Covered.{covered, covers_more, covers_all_placed}
 use Rattle.stow_message.proofs.Squeezed.{all_sizes}
-use Rattle.stow_message.proofs.Merged.{Filling, filling, slots_now, places_left, front_small, here_small, begin_here, old_next, new_next, now_filled, now_seen}
+use Rattle.stow_message.proofs.Merged.{Filling, filling, filled_here, here_small, old_within, place_here, slots_now, front_small, end_within, next, now_filled, now_seen}
+use Rattle.stow_message.proofs.Moved.{length-moved}
 use Rattle.stow_message.proofs.message_buf.MessageBuf.push_all.Goals as goal
-use Rattle.stow_message.proofs.message_buf.MessageBuf.push_all.Goals.{then-is_slot_below, else-is_slot_below}
 
 pub append_all-requires : goal.append_all-requires
 append_all-requires g c = let run = c.args.run.now in
@@ -29,73 +29,80 @@ add_slots-requires g c = let raw = c.self.inside.raw in let run = c.args.run.now
     )
 
 pub loop-new-init : goal.loop-new-init
-loop-new-init g c =
+loop-new-init g c = let count = c.len-count.result in
+    let start : 0 ≡ count + 0 - length c.args.run.now = omega (arith, c.len-count.ensures) in
     record {
-      filling = filling c.args.self.now c.args.run.now c.requires.room c.requires.valid c.self.inside.raw c.self.invariant.filled c.self.view_is c.append_all.new.raw c.add_slots.new.self c.append_all.ensures c.len-count.result c.len-count.ensures
-          c.add_slots.ensures c.front_len-at.result c.front_len-at.ensures;
+      filling = subst (λ k. Filling c.args.self.now c.args.run.now c.add_slots.new.self 0 count k c.front_len-at.result) start
+          (filling c.args.self.now c.args.run.now c.requires.room c.requires.valid c.self.inside.raw c.self.invariant.filled c.self.view_is c.append_all.new.raw c.add_slots.new.self c.append_all.ensures count c.len-count.ensures
+          c.add_slots.ensures c.front_len-at.result c.front_len-at.ensures);
       marks = refl;
     }
 
-pub is_slot_below-requires-clause-begin : goal.is_slot_below-requires-clause-begin
-is_slot_below-requires-clause-begin g c = let l = c.loop-new in begin_here c.args.self.now c.args.run.now c.requires.room c.requires.valid l.self-inside.raw l.new l.old l.place l.at l.invariant.filling
+pub search_from-end-requires-clause-within : goal.search_from-end-requires-clause-within
+search_from-end-requires-clause-within g c = let l = c.loop-new in let v = c.args.self.now in let run = c.args.run.now in
+    old_within v run c.requires.room c.requires.valid l.self-inside.raw l.new l.old (l.old + l.new - length run) l.at l.invariant.filling
 
-pub is_slot_below-requires-clause-small : goal.is_slot_below-requires-clause-small
-is_slot_below-requires-clause-small g c = let l = c.loop-new in omega (arith, front_small c.args.self.now c.args.run.now c.requires.room c.requires.valid l.self-inside.raw l.new l.old l.place l.at l.invariant.filling)
+pub search_from-end-requires-clause-filled : goal.search_from-end-requires-clause-filled
+search_from-end-requires-clause-filled g c = let l = c.loop-new in let v = c.args.self.now in let run = c.args.run.now in
+    filled_here v run c.requires.room c.requires.valid l.self-inside.raw l.new l.old (l.old + l.new - length run) l.at l.invariant.filling
 
-pub overflow_add-old : goal.overflow_add-old
-overflow_add-old g c = let l = c.loop-new in let v = c.args.self.now in let run = c.args.run.now in let w = l.invariant.filling in
-    record { fits = omega (arith, front_small v run c.requires.room c.requires.valid l.self-inside.raw l.new l.old l.place l.at w, slots_now v run c.requires.room c.requires.valid l.self-inside.raw l.new l.old l.place l.at w, c.if-is_slot_below.ensures.within refl) }
+pub move_slots-requires-clause-within : goal.move_slots-requires-clause-within
+move_slots-requires-clause-within g c = let l = c.loop-new in let v = c.args.self.now in let run = c.args.run.now in
+    let lt : l.new < length run = omega (arith, c.loop-new-test.true, c.len-count.ensures) in let end = c.search_from-end.result in
+    let ends = end_within v run c.requires.room c.requires.valid l.self-inside.raw l.new l.old (l.old + l.new - length run) l.at l.invariant.filling lt (message_of c.get-message.result) c.get-message.ensures end c.search_from-end.ensures in
+    (omega arith, omega (arith, ends.0, ends.1))
 
-pub overflow_cast-at : goal.overflow_cast-at
-overflow_cast-at g c = let l = c.loop-new in record { fits = here_small c.args.self.now c.args.run.now c.requires.room c.requires.valid l.self-inside.raw l.new l.old l.place l.at l.invariant.filling }
-
-pub set_slot-requires-else-is_slot_below : goal.set_slot-requires-else-is_slot_below
-set_slot-requires-else-is_slot_below g c = let l = c.loop-new in let v = c.args.self.now in let run = c.args.run.now in let w = l.invariant.filling in
-    omega (arith, slots_now v run c.requires.room c.requires.valid l.self-inside.raw l.new l.old l.place l.at w, places_left v run c.requires.room c.requires.valid l.self-inside.raw l.new l.old l.place l.at w (omega (arith, c.loop-new-test.true, c.len-count.ensures)))
+pub move_slots-requires-clause-small : goal.move_slots-requires-clause-small
+move_slots-requires-clause-small g c = let l = c.loop-new in let v = c.args.self.now in let run = c.args.run.now in let k = l.old + l.new - length run in let w = l.invariant.filling in
+    omega (arith, front_small v run c.requires.room c.requires.valid l.self-inside.raw l.new l.old k l.at w, slots_now v run c.requires.room c.requires.valid l.self-inside.raw l.new l.old k l.at w)
 
 pub set_slot-requires : goal.set_slot-requires
-set_slot-requires g c = let l = c.loop-new in let v = c.args.self.now in let run = c.args.run.now in let w = l.invariant.filling in
-    omega (arith, slots_now v run c.requires.room c.requires.valid l.self-inside.raw l.new l.old l.place l.at w, places_left v run c.requires.room c.requires.valid l.self-inside.raw l.new l.old l.place l.at w (omega (arith, c.loop-new-test.true, c.len-count.ensures)))
+set_slot-requires g c = let l = c.loop-new in let v = c.args.self.now in let run = c.args.run.now in let k = l.old + l.new - length run in let w = l.invariant.filling in
+    let lt : l.new < length run = omega (arith, c.loop-new-test.true, c.len-count.ensures) in let end = c.search_from-end.result in let gap = c.len-count.result - l.new in let slots = l.self-inside.raw.slots in
+    let ends = end_within v run c.requires.room c.requires.valid l.self-inside.raw l.new l.old k l.at w lt (message_of c.get-message.result) c.get-message.ensures end c.search_from-end.ensures in
+    let order : l.old - gap ≤ l.old = omega arith in let fits : l.old + (end - l.old) ≤ length slots = omega (arith, ends.0, ends.1) in
+    omega (
+      arith,
+      ap (λ (r : RawLists). length r.slots) c.move_slots.ensures,
+      length-moved slots (l.old - gap) l.old (end - l.old) order fits (end - l.old) (omega arith),
+      ends.0,
+      ends.1,
+      place_here v run c.requires.room c.requires.valid l.self-inside.raw l.new l.old k l.at w,
+      lt,
+      c.len-count.ensures,
+    )
+
+pub overflow_cast-at : goal.overflow_cast-at
+overflow_cast-at g c = let l = c.loop-new in let run = c.args.run.now in
+    record { fits = here_small c.args.self.now run c.requires.room c.requires.valid l.self-inside.raw l.new l.old (l.old + l.new - length run) l.at l.invariant.filling }
 
 pub overflow_add-at : goal.overflow_add-at
-overflow_add-at g c = let l = c.loop-new in let m = c.get-message.result in
-    record { fits = omega (arith, here_small c.args.self.now c.args.run.now c.requires.room c.requires.valid l.self-inside.raw l.new l.old l.place l.at l.invariant.filling, c.size.ensures, m.is_short, m.key.is_key.is_short) }
-
-pub loop-new-smaller : goal.loop-new-smaller
-loop-new-smaller g c = let l = c.loop-new in
-    omega (arith, places_left c.args.self.now c.args.run.now c.requires.room c.requires.valid l.self-inside.raw l.new l.old l.place l.at l.invariant.filling (omega (arith, c.loop-new-test.true, c.len-count.ensures)))
+overflow_add-at g c = let l = c.loop-new in let m = c.get-message.result in let run = c.args.run.now in
+    record { fits = omega (arith, here_small c.args.self.now run c.requires.room c.requires.valid l.self-inside.raw l.new l.old (l.old + l.new - length run) l.at l.invariant.filling, c.size.ensures, m.is_short, m.key.is_key.is_short) }
 
 pub loop-new-preserved : goal.loop-new-preserved
 loop-new-preserved g c =
-    let l = c.loop-new in let v = c.args.self.now in let run = c.args.run.now in let now = l.self-inside.raw in let m : TreeMessage = message_of c.get-message.result in
-    let lt : l.new < length run = omega (arith, c.loop-new-test.true, c.len-count.ensures) in
+    let l = c.loop-new in let v = c.args.self.now in let run = c.args.run.now in let k = l.old + l.new - length run in let m : TreeMessage = message_of c.get-message.result in
+    let lt : l.new < length run = omega (arith, c.loop-new-test.true, c.len-count.ensures) in let w = l.invariant.filling in let end = c.search_from-end.result in
+    let counts = place_here v run c.requires.room c.requires.valid l.self-inside.raw l.new l.old k l.at w in
     record {
-      filling = elim c.if-is_slot_below.branch [
-        | then-is_slot_below w ↦ subst (λ (p : RawLists × ℕ × ℕ × ℕ). Filling v run p.0 p.1 p.2 (l.place + 1) p.3) (λ j. ((sym w.self-inside-is j).raw, sym w.new-is j, sym w.old-is j, sym w.at-is j))
-            (old_next v run c.requires.room c.requires.valid now l.new l.old l.place l.at l.invariant.filling lt m c.get-message.ensures w.if-is_slot_below.ensures.below (w.if-is_slot_below.ensures.within refl) w.slot-slot.result w.slot-slot.ensures
-            w.set_slot.new.self w.set_slot.ensures)
-        | else-is_slot_below w ↦ subst (λ (p : RawLists × ℕ × ℕ). Filling v run p.0 p.1 p.2 (l.place + 1) c.if-is_slot_below.at) (λ j. ((sym w.self-inside-is j).raw, sym w.new-is j, sym w.old-is j))
-            (new_next v run c.requires.room c.requires.valid now l.new l.old l.place l.at l.invariant.filling lt m c.get-message.ensures w.if-is_slot_below.ensures.below w.set_slot-else-is_slot_below.new.self w.set_slot-else-is_slot_below.ensures
-            c.if-is_slot_below.at (omega (arith, w.at-is, w.size.ensures)))
-      ];
-      marks = elim c.if-is_slot_below.branch [
-        | then-is_slot_below w ↦ ap (λ self. self.filter.marks.items) w.self-inside-is ∙ l.invariant.marks
-        | else-is_slot_below w ↦ ap (λ self. self.filter.marks.items) w.self-inside-is ∙ l.invariant.marks
-      ];
+      filling = next v run c.requires.room c.requires.valid l.self-inside.raw l.new l.old k l.at w lt m c.get-message.ensures end c.search_from-end.ensures _ _ (omega (arith, counts, c.len-count.ensures, lt)) refl
+          c.move_slots.new.raw c.move_slots.ensures _ (omega (arith, counts, c.len-count.ensures, lt)) c.set_slot.new.self c.set_slot.ensures _ (omega (arith, c.size.ensures)) _ (omega (arith, counts));
+      marks = l.invariant.marks;
     }
 
 pub invariant_of-self : goal.invariant_of-self
 invariant_of-self g c = let l = c.loop-new in
-    let marks = c.add_all.new.self.marks.items in
+    let marks = c.add_all.new.self in
     record {
-      filled = now_filled c.args.self.now c.args.run.now c.requires.room c.requires.valid l.self-inside.raw l.new l.old l.place l.at l.invariant.filling c.requires.rising c.requires.new (omega (arith, c.loop-new-test.false, c.len-count.ensures));
-      covers = subst (λ (bits : List Bool). Covers bits (messages_in l.self-inside.raw)) (sym l.invariant.marks) (subst (Covers marks)
-          (sym (ap (λ (w : MessageList). w.messages) (now_seen c.args.self.now c.args.run.now c.requires.room c.requires.valid l.self-inside.raw l.new l.old l.place l.at l.invariant.filling c.requires.rising c.requires.new (omega (arith, c.loop-new-test.false, c.len-count.ensures)))))
+      filled = now_filled c.args.self.now c.args.run.now c.requires.room c.requires.valid l.self-inside.raw l.new l.old (l.old + l.new - length c.args.run.now) l.at l.invariant.filling c.requires.rising c.requires.new (omega (arith, c.loop-new-test.false, c.len-count.ensures));
+      covers = subst (λ (bits : List ℕ). Covers bits (messages_in l.self-inside.raw)) (sym l.invariant.marks) (subst (Covers marks)
+          (sym (ap (λ (w : MessageList). w.messages) (now_seen c.args.self.now c.args.run.now c.requires.room c.requires.valid l.self-inside.raw l.new l.old (l.old + l.new - length c.args.run.now) l.at l.invariant.filling c.requires.rising c.requires.new (omega (arith, c.loop-new-test.false, c.len-count.ensures)))))
           (covers_all_placed marks c.args.run.now c.args.self.now.messages c.add_all.ensures.added
-          (covers_more c.self.inside.filter.marks.items marks c.args.self.now.messages c.add_all.ensures.stay
-          (covered c.self.inside.raw c.self.inside.filter.marks.items c.args.self.now c.self.view_is c.self.invariant.covers))));
+          (covers_more c.self.inside.filter marks c.args.self.now.messages c.add_all.ensures.stay
+          (covered c.self.inside.raw c.self.inside.filter c.args.self.now c.self.view_is c.self.invariant.covers))));
     }
 
 pub returns : goal.returns
 returns g c = let l = c.loop-new in
-    now_seen c.args.self.now c.args.run.now c.requires.room c.requires.valid l.self-inside.raw l.new l.old l.place l.at l.invariant.filling c.requires.rising c.requires.new (omega (arith, c.loop-new-test.false, c.len-count.ensures))
+    now_seen c.args.self.now c.args.run.now c.requires.room c.requires.valid l.self-inside.raw l.new l.old (l.old + l.new - length c.args.run.now) l.at l.invariant.filling c.requires.rising c.requires.new (omega (arith, c.loop-new-test.false, c.len-count.ensures))

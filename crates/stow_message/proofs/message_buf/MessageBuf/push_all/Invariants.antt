@@ -4,9 +4,6 @@ use Rattle.stow_message.proofs.message_buf.MessageBuf.push_all.Given as goal
 
 abbrev pub invariant-loop-new : goal.invariant-loop-new
 invariant-loop-new g l = record {
-  filling : Filling l.fn.self l.run l.self-inside.raw l.new l.old l.place l.at;
-  marks : l.self-inside.filter.marks.items ≡ l.initial.self-inside.filter.marks.items;
+  filling : Filling l.fn.self l.run l.self-inside.raw l.new l.old (l.old + l.new - length l.run) l.at;
+  marks : l.self-inside.filter ≡ l.initial.self-inside.filter;
 }
-
-abbrev pub decreases-loop-new : goal.decreases-loop-new
-decreases-loop-new g l = length l.run + length l.fn.self.messages - l.place

@@ -15,7 +15,7 @@ pub invariant_of-self : goal.invariant_of-self
 invariant_of-self g c =
     let raw = c.self.inside.raw in let h = c.self.invariant.filled in let i = c.args.index in let k = c.args.count in
     let le : i + k ≤ length raw.slots = omega (arith, c.requires, slots_of_messages raw, ap (λ (w : MessageList). length w.messages) c.self.view_is) in
-    let marks = c.self.inside.filter.marks.items in
+    let marks = c.self.inside.filter in
     record {
       filled = subst IsFilled (sym c.remove_slots.ensures) (removed_filled raw h i k le);
       covers = subst (λ (r : RawLists). Covers marks (messages_in r)) (sym c.remove_slots.ensures)

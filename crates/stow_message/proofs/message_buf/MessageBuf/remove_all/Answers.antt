@@ -1,4 +1,4 @@
-use Rattle.std.proofs.Common.{◌≡◌, ℕ, List, Bool, ◌+◌, ◌-◌, ◌*◌, ◌<◌, ◌≤◌, [], length, refl, ap, sym, subst, ◌∙◌, arith}
+use Rattle.std.proofs.Common.{◌≡◌, ℕ, List, ◌+◌, ◌-◌, ◌*◌, ◌<◌, ◌≤◌, [], length, refl, ap, sym, subst, ◌∙◌, arith}
 use Rattle.std.specs.List.{All, Contains}
 use Rattle.stow_raw.specs.RawBuf.{RawLists, raw_used}
 use Rattle.stow_tree_model.specs.TreeMessage.{TreeMessage, message_of}
@@ -39,8 +39,8 @@ loop-place-preserved g c =
             (one_stays raw h bs l.self-inside.raw l.kept l.gone l.place l.invariant.halfway lt c.slot-slot.result c.slot-slot.ensures m c.read_message.ensures w.if-has_at.ensures.same w.set_slot.new.self w.set_slot.ensures)
       ];
       marks = elim c.if-has_at.branch [
-        | then-has_at w ↦ ap (λ self. self.filter.marks.items) w.self-inside-is ∙ l.invariant.marks
-        | else-has_at w ↦ ap (λ self. self.filter.marks.items) w.self-inside-is ∙ l.invariant.marks
+        | then-has_at w ↦ ap (λ self. self.filter) w.self-inside-is ∙ l.invariant.marks
+        | else-has_at w ↦ ap (λ self. self.filter) w.self-inside-is ∙ l.invariant.marks
       ];
     }
 
@@ -64,10 +64,10 @@ invariant_of-self g c =
     let all = none_left c.args.self.now.messages bs c.requires c.len.ensures.rising raw h are in
     let past : length raw.slots ≤ l.place = omega (arith, c.loop-place-test.false, c.slot_count-place-end.ensures) in let le : l.place ≤ length raw.slots = omega (arith, l.auto.place-end, c.slot_count-place-end.ensures) in
     let is = taken_is raw h bs l.self-inside.raw l.kept l.gone l.place l.invariant.halfway past le all c.remove_slots.new.self c.len.result c.len.ensures.len c.remove_slots.ensures in
-    let marks = c.self.inside.filter.marks.items in
+    let marks = c.self.inside.filter in
     record {
       filled = subst IsFilled (sym is) (taken_filled raw h bs all);
-      covers = subst (λ (bits : List Bool). Covers bits (messages_in c.remove_slots.new.self)) (sym l.invariant.marks) (subst (λ (r : RawLists). Covers marks (messages_in r)) (sym is)
+      covers = subst (λ (bits : List ℕ). Covers bits (messages_in c.remove_slots.new.self)) (sym l.invariant.marks) (subst (λ (r : RawLists). Covers marks (messages_in r)) (sym is)
           (subst (Covers marks) (sym (taken_messages raw h bs all)) (covers_without marks bs (messages_in raw) c.self.invariant.covers)));
     }
 

@@ -8,5 +8,5 @@ use Rattle.stow_message.proofs.message_buf.MessageBuf.reset.Goals as goal
 pub invariant_of-self : goal.invariant_of-self
 invariant_of-self g c = record {
   filled = subst IsFilled (sym c.reset.ensures) (empty_filled c.self.inside.raw.capacity c.self.invariant.filled.within.1);
-  covers = subst (λ (r : RawLists). Covers c.clear.new.self.marks.items (messages_in r)) (sym c.reset.ensures) tt;
+  covers = subst (λ (r : RawLists). Covers c.clear.new.self (messages_in r)) (sym c.reset.ensures) tt;
 }

@@ -1,21 +1,12 @@
-use Rattle.std.proofs.Common.{◌+◌, ◌-◌, ◌<◌, length, ap, sym, ◌∙◌, arith}
-use Rattle.stow_tree_model.specs.Order.{Place}
-use Rattle.stow_message.specs.Rising.{is_below}
-use Rattle.stow_message.proofs.RisingLists.{below_tells, below_within}
+use Rattle.std.proofs.Common.{◌∙◌, arith}
+use Rattle.stow_message.proofs.Searched.{all_filled, filled_later, below_in_from, slots_seen}
 use Rattle.stow_message.proofs.message_buf.MessageBuf.search_from.Goals as goal
 
-pub search_between-requires-clause-end : goal.search_between-requires-clause-end
-search_between-requires-clause-end g c =
-    let p : Place = (c.args.key.now, c.args.number) in let ms = c.args.self.now.messages in let i = c.loop-low.low + c.loop-low.step - 1 in let at = c.loop-low.invariant in
-    let lt : i < length ms = omega (arith, at.step, c.loop-low-test.true, c.len-len.ensures.len) in
-    (below_tells p ms i _ c.len-len.ensures.rising lt).1 (sym (c.is_message_below.ensures ∙ ap (is_below p) c.message.ensures) ∙ c.if-not-is_message_below.true)
+pub search_from-requires-clause-within : goal.search_from-requires-clause-within
+search_from-requires-clause-within g c = omega (arith, c.requires, slots_seen c.self.inside.raw c.args.self.now c.self.view_is)
 
-pub loop-low-preserved : goal.loop-low-preserved
-loop-low-preserved g c =
-    let p : Place = (c.args.key.now, c.args.number) in let ms = c.args.self.now.messages in let i = c.loop-low.low + c.loop-low.step - 1 in let at = c.loop-low.invariant in
-    let lt : i < length ms = omega (arith, at.step, c.loop-low-test.true, c.len-len.ensures.len) in
-    let less = (below_tells p ms i _ c.len-len.ensures.rising lt).0 (sym (c.is_message_below.ensures ∙ ap (is_below p) c.message.ensures) ∙ c.if-not-is_message_below.false) in
-    record { low = omega (arith, at.low, at.step, less); within = omega (arith, at.step, lt); step = omega (arith, at.step) }
+pub search_from-requires-clause-filled : goal.search_from-requires-clause-filled
+search_from-requires-clause-filled g c = filled_later c.self.inside.raw 0 (all_filled c.self.inside.raw c.self.invariant.filled) c.args.from (omega arith)
 
-pub search_between-requires-2-clause-end : goal.search_between-requires-2-clause-end
-search_between-requires-2-clause-end g c = omega (arith, c.len-len.ensures.len, below_within (c.args.key.now, c.args.number) c.args.self.now.messages)
+pub returns : goal.returns
+returns g c = c.search_from.ensures ∙ below_in_from c.self.inside.raw c.self.invariant.filled c.args.self.now c.self.view_is (c.args.key.now, c.args.number) c.args.from c.requires

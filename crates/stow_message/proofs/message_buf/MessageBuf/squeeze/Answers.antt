@@ -1,5 +1,5 @@
-use Rattle.std.proofs.Common.{Bool, List, ap, sym, subst, arith}
-use Rattle.stow_tree_model.specs.TreeMessage.{message_of}
+use Rattle.std.proofs.Common.{ℕ, List, ◌++◌, ◌∙◌, length, refl, ap, sym, subst, arith}
+use Rattle.stow_raw.specs.RawBuf.{raw_lists}
 use Rattle.stow_message.specs.Filter.{Covers}
 use Rattle.stow_message.specs.MessageBuf.{MessageList}
 use Rattle.stow_message.proofs.Covered.{covered}
@@ -9,8 +9,8 @@ use Rattle.stow_message.proofs.message_buf.MessageBuf.squeeze.Goals as goal
 pub slot-requires : goal.slot-requires
 slot-requires g c = (turn c.self.inside.raw c.self.invariant.filled c.args.self.now c.self.view_is c.loop-i.i c.loop-i.self-inside.raw c.loop-i.invariant.raw c.loop-i.spare _ c.loop-i.invariant.spare (omega (arith, c.loop-i-test.true, c.slot_count-i-end.ensures))).slot
 
-pub read_message-message-requires : goal.read_message-message-requires
-read_message-message-requires g c =
+pub packed_at-requires : goal.packed_at-requires
+packed_at-requires g c =
     let t = turn c.self.inside.raw c.self.invariant.filled c.args.self.now c.self.view_is c.loop-i.i c.loop-i.self-inside.raw c.loop-i.invariant.raw c.loop-i.spare _ c.loop-i.invariant.spare (omega (arith, c.loop-i-test.true, c.slot_count-i-end.ensures)) in
     record { begins = t.begins c.slot.result c.slot.ensures; small = t.small }
 
@@ -19,10 +19,10 @@ overflow_cast-at g c =
     let t = turn c.self.inside.raw c.self.invariant.filled c.args.self.now c.self.view_is c.loop-i.i c.loop-i.self-inside.raw c.loop-i.invariant.raw c.loop-i.spare _ c.loop-i.invariant.spare (omega (arith, c.loop-i-test.true, c.slot_count-i-end.ensures)) in
     record { fits = omega (arith, c.front_len-at.ensures, t.place) }
 
-pub append-requires : goal.append-requires
-append-requires g c =
+pub push_front-requires : goal.push_front-requires
+push_front-requires g c =
     let t = turn c.self.inside.raw c.self.invariant.filled c.args.self.now c.self.view_is c.loop-i.i c.loop-i.self-inside.raw c.loop-i.invariant.raw c.loop-i.spare _ c.loop-i.invariant.spare (omega (arith, c.loop-i-test.true, c.slot_count-i-end.ensures)) in
-    t.room c.slot.result c.slot.ensures (message_of c.read_message-message.result) c.read_message-message.ensures c.requires
+    omega (arith, t.room c.slot.result c.slot.ensures _ refl c.requires, ap length c.packed_at.ensures)
 
 pub set_slot-requires : goal.set_slot-requires
 set_slot-requires g c = (turn c.self.inside.raw c.self.invariant.filled c.args.self.now c.self.view_is c.loop-i.i c.loop-i.self-inside.raw c.loop-i.invariant.raw c.loop-i.spare _ c.loop-i.invariant.spare (omega (arith, c.loop-i-test.true, c.slot_count-i-end.ensures))).slot
@@ -30,28 +30,29 @@ set_slot-requires g c = (turn c.self.inside.raw c.self.invariant.filled c.args.s
 pub loop-i-preserved : goal.loop-i-preserved
 loop-i-preserved g c =
     let t = turn c.self.inside.raw c.self.invariant.filled c.args.self.now c.self.view_is c.loop-i.i c.loop-i.self-inside.raw c.loop-i.invariant.raw c.loop-i.spare _ c.loop-i.invariant.spare (omega (arith, c.loop-i-test.true, c.slot_count-i-end.ensures)) in
+    let spare = c.loop-i.spare in
     record {
       raw = t.slots _ c.front_len-at.ensures _ c.set_slot.ensures;
       marks = c.loop-i.invariant.marks;
-      spare = t.bytes c.slot.result c.slot.ensures (message_of c.read_message-message.result) c.read_message-message.ensures _ c.append.ensures;
+      spare = t.bytes c.slot.result c.slot.ensures _ refl _ (c.push_front.ensures ∙ ap (λ l. raw_lists (spare.front ++ l) spare.slots spare.capacity) c.packed_at.ensures);
     }
 
-pub push_front-requires : goal.push_front-requires
-push_front-requires g c = (end c.self.inside.raw c.self.invariant.filled c.args.self.now c.self.view_is c.loop-i.i c.loop-i.self-inside.raw c.loop-i.invariant.raw c.loop-i.spare _ c.loop-i.invariant.spare (omega (arith, c.loop-i-test.false, c.slot_count-i-end.ensures)) _ c.front_len.ensures _ c.bytes.ensures _ c.clear_front.ensures).room
+pub push_front-requires-2 : goal.push_front-requires-2
+push_front-requires-2 g c = (end c.self.inside.raw c.self.invariant.filled c.args.self.now c.self.view_is c.loop-i.i c.loop-i.self-inside.raw c.loop-i.invariant.raw c.loop-i.spare _ c.loop-i.invariant.spare (omega (arith, c.loop-i-test.false, c.slot_count-i-end.ensures)) _ c.front_len.ensures _ c.bytes.ensures _ c.clear_front.ensures).room
 
 pub renew_marks-requires : goal.renew_marks-requires
 renew_marks-requires g c =
     let e = (end c.self.inside.raw c.self.invariant.filled c.args.self.now c.self.view_is c.loop-i.i c.loop-i.self-inside.raw c.loop-i.invariant.raw c.loop-i.spare _ c.loop-i.invariant.spare (omega (arith, c.loop-i-test.false, c.slot_count-i-end.ensures)) _ c.front_len.ensures _ c.bytes.ensures _ c.clear_front.ensures) in
-    let marks = c.self.inside.filter.marks.items in
+    let marks = c.self.inside.filter in
     record {
-      filled = e.filled _ c.push_front.ensures;
-      covers = subst (Covers c.loop-i.self-inside.filter.marks.items) (sym (ap (λ (w : MessageList). w.messages) (e.is _ c.push_front.ensures)))
-          (subst (λ (bits : List Bool). Covers bits c.args.self.now.messages) (sym c.loop-i.invariant.marks)
+      filled = e.filled _ c.push_front-2.ensures;
+      covers = subst (Covers c.loop-i.self-inside.filter) (sym (ap (λ (w : MessageList). w.messages) (e.is _ c.push_front-2.ensures)))
+          (subst (λ (bits : List ℕ). Covers bits c.args.self.now.messages) (sym c.loop-i.invariant.marks)
           (covered c.self.inside.raw marks c.args.self.now c.self.view_is c.self.invariant.covers));
     }
 
 pub invariant_of-self : goal.invariant_of-self
-invariant_of-self g c = record { filled = (end c.self.inside.raw c.self.invariant.filled c.args.self.now c.self.view_is c.loop-i.i c.loop-i.self-inside.raw c.loop-i.invariant.raw c.loop-i.spare _ c.loop-i.invariant.spare (omega (arith, c.loop-i-test.false, c.slot_count-i-end.ensures)) _ c.front_len.ensures _ c.bytes.ensures _ c.clear_front.ensures).filled _ c.push_front.ensures; covers = c.renew_marks.ensures }
+invariant_of-self g c = record { filled = (end c.self.inside.raw c.self.invariant.filled c.args.self.now c.self.view_is c.loop-i.i c.loop-i.self-inside.raw c.loop-i.invariant.raw c.loop-i.spare _ c.loop-i.invariant.spare (omega (arith, c.loop-i-test.false, c.slot_count-i-end.ensures)) _ c.front_len.ensures _ c.bytes.ensures _ c.clear_front.ensures).filled _ c.push_front-2.ensures; covers = c.renew_marks.ensures }
 
 pub returns-clause-squeezed : goal.returns-clause-squeezed
-returns-clause-squeezed g c = (end c.self.inside.raw c.self.invariant.filled c.args.self.now c.self.view_is c.loop-i.i c.loop-i.self-inside.raw c.loop-i.invariant.raw c.loop-i.spare _ c.loop-i.invariant.spare (omega (arith, c.loop-i-test.false, c.slot_count-i-end.ensures)) _ c.front_len.ensures _ c.bytes.ensures _ c.clear_front.ensures).is _ c.push_front.ensures
+returns-clause-squeezed g c = (end c.self.inside.raw c.self.invariant.filled c.args.self.now c.self.view_is c.loop-i.i c.loop-i.self-inside.raw c.loop-i.invariant.raw c.loop-i.spare _ c.loop-i.invariant.spare (omega (arith, c.loop-i-test.false, c.slot_count-i-end.ensures)) _ c.front_len.ensures _ c.bytes.ensures _ c.clear_front.ensures).is _ c.push_front-2.ensures

@@ -8,5 +8,5 @@ use Rattle.stow_message.proofs.message_buf.MessageBuf.with_capacity.Goals as goa
 pub invariant_of-result : goal.invariant_of-result
 invariant_of-result g c = record {
   filled = subst IsFilled (sym c.in_ok-raw.ensures) (empty_filled c.args.capacity c.requires);
-  covers = subst (λ (r : RawLists). Covers c.in_ok-filter.filter.marks.items (messages_in r)) (sym c.in_ok-raw.ensures) tt;
+  covers = subst (λ (r : RawLists). Covers c.in_ok-filter.filter (messages_in r)) (sym c.in_ok-raw.ensures) tt;
 }
