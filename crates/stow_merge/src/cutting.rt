@@ -3,11 +3,10 @@ ghost use Rattle.std.specs.Bool.{OnFalse};
 ghost use Rattle.std.specs.Prelude.{◌≡◌, ◌⊎◌, ℕ, ◌+◌, ◌^◌, ◌<◌, ◌≤◌, [], ◌∷◌, length, min, IfOk};
 ghost use Rattle.stow_merge.specs.Cuts.{size_between, ArePages};
 
+use crate::filling::Filling;
 use std::alloc::{AllocError, Allocator};
 
-/// Where pages end, by the sizes of the keys in order, in bytes: each page has a key at least, and a page above the
-/// room has one alone. There are no pages where there are no keys, and no more than one where all fit the room. Pages are
-/// about even.
+/// Where pages end that are about even (`cut_by`).
 pub fn cut<A: Allocator + Copy>(
     alloc: A,
     sizes: &[u32],
@@ -17,17 +16,33 @@ pub fn cut<A: Allocator + Copy>(
     ensures one { size_between sizes.now 0 (length sizes.now) ≤ room
         → IfOk result (λ ends. length ends.items ≤ 1) }
 {
+    cut_by(alloc, sizes, room, Filling::Even)
+}
+
+/// Where pages end, by the sizes of the keys in order, in bytes: each page has a key at least, and a page above the
+/// room has one alone. There are no pages where there are no keys, and no more than one where all fit the room. Pages are
+/// as full as `filling` says.
+pub(crate) fn cut_by<A: Allocator + Copy>(
+    alloc: A,
+    sizes: &[u32],
+    room: u32,
+    filling: Filling,
+) -> Result<Vec<usize, A>, AllocError>
+    ensures pages { IfOk result (λ ends. ArePages sizes.now room 0 ends.items (length sizes.now)) }
+    ensures one { size_between sizes.now 0 (length sizes.now) ≤ room
+        → IfOk result (λ ends. length ends.items ≤ 1) }
+{
     let total = total(sizes);
     if total <= u64::from(room) {
         return one_page(alloc, sizes.len());
     }
-    let aim = even_size(total, u64::from(room));
+    let aims = filling.page_sizes(sizes.len() as u64, total, u64::from(room));
     let mut ends = Vec::new(alloc);
     let mut from = 0;
     let mut page = 0u64;
     for i in 0..sizes.len() {
         let size = u64::from(sizes[i]);
-        if from < i && is_end(page, size, u64::from(room), aim) {
+        if from < i && is_end(page, size, u64::from(room), aims.after(ends.len())) {
             ends.push(i)?;
             from = i;
             page = 0;
@@ -61,16 +76,6 @@ fn total(sizes: &[u32]) -> u64
         total = total.saturating_add(u64::from(sizes[i]));
     }
     total
-}
-
-/// The size of each page where pages of at most `room` bytes are even.
-fn even_size(total: u64, room: u64) -> u64 {
-    if total <= room || room == 0 {
-        u64::MAX
-    } else {
-        let pages = total.div_ceil(room);
-        total.div_ceil(pages)
-    }
 }
 
 /// Whether a page ends before one more key.

@@ -13,10 +13,11 @@
 //! job's merge, so what installs them needs nobody's word for it. Where memory is refused the job comes back whole.
 //!
 //! A call that asks for memory may be refused it at any time, so a body that always answers `AllocError` meets
-//! its contract: tests call each with ample memory. That pages are about even stands in no contract.
+//! its contract: tests call each with ample memory. How full pages are (`Filling`) stands in no contract.
 #![tactic(auto)]
 
 pub mod cutting;
+mod filling;
 pub mod fitting;
 pub mod flush_job;
 pub mod flush_result;
@@ -26,6 +27,7 @@ pub mod keeping;
 pub mod kept;
 mod lending;
 pub mod merging;
+mod page_sizes;
 pub mod pins;
 pub mod survey;
 mod writing;

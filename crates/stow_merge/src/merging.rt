@@ -7,7 +7,8 @@ ghost use Rattle.stow_tree_model.specs.Merged.{merged};
 ghost use Rattle.stow_tree_model.specs.Order.{MessagesRise};
 ghost use Rattle.stow_tree_model.specs.TreeMessage.{message_of};
 
-use crate::cutting::cut;
+use crate::cutting::cut_by;
+use crate::filling::Filling;
 use crate::lending::lent_rows;
 use crate::pins::Pins;
 use crate::survey::{Survey, survey_of};
@@ -18,10 +19,11 @@ use stow_page::rows::Rows;
 use stow_tree_model::message::Message;
 
 /// The bytes of a page before its first entry.
-const HEADER_SIZE: u32 = 5;
+pub(crate) const HEADER_SIZE: u32 = 5;
 
 /// The pages of a leaf's rows after a batch under pins, cut between keys by the leaf target, in bytes of a page. Where
-/// no version stays there is one page, which is empty. `Err` where memory was refused.
+/// no version stays there is one page, which is empty. Where the batch stands above or below all rows, pages are filled up,
+/// and else even. `Err` where memory was refused.
 pub fn merge_into_pages<A: Allocator + Copy, B: Allocator + Copy, C: Allocator>(
     alloc: A,
     rows: &Rows<C>,
@@ -37,13 +39,15 @@ pub fn merge_into_pages<A: Allocator + Copy, B: Allocator + Copy, C: Allocator>(
 {
     let lent = lent_rows(alloc, rows)?;
     let survey = survey_of(alloc, lent.as_slice(), batch, pins)?;
-    paged(alloc, &survey, target)
+    let filling = Filling::beside(lent.as_slice(), batch);
+    paged(alloc, &survey, filling, target)
 }
 
 /// The kept versions in pages.
 fn paged<A: Allocator + Copy, B: Allocator + Copy>(
     alloc: A,
     survey: &Survey<'_, B>,
+    filling: Filling,
     target: u32,
 ) -> Result<Vec<Rows<A>, A>, AllocError>
     requires { CanMerge (versions_in survey.now survey.now.kept.items) }
@@ -52,8 +56,19 @@ fn paged<A: Allocator + Copy, B: Allocator + Copy>(
 {
     let keys = by_key(alloc, survey.kept.as_slice())?;
     let sizes = sizes_of(alloc, survey, keys.as_slice())?;
-    let ends = cut(alloc, sizes.as_slice(), target.saturating_sub(HEADER_SIZE))?;
-    let pages = write_pages(alloc, survey, keys.as_slice(), ends.as_slice())?;
+    let ends = cut_by(
+        alloc,
+        sizes.as_slice(),
+        target.saturating_sub(HEADER_SIZE),
+        filling,
+    )?;
+    let pages = write_pages(
+        alloc,
+        survey,
+        keys.as_slice(),
+        ends.as_slice(),
+        sizes.as_slice(),
+    )?;
     at_least_one(alloc, pages)
 }
 

@@ -12,6 +12,7 @@ ghost use Rattle.stow_tree_model.specs.Value.{bytes_at, IsValue};
 ghost use Rattle.stow_tree_model.specs.Version.{version_of};
 
 use crate::kept::Kept;
+use crate::merging::HEADER_SIZE;
 use crate::survey::{Survey, between};
 use std::alloc::{AllocError, Allocator};
 use stow_page::packed_rows::PackedRows;
@@ -197,29 +198,50 @@ fn write_key<A: Allocator + Copy, B: Allocator + Copy>(
     Ok(())
 }
 
-/// The page of some keys.
+/// How many versions keys have.
+fn count_of(keys: &[&[Kept<'_>]]) -> usize {
+    let mut count = 0usize;
+    for i in 0..keys.len() {
+        count = count.saturating_add(keys[i].len());
+    }
+    count
+}
+
+/// How many bytes a page has whose keys are those from one to before another.
+fn page_size(sizes: &[u32], from: usize, to: usize) -> usize {
+    let sizes = between(sizes, from, to);
+    let mut size = HEADER_SIZE as usize;
+    for i in 0..sizes.len() {
+        size = size.saturating_add(sizes[i] as usize);
+    }
+    size
+}
+
+/// The page of some keys, in a block of so many bytes.
 fn write_page<A: Allocator + Copy, B: Allocator + Copy>(
     alloc: A,
     survey: &Survey<'_, B>,
     keys: &[&[Kept<'_>]],
+    size: usize,
     folded: &mut Vec<u8, A>,
 ) -> Result<Rows<A>, AllocError>
     requires { CanPack (read_in_order (keys_in survey.now keys.now)) }
     ensures { IfOk result (λ page. page ≡ read_in_order (keys_in survey.now keys.now)) }
 {
-    let mut packed = PackedRows::new(alloc)?;
+    let mut packed = PackedRows::with_room(alloc, size, count_of(keys))?;
     for i in 0..keys.len() {
         write_key(&mut packed, survey, keys[i], folded)?;
     }
     Rows::new(alloc, packed)
 }
 
-/// The pages of keys, each up to before one of these keys.
+/// The pages of keys, each up to before one of these keys. Each takes a block of its own size, by the sizes of keys.
 pub(crate) fn write_pages<A: Allocator + Copy, B: Allocator + Copy>(
     alloc: A,
     survey: &Survey<'_, B>,
     keys: &[&[Kept<'_>]],
     ends: &[usize],
+    sizes: &[u32],
 ) -> Result<Vec<Rows<A>, A>, AllocError>
     requires { AllByRecursion CanPack (pages_at (keys_in survey.now keys.now) 0 ends.now) }
     ensures { IfOk result (λ pages. pages.items
@@ -229,7 +251,14 @@ pub(crate) fn write_pages<A: Allocator + Copy, B: Allocator + Copy>(
     let mut pages = Vec::new(alloc);
     let mut from = 0;
     for i in 0..ends.len() {
-        let page = write_page(alloc, survey, between(keys, from, ends[i]), &mut folded)?;
+        let size = page_size(sizes, from, ends[i]);
+        let page = write_page(
+            alloc,
+            survey,
+            between(keys, from, ends[i]),
+            size,
+            &mut folded,
+        )?;
         pages.push(page)?;
         from = ends[i];
     }

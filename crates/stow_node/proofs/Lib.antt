@@ -11,6 +11,7 @@ pub mod Filled
 pub mod Down
 pub mod Raised
 pub mod Cut
+pub mod Blocks
 pub mod Absorbed
 pub mod Flushed
 pub mod Over

@@ -125,6 +125,36 @@ impl<A: Allocator + Copy> Node<A> {
         }
     }
 
+    /// Where neither it nor the node behind it has a message, that one gets its block, and leaves it its own.
+    fn leave_block(&mut self, behind: &mut Node<A>)
+        requires { self.old.buffer.capacity ≡ behind.old.buffer.capacity }
+        ensures own { IsSqueezed self.old self.new }
+        ensures behind { IsSqueezed behind.old behind.new }
+    {
+        if self.buffer.len() + behind.buffer.len() > 0 {
+            return;
+        }
+        self.buffer.reset();
+        behind.buffer.reset();
+        mem::swap(&mut self.buffer, &mut behind.buffer);
+    }
+
+    /// Cuts it (`cut_off`). Where it stays behind full, the node that goes on takes a block with no message along: what was written
+    /// once takes memory, and what never was takes none.
+    fn cut_last(&mut self, at: usize, shell: Shell<A>, full: bool) -> Node<A>
+        requires inside { (0 < at) × (at < self.old.width) }
+        requires few { self.old.width ≤ self.old.shape.fan_out + at }
+        requires shape { shell ≡ self.old.shape }
+        ensures halves { AreHalves self.old self.new result }
+        ensures width { self.new.width ≡ at }
+    {
+        let mut behind = self.cut_off(at, shell);
+        if full {
+            self.leave_block(&mut behind);
+        }
+        behind
+    }
+
     /// Cuts it, where it has too many children, into as few nodes as hold them, evenly, or full ones first. It keeps the
     /// lowest; the others come behind it. It asks for no memory.
     fn settle(&mut self, room: &mut Room<A>, full: bool)
@@ -149,7 +179,7 @@ impl<A: Allocator + Copy> Node<A> {
         while groups > 1 {
             let width = self.width();
             let at = width - share_of_last(fan_out, width, groups, full);
-            let node = self.cut_off(at, room.shell());
+            let node = self.cut_last(at, room.shell(), full);
             room.bring(node);
             groups -= 1;
         }

@@ -50,6 +50,18 @@ impl<A: Allocator + Copy> PackedRows<A> {
         })
     }
 
+    /// No versions, with room for a page of so many bytes and for so many versions.
+    pub fn with_room(alloc: A, size: usize, versions: usize) -> Result<PackedRows<A>, AllocError>
+        ensures { IfOk result (λ r. r ≡ []) }
+    {
+        let mut bytes = Vec::with_capacity(alloc, size)?;
+        bytes.extend_from_slice(&[1, 0, 0, 0, 0])?;
+        Ok(PackedRows {
+            bytes,
+            places: Vec::with_capacity(alloc, versions)?,
+        })
+    }
+
     /// Versions and others above them, in a block of their own. Their entries are copied as they stand.
     pub(crate) fn joined(
         alloc: A,

@@ -2,8 +2,8 @@ use Rattle.std.proofs.Common.{◌≡◌, ◌+◌, ◌<◌, [], ◌∷◌, ◌++�
 use Rattle.std.proofs.lemmas.Grind.{common_steps}
 use Rattle.stow_merge.specs.Cuts.{ArePages}
 use Rattle.stow_merge.proofs.CutLemmas.{SoFar, last_page, step_end, step_stay, step_first}
-use Rattle.stow_merge.proofs.cutting.cut.Goals as goal
-use Rattle.stow_merge.proofs.cutting.cut.Goals.{then-from-i+then-is_end+in_ok-push, else-from-i, else-from-i-via-then-from-i+else-is_end, else-from-i-via-else-from-i, then-from-sizes+in_ok-push-2, else-from-sizes}
+use Rattle.stow_merge.proofs.cutting.cut_by.Goals as goal
+use Rattle.stow_merge.proofs.cutting.cut_by.Goals.{then-from-i+then-is_end+in_ok-push, else-from-i, else-from-i-via-then-from-i+else-is_end, else-from-i-via-else-from-i, then-from-sizes+in_ok-push-2, else-from-sizes}
 
 pub loop-i-preserved : goal.loop-i-preserved
 loop-i-preserved g c =

@@ -1,0 +1,5 @@
+use Rattle.stow_page.proofs.Packing.{none_packed}
+use Rattle.stow_page.proofs.packed_rows.PackedRows.with_room.Goals as goal
+
+pub invariant_of-result : goal.invariant_of-result
+invariant_of-result g c = rw (c.in_ok-with_capacity.ensures.items, c.in_ok-extend_from_slice.ensures.items, c.in_ok-bytes.ensures.items) none_packed
