@@ -30,25 +30,28 @@ fn text_of<A: Allocator + Copy>(alloc: A, want: &str) -> Result<String<A>, Alloc
     Ok(text)
 }
 
-/// What stands for the letter, or the word itself where it is none of the letters.
-fn filled<'a>(word: &'a str, letters: &[(&'a str, &'a str)]) -> &'a str {
+/// What stands for the letter, if the word is one of them.
+fn filled(word: &str, letters: &[(&'static str, &'static str)]) -> Option<&'static str> {
     for (letter, text) in letters {
         if word == *letter {
-            return *text;
+            return Some(*text);
         }
     }
-    word
+    None
 }
 
 /// The words of a line in which each of these letters stands for the text beside it.
 pub(crate) fn filled_words<A: Allocator + Copy>(
     alloc: A,
     line: &str,
-    letters: &[(&str, &str)],
+    letters: &[(&'static str, &'static str)],
 ) -> Result<Words<A>, AllocError> {
     let mut words = Words::new(alloc);
     for word in line.split_whitespace() {
-        push_word(&mut words, alloc, filled(word, letters))?;
+        match filled(word, letters) {
+            Some(text) => push_word(&mut words, alloc, text)?,
+            None => push_word(&mut words, alloc, word)?,
+        }
     }
     Ok(words)
 }

@@ -1,2 +1,3 @@
 pub mod Telling
+mod Reported
 pub mod Pipes

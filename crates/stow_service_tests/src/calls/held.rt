@@ -1,6 +1,5 @@
 //! Memory is given back: rounds of equal requests on keys of their own leave no more of it held than the first did.
 use crate::making::new_core;
-use crate::text::filled_words;
 use linked_list_allocator::LocalHeap;
 use std::alloc::{AllocError, Allocator, Global};
 use std::test::Fail;
@@ -8,7 +7,7 @@ use stow_core::Core;
 use stow_model::refusal::Refusal;
 use stow_model::reply::Reply;
 use stow_model::words::Words;
-use stow_testing::lines::words_of;
+use stow_testing::lines::{push_word, words_of};
 use stow_testing::random::Random;
 
 /// Requests in a round.
@@ -46,11 +45,16 @@ fn random_words<A: Allocator + Copy>(
     let k = format!(in alloc; "{k}")?;
     let l = format!(in alloc; "{l}")?;
     let v = random.one_of(&VALUES);
-    filled_words(
-        alloc,
-        random.one_of(&LINES),
-        &[("k", k.as_str()), ("l", l.as_str()), ("v", v)],
-    )
+    let mut words = Words::new(alloc);
+    for word in random.one_of(&LINES).split_whitespace() {
+        match word {
+            "k" => push_word(&mut words, alloc, k.as_str())?,
+            "l" => push_word(&mut words, alloc, l.as_str())?,
+            "v" => push_word(&mut words, alloc, v)?,
+            _ => push_word(&mut words, alloc, word)?,
+        }
+    }
+    Ok(words)
 }
 
 /// One request, to which no memory is refused.
