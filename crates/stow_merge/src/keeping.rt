@@ -27,7 +27,7 @@ pub fn keep<'a, A: Allocator + Copy, B: Allocator + Copy>(
     ensures { IfOk result (λ ks. map (kept_version (map message_of joined.now)) ks.items
         ≡ reverse (merged_history (pins_in pins.now) (reverse (map message_of joined.now)))) }
 {
-    let mut kept = Vec::with_capacity(alloc, joined.len())?;
+    let mut kept = Vec::new(alloc);
     let mut start = None;
     let mut has_older = false;
     for i in 0..joined.len() {

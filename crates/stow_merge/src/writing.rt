@@ -28,7 +28,7 @@ pub(crate) fn by_key<'k, A: Allocator + Copy>(
 ) -> Result<Vec<&'k [Kept<'k>], A>, AllocError>
     ensures { IfOk result (λ keys. AreRuns kept.now (map (λ key. key.now) keys.items)) }
 {
-    let mut keys = Vec::with_capacity(alloc, kept.len())?;
+    let mut keys = Vec::new(alloc);
     let mut at = 0;
     while at < kept.len() {
         let rest = &kept[at..];
@@ -61,7 +61,7 @@ pub(crate) fn sizes_of<A: Allocator + Copy, B: Allocator + Copy>(
     requires { AllByRecursion IsShortKey (keys_in survey.now keys.now) }
     ensures { IfOk result (λ sizes. AreSizes (keys_in survey.now keys.now) sizes.items) }
 {
-    let mut sizes = Vec::with_capacity(alloc, keys.len())?;
+    let mut sizes = Vec::new(alloc);
     for i in 0..keys.len() {
         sizes.push(key_size(survey, keys[i]))?;
     }

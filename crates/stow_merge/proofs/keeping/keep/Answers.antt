@@ -14,7 +14,7 @@ use Rattle.stow_merge.proofs.keeping.keep.Goals as goal
 use Rattle.stow_merge.proofs.keeping.keep.Goals.{then-follows, else-follows, then-follows-2, else-follows-2, then-is_kept+then-has, then-is_kept+else-has, else-is_kept, then-is_kept-2, else-is_kept-2}
 
 pub loop-i-init : goal.loop-i-init
-loop-i-init g c = (subst (λ vs. Folded (pins_in c.args.pins.now) (slice_get (map message_of c.args.joined.now) 0) [] None false (map (kept_version (map message_of c.args.joined.now)) vs)) (sym c.in_ok-kept.ensures.items) (fold_none (pins_in c.args.pins.now) (slice_get (map message_of c.args.joined.now) 0)), behind_none 0)
+loop-i-init g c = (subst (λ vs. Folded (pins_in c.args.pins.now) (slice_get (map message_of c.args.joined.now) 0) [] None false (map (kept_version (map message_of c.args.joined.now)) vs)) (sym c.new-kept.ensures.items) (fold_none (pins_in c.args.pins.now) (slice_get (map message_of c.args.joined.now) 0)), behind_none 0)
 
 pub loop-i-preserved : goal.loop-i-preserved
 loop-i-preserved g c =
