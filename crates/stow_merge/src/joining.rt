@@ -24,7 +24,7 @@ pub fn join<'a, A: Allocator + Copy>(
     ensures { IfOk result (λ ms. map message_of ms.items
         ≡ in_order (with_all (rows_set (map version_of rows.now)) (map message_of batch.now))) }
 {
-    let mut joined = Vec::new(alloc);
+    let mut joined = Vec::with_capacity(alloc, rows.len().saturating_add(batch.len()))?;
     let mut i = 0;
     let mut j = 0;
     while i < rows.len() || j < batch.len() {
