@@ -11,6 +11,10 @@
 //! A call that asks for memory may be refused it at any time, so a body that always answers `AllocError`, or the fault
 //! `Memory`, meets the contract of each such call: tests call each with ample memory, and with each request refused.
 //! Looking up, sharing and packing take none. How many versions a look-up compares stands in no contract.
+//!
+//! What makes look-ups fast is a hint (`hint.rt`): a table, made with `Rows`, that tells by the hash of a key at which index its
+//! newest version may stand. A look-up believes it only after a look at the versions there, and else searches, so the hint
+//! stands in no contract and no type's invariant, and a wrong one costs time alone.
 #![tactic(auto)]
 
 pub mod big_endian;

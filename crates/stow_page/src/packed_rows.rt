@@ -15,8 +15,8 @@ use stow_bytes::compare::compare;
 use stow_tree_model::tenant_key::TenantKey;
 use stow_tree_model::version::Version;
 
-/// Versions that rise by key, then number, in packed form, with the place of each one's entry. A page has fewer than
-/// 2^32 bytes.
+/// Versions that rise by key, then number, in packed form, with the place of each one's entry and a hint of where keys
+/// stand. A page has fewer than 2^32 bytes.
 #[derive(Drop)]
 pub struct PackedRows<A: Allocator = Global> {
     bytes: Vec<u8, A>,

@@ -45,7 +45,7 @@ impl<A: Allocator + Copy> Rows<A> {
 }
 
 impl<A: Allocator> Rows<A> {
-    /// The versions that were packed.
+    /// The versions that were packed, with a hint of where their keys stand.
     pub fn new(alloc: A, packed: PackedRows<A>) -> Result<Rows<A>, AllocError>
         ensures { IfOk result (λ r. r ≡ packed) }
     {
@@ -128,7 +128,7 @@ impl<A: Allocator> Rows<A> {
     }
 
     /// The newest version of the key numbered at most this, lent. It is found the faster the nearer the guess is to its
-    /// place.
+    /// place; with a guess beyond all places the hint makes one.
     pub fn version_at(&self, key: TenantKey<'_>, number: u64, guess: usize) -> Option<Version<'_>>
         ensures { option_map version_of result ≡ version_at self.now key.entry.bytes.now number }
     {

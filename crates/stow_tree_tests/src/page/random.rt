@@ -16,12 +16,19 @@ fn random(state: &mut u64) -> u64 {
     value / 8_589_934_592
 }
 
-/// A page of versions that rise: tenants 1 to 3, keys of the letters a to c, and of each some numbers.
-fn random_page<A: Allocator + Copy>(alloc: A, state: &mut u64) -> Result<Vec<u8, A>, AllocError> {
+/// The letters of the keys of a page that has many.
+const MANY: &[u8] = b"abcdefghijklmnopqrstuvwxyz";
+
+/// A page of versions that rise: tenants 1 to 3, keys of one of these letters, and of each some numbers.
+fn random_page<A: Allocator + Copy>(
+    alloc: A,
+    letters: &[u8],
+    state: &mut u64,
+) -> Result<Vec<u8, A>, AllocError> {
     let mut entries = Vec::new(alloc);
     let mut count = 0u32;
     for tenant in 1..4u32 {
-        for letter in b"abc" {
+        for letter in letters {
             for number in 1..4u64 {
                 if random(state) % 3 == 0 {
                     append(&mut entries, tenant, *letter, number, random(state) % 4)?;
@@ -79,7 +86,7 @@ fn agrees_on_changes<A: Allocator + Copy>(
 
 /// Whether a random page is read as by the plain reader: as it is, with a byte changed or cut off, and with one more.
 fn is_read_plainly<A: Allocator + Copy>(alloc: A, state: &mut u64) -> Result<bool, AllocError> {
-    let mut page = random_page(alloc, state)?;
+    let mut page = random_page(alloc, b"abc", state)?;
     let whole = fault_of(alloc, page.as_slice())? == 0 && first_fault(page.as_slice()) == 0;
     let changed = agrees_on_changes(alloc, page.as_slice(), state)?;
     page.push(0)?;
@@ -107,27 +114,33 @@ fn walked<A: Allocator>(rows: &Rows<A>, key: TenantKey<'_>, number: u64) -> Opti
     found
 }
 
-/// Whether a random look-up, from wherever it begins, finds what a walk does.
+/// Whether a random look-up, from wherever it begins and without a guess, finds what a walk does.
 fn is_found<A: Allocator + Copy>(
     alloc: A,
     rows: &Rows<A>,
     state: &mut u64,
 ) -> Result<bool, AllocError> {
-    let letter = [b'a' + (random(state) % 4) as u8];
+    let letter = [b'a' + (random(state) % 27) as u8];
     let key = TenantKeyBuf::new(alloc, (random(state) % 5) as u32, &letter)?;
     let number = random(state) % 5;
     let guess = (random(state) % 16) as usize;
     let found = rows.version_at(key.as_key(), number, guess);
-    Ok(found.map(|version| version.number) == walked(rows, key.as_key(), number))
+    let hinted = rows.version_at(key.as_key(), number, usize::MAX);
+    let wanted = walked(rows, key.as_key(), number);
+    Ok(
+        found.map(|version| version.number) == wanted
+            && hinted.map(|version| version.number) == wanted,
+    )
 }
 
 /// Whether so many random look-ups in a random page do.
 fn are_found<A: Allocator + Copy>(
     alloc: A,
+    letters: &[u8],
     state: &mut u64,
     count: u32,
 ) -> Result<bool, AllocError> {
-    let page = random_page(alloc, state)?;
+    let page = random_page(alloc, letters, state)?;
     let Some(rows) = rows_of(alloc, page.as_slice())? else {
         return Ok(false);
     };
@@ -143,7 +156,14 @@ fn are_found<A: Allocator + Copy>(
 fn random_look_ups(rt: HostRuntime) -> Result<(), Fail> {
     let mut state = 5u64;
     for turn in 0..20u32 {
-        assert!(rt; are_found(rt.alloc(), &mut state, 40)?, "page {turn}");
+        assert!(rt;
+            are_found(rt.alloc(), b"abc", &mut state, 300)?,
+            "page {turn}"
+        );
+        assert!(rt;
+            are_found(rt.alloc(), MANY, &mut state, 200)?,
+            "page {turn}"
+        );
     }
     Ok(())
 }
