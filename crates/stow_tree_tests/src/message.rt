@@ -72,6 +72,28 @@ fn one_message(rt: HostRuntime) -> Result<(), Fail> {
     Ok(())
 }
 
+/// Whether a buffer takes 1,000 keys, finds each, and finds none of 1,000 others.
+fn finds_each<A: Allocator + Copy>(alloc: A) -> Result<bool, AllocError> {
+    let mut buf = MessageBuf::with_capacity(alloc, 65_536)?;
+    let mut same = true;
+    for i in 0..1_000u16 {
+        let key = TenantKeyBuf::new(alloc, 1, &i.to_be_bytes())?;
+        same = push(&mut buf, key.as_key(), 1, b"x") && same;
+    }
+    for i in 0..2_000u16 {
+        let key = TenantKeyBuf::new(alloc, 1, &i.to_be_bytes())?;
+        let is_there = buf.of_key(key.as_key()).len() == 1;
+        same = same && is_there == (i < 1_000);
+    }
+    Ok(same)
+}
+
+#[test]
+fn a_filter_grows_and_hides_none(rt: HostRuntime) -> Result<(), Fail> {
+    assert!(rt; finds_each(rt.alloc())?);
+    Ok(())
+}
+
 /// A number below `end`, and the next seed.
 fn random(seed: u64, end: u64) -> (u64, u64)
     requires { 0 < end }
