@@ -114,7 +114,8 @@ IsPriced core tenant None after = IsTrue (exceeds_quota (store_of core tenant) a
 abbrev pub store_without : List (List ℕ) → Store → Store
 store_without keys store = record store { rows = rows_without keys store.rows }
 
--- the store has the row still once those are gone, and this is the length of its key and its version
+-- the store has the row still once those are gone, and this is the length of its key and its
+-- version
 pub record IsRowWithout (store : Store) (keys : List (List ℕ)) (own : List ℕ) (key : ℕ)
     (version : SizedVersion) : Type 0 where
   pub key_is : key ≡ length own
@@ -147,7 +148,8 @@ pub record CanPut {A : Type 0} (core : CoreState) (tenant : ℕ) (key : List ℕ
       (write_of (next_number core tenant) key (content_op content) ∷ [])
   pub charged : IsCharged core tenant charge (after_content key content (store_of core tenant))
 
--- these are keys of rows of the tenant's, and to take them out needs no more memory, and is charged so
+-- these are keys of rows of the tenant's, and to take them out needs no more memory, and is charged
+-- so
 pub record CanRemove (core : CoreState) (tenant : ℕ) (keys : List (List ℕ))
     (charge : Charge) : Type 0 where
   pub can : CanCommit core tenant (removals_of (next_number core tenant) keys)
@@ -166,7 +168,8 @@ pub record CanDrop (core : CoreState) (tenant id : ℕ) (charge : Charge) : Type
   pub live : IsSome (rows.get (store_of core tenant).snapshots id)
   pub charged : IsCharged core tenant charge (after_drop id (store_of core tenant))
 
--- the change is one in a tenant's store, and needs no more memory; whom nothing changes for is no tenant
+-- the change is one in a tenant's store, and needs no more memory; whom nothing changes for is no
+-- tenant
 abbrev pub HasRoomFor : {A : Type 0} → CoreState → ℕ → coded.Change A → Type 0
 HasRoomFor core tenant change.Nothing = ¬ (IsTenant core.entries tenant)
 HasRoomFor core tenant change.Count = IsTenant core.entries tenant
@@ -190,8 +193,8 @@ abbrev pub Prepares : {A : Type 0} → CoreState → ℕ → Result (Prepared A)
 Prepares core tenant result answer = IfOk result (λ p. prepared_answer p (store_of core tenant)
     ≡ answer (store_of core tenant))
 
--- No store moved; and where there was memory, this answer of the tenant's store is prepared, with all
--- its room.
+-- No store moved; and where there was memory, this answer of the tenant's store is prepared, with
+-- all its room.
 pub record IsPrepared {A : Type 0} (old : CoreState) (tenant : ℕ) (answer : Store → Answer)
     (new : CoreState) (result : Result (Prepared A) AllocError) : Type 0 where
   pub keeps : Keeps old new

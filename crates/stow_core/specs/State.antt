@@ -77,9 +77,9 @@ abbrev pub IsSnapshotOf : CoreState → ℕ → ℤ → Option Snapshot → Type
 IsSnapshotOf core tenant id None = snapshot_rows (store_of core tenant) id ≡ None
 IsSnapshotOf core tenant id (Some snapshot) = IsLive core tenant id snapshot
 
--- What the core's type keeps: each tenant has its part, there are few, the shared state is sound, each
--- account is that of its store, the pins are the numbers of live snapshots, and the tree's sizes are
--- within their limits.
+-- What the core's type keeps: each tenant has its part, there are few, the shared state is sound,
+-- each account is that of its store, the pins are the numbers of live snapshots, and the tree's
+-- sizes are within their limits.
 pub record IsCore {A : Type 0} (core : CoreState) (pins : Pins A) : Type 0 where
   pub each : length core.tenancies ≡ length core.entries
   pub few : length core.tenancies < 65536
@@ -134,8 +134,8 @@ pub record GivesQuota (old : CoreState) (tenant quota : ℕ) (new : CoreState) :
       → Moves old tenant (record (store_of old tenant) { quota = quota }) new
   pub stranger : ¬ (IsTenant old.entries tenant) → new ≡ old
 
--- the request was answered in the tenant's store, as it would be if the tenant had it alone; and that is a step
--- of the state that all share
+-- the request was answered in the tenant's store, as it would be if the tenant had it alone; and
+-- that is a step of the state that all share
 pub record AnswersRequest (old new : CoreState) (tenant : ℕ) (request : Request)
     (told : Reply) : Type 0 where
   pub alone : ◌≡◌ {A = Answer} (store_of new tenant, told)
@@ -153,8 +153,8 @@ pub record RefusesCall (old : CoreState) (told : Reply) (new : CoreState) : Type
   pub told_is : told ≡ reply.Error refusal.NotAuthenticated
   pub unchanged : new ≡ old
 
--- a call: a tenant's words are answered in its own store, or as memory was refused; a number that is no
--- tenant's is refused; no other store moves
+-- a call: a tenant's words are answered in its own store, or as memory was refused; a number that
+-- is no tenant's is refused; no other store moves
 pub record Calls (old : CoreState) (tenant : ℕ) (words : List (List ℕ)) (told : Reply)
     (new : CoreState) : Type 0 where
   pub own : IsTenant old.entries tenant → Answers old new tenant words told

@@ -11,8 +11,8 @@ abbrev pub AreDistinct : List (List ℕ) → Type 0
 AreDistinct [] = Unit {0}
 AreDistinct (key ∷ keys) = AllByRecursion (λ k. k ≢ key) keys × AreDistinct keys
 
--- Of the tenant's own keys those that have a row, among the keys of all and each once: with them goes
--- what goes with all of the keys.
+-- Of the tenant's own keys those that have a row, among the keys of all and each once: with them
+-- goes what goes with all of the keys.
 pub record AreTaken (tenant : ℕ) (rows : Rows) (keys taken : List (List ℕ)) : Type 0 where
   pub own : AreKeysOf tenant taken
   pub short : AllByRecursion IsTenantKey taken

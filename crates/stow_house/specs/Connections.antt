@@ -59,7 +59,8 @@ Can (Plain e) seen = CanBePlain e seen
 Can (Took m is_refused) seen = (seen.status ≡ IsOpen) × MayBeRefused m is_refused seen.tenant
 Can (Broke fault) seen = (seen.status ≡ IsOpen) × IsFaulty seen.unread fault
 
--- a step: what it does to its connection, to each store and to the state that all share, and what is answered
+-- a step: what it does to its connection, to each store and to the state that all share, and what
+-- is answered
 pub record Moves (own : ConnectionStep) (r : StepResult) (old new : Seen)
     (before after : CoreState) : Type 0 where
   pub can : Can own old
@@ -72,7 +73,8 @@ pub record Moves (own : ConnectionStep) (r : StepResult) (old new : Seen)
   pub result : r
       ≡ answer_to_own own old.status (told_by before.entries own old.tenant (reply_in_core before))
 
--- a step of this event, by which the tenants stay; what it does, where whoever is served is a tenant
+-- a step of this event, by which the tenants stay; what it does, where whoever is served is a
+-- tenant
 pub record Leads (e : ConnectionEvent) (r : StepResult) (old new : Seen)
     (before after : CoreState) : Type 0 where
   pub own : ConnectionStep

@@ -20,9 +20,9 @@ pub record IsNewHouse (house : HouseState) : Type 0 where
   pub connections : (c : ℕ) → house.seen c ≡ never_opened
   pub stores : IsNewCore house.core
 
--- The events have a history at which the house stands, in which memory was refused where the marks say so. All
--- that was told is what the history tells, in its order and to its connections: a tenant's requests are told
--- what its own run tells.
+-- The events have a history at which the house stands, in which memory was refused where the marks
+-- say so. All that was told is what the history tells, in its order and to its connections: a
+-- tenant's requests are told what its own run tells.
 pub record Shows (entries : List Entry) (events : List Event) (told : List Told) (marks : List Mark)
     (house : HouseState) : Type 0 where
   pub history : List Step
@@ -31,8 +31,9 @@ pub record Shows (entries : List Entry) (events : List Event) (told : List Told)
   pub marked : AreMarks history (reverse marks)
   pub output : map told_in_history (tellings entries history) ≡ reverse told
 
--- The events were one step after another, each with an answer that it can have, and marked by its answer: what is
--- marked as kept has done what its answer says, and what is marked void was answered want of memory.
+-- The events were one step after another, each with an answer that it can have, and marked by its
+-- answer: what is marked as kept has done what its answer says, and what is marked void was
+-- answered want of memory.
 abbrev pub StepsThrough : HouseState → List Event → List Mark → HouseState → Type 0
 StepsThrough old [] marks new = (marks ≡ []) × (new ≡ old)
 StepsThrough old (e ∷ events) marks new =
@@ -72,8 +73,8 @@ told_in_run tenant (telling ∷ tellings) (t ∷ told) =
     if is_tenant tenant telling.tenant then t.1 ∷ told_in_run tenant tellings told
     else told_in_run tenant tellings told
 
--- Two runs in which a tenant has the same entry and is served the same requests, whatever else they hold and
--- whoever else may log in, tell it the same, byte for byte, and leave it the same store.
+-- Two runs in which a tenant has the same entry and is served the same requests, whatever else they
+-- hold and whoever else may log in, tell it the same, byte for byte, and leave it the same store.
 abbrev pub TwoRuns : Type 0
 TwoRuns =
     (entries entries' : List Entry) (events events' : List Event) (told told' : List Told)
@@ -99,8 +100,8 @@ TwoUsages =
     × (usage (store_of house.core tenant)
     ≡ usage (store_after (quota_of entries tenant) (line_of entries tenant s.history)))
 
--- The events, and the marks of what memory was refused to, say all: runs with the same marks tell the same, in
--- the same order and to the same connections, and leave each tenant the same store.
+-- The events, and the marks of what memory was refused to, say all: runs with the same marks tell
+-- the same, in the same order and to the same connections, and leave each tenant the same store.
 abbrev pub OneRun : Type 0
 OneRun =
     (entries : List Entry) (events : List Event) (told told' : List Told) (marks : List Mark)

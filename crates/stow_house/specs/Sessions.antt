@@ -32,8 +32,8 @@ arrival_of next.More = Nothing
 arrival_of (next.Fault fault) = Faulty fault
 arrival_of next.NoMemory = Nothing
 
--- what a connection makes of it: an answer of its own, if any, and whether it ends then; or the words are for
--- a tenant's store
+-- what a connection makes of it: an answer of its own, if any, and whether it ends then; or the
+-- words are for a tenant's store
 pub data Taken : Type 0 where
   Told : Option Reply → Bool → Taken
   ForStoreOf : ℕ → List (List ℕ) → Taken
@@ -43,8 +43,8 @@ abbrev pub taken_of : {A : Type 0} → coded.Taken A → Taken
 taken_of (in_code.Told answer) = Told (option_map reply_of answer.reply) answer.ends
 taken_of (in_code.ForStoreOf tenant words) = ForStoreOf tenant words
 
--- a login tells whether it was accepted, a quit ends the connection, and a request is for the store of the
--- tenant who is logged in, if one is
+-- a login tells whether it was accepted, a quit ends the connection, and a request is for the store
+-- of the tenant who is logged in, if one is
 abbrev pub taking_words : List Entry → Kind → List (List ℕ) → Option ℕ → Taken
 taking_words entries (Login name password) words tenant =
     Told (Some (login_reply (login entries name password))) false
@@ -69,16 +69,16 @@ served_after_arrival entries (Whole m) before = served_after_message entries m b
 served_after_arrival entries (Faulty fault) before = before
 served_after_arrival entries Nothing before = before
 
--- what is told, whether the connection ends, and what becomes of the door, whose calls are as the relation
--- says: it is asked only for a tenant's store, and stays as it was in every other case
+-- what is told, whether the connection ends, and what becomes of the door, whose calls are as the
+-- relation says: it is asked only for a tenant's store, and stays as it was in every other case
 abbrev pub Finishes : {D : Type 0} → (D → ℕ → List (List ℕ) → Reply → D → Type 0) → Taken → D
     → Option Reply → Bool → D → Type 0
 Finishes calls (Told r ended) old told ends new = (told ≡ r) × (ends ≡ ended) × (new ≡ old)
 Finishes calls (ForStoreOf tenant words) old told ends new = (r : Reply)
     × calls old tenant words r new × (told ≡ Some r) × (ends ≡ false)
 
--- what came was served: who is served from now on, what is told, whether the connection ends, and the door
--- before and after
+-- what came was served: who is served from now on, what is told, whether the connection ends, and
+-- the door before and after
 pub record Serves {D : Type 0} (calls : D → ℕ → List (List ℕ) → Reply → D → Type 0)
     (entries : List Entry) (before after : Option ℕ) (old : D) (arrival : Arrival)
     (told : Option Reply) (ends : Bool) (new : D) : Type 0 where

@@ -63,8 +63,8 @@ answer_to_own (Plain e) status told = answer_to_event e status
 answer_to_own (Took m is_refused) status told = answered told
 answer_to_own (Broke fault) status told = answered told
 
--- what an event of a flusher may be answered; no leaf is flushed in two steps yet, so there is never a job.
--- A cache's size above the limit is refused, and to any other memory may be
+-- what an event of a flusher may be answered; no leaf is flushed in two steps yet, so there is
+-- never a job. A cache's size above the limit is refused, and to any other memory may be
 abbrev pub MayAnswer : FlusherEvent → StepResult → Type 0
 MayAnswer (event.Plan f) r = r ≡ NoJob
 MayAnswer (event.Merge f) r = r ≡ Refused

@@ -23,8 +23,8 @@ pub record HouseState : Type 0 where
 abbrev pub state_of : {A : Type 0} → House A → HouseState
 state_of house = record { seen = λ c. seen_at house.connections c; core = house.core }
 
--- the connection is where its part of the history leaves it: the messages that were taken are the first of
--- its stream, and the unread bytes are the rest
+-- the connection is where its part of the history leaves it: the messages that were taken are the
+-- first of its stream, and the unread bytes are the rest
 pub record StandsAt (entries : List Entry) (seen : Seen) (part : List ConnectionStep) : Type 0 where
   pub status : seen.status ≡ status_of part
   pub tenant : seen.tenant ≡ served_as entries part
@@ -32,9 +32,10 @@ pub record StandsAt (entries : List Entry) (seen : Seen) (part : List Connection
   pub taken : SpellsAll (taken_by part) front
   pub stream : stream_of part ≡ front ++ seen.unread
 
--- The house is where the history leaves it: its tenants are these, each connection is where its part of the
--- history leaves it, and each tenant's store is the last of its own run. The history is one run of the state
--- that all tenants share, in its order, and the calls of that run are told what their connections are.
+-- The house is where the history leaves it: its tenants are these, each connection is where its
+-- part of the history leaves it, and each tenant's store is the last of its own run. The history is
+-- one run of the state that all tenants share, in its order, and the calls of that run are told
+-- what their connections are.
 pub record Stands (entries : List Entry) (house : HouseState) (history : List Step) : Type 0 where
   pub is_history : IsHistory entries history
   pub tenants : house.core.entries ≡ entries
@@ -51,8 +52,8 @@ pub record GoesOn (entries : List Entry) (step : Step) (earlier : List Step) (r 
   pub stands : Stands entries new (step ∷ earlier)
   pub answer : IsAnswer entries step earlier r
 
--- what becomes of the tree of all rows: another size of the cache is one of the tree's, unless it was refused,
--- and no other event of a flusher changes the tree
+-- what becomes of the tree of all rows: another size of the cache is one of the tree's, unless it
+-- was refused, and no other event of a flusher changes the tree
 abbrev pub TreeBy : FlusherEvent → StepResult → CoreState → CoreState → Type 0
 TreeBy (event.Resize n) Done old new = Resized n old new
 TreeBy e r old new = new.tree ≡ old.tree

@@ -40,8 +40,8 @@ AreLeafPages-prop : (target : ℕ) (pages : List (List Version))
 AreLeafPages-prop target [] = Unit-prop
 AreLeafPages-prop target (page ∷ pages) = ×_prop (hlevel props) (AreLeafPages-prop target pages)
 
--- The pages hold just the versions, in order; there is one at least, no more where one fits the target,
--- and an empty one stands alone.
+-- The pages hold just the versions, in order; there is one at least, no more where one fits the
+-- target, and an empty one stands alone.
 pub record ArePagesOf (versions : List Version) (target : ℕ)
     (pages : List (List Version)) : Type 0 where
   pub are : read_in_order pages ≡ versions

@@ -230,8 +230,8 @@ commands =
     ∷ (codes "usage", of_nothing ReportUsage)
     ∷ []
 
--- the command that the words are, or the first refusal that applies: the name, the number of arguments,
--- options, numbers among the arguments, then the length of each key
+-- the command that the words are, or the first refusal that applies: the name, the number of
+-- arguments, options, numbers among the arguments, then the length of each key
 unfoldable pub reading : List (List ℕ) → Reading
 reading [] = Refused refusal.UnknownCommand
 reading (name ∷ arguments) = reading_among commands refusal.UnknownCommand name arguments

@@ -1,4 +1,5 @@
--- What has happened at the service, told newest first, and what it means to each connection and each tenant.
+-- What has happened at the service, told newest first, and what it means to each connection and
+-- each tenant.
 use Rattle.std.specs.Prelude.{◌≡◌, ◌≢◌, ℕ, Bool, true, false, List, [], ◌∷◌, ◌++◌, map, filter, option_map, Option, Some, None, IsSome, if◌then◌else◌, ◌==◌, ◌&&◌, nat_le, length}
 use Rattle.stow_model.specs.declared.stream_fault.StreamFault.{StreamFault}
 use Rattle.stow_model.specs.declared.refusal.Refusal.TheVariants as refusal
@@ -202,7 +203,8 @@ request_of_message (message.Words words) is_refused tenant =
 request_of_message message.Quoted is_refused tenant = None
 request_of_message message.Blank is_refused tenant = None
 
--- the request that a connection's step takes to a tenant's store, if it does, by whom the connection is served as
+-- the request that a connection's step takes to a tenant's store, if it does, by whom the
+-- connection is served as
 abbrev pub request_of : ConnectionStep → Option ℕ → Option Service
 request_of (Plain e) tenant = None
 request_of (Took m is_refused) tenant = request_of_message m is_refused tenant
@@ -230,7 +232,8 @@ with_service tenant None line = line
 with_service tenant (Some service) line =
     if service.tenant == tenant then service.event ∷ line else line
 
--- the tenant's line: its requests over all connections, and the quotas that it was given, newest first
+-- the tenant's line: its requests over all connections, and the quotas that it was given, newest
+-- first
 unfoldable pub line_of : List Entry → ℕ → List Step → List OwnEvent
 line_of entries tenant [] = []
 line_of entries tenant (newest ∷ earlier) =
@@ -257,7 +260,8 @@ abbrev pub Breaks : StreamFault → List ℕ → List Message → Type 0
 Breaks fault stream taken = (front : List ℕ) × (rest : List ℕ) × SpellsAll taken front
     × IsFaulty rest fault × (stream ≡ front ++ rest)
 
--- a Serve that takes nothing: on an open connection the next message isn't whole, on another one it is refused
+-- a Serve that takes nothing: on an open connection the next message isn't whole, on another one it
+-- is refused
 abbrev pub MayTakeNothing : Status → List ℕ → List Message → Type 0
 MayTakeNothing Unused stream taken = Unit {0}
 MayTakeNothing IsOpen stream taken = Waits stream taken
@@ -295,7 +299,8 @@ Follows entries newest earlier =
 unfoldable pub MayBeVoid : ConnectionEvent → List ConnectionStep → Type 0
 MayBeVoid e earlier = CanBeVoid e (status_of earlier) (stream_of earlier) (taken_by earlier)
 
--- the step follows from those before it; no event of a flusher asks for memory yet, nor does a quota
+-- the step follows from those before it; no event of a flusher asks for memory yet, nor does a
+-- quota
 unfoldable pub IsStep : List Entry → Step → List Step → Type 0
 IsStep entries (Void (event.On c e)) earlier = MayBeVoid e (part_of c earlier)
 IsStep entries (Void (event.By e)) earlier = ⊥
@@ -338,8 +343,8 @@ message_reply entries (message.Words words) tenant of_tenant =
 message_reply entries message.Quoted tenant of_tenant = Some (quoted_reply tenant)
 message_reply entries message.Blank tenant of_tenant = None
 
--- what a connection's step is told, if anything, by whom the connection is served as; `of_tenant` gives a
--- tenant's reply to words, with memory or without
+-- what a connection's step is told, if anything, by whom the connection is served as; `of_tenant`
+-- gives a tenant's reply to words, with memory or without
 abbrev pub told_by : List Entry → ConnectionStep → Option ℕ → (Bool → List (List ℕ) → ℕ → Reply)
     → Option Reply
 told_by entries (Plain e) tenant of_tenant = None
@@ -358,7 +363,8 @@ unfoldable pub told_at : List Entry → ℕ → ConnectionStep → List Step →
 told_at entries c own earlier =
     told_by entries own (served_as entries (part_of c earlier)) (reply_in_line entries earlier)
 
--- a reply, the connection that it goes to, and the tenant whose request it answers, if it answers one's
+-- a reply, the connection that it goes to, and the tenant whose request it answers, if it answers
+-- one's
 pub record Telling : Type 0 where
   pub connection : ℕ
   pub tenant : Option ℕ
@@ -413,14 +419,15 @@ ToldAlone = (entries : List Entry) (tenant : ℕ) (history : List Step)
     → told_to entries tenant history
     ≡ replies_after (quota_of entries tenant) (line_of entries tenant history)
 
--- two histories that serve a tenant the same requests, whatever else is in them: its entry (name, salt,
--- digest and quota) is the same, while its index and all other entries may differ
+-- two histories that serve a tenant the same requests, whatever else is in them: its entry (name,
+-- salt, digest and quota) is the same, while its index and all other entries may differ
 pub record ServesAlike (entries : List Entry) (tenant : ℕ) (history : List Step)
     (entries' : List Entry) (tenant' : ℕ) (history' : List Step) : Type 0 where
   pub entry : entry_at entries tenant ≡ entry_at entries' tenant'
   pub line : line_of entries tenant history ≡ line_of entries' tenant' history'
 
--- histories that serve a tenant alike tell it the same, as replies and as bytes, and leave it the same store
+-- histories that serve a tenant alike tell it the same, as replies and as bytes, and leave it the
+-- same store
 abbrev pub TwoRuns : Type 0
 TwoRuns =
     (entries entries' : List Entry) (tenant tenant' : ℕ) (history history' : List Step)
@@ -436,8 +443,8 @@ abbrev pub IsForAnother : ℕ → Option Service → Type 0
 IsForAnother tenant None = Unit {0}
 IsForAnother tenant (Some service) = service.tenant ≢ tenant
 
--- a step that serves another tenant, or nobody, adds nothing to a tenant's line, and so changes neither
--- what it is told nor its store
+-- a step that serves another tenant, or nobody, adds nothing to a tenant's line, and so changes
+-- neither what it is told nor its store
 abbrev pub OthersAddNothing : Type 0
 OthersAddNothing =
     (entries : List Entry) (tenant : ℕ) (newest : Step) (earlier : List Step)

@@ -10,8 +10,8 @@ pub record Entry : Type 0 where
   pub digest : List ℕ
   pub quota : ℕ
 
--- the tenant of this entry, if the password is its own: SHA-256 (FIPS 180-4) of the salt followed by the
--- password is the digest
+-- the tenant of this entry, if the password is its own: SHA-256 (FIPS 180-4) of the salt followed
+-- by the password is the digest
 abbrev pub checked : ℕ → Entry → List ℕ → Option ℕ
 checked index entry password =
     if bytes_eq (sha256 (entry.salt ++ password)) entry.digest then Some index else None

@@ -1,4 +1,5 @@
--- What stands at the front of some bytes where a number, an element of an array, or an inline line is to stand.
+-- What stands at the front of some bytes where a number, an element of an array, or an inline line
+-- is to stand.
 use Rattle.std.specs.Prelude.{◌≡◌, ◌≢◌, ℕ, ◌<◌, ◌≤◌, false, Option, Some, None, List, [], ◌∷◌, ◌++◌, length, take, ◌⊎◌}
 use Rattle.std.specs.Borrow.{Bor}
 use Rattle.std.specs.List.{AllByRecursion}

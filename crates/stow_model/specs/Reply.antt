@@ -1,4 +1,5 @@
--- What a client is told, and its bytes: the replies of RESP2 (RESP protocol specification, "RESP protocol description").
+-- What a client is told, and its bytes: the replies of RESP2 (RESP protocol specification, "RESP
+-- protocol description").
 use Rattle.std.specs.Prelude.{ℕ, ℤ, List, ◌++◌, length, codes}
 use Rattle.std.specs.List.{flat_map}
 use Rattle.std.specs.Fmt.{decimal}

@@ -1,5 +1,5 @@
--- How requests are spelled in the bytes of a stream (RESP protocol specification, "Sending commands to a
--- Redis server"): by cases on what is spelled.
+-- How requests are spelled in the bytes of a stream (RESP protocol specification, "Sending commands
+-- to a Redis server"): by cases on what is spelled.
 use Rattle.std.specs.Prelude.{◌≡◌, ◌≢◌, ℕ, ◌<◌, ◌≤◌, Bool, false, if◌then◌else◌, ◌==◌, ◌||◌, nat_lt, List, [], ◌∷◌, ◌++◌, length, reverse, filter, ◌⊎◌, codes}
 use Rattle.std.specs.List.{AllByRecursion, list_any, slice_split}
 use Rattle.std.specs.Fmt.{decimal}
@@ -129,7 +129,8 @@ abbrev pub IsInArray : List ℕ → List ℕ → Type 0
 IsInArray bytes rest = (n : ℕ) × (n ≤ words_limit) × (words : List (List ℕ)) × (length words < n)
     × AllByRecursion FitsBulk words × (bytes ≡ array_line n ++ (bulks words ++ rest))
 
--- where the byte after these bytes stands, if they begin a spelling, and what is wrong if it can't follow
+-- where the byte after these bytes stands, if they begin a spelling, and what is wrong if it can't
+-- follow
 unfoldable pub IsPlace : List ℕ → StreamFault → Type 0
 -- in the array's line
 IsPlace bytes InvalidArrayLength = IsInLine 42 bytes

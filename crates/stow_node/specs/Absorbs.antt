@@ -34,8 +34,8 @@ abbrev pub with_leaves : {A : Type 0} → List (Child A) → ℕ → List (Leaf 
 with_leaves children i leaves =
     take i children ++ (map in_child.Leaf leaves ++ drop (i + 1) children)
 
--- All messages for the leaf are merged into it, and no two neighbours are left that are to be one leaf;
--- the cache lost this leaf and those that were joined, and no other.
+-- All messages for the leaf are merged into it, and no two neighbours are left that are to be one
+-- leaf; the cache lost this leaf and those that were joined, and no other.
 pub record Merges {A : Type 0} (children : List (Child A)) (i : ℕ) (ms : List TreeMessage)
     (pins : TenantPins) (target : ℕ) (fresh : List (Child A)) (cache cache' : Cache) : Type 0 where
   pub leaves : List (Leaf A)

@@ -24,6 +24,7 @@ pub record AreHalves (old lower upper : Subtree) : Type 0 where
       ≡ or_else (ops_in (buffered lower) key n) (ops_in (buffered upper) key n)
   pub count : length (buffered old) ≡ length (buffered lower) + length (buffered upper)
   pub weight : old.weight ≡ lower.weight + upper.weight
-  -- all that the lower one has is below the upper one's low, and all that the upper one has from there on
+  -- all that the lower one has is below the upper one's low, and all that the upper one has from
+  -- there on
   pub below : IsTile (node_part lower) upper.low
   pub above : IsTile (node_part upper) top_key

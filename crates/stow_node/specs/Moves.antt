@@ -34,7 +34,8 @@ pub record IsSqueezed (old new : Subtree) : Type 0 where
   pub is : new ≡ record old { buffer = message_list old.buffer.messages used old.buffer.capacity }
   pub fewer : used ≤ old.buffer.used
 
--- the larger of so many bytes and a quarter of the block doesn't fit, even once dead bytes are dropped
+-- the larger of so many bytes and a quarter of the block doesn't fit, even once dead bytes are
+-- dropped
 abbrev pub LacksRoom : ℕ → Subtree → Type 0
 LacksRoom bytes t =
     t.buffer.capacity < sum_by message_size t.buffer.messages + max bytes (t.shape.buffer / 4)

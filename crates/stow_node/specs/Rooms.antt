@@ -50,7 +50,8 @@ pub record IsLast (fan_out children groups share : ℕ) : Type 0 where
   pub rest_some : groups - 1 ≤ children - share
   pub rest_hold : children - share ≤ (groups - 1) * fan_out
 
--- how many new nodes there are where so many come behind a child, with nodes of these widths above it
+-- how many new nodes there are where so many come behind a child, with nodes of these widths above
+-- it
 abbrev pub nodes_needed : ℕ → List ℕ → ℕ → ℕ
 nodes_needed fan_out widths zero = 0
 nodes_needed fan_out [] (suc came) = suc (suc came)

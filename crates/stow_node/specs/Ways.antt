@@ -59,7 +59,8 @@ pub record Enters {A : Type 0}
   pub cut : IsCutFrom pins (take index children
       ++ ((in_child.Node stepped ∷ behind) ++ drop (index + 1) children)) old.buffer new came
 
--- further up: the heaviest child, a node of which dead bytes may have gone, takes them or is entered
+-- further up: the heaviest child, a node of which dead bytes may have gone, takes them or is
+-- entered
 pub record GoesOn {A : Type 0}
     (below : Subtree → Subtree → List (Child A) → Cache → Cache → Type 0) (pins : TenantPins)
     (old new : Subtree) (came : List (Child A)) (cache cache' : Cache) : Type 0 where

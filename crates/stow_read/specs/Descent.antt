@@ -26,6 +26,7 @@ pub record LeadsTo {A : Type 0} (t : Subtree) (key : List ℕ) (child : Child A)
   pub leaves : (leaf : LeafRows) → Contains (part_of child).leaves leaf → Contains t.leaves leaf
 
 -- the child is where all that stands below the node stands for each key of the interval
-pub record LeadsAllTo {A : Type 0} (t : Subtree) (low high : List ℕ) (child : Child A) : Type 0 where
+pub record LeadsAllTo {A : Type 0} (t : Subtree) (low high : List ℕ) (child : Child A)
+    : Type 0 where
   pub inside : is_lt (bytes_cmp low high) ≡ true
   pub each : (key : List ℕ) → spans low high key ≡ true → LeadsTo t key child

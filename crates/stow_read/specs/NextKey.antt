@@ -22,7 +22,8 @@ HaveNone ops start after to = (key : List ℕ) → is_from start after key ≡ t
     → is_lt (bytes_cmp key to) ≡ true → (n : ℕ) → ops key n ≡ None
 
 -- the key is the lowest of the interval that has an operation
-pub record IsLowest (ops : List ℕ → Operations) (start : List ℕ) (after : Bool) (to key : List ℕ) : Type 0 where
+pub record IsLowest (ops : List ℕ → Operations) (start : List ℕ) (after : Bool)
+    (to key : List ℕ) : Type 0 where
   pub from : is_from start after key ≡ true
   pub below : is_lt (bytes_cmp key to) ≡ true
   pub number : ℕ
@@ -40,7 +41,8 @@ abbrev pub fence_at : List Part → ℕ → List ℕ
 fence_at ps i = low_or top_key (drop i ps)
 
 -- what a part is searched from: the start in the first one, and its fence in each other
-pub record IsFromPart (ps : List Part) (start : List ℕ) (after : Bool) (first i : ℕ) (key : List ℕ) (own : Bool) : Type 0 where
+pub record IsFromPart (ps : List Part) (start : List ℕ) (after : Bool) (first i : ℕ)
+    (key : List ℕ) (own : Bool) : Type 0 where
   pub first_is : i ≡ first → (key ≡ start) × (own ≡ after)
   pub later_is : first < i → (key ≡ fence_at ps i) × (own ≡ false)
 

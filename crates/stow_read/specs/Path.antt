@@ -15,7 +15,8 @@ NumbersFall [] = Unit {0}
 NumbersFall (m ∷ older) = AllByRecursion (λ o. o.number < m.number) older × NumbersFall older
 
 -- these messages and a leaf's rows have all that a node has of the key
-pub record IsPath (t : Subtree) (key : List ℕ) (ms : List TreeMessage) (rows : List Version) : Type 0 where
+pub record IsPath (t : Subtree) (key : List ℕ) (ms : List TreeMessage) (rows : List Version)
+    : Type 0 where
   pub own : AllByRecursion (λ m. key ≡ m.key) ms
   pub fall : NumbersFall ms
   pub above : IsAbove (ops_in ms key) (ops_in (map row_message rows) key)

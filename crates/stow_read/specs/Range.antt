@@ -20,7 +20,8 @@ abbrev pub AreUnder : List KeyValue → List ℕ → Type 0
 AreUnder rows key = AllByRecursion (λ row. is_lt (bytes_cmp row.0 key) ≡ true) rows
 
 -- the first `count` keys of the interval that have a value at the number, in order, with it
-pub record IsRange (ops : List ℕ → Operations) (from to : List ℕ) (at count : ℕ) (rows : List KeyValue) : Type 0 where
+pub record IsRange (ops : List ℕ → Operations) (from to : List ℕ) (at count : ℕ)
+    (rows : List KeyValue) : Type 0 where
   pub rise : IsStrictlySortedBy bytes_cmp (map (λ row. row.0) rows)
   pub inside : AllByRecursion (λ row. spans from to row.0 ≡ true) rows
   pub values : AllByRecursion (λ row. value_in (latest (ops row.0) at) ≡ Some row.1) rows

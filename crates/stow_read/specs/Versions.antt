@@ -7,7 +7,8 @@ use Rattle.stow_tree_model.specs.Version.{Version}
 use Rattle.stow_page.specs.Rows.{version_at}
 use Rattle.stow_read.specs.Shown.{value_shown}
 
--- each is of an operation on the key, and at each number the newest one up to it shows what the key has there
+-- each is of an operation on the key, and at each number the newest one up to it shows what the key
+-- has there
 pub record AreVersionsOf (ops : Operations) (key : List ℕ) (versions : List Version) : Type 0 where
   pub rise : VersionsRise versions
   pub own : AllByRecursion (λ v. key ≡ v.key) versions

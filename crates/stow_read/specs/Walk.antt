@@ -20,7 +20,8 @@ abbrev pub AreBelow : List (List ℕ) → List ℕ → Type 0
 AreBelow keys key = AllByRecursion (λ k. is_lt (bytes_cmp k key) ≡ true) keys
 
 -- the first `count` keys of the interval that have a value at the number, in order
-pub record AreFirst (ops : List ℕ → Operations) (start : List ℕ) (after : Bool) (to : List ℕ) (at count : ℕ) (keys : List (List ℕ)) : Type 0 where
+pub record AreFirst (ops : List ℕ → Operations) (start : List ℕ) (after : Bool) (to : List ℕ)
+    (at count : ℕ) (keys : List (List ℕ)) : Type 0 where
   pub rise : IsStrictlySortedBy bytes_cmp keys
   pub inside : AllByRecursion (λ key. is_inside start after to key ≡ true) keys
   pub there : AllByRecursion (λ key. IsSome (latest (ops key) at)) keys
@@ -63,7 +64,9 @@ IsHeadOf key ops at (Some row) = (row.key ≡ key) × IsHead ops at row
 abbrev pub head_keys : {A : Type 0} → List (RowHead A) → List (List ℕ)
 head_keys rows = map (λ row. row.key) rows
 
--- the first `count` keys of the interval that have a value at the number, in order, with what is told of each
-pub record IsWalk {A : Type 0} (ops : List ℕ → Operations) (start : List ℕ) (after : Bool) (to : List ℕ) (at count : ℕ) (rows : List (RowHead A)) : Type 0 where
+-- the first `count` keys of the interval that have a value at the number, in order, with what is
+-- told of each
+pub record IsWalk {A : Type 0} (ops : List ℕ → Operations) (start : List ℕ) (after : Bool)
+    (to : List ℕ) (at count : ℕ) (rows : List (RowHead A)) : Type 0 where
   pub keys : AreFirst ops start after to at count (head_keys rows)
   pub told : AllByRecursion (λ row. IsHead (ops row.key) at row) rows

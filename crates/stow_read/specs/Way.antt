@@ -39,8 +39,8 @@ least_of (level ∷ lower) row = lower_next (key_in level.next) (least_of lower 
 
 -- each level's next key is the lowest of the interval that has messages in its buffer
 abbrev pub AreNext : {A : Type 0} → List ℕ → Bool → List ℕ → List (Level A) → Type 0
-AreNext start after to levels = AllByRecursion
-    (λ level. IsNextKey (ops_in level.buffer.now.messages) start after to (key_in level.next)) levels
+AreNext start after to levels = AllByRecursion (λ level.
+    IsNextKey (ops_in level.buffer.now.messages) start after to (key_in level.next)) levels
 
 -- ---- what stands on the way
 
@@ -55,11 +55,12 @@ ops_down key (buffer ∷ lower) below = over (ops_in buffer.messages key) (ops_d
 -- each buffer's operations on the key are newer than those below it
 abbrev pub NewerDown : List ℕ → List MessageList → Operations → Type 0
 NewerDown key [] below = Unit {0}
-NewerDown key (buffer ∷ lower) below = IsAbove (ops_in buffer.messages key) (ops_down key lower below)
-    × NewerDown key lower below
+NewerDown key (buffer ∷ lower) below =
+    IsAbove (ops_in buffer.messages key) (ops_down key lower below) × NewerDown key lower below
 
 -- the buffers, and what is below them, have all that a node has of the key
-pub record HaveAll (t : Subtree) (key : List ℕ) (buffers : List MessageList) (below : Operations) : Type 0 where
+pub record HaveAll (t : Subtree) (key : List ℕ) (buffers : List MessageList)
+    (below : Operations) : Type 0 where
   pub messages : (n : ℕ) → ops_in (messages_of t) key n ≡ ops_down key buffers below n
   pub newer : NewerDown key buffers below
 
@@ -82,7 +83,8 @@ pub record StandsAt {A : Type 0} (way : Way A) (key to : List ℕ) : Type 0 wher
   pub levels : AreNext key false to way.levels.items
   pub row : IsNextKey (row_ops way) key false to (key_in way.next_row)
 
--- the way has all that the node has of the keys from this one on up to its end, and stands at the key
+-- the way has all that the node has of the keys from this one on up to its end, and stands at the
+-- key
 pub record IsAt {A : Type 0} (t : Subtree) (way : Way A) (key to : List ℕ) : Type 0 where
   pub inside : is_lt (bytes_cmp key way.end.bytes.now) ≡ true
   pub all : (other : List ℕ) → spans key way.end.bytes.now other ≡ true
@@ -95,7 +97,7 @@ IsTold ops next key = (is_next next key ≡ true) ⊎ ((n : ℕ) → ops n ≡ N
 
 -- what the way has of the key stands where its parts' next keys are
 pub record IsReadyFor {A : Type 0} (way : Way A) (key : List ℕ) : Type 0 where
-  pub levels : AllByRecursion
-      (λ level. IsTold (ops_in level.buffer.now.messages key) (key_in level.next) key) way.levels.items
+  pub levels : AllByRecursion (λ level.
+      IsTold (ops_in level.buffer.now.messages key) (key_in level.next) key) way.levels.items
   pub row : IsTold (row_ops way key) (key_in way.next_row) key
   pub newer : NewerDown key (buffers_of way.levels.items) (row_ops way key)

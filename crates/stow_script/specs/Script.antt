@@ -1,5 +1,5 @@
--- A script: lines that ask for events, for the shape of the tree, or for what a tenant uses. This product's own
--- grammar, over the tenants of the service.
+-- A script: lines that ask for events, for the shape of the tree, or for what a tenant uses. This
+-- product's own grammar, over the tenants of the service.
 use Rattle.std.specs.Prelude.{◌≡◌, ◌≢◌, ℕ, ◌+◌, ◌≤◌, ◌==◌, List, [], ◌∷◌, ◌++◌, Some, length, codes, ◌⊎◌}
 use Rattle.std.specs.List.{All, slice_split}
 use Rattle.std.specs.Fmt.{decimal}

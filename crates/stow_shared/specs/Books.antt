@@ -19,14 +19,15 @@ pub record BookState : Type 0 where
 abbrev pub IsKept : Bool → List Entry → CoreState → Type 0
 IsKept keeps entries core = keeps ≡ true → IsLegal entries core
 
--- what the book's type keeps: the state that all tenants share is sound, and the journal leads to it
+-- what the book's type keeps: the state that all tenants share is sound, and the journal leads to
+-- it
 pub record IsBook (keeps : Bool) (entries : List Entry) (core : CoreState) : Type 0 where
   pub sound : IsSound (shared_of core)
   pub kept : IsKept keeps entries core
 
 -- The words were answered in the caller's own store, as its own step says, to which nothing was
--- refused, and that is a step of the state that all share. An index that is no tenant's was refused, and
--- nothing changed. No other store moved.
+-- refused, and that is a step of the state that all share. An index that is no tenant's was
+-- refused, and nothing changed. No other store moved.
 pub record Serves (old : CoreState) (tenant : ℕ) (words : List (List ℕ)) (told : Reply)
     (new : CoreState) : Type 0 where
   pub own : IsTenant old.entries tenant
@@ -53,7 +54,8 @@ pub record AnswersCall (keeps : Bool) (old : BookState) (seat : SeatState) (tena
   pub adds : Adds keeps (call_entry seat.number tenant words told) old.entries seat new.entries
       seat'
 
--- a call that memory was refused to, which its seat counts; of an index that is no tenant's nothing changed
+-- a call that memory was refused to, which its seat counts; of an index that is no tenant's nothing
+-- changed
 pub record LacksMemory (old : BookState) (seat : SeatState) (tenant : ℕ) (told : Reply)
     (new : BookState) (seat' : SeatState) : Type 0 where
   pub says : told ≡ reply.Error refusal.OutOfMemory

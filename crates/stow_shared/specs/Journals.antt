@@ -25,7 +25,8 @@ with_request tenant (Resize leaves) line = line
 with_request tenant (Quota index quota) line =
     if index == tenant then GivenQuota quota ∷ line else line
 
--- the tenant's line: its calls, over all seats, to none of which memory was refused, and the quotas that it was given
+-- the tenant's line: its calls, over all seats, to none of which memory was refused, and the quotas
+-- that it was given
 unfoldable pub line_in : ℕ → List Entry → List OwnEvent
 line_in tenant [] = []
 line_in tenant (newest ∷ earlier) = with_request tenant newest.step (line_in tenant earlier)

@@ -24,7 +24,8 @@ with_receipt keeps entry seat = record seat { receipts = with_entry keeps entry 
 abbrev pub with_refusal : SeatState → SeatState
 with_refusal seat = record seat { refused = one_more seat.refused }
 
--- the seat after a call, by what it was told: a refused call more where that is want of memory, and else its receipt
+-- the seat after a call, by what it was told: a refused call more where that is want of memory, and
+-- else its receipt
 abbrev pub after_call : Bool → ℕ → List (List ℕ) → Reply → SeatState → SeatState
 after_call keeps tenant words told seat =
     if is_out_of_memory told then with_refusal seat

@@ -224,16 +224,18 @@ pub record NumbersMove : Type 0 where
       (map.remove (copies m tenant (map.entries own.snapshots)) id))
       ≡ map.remove own.snapshots id
 
--- The tenant's store becomes this one, which one write or its snapshots lead to, and messages may then
--- give way.
-pub record LeadsTo (old : SharedState) (tenant : ℕ) (store : Store) (new : SharedState) : Type 0 where
+-- The tenant's store becomes this one, which one write or its snapshots lead to, and messages may
+-- then give way.
+pub record LeadsTo (old : SharedState) (tenant : ℕ) (store : Store) (new : SharedState)
+    : Type 0 where
   pub has_index : IsIndex tenant
   pub writes_once : WritesOnce (view old tenant) store
   pub tenants_are : new.tenants ≡ (after_call old tenant store).tenants
   pub messages_agree : Agree (after_call old tenant store).messages new.messages
       (pins_in (after_call old tenant store)) (lasts_in (after_call old tenant store))
 
--- the tenant has the store, no other store moves, and whatever event leads to the store is this step
+-- the tenant has the store, no other store moves, and whatever event leads to the store is this
+-- step
 pub record LeadsAlone (old : SharedState) (tenant : ℕ) (store : Store)
     (new : SharedState) : Type 0 where
   pub sound : IsSound new
@@ -243,7 +245,8 @@ pub record LeadsAlone (old : SharedState) (tenant : ℕ) (store : Store)
       → ◌≡◌ {A = Store × Option Reply} (step (view old tenant) event) (store, told)
       → SharedStep old (Call tenant event) told new
 
--- what leads a tenant's store to another does so alone, and the messages of its change do lead there
+-- what leads a tenant's store to another does so alone, and the messages of its change do lead
+-- there
 pub record StoresLead : Type 0 where
   pub alone : (old new : SharedState) (tenant : ℕ) (store : Store) → IsSound old
       → LeadsTo old tenant store new → LeadsAlone old tenant store new

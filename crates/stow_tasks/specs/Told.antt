@@ -138,7 +138,8 @@ abbrev pub AreEventsRead : {A Z : Type 0} → List Entry → List ℕ
     → Result (Vec (coded.Event A) Z) Failure → Type 0
 AreEventsRead entries text (Ok events) = (asked : List Line)
     × AskFor entries (lines_of text) asked × (map event_of events.items ≡ events_in asked)
-AreEventsRead entries text (Err (BadLine number stumble)) = IsFirstBad entries (lines_of text) number
+AreEventsRead entries text (Err (BadLine number stumble)) =
+    IsFirstBad entries (lines_of text) number
 AreEventsRead entries text (Err Memory) = Unit {0}
 AreEventsRead entries text (Err _) = ⊥
 
@@ -166,7 +167,8 @@ IsReported events old new (Err failure) =
     EndsTelling failure old.written.failures new.written.failures
     × ((new.written ≡ old.written) ⊎ Reports events old new (Err failure))
 
--- what a reader's script leads to, where its lines aren't told: nothing before the whole of it was read
+-- what a reader's script leads to, where its lines aren't told: nothing before the whole of it was
+-- read
 abbrev pub IsUsage : Option (List ℕ) → Progress → Progress → Result (Unit {0}) Failure → Type 0
 IsUsage known old new (Err (BadLine number stumble)) =
     IsBadScript old.house.core.entries known number × IsIdle old new

@@ -10,7 +10,8 @@ use Rattle.stow_tree_model.specs.TreeMessage.{TreeMessage}
 use Rattle.stow_tree_model.specs.Value.{IsValue}
 use Rattle.stow_tree.specs.TreeState.{TreeState, tree_messages}
 
--- the message is newer than all of its key, and what it makes of the key's value is within the limit
+-- the message is newer than all of its key, and what it makes of the key's value is within the
+-- limit
 pub record CanAdd (ms : Messages) (m : TreeMessage) : Type 0 where
   pub newest : (n : ℕ) → m.number ≤ n → ops_of ms m.key n ≡ None
   pub short : IsValue (outcome m.op (value_in (value ms m.key m.number)))
@@ -39,8 +40,8 @@ pub record IsReserved (tree : TreeState) (ms : List TreeMessage) : Type 0 where
   pub can : CanPut (tree_messages tree) ms
   pub room : HasRoom (bytes_of ms) tree.root
 
--- the tree has exactly these messages more, in its buffers, and nothing else changed: what else there
--- was room for can still be put
+-- the tree has exactly these messages more, in its buffers, and nothing else changed: what else
+-- there was room for can still be put
 pub record Puts (ms : List TreeMessage) (old new : TreeState) : Type 0 where
   pub messages : tree_messages new ≡ with_all (tree_messages old) ms
   pub buffered : length (buffered new.root) ≡ length (buffered old.root) + length ms

@@ -19,7 +19,8 @@ pub record CountsAre (t : Subtree) (counts : Counts) : Type 0 where
   pub leaves : counts.leaves ≡ told (length t.leaves)
   pub buffered : counts.buffered ≡ told (length (buffered t))
 
--- what is told of a tree: its levels, its leaves, the messages in its buffers, and the leaves that are held
+-- what is told of a tree: its levels, its leaves, the messages in its buffers, and the leaves that
+-- are held
 pub record IsReport (tree : TreeState) (report : ShapeReport) : Type 0 where
   pub height : report.height ≡ tree.root.height
   pub leaves : report.leaves ≡ told (length tree.root.leaves)
