@@ -12,4 +12,4 @@ returns-clause-reported g c =
     (progress_of c.args.house.now (g.W.Sink.contents c.args.output.now) (g.W.Sink.failures c.args.output.now))
     (progress_of c.run.new.self (g.W.Sink.contents c.finish.new.output) (g.W.Sink.failures c.finish.new.output))
     c.finish.result c.as_slice.result.now (told_in ran.0) (marks_in ran.0) ran.1
-    (c.as_slice.ensures.value ∙ c.in_ok-told.ensures tt) c.finish.ensures.written c.finish.ensures.err
+    (c.as_slice.ensures.value ∙ c.in_ok-told.ensures) c.finish.ensures.written c.finish.ensures.err
