@@ -78,8 +78,9 @@ fn replaced_with<A: Allocator + Copy>(
 
 #[test]
 fn a_leaf_gives_way_to_all_pages(rt: HostRuntime) -> Result<(), Fail> {
-    let cases: [(&[u8], usize, &[usize]); 3] = [
+    let cases: [(&[u8], usize, &[usize]); 4] = [
         (b"ab", 1, &[2]),
+        (b"abcde", 1_000, &[4, 1]),
         (b"abcdefgh", 3_000, &[1; 8]),
         (b" bcdefgh", 3_000, &[1; 8]),
     ];
