@@ -59,6 +59,7 @@ impl<A: Allocator + Copy> PackedRows<A> {
         Ok(PackedRows {
             bytes,
             places: Vec::with_capacity(alloc, versions)?,
+            hint: Hint::new(alloc),
         })
     }
 
