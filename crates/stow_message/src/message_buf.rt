@@ -18,6 +18,7 @@ use crate::slots::{move_slots, search_between, search_from};
 use std::alloc::{AllocError, Allocator, Global};
 use std::cmp::Ordering;
 use std::marker::Model;
+use stow_bytes::compare::compare;
 use stow_raw::raw_buf::RawBuf;
 use stow_tree_model::message::Message;
 use stow_tree_model::tenant_key::TenantKey;
@@ -47,7 +48,7 @@ impl<A: Allocator> Model for MessageBuf<A> {
 pub(crate) fn is_message_below(message: Message<'_>, key: &[u8], number: u64) -> bool
     ensures { result ≡ is_below (key.now, number) (message_of message.entry) }
 {
-    match message.key.bytes.cmp(key) {
+    match compare(message.key.bytes, key) {
         Ordering::Less => true,
         Ordering::Equal => message.number < number,
         Ordering::Greater => false,
@@ -58,7 +59,7 @@ pub(crate) fn is_message_below(message: Message<'_>, key: &[u8], number: u64) ->
 fn is_message_at(message: Message<'_>, key: &[u8], number: u64) -> bool
     ensures { result ≡ is_eq (place_cmp (place_of (message_of message.entry)) (key.now, number)) }
 {
-    match message.key.bytes.cmp(key) {
+    match compare(message.key.bytes, key) {
         Ordering::Equal => message.number == number,
         _ => false,
     }

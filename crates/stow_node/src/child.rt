@@ -9,6 +9,7 @@ ghost use Rattle.stow_leaf.specs.Intervals.{top_key, spans};
 use crate::node::Node;
 use std::alloc::Allocator;
 use std::cmp::Ordering;
+use stow_bytes::compare::compare;
 use stow_leaf::leaf::Leaf;
 use stow_tree_model::tenant_key::TenantKey;
 
@@ -43,7 +44,7 @@ pub(crate) fn top_key() -> TenantKey<'static>
 fn is_below(key: TenantKey<'_>, fence: TenantKey<'_>) -> bool
     ensures { result ≡ is_lt (bytes_cmp key.entry.bytes.now fence.entry.bytes.now) }
 {
-    match key.bytes.cmp(fence.bytes) {
+    match compare(key.bytes, fence.bytes) {
         Ordering::Less => true,
         Ordering::Equal | Ordering::Greater => false,
     }
