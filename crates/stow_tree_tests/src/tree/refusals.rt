@@ -107,7 +107,7 @@ fn reserving_withstands_each_refusal(rt: HostRuntime) -> Result<(), Fail> {
     let heap = Refusing::new(rt.alloc());
     let mut most = 0;
     let mut flushes = 0u32;
-    for steps in 40..140 {
+    for steps in 20..240 {
         let asked = asked_after(&heap, steps)?;
         most = asked.max(most);
         if asked >= 5 {
