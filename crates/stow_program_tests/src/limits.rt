@@ -1,7 +1,9 @@
 //! Every limit from both sides, with ample memory: each request is answered as its limit says, and want of memory
 //! is told nowhere.
 use crate::given::Given;
-use crate::running::{SCRIPT, Shelf, answers_all, answers_each, answers_scripts, run_over};
+use crate::running::{
+    AMPLE_PIPE, SCRIPT, Shelf, answers_all, answers_by, answers_each, answers_scripts, run_over,
+};
 use crate::table::spread;
 use std::alloc::{AllocError, Global};
 use std::net::{Net, TcpListener, TcpStream};
@@ -61,7 +63,7 @@ const RANGES: &str = r"
 
 #[test]
 fn ranges_have_a_most_of_rows(rt: HostRuntime) -> Result<(), Fail> {
-    answers_all(&rt, RANGES)
+    answers_by(&rt, AMPLE_PIPE, RANGES)
 }
 
 /// One message of 64 MiB, which comes in pieces.

@@ -28,6 +28,16 @@ pub const SCRIPT: &str = "script --tenants three.toml";
 
 pub const USAGE: &str = "usage --tenants three.toml";
 
+pub const AMPLE_PIPE: &str = "pipe --tenants ample.toml";
+
+/// One of the three tenants, with a quota that nothing reaches.
+const AMPLE: &str = "[[tenant]]
+name = \"ann\"
+salt = \"61\"
+digest = \"ba7816bf8f01cfea414140de5dae2223b00361a396177a9cb410ff61f20015ad\"
+quota = 9223372036854775807
+";
+
 pub const ENTRY: &str = "entry dora --quota 1000000";
 
 /// A login, a write and a read, and their replies.
@@ -48,6 +58,7 @@ impl<'a> Folder for Shelf<'a> {
     fn open(&self, path: &str) -> io::Result<Given<'a>> {
         match path {
             "three.toml" => Ok(Given::all(THREE.as_bytes())),
+            "ample.toml" => Ok(Given::all(AMPLE.as_bytes())),
             "empty.toml" => Ok(Given::all(b"")),
             "latin.toml" => Ok(Given::all(b"# \xe9\n")),
             "number.toml" => Ok(Given::all(b"tenant = 1")),
@@ -268,7 +279,20 @@ where
         + Wait
         + Sync,
 {
+    answers_by(rt, PIPE, table)
+}
+
+/// The same of a command line.
+pub fn answers_by<H>(rt: &H, line: &str, table: &str) -> Result<(), Fail>
+where
+    H: Abort
+        + Alloc<A = Global>
+        + Net<Listener = TcpListener, Stream = TcpStream>
+        + Threads
+        + Wait
+        + Sync,
+{
     let (asked, told) = joined(rt.alloc(), table)?;
     let mut input = Given::all(asked.as_slice());
-    wants(rt, PIPE, &mut input, 0, told.as_str(), "")
+    wants(rt, line, &mut input, 0, told.as_str(), "")
 }
