@@ -7,7 +7,7 @@ import sys
 
 TOP = os.path.dirname(os.path.dirname(os.path.dirname(os.path.abspath(__file__))))
 PROGRAM = os.path.join(TOP, "crates", "stow", "out", "stow")
-TENANTS = os.path.join(TOP, "demo", "tenants.toml")
+TENANTS = os.path.join(TOP, "bench", "tenants.toml")
 
 
 def is_there(what):
