@@ -101,7 +101,7 @@ fn withstands_put<B: Allocator>(
     Ok(is_refused && stands && run.agrees(heap)?)
 }
 
-// Among these changes are merges into leaves, a node above the root, and a child that is cut in two.
+// Two of these changes flush at least, and one of them makes a hundred requests or more.
 #[test]
 fn reserving_withstands_each_refusal(rt: HostRuntime) -> Result<(), Fail> {
     let heap = Refusing::new(rt.alloc());
