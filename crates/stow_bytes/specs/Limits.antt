@@ -1,4 +1,4 @@
--- The limits of keys, values and numbers, of which the service and the tree below it both speak.
+-- The limits of the service, and of the tree below it.
 use Rattle.std.specs.Prelude.{ℕ}
 
 -- bytes of a key
@@ -16,3 +16,27 @@ number_limit = 9223372036854775807
 -- tenants, whose indexes are numbered from 1
 abbrev pub tenant_limit : ℕ
 tenant_limit = 65535
+
+-- words of a request in array form
+abbrev pub words_limit : ℕ
+words_limit = 1024
+
+-- rows of one RANGE
+abbrev pub count_limit : ℕ
+count_limit = 1024
+
+-- bytes of an inline request's line, before its LF
+abbrev pub line_limit : ℕ
+line_limit = 65536
+
+-- keys of one DEL
+abbrev pub deleted_limit : ℕ
+deleted_limit = 64
+
+-- live snapshots of one tenant
+abbrev pub snapshot_limit : ℕ
+snapshot_limit = 64
+
+-- leaves of the cache
+abbrev pub cache_limit : ℕ
+cache_limit = 65536

@@ -1,4 +1,4 @@
-//! The limits of keys, values and numbers; in clauses they are those of `specs/Limits.antt`.
+//! The limits of the service, and of the tree below it; in clauses they are those of `specs/Limits.antt`.
 
 /// Bytes of a key, at most.
 pub const KEY_LIMIT: usize = 1024;
@@ -11,3 +11,9 @@ pub const NUMBER_LIMIT: u64 = 9_223_372_036_854_775_807;
 
 /// Tenants, at most, whose indexes are numbered from 1.
 pub const TENANT_LIMIT: u32 = 65_535;
+
+/// Live snapshots of a tenant, at most.
+pub const SNAPSHOT_LIMIT: usize = 64;
+
+/// Leaves that the cache holds, at most.
+pub const CACHE_LIMIT: u32 = 65_536;

@@ -11,7 +11,7 @@ use Rattle.stow_tree_model.specs.Keys.{tenant_of}
 use Rattle.stow_tree_model.specs.Messages.{Messages, ops_of, value, with_all, IsCall}
 use Rattle.stow_tree_model.specs.Op.{Op, Put}
 use Rattle.stow_tree_model.specs.Operations.{applied, latest, numbered, or_else, outcome, value_in, NoneAbove}
-use Rattle.stow_tree_model.specs.Order.{Place}
+use Rattle.stow_tree_model.specs.Order.{VersionPlace}
 use Rattle.stow_tree_model.specs.TreeMessage.{TreeMessage}
 use Rattle.stow_tree_model.proofs.Histories.{ops_in-at, ops_in-skip}
 use Rattle.stow_tree_model.proofs.Latest.{latest_same, agree_from}
@@ -36,7 +36,7 @@ call_bound m bound t number ms next call has key =
     (call_agrees_law m m no_pins bound t ms (subst (λ n. IsCall t n ms) (sym next) call) (λ u p c. absurd (none_pinned u p c)) (agree_itself m no_pins bound has) key).left_below
 
 -- what stands where the message doesn't
-ops-elsewhere : (m : Messages) (x : TreeMessage) (key : List ℕ) (n : ℕ) → (◌≢◌ {A = Place} (key, n) (x.key, x.number)) → ops_of (with_all m (x ∷ [])) key n ≡ ops_of m key n
+ops-elsewhere : (m : Messages) (x : TreeMessage) (key : List ℕ) (n : ℕ) → (◌≢◌ {A = VersionPlace} (key, n) (x.key, x.number)) → ops_of (with_all m (x ∷ [])) key n ≡ ops_of m key n
 ops-elsewhere m x key n ne = ops-with_all m (x ∷ []) key n ∙ ap (λ o. or_else o (ops_of m key n)) (ops_in-skip x [] key n ne)
 
 -- what the key has at the number of its newest message
@@ -50,7 +50,7 @@ newest_value m last key op = λ i. applied (suc last) (at i) (before i) where
   at = ops-with_all m (x ∷ []) key (suc last) ∙ ap (λ o. or_else o (ops_of m key (suc last))) (ops_in-at x [])
 
   before : value (with_all m (x ∷ [])) key last ≡ value m key last
-  before = latest_same (ops_of (with_all m (x ∷ [])) key) (ops_of m key) last (λ k l. ops-elsewhere m x key k (λ e. let n : k ≡ suc last = ap (λ (p : Place). p.1) e in absurd (omega (arith, n, l))))
+  before = latest_same (ops_of (with_all m (x ∷ [])) key) (ops_of m key) last (λ k l. ops-elsewhere m x key k (λ e. let n : k ≡ suc last = ap (λ (p : VersionPlace). p.1) e in absurd (omega (arith, n, l))))
 
 -- A tenant's next message, whatever it does, makes the set mean what a put of the value that it leads to makes it mean,
 -- under all pins that are not above the last writes.
@@ -83,10 +83,10 @@ write_agrees m pins bound t last number key whole op low next at has pins_below 
     own_bound = cond-true (eqb (tenant_of key) t) _ _ (eq-eqb (tenant_of key) t own_tenant)
 
     other : (n : ℕ) (o : Op) → (q ≢ key) → (k : ℕ) → k ≤ n → ops_of (with_all m (write_of number key o ∷ [])) q k ≡ ops_of m q k
-    other n o ne k l = ops-elsewhere m (write_of number key o) q k (λ e. ne (ap (λ (p : Place). p.0) e))
+    other n o ne k l = ops-elsewhere m (write_of number key o) q k (λ e. ne (ap (λ (p : VersionPlace). p.0) e))
 
     earlier : (n : ℕ) (o : Op) → n < number → (k : ℕ) → k ≤ n → ops_of (with_all m (write_of number key o ∷ [])) q k ≡ ops_of m q k
-    earlier n o less k l = ops-elsewhere m (write_of number key o) q k (λ e. let same : k ≡ number = ap (λ (p : Place). p.1) e in absurd (omega (arith, same, l, less)))
+    earlier n o less k l = ops-elsewhere m (write_of number key o) q k (λ e. let same : k ≡ number = ap (λ (p : VersionPlace). p.1) e in absurd (omega (arith, same, l, less)))
 
     unmoved : (n : ℕ) → ((o : Op) (k : ℕ) → k ≤ n → ops_of (with_all m (write_of number key o ∷ [])) q k ≡ ops_of m q k) → value put q n ≡ value written q n
     unmoved n stays = latest_same (ops_of put q) (ops_of m q) n (stays (Put whole)) ∙ sym (latest_same (ops_of written q) (ops_of m q) n (stays op))

@@ -36,7 +36,7 @@ use Rattle.stow_state.specs.Steps.{SharedStep, LeadsTo, Maintenance}
 use Rattle.stow_tree.specs.TreeState.{TreeState, tree_messages}
 use Rattle.stow_tree_model.specs.Keys.{own_key}
 use Rattle.stow_tree_model.specs.Messages.{with_all}
-use Rattle.stow_versions.specs.VersionsState.{VersionsState, AreVersions, IsReady}
+use Rattle.stow_versions.specs.VersionsState.{VersionsState, IsVersionsState, IsReady}
 use Rattle.stow_versions.proofs.PinLemmas.{same_contains}
 use Rattle.stow_core.proofs.PinNumbers.{no_more_pins}
 use Rattle.stow_core.proofs.Tenancies.{same_versions}
@@ -175,7 +175,7 @@ module _ {A : Type 0} (entries : List Entry) (items : List (Tenancy A)) (pin_roo
       let few = ready.few in
       omega (arith, no_more, long, few)
 
-  pub low_pins : AreVersions x.versions → (p : ℕ) → Contains (held.pins_in pins t) p → p ≤ x.versions.last
+  pub low_pins : IsVersionsState x.versions → (p : ℕ) → Contains (held.pins_in pins t) p → p ≤ x.versions.last
   low_pins kept p c = let there = same_contains (held.pins_in pins t) (finite.values x.versions.snapshots) p (held_before p) c in
       subst (λ n. n ≤ x.versions.last) there.2 (kept.numbers_below there.0 p there.1)
 

@@ -8,7 +8,7 @@ use Rattle.std.specs.List.{AllByRecursion}
 use Rattle.stow_core.proofs.Taking.{rows_without-push, without_or_same}
 use Rattle.stow_ledger.specs.Charges.{is_pinned}
 use Rattle.stow_bytes.specs.Limits.{number_limit}
-use Rattle.stow_core.specs.Prepared.{IsPriced, IsWithin, IsRowWithout, IsCharged, next_version, store_without}
+use Rattle.stow_core.specs.Prepared.{IsPriced, IsChargeWithin, IsRowWithout, IsCharged, next_version, store_without}
 use Rattle.stow_core.specs.State.{CoreState, shared_of, store_of}
 use Rattle.stow_core.specs.Tenancies.{TenancyState, tenancy_of, tenancy_at, own_state}
 use Rattle.stow_core.specs.declared.tenancy.Tenancy.{Tenancy}
@@ -17,7 +17,7 @@ use Rattle.stow_core.proofs.Stores.{stored}
 use Rattle.stow_core.proofs.Tenancies.{own_with, own_of_parts}
 use Rattle.stow_ledger.specs.Accounts.{AccountState, IsAccountOf, IsGivenBy, is_allowed, present_charge}
 use Rattle.stow_ledger.specs.Charges.{charge_after_write}
-use Rattle.stow_ledger.specs.Histories.{IsHistory, ShowsHistory, SameNumbers}
+use Rattle.stow_ledger.specs.Histories.{IsVersionHistory, ShowsHistory, SameNumbers}
 use Rattle.stow_ledger.specs.Shown.{PinsTell, charge_of, change_of, copied, is_in, with_row}
 use Rattle.stow_ledger.specs.declared.charge.Charge.{Charge}
 use Rattle.stow_ledger.specs.declared.row_change.RowChange.{RowChange}
@@ -62,7 +62,7 @@ module _ {A : Type 0} (core : CoreState) (t : ℕ) (x : Tenancy A) (at : tenancy
   last_is : store.last ≡ v.last
   last_is = ap (λ (s : Store). s.last) parts
 
-  pub history : IsHistory (rows_at (tree_messages core.tree) t)
+  pub history : IsVersionHistory (rows_at (tree_messages core.tree) t)
   history = rows_are_history_law (tree_messages core.tree) t
 
   low : (p : ℕ) → Contains numbers p → p ≤ v.last
@@ -78,7 +78,7 @@ module _ {A : Type 0} (core : CoreState) (t : ℕ) (x : Tenancy A) (at : tenancy
 
   -- ---- limits
 
-  pub present_within : (c : Charge) → c ≡ present_charge a → c.charge ≤ number_limit → IsGivenBy a c → IsWithin core t c
+  pub present_within : (c : Charge) → c ≡ present_charge a → c.charge ≤ number_limit → IsGivenBy a c → IsChargeWithin core t c
   present_within c is within given = record {
     given = subst (λ (o : Option TenancyState). IfSome o (λ own. IsGivenBy own.account c)) (sym at) given;
     charge_within = within;
@@ -89,7 +89,7 @@ module _ {A : Type 0} (core : CoreState) (t : ℕ) (x : Tenancy A) (at : tenancy
         omega (arith, rows, charged, few, within);
   }
 
-  pub given_own : (c : Charge) → IsWithin core t c → IsGivenBy a c
+  pub given_own : (c : Charge) → IsChargeWithin core t c → IsGivenBy a c
   given_own c within = subst (λ (o : Option TenancyState). IfSome o (λ own. IsGivenBy own.account c)) at within.given
 
   -- ---- one row
@@ -147,7 +147,7 @@ module _ {A : Type 0} (core : CoreState) (t : ℕ) (x : Tenancy A) (at : tenancy
       ∙ sym (write_is_charged_law s own None pins tt (still_told keys own pins same))
       ∙ ap (λ (rows : Rows). charge_of (record store { rows = rows })) (sym (rows_without-push keys own store.rows))
 
-  pub removed_within : (key : ℕ) (version : SizedVersion) (pins : List ℕ) (so_far c : Charge) → IsWithin core t so_far → IsGivenBy a c → c ≡ charge_after_write so_far (record { key = key; before = Some version; after = None }) pins → IsWithin core t c
+  pub removed_within : (key : ℕ) (version : SizedVersion) (pins : List ℕ) (so_far c : Charge) → IsChargeWithin core t so_far → IsGivenBy a c → c ≡ charge_after_write so_far (record { key = key; before = Some version; after = None }) pins → IsChargeWithin core t c
   removed_within key version pins so_far c within given is = record {
     given = subst (λ (o : Option TenancyState). IfSome o (λ own. IsGivenBy own.account c)) (sym at) given;
     charge_within = (let e = ap (λ (p : Charge). p.charge) is in let w = within.charge_within in omega (arith, e, w));

@@ -5,7 +5,7 @@ use Rattle.std.specs.List.{list_any}
 use Rattle.std.specs.Str.{bytes_eq}
 use Rattle.stow_bytes.specs.Limits.{number_limit}
 use Rattle.stow_core.specs.Keys.{AreKeysOf}
-use Rattle.stow_core.specs.Prepared.{IsCharged, IsChargedWithout, IsRowWithout, IsWithin, after_remove, store_without}
+use Rattle.stow_core.specs.Prepared.{IsCharged, IsChargedWithout, IsRowWithout, IsChargeWithin, after_remove, store_without}
 use Rattle.stow_core.specs.State.{CoreState, shared_of, store_of}
 use Rattle.stow_core.specs.Taken.{AreTaken}
 use Rattle.stow_core.specs.Tenancies.{tenancy_of, tenancy_at}
@@ -45,7 +45,7 @@ none_freed core t x at sound account c is within given = record {
 }
 
 -- one more row goes
-pub one_more_freed : (core : CoreState) (t : ℕ) (taken : List (List ℕ)) (k : List ℕ) (n : ℕ) (version : SizedVersion) (so_far c : Charge) → IsChargedWithout core t taken so_far → IsWithin core t c
+pub one_more_freed : (core : CoreState) (t : ℕ) (taken : List (List ℕ)) (k : List ℕ) (n : ℕ) (version : SizedVersion) (so_far c : Charge) → IsChargedWithout core t taken so_far → IsChargeWithin core t c
     → ((keys : List (List ℕ)) (own : List ℕ) → IsRowWithout (store_of core t) keys own n version → so_far ≡ charge_of (store_without keys (store_of core t)) → c ≡ charge_of (store_without (keys ++ own ∷ []) (store_of core t)))
     → n ≡ length k → Some version ≡ sized_option (finite.get (store_of core t).rows k) → AreKeysOf t taken → list_any (bytes_eq (packed t k)) taken ≡ false → IsChargedWithout core t (taken ++ packed t k ∷ []) c
 one_more_freed core t taken k n version so_far c before within charged long is own none = record {

@@ -6,15 +6,14 @@ use Rattle.std.proofs.lemmas.Fmt.{length_signed_le}
 use Rattle.std.specs.Prelude.{◌+ℤ◌}
 use Rattle.std.specs.Fmt.{signed_decimal}
 use Rattle.std.specs.List.{AllByRecursion, list_any}
-use Rattle.stow_bytes.specs.Limits.{key_limit, value_limit, number_limit}
-use Rattle.stow_model.specs.Limits.{deleted_limit}
+use Rattle.stow_bytes.specs.Limits.{deleted_limit, key_limit, value_limit, number_limit}
 use Rattle.stow_model.specs.NumberText.{is_integer, number_of, count_of}
 use Rattle.stow_model.specs.declared.refusal.Refusal.{Refusal}
 use Rattle.stow_model.specs.declared.refusal.Refusal.TheVariants as refusal
 use Rattle.stow_model.specs.Reply as reply
 use Rattle.stow_model.specs.declared.simple_string.SimpleString.TheVariants as simple
 use Rattle.std.specs.Option.{unwrap_or}
-use Rattle.stow_model.specs.Command.{Command, Echo, Get, GetMany, Exists, Length, Range, Del, TakeSnapshot, ListSnapshots, GetInSnapshot, RangeInSnapshot, ReportUsage, Change, Update, Set, Append, Add, Condition, Always, Reading, Understood, Refused, Entry, reading, reading_among, commands, with_keys, is_long_key, is_named, of_text, of_key, of_keys, reading_ping, reading_range, reading_range_count, reading_set, reading_set_if, condition_named, reading_append, reading_add, reading_add_number, reading_del, of_nothing, reading_drop_id, reading_drop, reading_get_in_id, reading_get_in, reading_range_in_numbers, reading_range_in, reading_snapshot, snapshot_commands}
+use Rattle.stow_model.specs.Command.{Command, Echo, Get, GetMany, Exists, Length, Range, Del, TakeSnapshot, ListSnapshots, GetInSnapshot, RangeInSnapshot, ReportUsage, Change, Update, Set, Append, Add, Condition, Always, Reading, Understood, Refused, CommandEntry, reading, reading_among, commands, with_keys, is_long_key, is_named, of_text, of_key, of_keys, reading_ping, reading_range, reading_range_count, reading_set, reading_set_if, condition_named, reading_append, reading_add, reading_add_number, reading_del, of_nothing, reading_drop_id, reading_drop, reading_get_in_id, reading_get_in, reading_range_in_numbers, reading_range_in, reading_snapshot, snapshot_commands}
 use Rattle.stow_model.specs.Store.{Outcome, Written, Unchanged, Failed, outcome, if_fits, allows, sum_outcome, stored_number}
 use Rattle.std.specs.Prelude.{Ok}
 use Rattle.stow_commands.specs.Outcomes.{IsOutcome, IsAppendReply}
@@ -22,12 +21,12 @@ use Rattle.stow_commands.specs.declared.outcome.Outcome as coded
 use Rattle.stow_commands.specs.declared.outcome.Outcome.TheVariants as in_outcome
 use Rattle.stow_model.specs.declared.reply.Reply as told
 use Rattle.stow_model.specs.Reply.{reply_of}
-use Rattle.stow_core.specs.Legal.{IsLegal, IsShortKey, AreShortKeys}
+use Rattle.stow_core.specs.Legal.{HasLegalKeys, IsShortKey, AreShortKeys}
 
 -- ---- commands
 
 IsLegalReading : Reading → Type 0
-IsLegalReading (Understood c) = IsLegal c
+IsLegalReading (Understood c) = HasLegalKeys c
 IsLegalReading (Refused r) = Unit {0}
 
 either_none : (a b : Bool) → (a || b) ≡ false → (a ≡ false) × (b ≡ false)
@@ -43,14 +42,14 @@ are_short (key ∷ keys) e =
     let short : length key ≤ key_limit = ltb-false key_limit (length key) both.0 in
     (short, are_short keys both.1)
 
-legal_with : (keys : List (List ℕ)) (c : Command) → (AreShortKeys keys → IsLegal c) → IsLegalReading (with_keys keys c)
+legal_with : (keys : List (List ℕ)) (c : Command) → (AreShortKeys keys → HasLegalKeys c) → IsLegalReading (with_keys keys c)
 unfolding IsLegalReading
 legal_with keys c legal = one (list_any is_long_key keys) refl where
   one : (b : Bool) → list_any is_long_key keys ≡ b → IsLegalReading (cond b (Refused refusal.KeyTooLong) (Understood c))
   one true e = tt
   one false e = legal (are_short keys e)
 
-abbrev IsLegalEntry : Entry → Type 0
+abbrev IsLegalEntry : CommandEntry → Type 0
 IsLegalEntry entry = (arguments : List (List ℕ)) → IsLegalReading (entry.1 arguments)
 
 legal_text : (arguments : List (List ℕ)) → IsLegalReading (of_text Echo arguments)
@@ -59,13 +58,13 @@ legal_text [] = tt
 legal_text (text ∷ []) = tt
 legal_text (_ ∷ _ ∷ _) = tt
 
-legal_key : (command : List ℕ → Command) → ((key : List ℕ) → IsShortKey key → IsLegal (command key)) → (arguments : List (List ℕ)) → IsLegalReading (of_key command arguments)
+legal_key : (command : List ℕ → Command) → ((key : List ℕ) → IsShortKey key → HasLegalKeys (command key)) → (arguments : List (List ℕ)) → IsLegalReading (of_key command arguments)
 unfolding IsLegalReading
 legal_key command legal [] = tt
 legal_key command legal (key ∷ []) = legal_with (key ∷ []) (command key) (λ short. legal key short.0)
 legal_key command legal (_ ∷ _ ∷ _) = tt
 
-legal_keys : (command : List (List ℕ) → Command) → ((keys : List (List ℕ)) → AreShortKeys keys → IsLegal (command keys)) → (arguments : List (List ℕ)) → IsLegalReading (of_keys command arguments)
+legal_keys : (command : List (List ℕ) → Command) → ((keys : List (List ℕ)) → AreShortKeys keys → HasLegalKeys (command keys)) → (arguments : List (List ℕ)) → IsLegalReading (of_keys command arguments)
 unfolding IsLegalReading
 legal_keys command legal [] = tt
 legal_keys command legal (key ∷ keys) = legal_with (key ∷ keys) (command (key ∷ keys)) (legal (key ∷ keys))
@@ -128,7 +127,7 @@ legal_del (key ∷ keys) = one (nat_lt deleted_limit (length (key ∷ keys))) re
   one true e = tt
   one false e = legal_with (key ∷ keys) (Del (key ∷ keys)) (λ short. (short, ltb-false deleted_limit (length (key ∷ keys)) e))
 
-legal_nothing : (command : Command) → IsLegal command → (arguments : List (List ℕ)) → IsLegalReading (of_nothing command arguments)
+legal_nothing : (command : Command) → HasLegalKeys command → (arguments : List (List ℕ)) → IsLegalReading (of_nothing command arguments)
 unfolding IsLegalReading
 legal_nothing command legal [] = legal
 legal_nothing command legal (_ ∷ _) = tt
@@ -171,7 +170,7 @@ legal_range_in (_ ∷ _ ∷ _ ∷ []) = tt
 legal_range_in (id ∷ from ∷ to ∷ count ∷ []) = legal_range_in_numbers from to (number_of id) (count_of (number_of count))
 legal_range_in (_ ∷ _ ∷ _ ∷ _ ∷ _ ∷ _) = tt
 
-legal_among : (entries : List Entry) (unknown : Refusal) → AllByRecursion IsLegalEntry entries → (name : List ℕ) (arguments : List (List ℕ)) → IsLegalReading (reading_among entries unknown name arguments)
+legal_among : (entries : List CommandEntry) (unknown : Refusal) → AllByRecursion IsLegalEntry entries → (name : List ℕ) (arguments : List (List ℕ)) → IsLegalReading (reading_among entries unknown name arguments)
 unfolding IsLegalReading
 legal_among [] unknown all name arguments = tt
 legal_among (entry ∷ entries) unknown all name arguments = one (is_named name entry.0) (legal_among entries unknown all.1 name arguments) where
@@ -235,7 +234,7 @@ legal_reading [] = tt
 legal_reading (name ∷ arguments) = legal_among commands refusal.UnknownCommand are_legal name arguments
 
 -- what words say is within the limits
-pub understood_legal : (words : List (List ℕ)) (c : Command) → Understood c ≡ reading words → IsLegal c
+pub understood_legal : (words : List (List ℕ)) (c : Command) → Understood c ≡ reading words → HasLegalKeys c
 unfolding IsLegalReading
 understood_legal words c e = subst IsLegalReading (sym e) (legal_reading words)
 

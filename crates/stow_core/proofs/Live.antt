@@ -2,12 +2,12 @@
 use Rattle.std.proofs.Common.{◌≡◌, ℕ, ℤ, pos, negsuc, Option, Some, None, refl, ap, sym, ◌∙◌, subst}
 use Rattle.std.specs.Prelude.{IfSome, option_map}
 use Rattle.std.specs.FinMap as finite
-use Rattle.stow_core.specs.State.{CoreState, store_of, number_in, IsLive}
+use Rattle.stow_core.specs.State.{CoreState, store_of, IsLive}
 use Rattle.stow_core.specs.Tenancies.{TenancyState, tenancy_of, tenancy_at, versions_of}
 use Rattle.stow_core.specs.declared.tenancy.Tenancy.{Tenancy}
 use Rattle.stow_core.proofs.Stores.{stored}
 use Rattle.stow_core.proofs.Tenancies.{own_of_parts, same_versions}
-use Rattle.stow_model.specs.Store.{Store, snapshot_rows}
+use Rattle.stow_model.specs.Store.{Store, snapshot_rows, number_in}
 use Rattle.stow_state.specs.Rows.{rows_at}
 use Rattle.stow_state.specs.State.{store_in}
 use Rattle.stow_state.proofs.Snapshots.{get-copies_of}

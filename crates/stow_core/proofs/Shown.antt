@@ -4,7 +4,7 @@ use Rattle.std.proofs.Math.Bool.{◌&&◌}
 use Rattle.std.proofs.lemmas.Bool.{lt-ltb, le-leb, lt-leb}
 use Rattle.std.specs.FinMap as finite
 use Rattle.std.specs.Prelude.{IfErr, IfSome, IsFalse, OnOk, ◌↔◌}
-use Rattle.stow_bytes.specs.Limits.{number_limit}
+use Rattle.stow_bytes.specs.Limits.{snapshot_limit, number_limit}
 use Rattle.stow_core.specs.Prepared.{after_drop, after_take}
 use Rattle.stow_core.specs.State.{CoreState, store_of}
 use Rattle.stow_core.specs.Tenancies.{TenancyState, tenancy_of, tenancy_at, versions_of}
@@ -12,7 +12,6 @@ use Rattle.stow_core.specs.declared.tenancy.Tenancy.{Tenancy}
 use Rattle.stow_core.proofs.Answered.{take_done}
 use Rattle.stow_core.proofs.Tenancies.{same_versions}
 use Rattle.stow_core.proofs.Used.{next_same, live_same}
-use Rattle.stow_model.specs.Limits.{snapshot_limit}
 use Rattle.stow_model.specs.declared.refusal.Refusal.TheVariants as refusal
 use Rattle.stow_model.specs.declared.simple_string.SimpleString.TheVariants as simple
 use Rattle.stow_model.specs.Reply.{Reply}

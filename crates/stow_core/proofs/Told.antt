@@ -1,13 +1,13 @@
 -- Rows that are told one after another.
 use Rattle.std.proofs.Common.{◌≡◌, ℕ, zero, suc, ◌+◌, ◌<◌, List, [], ◌∷◌, ◌++◌, length, take, map, get_or, ap, sym, ◌∙◌, subst, arith}
 use Rattle.std.specs.List.{AllByRecursion, flat_map}
-use Rattle.stow_core.specs.Ends.{row_bulks, IsWholeKey}
+use Rattle.stow_core.specs.Ends.{row_bulks}
 use Rattle.stow_read.specs.Range.{KeyValue, key_value}
 use Rattle.stow_read.specs.declared.row.Row as coded
 use Rattle.stow_model.specs.Item.{Item}
-use Rattle.stow_tree_model.specs.Intervals.{AreBytes}
+use Rattle.stow_tree_model.specs.Intervals.{AreKeyBytes, IsWholeKey}
 
-pub all_bytes : (key : List ℕ) → ((i : ℕ) → get_or key i 0 < 256) → AreBytes key
+pub all_bytes : (key : List ℕ) → ((i : ℕ) → get_or key i 0 < 256) → AreKeyBytes key
 all_bytes [] h = tt
 all_bytes (b ∷ key) h = (h 0, all_bytes key (λ i. h (suc i)))
 

@@ -3,7 +3,7 @@ use Rattle.std.specs.Prelude.{ℕ, ◌+◌, List, [], ◌∷◌, length, if◌th
 use Rattle.stow_model.specs.Item.{Item}
 use Rattle.stow_model.specs.Item as item
 use Rattle.stow_read.specs.Range.{KeyValue}
-use Rattle.stow_tree_model.specs.Intervals.{AreBytes}
+use Rattle.stow_tree_model.specs.Intervals.{AreKeyBytes}
 use Rattle.stow_tree_model.specs.Keys.{packed, own_key, IsTenantKey}
 
 -- the upper end: an empty one is none, and the tenant's keys end where the next index's begin
@@ -13,7 +13,3 @@ upper_end tenant to = if length to == 0 then packed (tenant + 1) [] else packed 
 -- what is told of a row
 abbrev pub row_bulks : KeyValue → List Item
 row_bulks row = item.Bulk (own_key row.0) ∷ item.Bulk row.1 ∷ []
-
--- a tenant's key, of bytes
-abbrev pub IsWholeKey : List ℕ → Type 0
-IsWholeKey key = IsTenantKey key × AreBytes key

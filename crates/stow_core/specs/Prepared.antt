@@ -122,7 +122,7 @@ pub record IsRowWithout (store : Store) (keys : List (List ℕ)) (own : List ℕ
   pub version_is : Some version ≡ sized_option (rows.get (rows_without keys store.rows) own)
 
 -- the tenant's account gave the charge, and it is within the limits
-pub record IsWithin (core : CoreState) (tenant : ℕ) (charge : Charge) : Type 0 where
+pub record IsChargeWithin (core : CoreState) (tenant : ℕ) (charge : Charge) : Type 0 where
   pub given : IfSome (tenancy_at tenant core.tenancies) (λ own. IsGivenBy own.account charge)
   pub charge_within : charge.charge ≤ number_limit
   pub rows_within : charge.rows ≤ number_limit
@@ -130,7 +130,7 @@ pub record IsWithin (core : CoreState) (tenant : ℕ) (charge : Charge) : Type 0
 -- the charge is that of the tenant's store without the rows of these keys, among the keys of all
 pub record IsChargedWithout (core : CoreState) (tenant : ℕ) (keys : List (List ℕ))
     (charge : Charge) : Type 0 where
-  pub within : IsWithin core tenant charge
+  pub within : IsChargeWithin core tenant charge
   pub is : charge ≡ charge_of (store_without (map own_key keys) (store_of core tenant))
 
 -- the messages of the tenant's next write are of its own keys, and need no more memory
@@ -157,31 +157,31 @@ pub record CanRemove (core : CoreState) (tenant : ℕ) (keys : List (List ℕ))
   pub charged : IsCharged core tenant charge (after_remove keys (store_of core tenant))
 
 -- one more snapshot of the tenant's, and its pin, need no more memory
-pub record CanTake (core : CoreState) (tenant : ℕ) : Type 0 where
+pub record CanTakeSnapshot (core : CoreState) (tenant : ℕ) : Type 0 where
   pub is_tenant : IsTenant core.entries tenant
   pub ready : IfSome (tenancy_at tenant core.tenancies) (λ own. IsReady (versions_of own))
   pub pin_room : core.pin_room ≡ tenant
 
 -- the tenant's snapshot is live, and what stays without it is charged so
-pub record CanDrop (core : CoreState) (tenant id : ℕ) (charge : Charge) : Type 0 where
+pub record CanDropSnapshot (core : CoreState) (tenant id : ℕ) (charge : Charge) : Type 0 where
   pub is_tenant : IsTenant core.entries tenant
   pub live : IsSome (rows.get (store_of core tenant).snapshots id)
   pub charged : IsCharged core tenant charge (after_drop id (store_of core tenant))
 
 -- the change is one in a tenant's store, and needs no more memory; whom nothing changes for is no
 -- tenant
-abbrev pub HasRoomFor : {A : Type 0} → CoreState → ℕ → coded.Change A → Type 0
-HasRoomFor core tenant change.Nothing = ¬ (IsTenant core.entries tenant)
-HasRoomFor core tenant change.Count = IsTenant core.entries tenant
-HasRoomFor core tenant change.Refuse = IsTenant core.entries tenant
-HasRoomFor core tenant (change.Write key content charge) = CanPut core tenant key content charge
-HasRoomFor core tenant (change.Remove keys charge) = CanRemove core tenant keys charge
-HasRoomFor core tenant change.Take = CanTake core tenant
-HasRoomFor core tenant (change.Drop id charge) = CanDrop core tenant id charge
+abbrev pub CanChange : {A : Type 0} → CoreState → ℕ → coded.Change A → Type 0
+CanChange core tenant change.Nothing = ¬ (IsTenant core.entries tenant)
+CanChange core tenant change.Count = IsTenant core.entries tenant
+CanChange core tenant change.Refuse = IsTenant core.entries tenant
+CanChange core tenant (change.Write key content charge) = CanPut core tenant key content charge
+CanChange core tenant (change.Remove keys charge) = CanRemove core tenant keys charge
+CanChange core tenant change.Take = CanTakeSnapshot core tenant
+CanChange core tenant (change.Drop id charge) = CanDropSnapshot core tenant id charge
 
 -- the prepared answer has all its room in this state
-abbrev pub HasRoom : {A : Type 0} → CoreState → Prepared A → Type 0
-HasRoom core prepared = HasRoomFor core prepared.tenant prepared.change
+abbrev pub CanCarryOut : {A : Type 0} → CoreState → Prepared A → Type 0
+CanCarryOut core prepared = CanChange core prepared.tenant prepared.change
 
 -- what the prepared answer will do to this store, and its reply
 abbrev pub prepared_answer : {A : Type 0} → Prepared A → Store → Answer
@@ -198,7 +198,7 @@ Prepares core tenant result answer = IfOk result (λ p. prepared_answer p (store
 pub record IsPrepared {A : Type 0} (old : CoreState) (tenant : ℕ) (answer : Store → Answer)
     (new : CoreState) (result : Result (Prepared A) AllocError) : Type 0 where
   pub keeps : Keeps old new
-  pub room : IfOk result (λ p. HasRoom new p)
+  pub room : IfOk result (λ p. CanCarryOut new p)
   pub tenant_is : IfOk result (λ p. p.tenant ≡ tenant)
   pub answers : Prepares old tenant result answer
 

@@ -60,11 +60,6 @@ abbrev pub IsNumberOf : CoreState → ℕ → ℕ → ℕ → Type 0
 IsNumberOf core tenant id number = IfSome (tenancy_at tenant core.tenancies)
     (λ own. map.get (versions_of own).snapshots id ≡ Some number)
 
--- the number that an id is, unless it is below 0
-abbrev pub number_in : ℤ → Option ℕ
-number_in (pos id) = Some id
-number_in (negsuc below) = None
-
 -- the live snapshot that the tenant names by the id
 pub record IsLive (core : CoreState) (tenant : ℕ) (id : ℤ) (snapshot : Snapshot) : Type 0 where
   pub id_is : id ≡ pos snapshot.id

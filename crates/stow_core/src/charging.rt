@@ -3,7 +3,7 @@ ghost use Rattle.std.specs.Prelude.{◌≡◌, ◌++◌, ◌∷◌, [], ℕ, Lis
 ghost use Rattle.stow_ledger.specs.Shown.{change_of, charge_of, sized_option, with_row};
 ghost use Rattle.stow_model.specs.Login.{IsTenant};
 ghost use Rattle.stow_model.specs.Store.{value_in};
-ghost use Rattle.stow_core.specs.Prepared.{IsPriced, IsWithin, IsRowWithout, next_version, store_without};
+ghost use Rattle.stow_core.specs.Prepared.{IsPriced, IsChargeWithin, IsRowWithout, next_version, store_without};
 ghost use Rattle.stow_core.specs.State.{store_of};
 ghost use Rattle.stow_core.specs.Writes.{row_of};
 ghost use Rattle.stow_tree_model.specs.Value.{IsValue};
@@ -45,8 +45,8 @@ impl<A: Allocator + Copy> Core<A> {
         before: SizedVersion,
     ) -> Charge
         requires is_tenant { IsTenant self.now.entries tenant }
-        requires within { IsWithin self.now tenant so_far }
-        ensures within { IsWithin self.now tenant result }
+        requires within { IsChargeWithin self.now tenant so_far }
+        ensures within { IsChargeWithin self.now tenant result }
         ensures charged { (keys : List (List ℕ)) (own : List ℕ)
             → IsRowWithout (store_of self.now tenant) keys own key before
             → so_far ≡ charge_of (store_without keys (store_of self.now tenant))

@@ -2,7 +2,7 @@
 ghost use Rattle.stow_model.specs.Login.{IsTenant};
 ghost use Rattle.stow_model.specs.Store.{counted};
 ghost use Rattle.stow_core.specs.State.{store_of, Moves};
-ghost use Rattle.stow_core.specs.Prepared.{after_content, after_remove, after_refusal, after_take, after_drop, CanPut, CanRemove, CanTake, CanDrop};
+ghost use Rattle.stow_core.specs.Prepared.{after_content, after_remove, after_refusal, after_take, after_drop, CanPut, CanRemove, CanTakeSnapshot, CanDropSnapshot};
 
 use crate::Core;
 use crate::content::Content;
@@ -62,7 +62,7 @@ impl<A: Allocator + Copy> Core<A> {
 
     /// Takes a snapshot of the tenant's rows.
     pub(crate) fn take(&mut self, tenant: u32)
-        requires { CanTake self.old tenant }
+        requires { CanTakeSnapshot self.old tenant }
         ensures { Moves self.old tenant (after_take (store_of self.old tenant)) self.new }
     {
         let index = tenant as usize - 1;
@@ -74,7 +74,7 @@ impl<A: Allocator + Copy> Core<A> {
 
     /// Drops a snapshot of the tenant's. Its pin goes, unless another snapshot has its number.
     pub(crate) fn drop_snapshot(&mut self, tenant: u32, id: u64, charge: Charge)
-        requires { CanDrop self.old tenant id charge }
+        requires { CanDropSnapshot self.old tenant id charge }
         ensures { Moves self.old tenant (after_drop id (store_of self.old tenant)) self.new }
     {
         let number = self.tenancies[tenant as usize - 1].drop_snapshot(id, charge);

@@ -2,7 +2,7 @@
 ghost use Rattle.std.specs.Prelude.{◌≡◌, ◌≤◌, IfOk, length};
 ghost use Rattle.std.specs.List.{list_any};
 ghost use Rattle.std.specs.Str.{bytes_eq};
-ghost use Rattle.stow_model.specs.Limits.{deleted_limit};
+ghost use Rattle.stow_bytes.specs.Limits.{deleted_limit};
 ghost use Rattle.stow_model.specs.Login.{IsTenant};
 ghost use Rattle.stow_model.specs.Command.{Del};
 ghost use Rattle.stow_model.specs.LentWords.{words_in};

@@ -23,7 +23,7 @@ ghost use Rattle.stow_model.specs.Reply.{reply_of};
 ghost use Rattle.stow_model.specs.Login.{IsTenant};
 ghost use Rattle.stow_core.specs.State.{store_of, IsNewCore, Moves, Calls, Resized, Keeps};
 ghost use Rattle.stow_core.specs.Tenancies.{new_tenancy, tenancy_of};
-ghost use Rattle.stow_core.specs.Prepared.{HasRoom, PreparesOwn, RefusesStranger, effect};
+ghost use Rattle.stow_core.specs.Prepared.{CanCarryOut, PreparesOwn, RefusesStranger, effect};
 ghost use Rattle.stow_tree.specs.declared.tree_fault.TreeFault.TheVariants as fault;
 ghost use Rattle.stow_tree.specs.Reports.{IsReport};
 ghost use Rattle.stow_tree.specs.Shapes.{IsInRange};
@@ -158,7 +158,7 @@ impl<A: Allocator + Copy> Core<A> {
         words: &Words<A>,
     ) -> Result<Prepared<A>, AllocError>
         ensures keeps { Keeps self.old self.new }
-        ensures room { IfOk result (λ p. HasRoom self.new p) }
+        ensures room { IfOk result (λ p. CanCarryOut self.new p) }
         ensures tenant { IfOk result (λ p. p.tenant ≡ tenant) }
         ensures own { PreparesOwn self.old tenant words.now result }
         ensures stranger { ¬ (IsTenant self.old.entries tenant)
@@ -179,7 +179,7 @@ impl<A: Allocator + Copy> Core<A> {
 
     /// Carries a prepared answer out. It takes no memory and cannot fail.
     pub fn commit(&mut self, prepared: Prepared<A>) -> Reply<A>
-        requires { HasRoom self.old prepared }
+        requires { CanCarryOut self.old prepared }
         ensures reply { result ≡ prepared.reply }
         ensures own { IsTenant self.old.entries prepared.tenant → Moves self.old prepared.tenant
             (effect prepared (store_of self.old prepared.tenant)) self.new }

@@ -6,7 +6,7 @@ ghost use Rattle.stow_model.specs.Reply.{reply_of};
 ghost use Rattle.stow_model.specs.Reply as reply;
 ghost use Rattle.stow_model.specs.Login.{IsTenant};
 ghost use Rattle.stow_state.specs.State.{IsSound};
-ghost use Rattle.stow_core.specs.Legal.{IsLegal};
+ghost use Rattle.stow_core.specs.Legal.{HasLegalKeys};
 ghost use Rattle.stow_core.specs.State.{shared_of};
 ghost use Rattle.stow_core.specs.Prepared.{IsPrepared, OnlyCounts, serves};
 ghost use Rattle.stow_commands.specs.Commands.{command_of};
@@ -40,7 +40,7 @@ impl<A: Allocator + Copy> Core<A> {
     ) -> Result<Prepared<A>, AllocError>
         requires is_tenant { IsTenant self.old.entries tenant }
         requires sound { IsSound (shared_of self.old) }
-        requires legal { IsLegal (command_of command) }
+        requires legal { HasLegalKeys (command_of command) }
         ensures { IsPrepared self.old tenant (serves (command_of command.entry)) self.new result }
     {
         if let Command::Ping = command {
@@ -62,7 +62,7 @@ impl<A: Allocator + Copy> Core<A> {
     ) -> Result<Prepared<A>, AllocError>
         requires is_tenant { IsTenant self.old.entries tenant }
         requires sound { IsSound (shared_of self.old) }
-        requires legal { IsLegal (command_of command) }
+        requires legal { HasLegalKeys (command_of command) }
         ensures { IsPrepared self.old tenant (serves (command_of command.entry)) self.new result }
     {
         let rows = self.present(tenant);

@@ -3,8 +3,8 @@ ghost use Rattle.std.specs.Prelude.{◌≡◌, ◌++◌, ◌≤◌, IfOk, OnOk, 
 ghost use Rattle.std.specs.List.{flat_map, AllByRecursion};
 ghost use Rattle.stow_bytes.specs.Limits.{key_limit, tenant_limit};
 ghost use Rattle.stow_core.specs.State.{told_rows};
-ghost use Rattle.stow_core.specs.Ends.{upper_end, row_bulks, IsWholeKey};
-ghost use Rattle.stow_tree_model.specs.Intervals.{AreBytes};
+ghost use Rattle.stow_core.specs.Ends.{upper_end, row_bulks};
+ghost use Rattle.stow_tree_model.specs.Intervals.{AreKeyBytes, IsWholeKey};
 ghost use Rattle.stow_tree_model.specs.Keys.{IsTenantKey};
 ghost use Rattle.stow_read.specs.Range.{key_value};
 ghost use Rattle.stow_state.specs.Rows.{rows_at};
@@ -75,7 +75,7 @@ fn items_of<A: Allocator + Copy>(alloc: A, rows: &[Row<A>]) -> Result<Items<A>, 
 fn push_row<A: Allocator>(items: &mut Items<A>, key: &[u8], value: &[u8]) -> Result<(), AllocError>
     requires { IsTenantKey key.now }
     ensures items { OnOk result (items.new ≡ items.old ++ row_bulks (key.now, value.now)) }
-    ensures bytes { AreBytes key.now }
+    ensures bytes { AreKeyBytes key.now }
 {
     items.push_bulk(&key[4..])?;
     items.push_bulk(value)

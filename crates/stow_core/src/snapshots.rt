@@ -8,11 +8,11 @@ ghost use Rattle.stow_model.specs.Command.{DropSnapshot, GetInSnapshot, RangeInS
 ghost use Rattle.stow_model.specs.Login.{IsTenant};
 ghost use Rattle.stow_model.specs.Reply.{reply_of};
 ghost use Rattle.stow_model.specs.Reply as reply;
-ghost use Rattle.stow_model.specs.Store.{can_take, id_items};
+ghost use Rattle.stow_model.specs.Store.{can_take, id_items, number_in};
 ghost use Rattle.stow_state.specs.State.{IsSound};
 ghost use Rattle.stow_core.specs.Legal.{IsShortKey};
 ghost use Rattle.stow_core.specs.Prepared.{IsCharged, IsPrepared, after_drop, serves};
-ghost use Rattle.stow_core.specs.State.{rows_in, shared_of, store_of, number_in, IsNumberOf, IsSnapshotOf, Keeps};
+ghost use Rattle.stow_core.specs.State.{rows_in, shared_of, store_of, IsNumberOf, IsSnapshotOf, Keeps};
 ghost use Rattle.stow_core.specs.Tenancies.{tenancy_at, versions_of};
 ghost use Rattle.stow_versions.specs.VersionsState.{IsReady};
 ghost use Rattle.stow_versions.specs.declared.snapshot_fault.SnapshotFault.TheVariants.{OutOfMemory};
@@ -32,6 +32,7 @@ use stow_model::items::Items;
 use stow_model::refusal::Refusal;
 use stow_model::reply::Reply;
 use stow_model::simple_string::SimpleString;
+use stow_model::snapshot_id::number_in;
 use stow_versions::snapshot_fault::SnapshotFault;
 use stow_versions::versions::Versions;
 
@@ -230,11 +231,4 @@ fn no_such_snapshot<A: Allocator>(tenant: u32) -> Prepared<A>
     } }
 {
     only_counted(tenant, Reply::Error(Refusal::NoSuchSnapshot))
-}
-
-/// The number that an id is, unless it is below 0.
-fn number_in(id: i64) -> Option<u64>
-    ensures { result ≡ number_in id }
-{
-    if id < 0 { None } else { Some(id as u64) }
 }

@@ -14,7 +14,7 @@ use Rattle.stow_state.specs.Rows.{rows_at, version_of}
 use Rattle.stow_state.proofs.Rows.{rows_by_value_law}
 use Rattle.stow_ledger.specs.Histories.{IsNextNumber}
 use Rattle.stow_ledger.proofs.TreeHistory.{rows_are_history_law}
-use Rattle.stow_read.specs.Walk.{IsNext}
+use Rattle.stow_read.specs.Walk.{IsNumberAfter}
 
 no_some : {X : Type 0} {x : X} → ◌≡◌ {A = Option X} None (Some x) → ⊥
 no_some e = cc
@@ -42,7 +42,7 @@ row_stays : (m : Messages) (t b n : ℕ) (key : List ℕ) → b ≤ n → ((k : 
 row_stays m t b n key l none = rows_by_value_law m t n key ∙ ap version_of (latest_stays (ops_of m (packed t key)) b n l none) ∙ sym (rows_by_value_law m t b key)
 
 pub next_number : (m : Messages) (t at last : ℕ) (key : List ℕ) (version : Version) (next : Option ℕ) → at ≤ last → NoneAbove last (ops_of m (packed t key)) → finite.get (rows_at m t at) key ≡ Some version → version.number ≤ at
-    → IsNext (ops_of m (packed t key)) at next → IsNextNumber (rows_at m t) last key version next
+    → IsNumberAfter (ops_of m (packed t key)) at next → IsNextNumber (rows_at m t) last key version next
 next_number m t at last key version None l above has made none = row_stays m t at last key l (λ k a b. none k a) ∙ has
 next_number m t at last key version (Some next) l above has made least = (within, λ n low high. (until n low, since n low)) where
   within : next ≤ last

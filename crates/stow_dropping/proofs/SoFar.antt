@@ -15,7 +15,7 @@ use Rattle.stow_bytes.specs.Bytes.{bytes_cmp}
 use Rattle.stow_tree_model.specs.Messages.{Messages, ops_of}
 use Rattle.stow_tree_model.specs.Op.{Op}
 use Rattle.stow_tree_model.specs.Operations.{NumberedValue, Operations, applied, latest}
-use Rattle.stow_tree_model.specs.Order.{Place, place_cmp}
+use Rattle.stow_tree_model.specs.Order.{VersionPlace, place_cmp}
 use Rattle.stow_tree_model.proofs.Orders.{place_cases}
 use Rattle.stow_tree_model.proofs.Rising.{less_from}
 use Rattle.stow_ledger.specs.Accounts.{AccountState, IsGivenBy, present_charge}
@@ -115,7 +115,7 @@ last_part {A} m first to at account pins start after left new count part so_far 
 -- ---- the keys that are left
 
 -- how many messages stand from the start on, or after it
-abbrev pub count_left : List (Place × Op) → List ℕ → Bool → ℕ
+abbrev pub count_left : List (VersionPlace × Op) → List ℕ → Bool → ℕ
 count_left [] start after = 0
 count_left (e ∷ es) start after = cond (is_from start after e.0.0) (suc (count_left es start after)) (count_left es start after)
 
@@ -128,7 +128,7 @@ not_back a b l = ap is_lt (nat_list_cmp_total.antisymm b a ∙ ap ordering_rever
 still_from : (start : List ℕ) (after : Bool) (k key : List ℕ) → is_from start after k ≡ true → is_from k true key ≡ true → is_from start after key ≡ true
 still_from start after k key f l = from_above start after k key f (not_back k key l)
 
-not_more_left : (es : List (Place × Op)) (start : List ℕ) (after : Bool) (k : List ℕ) → is_from start after k ≡ true → count_left es k true ≤ count_left es start after
+not_more_left : (es : List (VersionPlace × Op)) (start : List ℕ) (after : Bool) (k : List ℕ) → is_from start after k ≡ true → count_left es k true ≤ count_left es start after
 not_more_left [] start after k f = omega arith
 not_more_left (e ∷ es) start after k f = step (is_from k true e.0.0) (is_from start after e.0.0) refl refl (not_more_left es start after k f) where
   step : (a b : Bool) → is_from k true e.0.0 ≡ a → is_from start after e.0.0 ≡ b → count_left es k true ≤ count_left es start after → cond a (suc (count_left es k true)) (count_left es k true) ≤ cond b (suc (count_left es start after)) (count_left es start after)
@@ -137,17 +137,17 @@ not_more_left (e ∷ es) start after k f = step (is_from k true e.0.0) (is_from 
   step false true p q h = omega (arith, h)
   step false false p q h = h
 
-fewer_among : (es : List (Place × Op)) (start : List ℕ) (after : Bool) (k : List ℕ) (n : ℕ) → is_from start after k ≡ true → IsSome (find place_cmp (k, n) es) → count_left es k true < count_left es start after
+fewer_among : (es : List (VersionPlace × Op)) (start : List ℕ) (after : Bool) (k : List ℕ) (n : ℕ) → is_from start after k ≡ true → IsSome (find place_cmp (k, n) es) → count_left es k true < count_left es start after
 fewer_among [] start after k n f there = absurd cc
 fewer_among (e ∷ es) start after k n f there = ⊎_elim
-    (λ (s : (◌≡◌ {A = Place} (k, n) e.0) × (eq_by_cmp place_cmp (k, n) e.0 ≡ true)).
-    let own : k ≡ e.0.0 = ap (λ (p : Place). p.0) s.0 in
+    (λ (s : (◌≡◌ {A = VersionPlace} (k, n) e.0) × (eq_by_cmp place_cmp (k, n) e.0 ≡ true)).
+    let own : k ≡ e.0.0 = ap (λ (p : VersionPlace). p.0) s.0 in
     let out : is_from k true e.0.0 ≡ false = ap (is_from k true) (sym own) ∙ not_itself k in
     let in_it : is_from start after e.0.0 ≡ true = ap (is_from start after) (sym own) ∙ f in
     let rest = not_more_left es start after k f in
     subst (λ b. cond b (suc (count_left es k true)) (count_left es k true) < cond (is_from start after e.0.0) (suc (count_left es start after)) (count_left es start after)) (sym out)
     (subst (λ b. count_left es k true < cond b (suc (count_left es start after)) (count_left es start after)) (sym in_it) (omega (arith, rest))))
-    (λ (ne : (◌≢◌ {A = Place} (k, n) e.0) × (eq_by_cmp place_cmp (k, n) e.0 ≡ false)).
+    (λ (ne : (◌≢◌ {A = VersionPlace} (k, n) e.0) × (eq_by_cmp place_cmp (k, n) e.0 ≡ false)).
     step (is_from k true e.0.0) (is_from start after e.0.0) refl refl (fewer_among es start after k n f (subst IsSome (cond-false _ _ _ ne.1) there)))
     (place_cases (k, n) e.0)
   where

@@ -19,7 +19,7 @@ use Rattle.stow_ledger.proofs.DropLemmas.{drop_is_charged_law}
 use Rattle.stow_ledger.proofs.HistoryLemmas.{pins_tell_of_drops_law}
 use Rattle.stow_ledger.proofs.KeptLemmas.{present_is_charged_law}
 use Rattle.stow_ledger.proofs.TreeHistory.{rows_are_history_law}
-use Rattle.stow_read.specs.Walk.{IsNext, IsHead, IsWalk}
+use Rattle.stow_read.specs.Walk.{IsNumberAfter, IsHead, IsWalk}
 use Rattle.stow_read.specs.declared.row_head.RowHead.{RowHead}
 use Rattle.stow_read.proofs.Walks.{walk_whole}
 use Rattle.stow_dropping.specs.Dropping.{IsChargeWithout}
@@ -48,7 +48,7 @@ module _ (m : Messages) (t at : ℕ) (store : Store) (id : ℕ) (numbers pins : 
     version = λ i. record { number = head.number i; length = head.size i };
     still = ap (λ n. shown_until pins n row.next) head.number
         ∙ pins_tell_of_drops_law (rows_at m t) (without_snapshot store id) numbers pins (own_key row.key) version row.next (rows_are_history_law m t) shows same (omega (arith, made, l))
-        (next_number m t at store.last (own_key row.key) version row.next l (above (own_key row.key)) has made (subst (λ k. IsNext (ops_of m k) at row.next) (sym own) head.next));
+        (next_number m t at store.last (own_key row.key) version row.next l (above (own_key row.key)) has made (subst (λ k. IsNumberAfter (ops_of m k) at row.next) (sym own) head.next));
   }
     where
       version : Version

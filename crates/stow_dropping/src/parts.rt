@@ -1,8 +1,8 @@
 //! Rows of a walk, as an account is told them.
 ghost use Rattle.std.specs.Prelude.{◌≡◌, ◌-◌, IfOk, length};
-ghost use Rattle.stow_tree_model.specs.Intervals.{AreBytes};
+ghost use Rattle.stow_tree_model.specs.Intervals.{AreKeyBytes, IsWholeKey};
 ghost use Rattle.stow_tree_model.specs.Keys.{IsTenantKey};
-ghost use Rattle.stow_dropping.specs.Parts.{shown_of, all_shown, IsWholeKey, HaveWholeKeys};
+ghost use Rattle.stow_dropping.specs.Parts.{shown_of, all_shown, HaveWholeKeys};
 
 use std::alloc::{AllocError, Allocator};
 use stow_ledger::shown_row::ShownRow;
@@ -43,7 +43,7 @@ fn row_of<A: Allocator>(head: &RowHead<A>) -> ShownRow
 fn own_length(key: &[u8]) -> u32
     requires { IsTenantKey key.now }
     ensures length { result ≡ length key.now - 4 }
-    ensures bytes { AreBytes key.now }
+    ensures bytes { AreKeyBytes key.now }
 {
     (key.len() - 4) as u32
 }

@@ -11,18 +11,18 @@ use Rattle.stow_tree_model.specs.Messages.{ops_in}
 use Rattle.stow_tree_model.specs.Operations.{or_else}
 use Rattle.stow_node.specs.Flushes.{Flushes}
 use Rattle.stow_node.specs.Forgets.{Forgets}
-use Rattle.stow_node.specs.Moves.{IsSqueezed, LacksRoom, Stays}
+use Rattle.stow_node.specs.Moves.{IsSqueezed, LacksRoom, StaysInMeaning}
 use Rattle.stow_node.specs.Subtree.{Subtree, messages_of}
 use Rattle.stow_node.specs.Ways.{StepsDown}
 use Rattle.stow_node.specs.declared.shape.Shape.{Shape}
 use Rattle.stow_node.proofs.Over.{same_itself, same_pointwise, same_then}
 use Rattle.stow_node.proofs.Standing.{parts_ops}
-use Rattle.stow_flush.specs.Rooms.{Stands, FlushesTimes, MakesRoom}
+use Rattle.stow_flush.specs.Rooms.{RootStands, FlushesTimes, MakesRoom}
 
-pub stands_itself : (pins : TenantPins) (t : Subtree) → Stands pins t t
+pub stands_itself : (pins : TenantPins) (t : Subtree) → RootStands pins t t
 stands_itself pins t = record { low = refl; shape = refl; capacity = refl; means = λ key. same_itself (pins (tenant_of key)) (ops_in (messages_of t) key) }
 
-pub stands_then : (pins : TenantPins) (s t u : Subtree) → Stands pins s t → Stands pins t u → Stands pins s u
+pub stands_then : (pins : TenantPins) (s t u : Subtree) → RootStands pins s t → RootStands pins t u → RootStands pins s u
 stands_then pins s t u a b = record {
   low = b.low ∙ a.low;
   shape = b.shape ∙ a.shape;
@@ -30,10 +30,10 @@ stands_then pins s t u a b = record {
   means = λ key. same_then (pins (tenant_of key)) (ops_in (messages_of s) key) (ops_in (messages_of t) key) (ops_in (messages_of u) key) (a.means key) (b.means key);
 }
 
-pub flushes_stands : (pins : TenantPins) (s t : Subtree) → Flushes pins s t → Stands pins s t
+pub flushes_stands : (pins : TenantPins) (s t : Subtree) → Flushes pins s t → RootStands pins s t
 flushes_stands pins s t k = record { low = k.low; shape = k.shape; capacity = k.capacity; means = k.means }
 
-pub stays_stands : (pins : TenantPins) (s t : Subtree) → Stays s t → Stands pins s t
+pub stays_stands : (pins : TenantPins) (s t : Subtree) → StaysInMeaning s t → RootStands pins s t
 stays_stands pins s t k = record {
   low = k.low;
   shape = k.shape;
@@ -44,9 +44,9 @@ stays_stands pins s t k = record {
       ∙ sym (parts_ops s key n));
 }
 
-pub squeezed_stands : (pins : TenantPins) (s t : Subtree) → IsSqueezed s t → Stands pins s t
+pub squeezed_stands : (pins : TenantPins) (s t : Subtree) → IsSqueezed s t → RootStands pins s t
 squeezed_stands pins s t q = rw q.is (stands_squeezed q.used) where
-  stands_squeezed : (used : ℕ) → Stands pins s (record s { buffer = message_list s.buffer.messages used s.buffer.capacity })
+  stands_squeezed : (used : ℕ) → RootStands pins s (record s { buffer = message_list s.buffer.messages used s.buffer.capacity })
   stands_squeezed used = record { low = refl; shape = refl; capacity = refl; means = λ key. same_itself (pins (tenant_of key)) (ops_in (messages_of s) key) }
 
 forgets_then : (l m n : List LeafRows) (c d e : Cache) → Forgets l m c d → Forgets m n d e → Forgets l n c e
@@ -61,7 +61,7 @@ forgets_itself ls c = record { limit = refl; held = λ leaf h. h; stands = λ le
 
 -- what is known from turn to turn
 pub record IsMaking (pins : TenantPins) (old now : Subtree) (cache cache' : Cache) (room room' : ℕ) : Type 0 where
-  pub stands : Stands pins old now
+  pub stands : RootStands pins old now
   pub forgets : Forgets old.leaves now.leaves cache cache'
   pub block : room' ≡ room
   pub few : now.width ≤ now.shape.fan_out
@@ -79,7 +79,7 @@ squeezed_then pins old now new cache cache' spare spare' last m q l = record {
 }
 
 -- messages moved
-pub moved_then : (pins : TenantPins) (old mid new : Subtree) (cache cache' cache'' : Cache) (spare spare' last : ℕ) → IsMaking pins old mid cache cache' spare spare' → Stands pins mid new → Forgets mid.leaves new.leaves cache' cache'' → last ≡ spare' → new.width ≤ new.shape.fan_out → IsMaking pins old new cache cache'' spare last
+pub moved_then : (pins : TenantPins) (old mid new : Subtree) (cache cache' cache'' : Cache) (spare spare' last : ℕ) → IsMaking pins old mid cache cache' spare spare' → RootStands pins mid new → Forgets mid.leaves new.leaves cache' cache'' → last ≡ spare' → new.width ≤ new.shape.fan_out → IsMaking pins old new cache cache'' spare last
 moved_then pins old mid new cache cache' cache'' spare spare' last m k f l few = record {
   stands = stands_then pins old mid new m.stands k;
   forgets = forgets_then old.leaves mid.leaves new.leaves cache cache' cache'' m.forgets f;
@@ -87,7 +87,7 @@ moved_then pins old mid new cache cache' cache'' spare spare' last m k f l few =
   few = few;
 }
 
-pub stays_few : (s t : Subtree) → Stays s t → s.width ≤ s.shape.fan_out → t.width ≤ t.shape.fan_out
+pub stays_few : (s t : Subtree) → StaysInMeaning s t → s.width ≤ s.shape.fan_out → t.width ≤ t.shape.fan_out
 stays_few s t k few = subst (λ h. t.width ≤ h) (sym (ap (λ (h : Shape). h.fan_out) k.shape)) (subst (λ w. w ≤ s.shape.fan_out) (sym k.width) few)
 
 -- ---- steps one after another

@@ -12,8 +12,8 @@ use Rattle.stow_tree_model.specs.Keys.{tenant_of}
 use Rattle.stow_tree_model.specs.Messages.{ops_in}
 
 -- so many bytes fit beside a node's own messages
-abbrev pub HasRoom : ℕ → Subtree → Type 0
-HasRoom bytes t = t.buffer.used + bytes ≤ t.buffer.capacity
+abbrev pub BytesFit : ℕ → Subtree → Type 0
+BytesFit bytes t = t.buffer.used + bytes ≤ t.buffer.capacity
 
 -- they fit once dead bytes are dropped
 abbrev pub FitsSqueezed : ℕ → Subtree → Type 0
@@ -42,7 +42,7 @@ MakesRoom A bytes pins old new cache cache' =
     (n : ℕ) × FlushesTimes A n bytes pins old new cache cache'
 
 -- the root means the same under the pins, whatever height it has
-pub record Stands (pins : TenantPins) (old new : Subtree) : Type 0 where
+pub record RootStands (pins : TenantPins) (old new : Subtree) : Type 0 where
   pub low : new.low ≡ old.low
   pub shape : new.shape ≡ old.shape
   pub capacity : new.buffer.capacity ≡ old.buffer.capacity

@@ -5,7 +5,7 @@ ghost use Rattle.stow_node.specs.Flushes.{AreShort};
 ghost use Rattle.stow_node.specs.Forgets.{Forgets};
 ghost use Rattle.stow_node.specs.Moves.{IsSqueezed};
 ghost use Rattle.stow_node.specs.Subtree.{messages_of};
-ghost use Rattle.stow_flush.specs.Rooms.{Stands, HasRoom, FitsSqueezed, MakesRoom};
+ghost use Rattle.stow_flush.specs.Rooms.{RootStands, BytesFit, FitsSqueezed, MakesRoom};
 
 use std::alloc::{AllocError, Allocator};
 use stow_leaf_cache::leaf_cache::LeafCache;
@@ -27,9 +27,9 @@ fn flush<A: Allocator + Copy>(
     requires bytes { bytes ≤ root.old.shape.buffer }
     requires short { AreShort (messages_of root.old) }
     requires spare { root.old.buffer.capacity ≤ spare.old.capacity }
-    ensures room { OnOk result (HasRoom bytes root.new) }
+    ensures room { OnOk result (BytesFit bytes root.new) }
     ensures few { root.new.width ≤ root.new.shape.fan_out }
-    ensures stands { Stands (pins_in pins.now) root.old root.new }
+    ensures stands { RootStands (pins_in pins.now) root.old root.new }
     ensures made { OnOk result (MakesRoom A bytes (pins_in pins.now) root.old root.new
         cache.old cache.new) }
     ensures cache { Forgets root.old.leaves root.new.leaves cache.old cache.new }
@@ -56,9 +56,9 @@ pub fn make_room<A: Allocator + Copy>(
     requires bytes { bytes ≤ root.old.shape.buffer }
     requires short { AreShort (messages_of root.old) }
     requires spare { root.old.buffer.capacity ≤ spare.old.capacity }
-    ensures room { OnOk result (HasRoom bytes root.new) }
+    ensures room { OnOk result (BytesFit bytes root.new) }
     ensures few { root.new.width ≤ root.new.shape.fan_out }
-    ensures stands { Stands (pins_in pins.now) root.old root.new }
+    ensures stands { RootStands (pins_in pins.now) root.old root.new }
     ensures made { OnOk result (MakesRoom A bytes (pins_in pins.now) root.old root.new
         cache.old cache.new) }
     ensures unmoved { FitsSqueezed bytes root.old → IsSqueezed root.old root.new }

@@ -24,7 +24,7 @@ use Rattle.stow_house.specs.SharedRuns.{IsCalled}
 use Rattle.stow_house.specs.declared.connection.Connection.{Connection}
 use Rattle.stow_house.specs.declared.connection_event.ConnectionEvent as coded
 use Rattle.stow_house.specs.declared.connection_event.ConnectionEvent.TheVariants as in_code
-use Rattle.stow_house.specs.Seen.{Seen, seen, IsServed, never_opened, status_by}
+use Rattle.stow_house.specs.Seen.{Seen, seen, IsServedTenant, never_opened, status_by}
 use Rattle.stow_house.specs.StepResult.{StepResult, Refused, answered, answer_to_event}
 use Rattle.stow_house.specs.Sessions.{Arrival, Whole, Faulty, Nothing, arrival_of, Taken, Told, ForStoreOf, taking, taking_words, Finishes, Serves}
 use Rattle.stow_house.specs.Connections.{meaning, moved, reply_in_core, CanBePlain, Happens}
@@ -149,7 +149,7 @@ pub moves_own : (old new : CoreState) (tenant : ℕ) (words : List (List ℕ)) (
 moves_own old new tenant words b r is others t =
     moves_by old new tenant (Asked (record { words = words; is_refused = b })) (ap (λ (a : Answer). a.0) is) others t
 
-of_kind : (kind : Kind) (words : List (List ℕ)) (before : Option ℕ) (old new : CoreState) (told : Option Reply) (ends : Bool) → IsServed old.entries before → Finishes Calls (taking_words old.entries kind words before) old told ends new
+of_kind : (kind : Kind) (words : List (List ℕ)) (before : Option ℕ) (old new : CoreState) (told : Option Reply) (ends : Bool) → IsServedTenant old.entries before → Finishes Calls (taking_words old.entries kind words before) old told ends new
     → Serving (status_after_kind kind IsOpen) (request_as kind words (lacks_memory told) before) (lacks_memory told) (Some (kind_reply old.entries kind before (reply_in_core old (lacks_memory told) words))) old new told ends
 unfolding lacks_memory
 of_kind (Login name password) words before old new told ends is f = own_answer IsOpen (Some (login_reply (login old.entries name password))) false old new told ends (plain_login (login old.entries name password)) refl f
@@ -166,7 +166,7 @@ of_kind ForStore words (Some tenant) old new told ends is (r, called, say, ended
       may = λ e. refl;
     }
 
-of_message : (m : Message) (before : Option ℕ) (old new : CoreState) (after : Option ℕ) (told : Option Reply) (ends : Bool) → IsServed old.entries before → Serves Calls old.entries before after old (Whole m) told ends new
+of_message : (m : Message) (before : Option ℕ) (old new : CoreState) (after : Option ℕ) (told : Option Reply) (ends : Bool) → IsServedTenant old.entries before → Serves Calls old.entries before after old (Whole m) told ends new
     → Serving (status_after_message m IsOpen) (request_of_message m (lacks_memory told) before) (lacks_memory told) (message_reply old.entries m before (reply_in_core old (lacks_memory told))) old new told ends
 unfolding lacks_memory
 of_message (message.Words words) before old new after told ends is s = of_kind (kind_of words) words before old new told ends is s.finishes

@@ -20,9 +20,9 @@ use Rattle.stow_state.specs.Steps.{SharedStep, SharedRun, ToldEvent, Maintenance
 use Rattle.stow_state.specs.Steps as in_state
 use Rattle.stow_state.proofs.Steps.{run_sound, step_is_there_law}
 use Rattle.stow_house.specs.SharedRuns.{IsCalled, call_of, shared_steps}
-use Rattle.stow_house.specs.Seen.{Seen, IsServed, never_opened}
+use Rattle.stow_house.specs.Seen.{Seen, IsServedTenant, never_opened}
 use Rattle.stow_house.specs.StepResult.{StepResult, Done, Refused, NoMemory, answer_to_own, answer_to_order, MayAnswer, IsAnswer}
-use Rattle.stow_house.specs.Connections.{moved, reply_in_core, Reads, CanWait, Can, Moves, Leads, AsksMemory, IsVoid, Happens}
+use Rattle.stow_house.specs.Connections.{moved, reply_in_core, Reads, CanWait, Can, MovesConnection, Leads, AsksMemory, IsVoid, Happens}
 use Rattle.stow_house.specs.Steps.{HouseState, StandsAt, Stands, GoesOn, TreeBy, IsStepOf}
 use Rattle.stow_house.proofs.Here.{moves_by}
 use Rattle.stow_house.proofs.Tenants.{served_tenant}
@@ -133,7 +133,7 @@ on first (Some service) service' told told' steps old new is same called run =
     subst (λ s. SharedRun first (call_of s told' ++ steps) (shared_of new)) is (subst (λ t. SharedRun first (call_of (Some service) t ++ steps) (shared_of new)) same (shared_of old, run, called))
 
 -- a connection's step
-led : (old new : HouseState) (c : ℕ) (own : ConnectionStep) (r : StepResult) (history : List Step) → new.core.entries ≡ old.core.entries → Moves own r (old.seen c) (new.seen c) old.core new.core
+led : (old new : HouseState) (c : ℕ) (own : ConnectionStep) (r : StepResult) (history : List Step) → new.core.entries ≡ old.core.entries → MovesConnection own r (old.seen c) (new.seen c) old.core new.core
     → ((d : ℕ) → d ≢ c → new.seen d ≡ old.seen d) → Stands old.core.entries old history → GoesOn old.core.entries (At c own) history r new
 unfolding IsHistory IsStep IsAnswer line_of service_of told_at reply_in_line shared_steps
 led old new c own r history same m others s =
@@ -196,7 +196,7 @@ at_connection old new c e r happens others =
       is_event = ap (event.On c) l.is_event;
       goes_on = λ entries history s.
           subst (λ es. Stands es old history → GoesOn es (At c l.own) history r new) s.tenants
-          (λ own. led old new c l.own r history l.entries (l.moves (subst (λ o. IsServed old.core.entries o) (sym (own.connections c).tenant) (served_tenant old.core.entries (part_of c history)))) others own) s;
+          (λ own. led old new c l.own r history l.entries (l.moves (subst (λ o. IsServedTenant old.core.entries o) (sym (own.connections c).tenant) (served_tenant old.core.entries (part_of c history)))) others own) s;
       tree = tt;
       tenants = l.entries;
     })

@@ -13,7 +13,7 @@ use Rattle.stow_house.specs.declared.connection_event.ConnectionEvent.TheVariant
 use Rattle.stow_resp.specs.declared.next.Next.{Next}
 use Rattle.stow_house.specs.declared.connection.Connection.{Connection}
 use Rattle.stow_house.specs.declared.step_result.StepResult as result
-use Rattle.stow_house.specs.Seen.{Seen, seen, IsServed}
+use Rattle.stow_house.specs.Seen.{Seen, seen, IsServedTenant}
 use Rattle.stow_house.specs.SharedRuns.{IsCalled}
 use Rattle.stow_house.specs.Sessions.{arrival_of, Serves}
 use Rattle.stow_house.specs.StepResult.{StepResult, step_result_of, NoMemory, answered, answer_to_own}
@@ -61,7 +61,7 @@ Can (Broke fault) seen = (seen.status ≡ IsOpen) × IsFaulty seen.unread fault
 
 -- a step: what it does to its connection, to each store and to the state that all share, and what
 -- is answered
-pub record Moves (own : ConnectionStep) (r : StepResult) (old new : Seen)
+pub record MovesConnection (own : ConnectionStep) (r : StepResult) (old new : Seen)
     (before after : CoreState) : Type 0 where
   pub can : Can own old
   pub status : new.status ≡ status_after own old.status
@@ -80,7 +80,7 @@ pub record Leads (e : ConnectionEvent) (r : StepResult) (old new : Seen)
   pub own : ConnectionStep
   pub is_event : event_of_own own ≡ e
   pub entries : after.entries ≡ before.entries
-  pub moves : IsServed before.entries old.tenant → Moves own r old new before after
+  pub moves : IsServedTenant before.entries old.tenant → MovesConnection own r old new before after
 
 -- ---- want of memory
 

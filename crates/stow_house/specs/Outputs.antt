@@ -7,7 +7,7 @@ use Rattle.stow_model.specs.Store.{is_out_of_memory}
 use Rattle.stow_model.specs.Event.{Event, FlusherEvent}
 use Rattle.stow_model.specs.Event as event
 use Rattle.stow_model.specs.History.{Step, Void, At, Flushed, Ordered, is_refused_own, Telling}
-use Rattle.stow_model.specs.Limits.{cache_limit}
+use Rattle.stow_bytes.specs.Limits.{cache_limit}
 use Rattle.stow_house.specs.declared.mark.Mark.{Mark}
 use Rattle.stow_house.specs.declared.mark.Mark.TheVariants as mark
 use Rattle.stow_house.specs.declared.step_result.StepResult as result
@@ -31,7 +31,7 @@ abbrev pub marks_in : {A : Type 0} → Outputs A → List Mark
 marks_in outputs = outputs.marks.items
 
 -- one more event has its place
-pub record HasRoom {A : Type 0} (outputs : Outputs A) : Type 0 where
+pub record HasPlace {A : Type 0} (outputs : Outputs A) : Type 0 where
   pub told : vec_len outputs.told < vec_capacity outputs.told
   pub marks : vec_len outputs.marks < vec_capacity outputs.marks
 

@@ -36,5 +36,5 @@ abbrev pub seen_at : {A : Type 0} → BTreeMap ℕ (Connection A) → ℕ → Se
 seen_at connections c = seen (get nat_cmp connections c)
 
 -- whom a connection is served as is a tenant
-abbrev pub IsServed : List Entry → Option ℕ → Type 0
-IsServed entries tenant = ForSome tenant (IsTenant entries)
+abbrev pub IsServedTenant : List Entry → Option ℕ → Type 0
+IsServedTenant entries tenant = ForSome tenant (IsTenant entries)

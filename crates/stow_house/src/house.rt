@@ -14,12 +14,12 @@ use crate::run_fault::RunFault;
 use crate::step_result::StepResult;
 use std::alloc::{AllocError, Allocator, Global};
 use std::collections::BTreeMap;
-use stow_bytes::limits::NUMBER_LIMIT;
+use stow_bytes::limits::{CACHE_LIMIT, NUMBER_LIMIT};
 use stow_core::Core;
 use stow_model::event::Event;
 
 /// The most leaves that the cache can be asked to hold.
-const CACHE_LIMIT: usize = 65_536;
+const MOST_LEAVES: usize = CACHE_LIMIT as usize;
 
 /// The connections and the store that they share.
 #[derive(Drop)]
@@ -115,7 +115,7 @@ impl<A: Allocator + Copy> House<A> {
         ensures possible { MayAnswer (meant.Resize leaves) (step_result_of result) }
         ensures steps { Steps self.old (meant.By (meant.Resize leaves)) result self.new }
     {
-        if leaves > CACHE_LIMIT {
+        if leaves > MOST_LEAVES {
             return StepResult::Refused;
         }
         match self.core.resize(leaves) {

@@ -1,7 +1,7 @@
 //! What a run led to.
 ghost use Rattle.std.specs.Prelude.{◌≡◌, ◌++◌, ◌∷◌, [], ℕ, length, OnOk, OnErr, IfOk, map};
 ghost use Rattle.stow_house.specs.StepResult.{step_result_of};
-ghost use Rattle.stow_house.specs.Outputs.{told_in, marks_in, told_as, HasRoom, tells, marks, bytes_to};
+ghost use Rattle.stow_house.specs.Outputs.{told_in, marks_in, told_as, HasPlace, tells, marks, bytes_to};
 
 use crate::mark::Mark;
 use crate::step_result::StepResult;
@@ -59,7 +59,7 @@ impl<A: Allocator + Copy> Outputs<A> {
     pub fn reserve(&mut self) -> Result<(), AllocError>
         ensures told { told_in self.new ≡ told_in self.old }
         ensures marks { marks_in self.new ≡ marks_in self.old }
-        ensures room { OnOk result (HasRoom self.new) }
+        ensures room { OnOk result (HasPlace self.new) }
     {
         self.told.reserve(1)?;
         self.marks.reserve(1)
@@ -67,7 +67,7 @@ impl<A: Allocator + Copy> Outputs<A> {
 
     /// Adds what an event of this connection, if it has one, led to.
     pub fn add(&mut self, connection: u32, answer: StepResult<A>)
-        requires { HasRoom self.old }
+        requires { HasPlace self.old }
         ensures told { told_in self.new ≡ told_in self.old ++ tells connection answer }
         ensures marks { marks_in self.new ≡ marks_in self.old ++ marks (step_result_of answer) }
     {

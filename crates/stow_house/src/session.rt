@@ -4,7 +4,7 @@ ghost use Rattle.stow_model.specs.Command.{kind_of};
 ghost use Rattle.stow_model.specs.History.{served_after_kind, quoted_reply};
 ghost use Rattle.stow_model.specs.Reply as meant;
 ghost use Rattle.stow_model.specs.Reply.{reply_of};
-ghost use Rattle.stow_house.specs.Seen.{IsServed};
+ghost use Rattle.stow_house.specs.Seen.{IsServedTenant};
 ghost use Rattle.stow_house.specs.Sessions.{Served, Told, arrival_of, served_after_arrival};
 ghost use Rattle.stow_house.specs.Sessions.{taken_of, taking, taking_words};
 
@@ -53,7 +53,7 @@ impl Session {
         next: Next<A>,
     ) -> Answer<A>
         ensures serves { Served D.answers tenants.now self.old self.new door.old next result door.new }
-        ensures tenant { IsServed tenants.now self.old → IsServed tenants.now self.new }
+        ensures tenant { IsServedTenant tenants.now self.old → IsServedTenant tenants.now self.new }
     {
         let taken = self.take(tenants, next);
         taken.finish(alloc, door)
@@ -64,7 +64,7 @@ impl Session {
     pub fn take<A: Allocator>(&mut self, tenants: &Tenants<A>, next: Next<A>) -> Taken<A>
         ensures after { self.new ≡ served_after_arrival tenants.now (arrival_of next) self.old }
         ensures taken { taken_of result ≡ taking tenants.now (arrival_of next) self.old }
-        ensures tenant { IsServed tenants.now self.old → IsServed tenants.now self.new }
+        ensures tenant { IsServedTenant tenants.now self.old → IsServedTenant tenants.now self.new }
     {
         match next {
             Next::Message(words) => self.take_words(tenants, words),
@@ -80,7 +80,7 @@ impl Session {
     fn take_words<A: Allocator>(&mut self, tenants: &Tenants<A>, words: Words<A>) -> Taken<A>
         ensures after { self.new ≡ served_after_kind tenants.now (kind_of words) self.old }
         ensures taken { taken_of result ≡ taking_words tenants.now (kind_of words) words self.old }
-        ensures tenant { IsServed tenants.now self.old → IsServed tenants.now self.new }
+        ensures tenant { IsServedTenant tenants.now self.old → IsServedTenant tenants.now self.new }
     {
         match kind_of(words.lent()) {
             Kind::Login(name, password) => match tenants.check(name, password) {

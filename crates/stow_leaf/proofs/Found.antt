@@ -16,7 +16,7 @@ use Rattle.stow_tree_model.specs.Keys.{tenant_of}
 use Rattle.stow_tree_model.specs.Merged.{op_of_value, row_message, rows_set, merged, Stays}
 use Rattle.stow_tree_model.specs.Messages.{Messages, ops_of, ops_in, with_all, set_of}
 use Rattle.stow_tree_model.specs.Operations.{Operations, NumberedValue, applied, latest, or_else, value_in, numbered, outcome, NoneAbove}
-use Rattle.stow_tree_model.specs.Order.{Place, place_cmp, place_of, version_place, MessagesRise, VersionsRise}
+use Rattle.stow_tree_model.specs.Order.{VersionPlace, place_cmp, place_of, version_place, MessagesRise, VersionsRise}
 use Rattle.stow_tree_model.specs.TreeMessage.{TreeMessage}
 use Rattle.stow_tree_model.specs.Value.{IsValue}
 use Rattle.stow_tree_model.specs.Version.{Version}
@@ -31,7 +31,7 @@ use Rattle.stow_merge.proofs.Lists.{all_from_members, all_mapped_member}
 use Rattle.stow_merge.specs.Pages.{HaveShortValues}
 use Rattle.stow_page.specs.Format.{IsVersion}
 use Rattle.stow_page.specs.Rows.{IsCountUpTo}
-use Rattle.stow_leaf.specs.Intervals.{spans, AreWithin}
+use Rattle.stow_leaf.specs.Intervals.{spans, NoneOutside}
 use Rattle.stow_leaf.specs.Replacements.{GiveWay, ops_with, AreThere, HasShortValues}
 use Rattle.stow_leaf.proofs.Intervals.{lt, by_test, lt_self}
 
@@ -78,8 +78,8 @@ first_stays n ns key k s = step (eq_by_cmp place_cmp (key, k) (place_of n)) wher
 pub found : {X : Type 0} (ms : List TreeMessage) (key : List ℕ) (n : ℕ) → IsSome (ops_in ms key n) → ((m : TreeMessage) → Contains ms m → m.key ≡ key → X) → X
 found [] key n s f = absurd cc
 found (m ∷ ms) key n s f = ⊎_elim
-    (λ (e : (◌≡◌ {A = Place} (key, n) (place_of m)) × (eq_by_cmp place_cmp (key, n) (place_of m) ≡ true)). f m (contains_here m ms) (sym (ap (λ (p : Place). p.0) e.0)))
-    (λ (e : (◌≢◌ {A = Place} (key, n) (place_of m)) × (eq_by_cmp place_cmp (key, n) (place_of m) ≡ false)).
+    (λ (e : (◌≡◌ {A = VersionPlace} (key, n) (place_of m)) × (eq_by_cmp place_cmp (key, n) (place_of m) ≡ true)). f m (contains_here m ms) (sym (ap (λ (p : VersionPlace). p.0) e.0)))
+    (λ (e : (◌≢◌ {A = VersionPlace} (key, n) (place_of m)) × (eq_by_cmp place_cmp (key, n) (place_of m) ≡ false)).
     found ms key n (subst IsSome (ops_in-skip m ms key n e.0) s) (λ w c k. f w (contains_there m w ms c) k))
     (place_cases (key, n) (place_of m))
 
@@ -87,8 +87,8 @@ found (m ∷ ms) key n s f = ⊎_elim
 pub found_row : {X : Type 0} (vs : List Version) (key : List ℕ) (n : ℕ) → IsSome (ops_in (map row_message vs) key n) → ((v : Version) → Contains vs v → v.key ≡ key → X) → X
 found_row [] key n s f = absurd cc
 found_row (v ∷ vs) key n s f = ⊎_elim
-    (λ (e : (◌≡◌ {A = Place} (key, n) (place_of (row_message v))) × (eq_by_cmp place_cmp (key, n) (place_of (row_message v)) ≡ true)). f v (contains_here v vs) (sym (ap (λ (p : Place). p.0) e.0)))
-    (λ (e : (◌≢◌ {A = Place} (key, n) (place_of (row_message v))) × (eq_by_cmp place_cmp (key, n) (place_of (row_message v)) ≡ false)).
+    (λ (e : (◌≡◌ {A = VersionPlace} (key, n) (place_of (row_message v))) × (eq_by_cmp place_cmp (key, n) (place_of (row_message v)) ≡ true)). f v (contains_here v vs) (sym (ap (λ (p : VersionPlace). p.0) e.0)))
+    (λ (e : (◌≢◌ {A = VersionPlace} (key, n) (place_of (row_message v))) × (eq_by_cmp place_cmp (key, n) (place_of (row_message v)) ≡ false)).
     found_row vs key n (subst IsSome (ops_in-skip (row_message v) (map row_message vs) key n e.0) s) (λ w c k. f w (contains_there v w vs c) k))
     (place_cases (key, n) (place_of (row_message v)))
 
@@ -104,15 +104,15 @@ row_there (w ∷ vs) v c = ⊎_elim
 
 -- ---- intervals
 
-pub keys_within : (low high : List ℕ) (vs : List Version) → AreWithin low high (map row_message vs) → (v : Version) → Contains vs v → spans low high v.key ≡ true
+pub keys_within : (low high : List ℕ) (vs : List Version) → NoneOutside low high (map row_message vs) → (v : Version) → Contains vs v → spans low high v.key ≡ true
 keys_within low high vs w v c = by_test (spans low high v.key) (λ e. e) (λ e. absurd (none_some (ops_in (map row_message vs) v.key v.number) (w.outside v.key v.number e) (row_there vs v c)))
 
-pub rows_within : (low high : List ℕ) (vs : List Version) → ((v : Version) → Contains vs v → spans low high v.key ≡ true) → AreWithin low high (map row_message vs)
+pub rows_within : (low high : List ℕ) (vs : List Version) → ((v : Version) → Contains vs v → spans low high v.key ≡ true) → NoneOutside low high (map row_message vs)
 rows_within low high vs h = record { outside = λ key n o. no_row vs key n (λ v c k. no_path (sym o ∙ ap (spans low high) (sym k) ∙ h v c)) }
 
 -- ---- order
 
-pub place_le : (p q : Place) → place_cmp p q ≡ Less → lt q.0 p.0 ≡ false
+pub place_le : (p q : VersionPlace) → place_cmp p q ≡ Less → lt q.0 p.0 ≡ false
 place_le p q l = by_test (lt q.0 p.0)
     (λ e. let g : bytes_cmp p.0 q.0 ≡ Greater = nat_list_cmp_total.antisymm p.0 q.0 ∙ ap ordering_reverse (lt_is (bytes_cmp q.0 p.0) e) in
     let z : Greater ≡ Less = ap (λ o. ordering_then o (nat_cmp p.1 q.1)) (sym g) ∙ l in
@@ -159,7 +159,7 @@ stays_itself pins f bound none = record { at_pins = λ p c. refl; from_bound = �
 pub merged_there : (rows : List Version) (batch : List TreeMessage) (pins : TenantPins) (v : Version) → Contains (merged rows batch pins) v → IsSome (ops_with batch rows v.key v.number)
 merged_there rows batch pins v c = subst IsSome (merged_ops rows batch v.key v.number) ((pruning pins (with_all (rows_set rows) batch)).only_these v c).is_kept.0
 
-pub merged_within : (low high : List ℕ) (rows : List Version) (batch : List TreeMessage) (pins : TenantPins) → AreWithin low high (map row_message rows) → AreWithin low high batch → (v : Version) → Contains (merged rows batch pins) v → spans low high v.key ≡ true
+pub merged_within : (low high : List ℕ) (rows : List Version) (batch : List TreeMessage) (pins : TenantPins) → NoneOutside low high (map row_message rows) → NoneOutside low high batch → (v : Version) → Contains (merged rows batch pins) v → spans low high v.key ≡ true
 merged_within low high rows batch pins r b v c = by_test (spans low high v.key) (λ e. e) (λ e.
     absurd (none_some (ops_with batch rows v.key v.number)
     (both_none (ops_in batch v.key v.number) (ops_in (map row_message rows) v.key v.number) (b.outside v.key v.number e) (r.outside v.key v.number e))

@@ -14,7 +14,7 @@ use Rattle.stow_tree_model.specs.Version.{Version}
 use Rattle.stow_tree_model.proofs.Pruning.{none_in_nothing, pruning}
 use Rattle.stow_message.specs.Rising.{in_range}
 use Rattle.stow_merge.specs.Pages.{AreLeafPages, ArePagesOf}
-use Rattle.stow_leaf.specs.Intervals.{spans, AreWithin}
+use Rattle.stow_leaf.specs.Intervals.{spans, NoneOutside}
 use Rattle.stow_leaf.specs.LeafRows.{LeafRows, row_messages, first_fence, LeavesTo}
 use Rattle.stow_leaf.specs.Making.{leaves_from, AreFilled}
 use Rattle.stow_leaf.specs.Replacements.{IsLeafSize, GiveWay, AreThere, HasShortValues, ops_with, IsFence, CanReplace, IsReplacement}
@@ -110,5 +110,5 @@ replacement_is leaf high ms pins target pages can are = record {
     of_key key n s = ap (λ o. or_else o (ops_in (map row_message leaf.1) key n)) (in_interval leaf.0 high ms key n s)
 
 -- the messages of an interval are within it
-pub range_within : (low high : List ℕ) (ms : List TreeMessage) → AreWithin low high (in_range low high ms)
+pub range_within : (low high : List ℕ) (ms : List TreeMessage) → NoneOutside low high (in_range low high ms)
 range_within low high ms = record { outside = λ key n o. rw (ops-in_range low high ms key n, o) refl }

@@ -9,7 +9,7 @@ use Rattle.stow_tree_model.specs.Op.{Op}
 use Rattle.stow_tree_model.specs.TreeMessage.{TreeMessage}
 use Rattle.std.specs.List.Sorted.{IsStrictlySortedBy}
 use Rattle.std.specs.declared.cmp.Ordering.TheVariants.{Less}
-use Rattle.stow_tree_model.specs.Order.{Place, place_cmp, place_of, MessagesRise}
+use Rattle.stow_tree_model.specs.Order.{VersionPlace, place_cmp, place_of, MessagesRise}
 use Rattle.stow_tree_model.specs.Operations.{or_else}
 use Rattle.stow_tree_model.specs.Messages.{ops_in}
 use Rattle.stow_tree_model.proofs.Orders.{place_cases, place_total}
@@ -50,15 +50,15 @@ ops-filter f (m ∷ ms) key n = step (ops-filter f ms key n) where
   at_key true h k e on = cond-true _ _ _ e ∙ sym (cond-true (f key) _ _ (k ∙ sym h) ∙ cond-true _ _ _ e)
   at_key false h k e on = on ∙ cond-false (f key) _ _ (k ∙ sym h) ∙ sym (cond-false (f key) _ _ (k ∙ sym h))
 
-  other : (b : Bool) → (◌≢◌ {A = Place} (key, n) (place_of m)) → ops_in rest key n ≡ cond (f key) (ops_in ms key n) None → ops_in (if b then m ∷ rest else rest) key n ≡ cond (f key) (ops_in (m ∷ ms) key n) None
+  other : (b : Bool) → (◌≢◌ {A = VersionPlace} (key, n) (place_of m)) → ops_in rest key n ≡ cond (f key) (ops_in ms key n) None → ops_in (if b then m ∷ rest else rest) key n ≡ cond (f key) (ops_in (m ∷ ms) key n) None
   other true ne on = ops_in-skip m rest key n ne ∙ on ∙ ap (λ o. cond (f key) o None) (sym (ops_in-skip m ms key n ne))
   other false ne on = on ∙ ap (λ o. cond (f key) o None) (sym (ops_in-skip m ms key n ne))
 
   step : ops_in rest key n ≡ cond (f key) (ops_in ms key n) None → ops_in (filter (λ m. f m.key) (m ∷ ms)) key n ≡ cond (f key) (ops_in (m ∷ ms) key n) None
   step on = ⊎_elim
-      (λ (e : (◌≡◌ {A = Place} (key, n) (place_of m)) × (eq_by_cmp place_cmp (key, n) (place_of m) ≡ true)).
-      at_key (f m.key) refl (ap (λ (p : Place). f p.0) e.0) e.1 on)
-      (λ (e : (◌≢◌ {A = Place} (key, n) (place_of m)) × (eq_by_cmp place_cmp (key, n) (place_of m) ≡ false)). other (f m.key) e.0 on)
+      (λ (e : (◌≡◌ {A = VersionPlace} (key, n) (place_of m)) × (eq_by_cmp place_cmp (key, n) (place_of m) ≡ true)).
+      at_key (f m.key) refl (ap (λ (p : VersionPlace). f p.0) e.0) e.1 on)
+      (λ (e : (◌≢◌ {A = VersionPlace} (key, n) (place_of m)) × (eq_by_cmp place_cmp (key, n) (place_of m) ≡ false)). other (f m.key) e.0 on)
       (place_cases (key, n) (place_of m))
 
 pub ops-in_range : (low high : List ℕ) (ms : List TreeMessage) (key : List ℕ) (n : ℕ) → ops_in (in_range low high ms) key n ≡ cond (spans low high key) (ops_in ms key n) None
@@ -72,15 +72,15 @@ abbrev pub Other : TreeMessage → TreeMessage → Type 0
 Other m x = is_eq (place_cmp (place_of x) (place_of m)) ≡ false
 
 -- two places that one place is are one
-not_both_at : (p q : Place) → is_eq (place_cmp p q) ≡ false → p ≡ q → ⊥
-not_both_at p q h e = absurd (true_false (sym (ap is_eq (tied_itself place_total p)) ∙ ap (λ (r : Place). is_eq (place_cmp p r)) e ∙ h))
+not_both_at : (p q : VersionPlace) → is_eq (place_cmp p q) ≡ false → p ≡ q → ⊥
+not_both_at p q h e = absurd (true_false (sym (ap is_eq (tied_itself place_total p)) ∙ ap (λ (r : VersionPlace). is_eq (place_cmp p r)) e ∙ h))
 
-not_both : (key : List ℕ) (n : ℕ) (p q : Place) → eq_by_cmp place_cmp (key, n) p ≡ true → eq_by_cmp place_cmp (key, n) q ≡ true → is_eq (place_cmp p q) ≡ false → ⊥
+not_both : (key : List ℕ) (n : ℕ) (p q : VersionPlace) → eq_by_cmp place_cmp (key, n) p ≡ true → eq_by_cmp place_cmp (key, n) q ≡ true → is_eq (place_cmp p q) ≡ false → ⊥
 not_both key n p q a b h = not_both_at p q h (sym (eq_at p a) ∙ eq_at q b) where
-  eq_at : (r : Place) → eq_by_cmp place_cmp (key, n) r ≡ true → ◌≡◌ {A = Place} (key, n) r
+  eq_at : (r : VersionPlace) → eq_by_cmp place_cmp (key, n) r ≡ true → ◌≡◌ {A = VersionPlace} (key, n) r
   eq_at r e = ⊎_elim
-      (λ (x : (◌≡◌ {A = Place} (key, n) r) × (eq_by_cmp place_cmp (key, n) r ≡ true)). x.0)
-      (λ (x : (◌≢◌ {A = Place} (key, n) r) × (eq_by_cmp place_cmp (key, n) r ≡ false)). absurd (true_false (sym e ∙ x.1)))
+      (λ (x : (◌≡◌ {A = VersionPlace} (key, n) r) × (eq_by_cmp place_cmp (key, n) r ≡ true)). x.0)
+      (λ (x : (◌≢◌ {A = VersionPlace} (key, n) r) × (eq_by_cmp place_cmp (key, n) r ≡ false)). absurd (true_false (sym e ∙ x.1)))
       (place_cases (key, n) r)
 
 -- a message that is put to its place is found as if it stood first
@@ -103,7 +103,7 @@ ops-placed m (x ∷ xs) key n h = step (is_below (place_of m) x) (ops-placed m x
 skip_all : (m : TreeMessage) (ms : List TreeMessage) → AllAbove (place_of m) ms → ops_in ms m.key m.number ≡ None
 skip_all m [] h = refl
 skip_all m (x ∷ xs) h = ops_in-skip x xs m.key m.number (λ e. absurd (less_self (place_of m) (place_of x) h.0 e)) ∙ skip_all m xs h.1 where
-  less_self : (p q : Place) → place_cmp p q ≡ Less → p ≡ q → ⊥
+  less_self : (p q : VersionPlace) → place_cmp p q ≡ Less → p ≡ q → ⊥
   less_self p q l e = cc (tied_itself place_total p)
 
 -- messages that are put to their places are found as if they stood first
@@ -114,13 +114,13 @@ ops-all_placed (m ∷ ms) ns key n rise h =
     ops-all_placed ms (placed m ns) key n rise.1 (all_other_placed m ms ns rise.0 h.1)
     ∙ ap (or_else (ops_in ms key n)) (ops-placed m ns key n h.0)
     ∙ ⊎_elim
-    (λ (e : (◌≡◌ {A = Place} (key, n) (place_of m)) × (eq_by_cmp place_cmp (key, n) (place_of m) ≡ true)). first e.0 e.1)
-    (λ (e : (◌≢◌ {A = Place} (key, n) (place_of m)) × (eq_by_cmp place_cmp (key, n) (place_of m) ≡ false)).
+    (λ (e : (◌≡◌ {A = VersionPlace} (key, n) (place_of m)) × (eq_by_cmp place_cmp (key, n) (place_of m) ≡ true)). first e.0 e.1)
+    (λ (e : (◌≢◌ {A = VersionPlace} (key, n) (place_of m)) × (eq_by_cmp place_cmp (key, n) (place_of m) ≡ false)).
     ap (or_else (ops_in ms key n)) (cond-false _ _ _ e.1) ∙ ap (λ o. or_else o (ops_in ns key n)) (sym (cond-false _ _ _ e.1)))
     (place_cases (key, n) (place_of m))
   where
-    first : ◌≡◌ {A = Place} (key, n) (place_of m) → eq_by_cmp place_cmp (key, n) (place_of m) ≡ true → or_else (ops_in ms key n) (ops_in (m ∷ ns) key n) ≡ or_else (ops_in (m ∷ ms) key n) (ops_in ns key n)
+    first : ◌≡◌ {A = VersionPlace} (key, n) (place_of m) → eq_by_cmp place_cmp (key, n) (place_of m) ≡ true → or_else (ops_in ms key n) (ops_in (m ∷ ns) key n) ≡ or_else (ops_in (m ∷ ms) key n) (ops_in ns key n)
     first at e =
-        ap (λ (p : Place). or_else (ops_in ms p.0 p.1) (ops_in (m ∷ ns) key n)) at
+        ap (λ (p : VersionPlace). or_else (ops_in ms p.0 p.1) (ops_in (m ∷ ns) key n)) at
         ∙ ap (λ o. or_else o (ops_in (m ∷ ns) key n)) (skip_all m ms rise.0)
         ∙ cond-true _ _ _ e ∙ ap (λ o. or_else o (ops_in ns key n)) (sym (cond-true _ _ _ e))

@@ -14,5 +14,5 @@ abbrev pub spans : List ℕ → List ℕ → List ℕ → Bool
 spans low high key = not (is_lt (bytes_cmp key low)) && is_lt (bytes_cmp key high)
 
 -- no message is of a key outside
-pub record AreWithin (low high : List ℕ) (ms : List TreeMessage) : Type 0 where
+pub record NoneOutside (low high : List ℕ) (ms : List TreeMessage) : Type 0 where
   pub outside : (key : List ℕ) (n : ℕ) → spans low high key ≡ false → ops_in ms key n ≡ None

@@ -6,7 +6,7 @@ use Rattle.stow_bytes.specs.Bytes.{bytes_cmp}
 use Rattle.stow_tree_model.specs.Merged.{row_message}
 use Rattle.stow_tree_model.specs.TreeMessage.{TreeMessage}
 use Rattle.stow_tree_model.specs.Version.{Version}
-use Rattle.stow_leaf.specs.Intervals.{AreWithin}
+use Rattle.stow_leaf.specs.Intervals.{NoneOutside}
 use Rattle.stow_leaf.specs.declared.leaf.Leaf.{Leaf}
 
 -- a leaf's low fence, with its rows
@@ -28,7 +28,7 @@ first_fence high (leaf ∷ leaves) = leaf.0
 -- a leaf's rows are from its fence on, and below the upper end
 pub record IsLeafTile (leaf : LeafRows) (high : List ℕ) : Type 0 where
   pub ordered : bytes_cmp leaf.0 high ≡ Less
-  pub rows : AreWithin leaf.0 high (map row_message leaf.1)
+  pub rows : NoneOutside leaf.0 high (map row_message leaf.1)
 
 -- each leaf ends where the next begins, and the last at the upper end
 abbrev pub LeavesTo : List ℕ → List LeafRows → Type 0

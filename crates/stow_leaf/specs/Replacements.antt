@@ -12,7 +12,7 @@ use Rattle.stow_tree_model.specs.Operations.{Operations, over, latest, value_in,
 use Rattle.stow_tree_model.specs.TreeMessage.{TreeMessage}
 use Rattle.stow_tree_model.specs.Value.{IsValue}
 use Rattle.stow_tree_model.specs.Version.{Version}
-use Rattle.stow_leaf.specs.Intervals.{spans, AreWithin}
+use Rattle.stow_leaf.specs.Intervals.{spans, NoneOutside}
 use Rattle.stow_leaf.specs.LeafRows.{LeafRows, row_messages, first_fence, IsLeafTile, LeavesTo}
 
 -- a page above the target holds one key
@@ -40,7 +40,7 @@ pub record CanTake (leaf : LeafRows) (high : List ℕ) (batch : List TreeMessage
     (pins : TenantPins) (target : ℕ) : Type 0 where
   pub tile : IsLeafTile leaf high
   pub size : IsLeafSize target leaf.1
-  pub within : AreWithin leaf.0 high batch
+  pub within : NoneOutside leaf.0 high batch
   pub short : HaveShortValues (merged leaf.1 batch pins)
   pub some : batch ≢ []
 

@@ -36,7 +36,7 @@ impl<A: Allocator + Copy> Leaf<A> {
         ensures { IfOk result (λ leaves. IsReplacement (leaf_rows self.now) high.entry.bytes.now
             buffer.now.messages (pins_in pins.now) target (map leaf_rows leaves.items)) }
     {
-        let _len = buffer.len();
+        let _known = buffer.len();
         let low = self.low.as_key();
         let lent = lent_run(alloc, &buffer.in_range(low, high))?;
         let pages = merge_into_pages(alloc, &self.rows, lent.as_slice(), pins, target)?;

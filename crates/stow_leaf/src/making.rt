@@ -33,7 +33,7 @@ fn fence<A: Allocator + Copy>(alloc: A, rows: &Rows<A>) -> Result<TenantKeyBuf<A
     requires { rows.now ≢ [] }
     ensures { IfOk result (λ key. key ≡ first_key rows.now) }
 {
-    let _len = rows.len();
+    let _known = rows.len();
     TenantKeyBuf::from_key(alloc, rows.get(0).key)
 }
 

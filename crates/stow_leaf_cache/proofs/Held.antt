@@ -14,13 +14,13 @@ use Rattle.std.proofs.lemmas.List.{take_all, take-map, length-map}
 use Rattle.std.specs.Str.{bytes_eq}
 use Rattle.std.specs.declared.vec.Vec.{Vec}
 use Rattle.stow_tree_model.specs.Version.{Version}
-use Rattle.stow_leaf_cache.specs.Cache.{Cache, cache_used, Leaf, leaf_of, leaves_of, rows_under, leaves_without, leaves_used, leaves_kept, IsLimited}
+use Rattle.stow_leaf_cache.specs.Cache.{Cache, cache_used, HeldLeaf, leaf_of, leaves_of, rows_under, leaves_without, leaves_used, leaves_kept, IsLimited}
 
 pub rows_under-map : {A : Type 0} (fence : List ℕ) (held : List (Vec ℕ A × List Version)) → rows_under fence (map leaf_of held) ≡ lookup (λ k. bytes_eq fence k.items) held
 rows_under-map fence [] = refl
 rows_under-map fence (e ∷ es) = ap (λ rest. cond (bytes_eq fence e.0.items) (Some e.1) rest) (rows_under-map fence es)
 
-either_removed : {A : Type 0} (b : Bool) (e : Vec ℕ A × List Version) (es left : List (Vec ℕ A × List Version)) (shown : List Leaf) → shown ≡ map leaf_of left → cond b (map leaf_of es) (leaf_of e ∷ shown) ≡ map leaf_of (cond b es (e ∷ left))
+either_removed : {A : Type 0} (b : Bool) (e : Vec ℕ A × List Version) (es left : List (Vec ℕ A × List Version)) (shown : List HeldLeaf) → shown ≡ map leaf_of left → cond b (map leaf_of es) (leaf_of e ∷ shown) ≡ map leaf_of (cond b es (e ∷ left))
 either_removed true e es left shown h = refl
 either_removed false e es left shown h = ap (λ rest. leaf_of e ∷ rest) h
 
@@ -106,7 +106,7 @@ first-used fence es there =
     let same = lookup-lookup_entry (is_fence fence) es in
     first_by es (remove_entry (is_fence fence) es) (lookup_entry (is_fence fence) es) (ap is_some same ∙ there) ∙ same
 
-abbrev pub cache_of : List Leaf → ℕ → Cache
+abbrev pub cache_of : List HeldLeaf → ℕ → Cache
 cache_of leaves limit = record { leaves = leaves; limit = limit }
 
 module _ {A : Type 0} (fence : List ℕ) (held : LruCache (Vec ℕ A) (List Version)) (limit : ℕ) (cache : Cache) (e : cache_of (leaves_of held) limit ≡ cache) where

@@ -12,7 +12,7 @@ use Rattle.std.proofs.lemmas.List.Sums.{sum_by-cons}
 use Rattle.stow_model.specs.Store.{Version, Rows, Store, Shown, cost, is_same_version, charge}
 use Rattle.stow_ledger.specs.Charges.{is_pinned, is_between}
 use Rattle.stow_ledger.specs.Shown.{is_in, copied}
-use Rattle.stow_ledger.specs.Histories.{History, IsHistory, ShowsHistory, SameNumbers, PinsTellOfWrites, NextIsNew, PinsTellOfDrops, RowsAreCharged}
+use Rattle.stow_ledger.specs.Histories.{History, IsVersionHistory, ShowsHistory, SameNumbers, PinsTellOfWrites, NextIsNew, PinsTellOfDrops, RowsAreCharged}
 use Rattle.stow_ledger.proofs.Costs.{cost_by_once, contra}
 use Rattle.stow_ledger.proofs.RowLemmas.{is_row, in_rows, in_copies, once_rows}
 use Rattle.stow_ledger.proofs.DropLemmas.{in_kept}
@@ -117,7 +117,7 @@ row_before (Some w) v n h l =
 -- ---- the laws
 
 -- what a version of the present shows at a number
-present_at : (at : History) (key : List ℕ) (w : Version) (last n : ℕ) → IsHistory at → finite.get (at last) key ≡ Some w → n ≤ last → shows_at at key w n ≡ nat_le w.number n
+present_at : (at : History) (key : List ℕ) (w : Version) (last n : ℕ) → IsVersionHistory at → finite.get (at last) key ≡ Some w → n ≤ last → shows_at at key w n ≡ nat_le w.number n
 present_at at key w last n history is l = ⊎_elim
     (λ (before : n < w.number). row_before (finite.get (at n) key) w n (history.made_before n key) before ∙ sym (le_false w.number n before))
     (λ (since : w.number ≤ n). ap (λ o. is_row o w) (history.stands_since n last key w is since l) ∙ row_same w ∙ sym (le_true w.number n since))
@@ -147,7 +147,7 @@ not_shown true h = absurd (h refl)
 not_shown false h = refl
 
 -- what a version shows at a number, by its next one
-between_at : (at : History) (key : List ℕ) (v : Version) (next last n : ℕ) → IsHistory at → ((m : ℕ) → v.number ≤ m → m ≤ last → (finite.get (at m) key ≡ Some v) ↔ (m < next)) → n ≤ last → shows_at at key v n ≡ is_between v.number next n
+between_at : (at : History) (key : List ℕ) (v : Version) (next last n : ℕ) → IsVersionHistory at → ((m : ℕ) → v.number ≤ m → m ≤ last → (finite.get (at m) key ≡ Some v) ↔ (m < next)) → n ≤ last → shows_at at key v n ≡ is_between v.number next n
 between_at at key v next last n history is l = ⊎_elim
     (λ (before : n < v.number). row_before (finite.get (at n) key) v n (history.made_before n key) before ∙ sym (ap (λ b. b && nat_lt n next) (le_false v.number n before)))
     (λ (since : v.number ≤ n). ⊎_elim

@@ -13,7 +13,7 @@ abbrev pub History : Type 0
 History = ℕ → Rows
 
 -- a version is shown from its own number on, until another takes its place
-pub record IsHistory (at : History) : Type 0 where
+pub record IsVersionHistory (at : History) : Type 0 where
   pub made_before : (n : ℕ) (key : List ℕ)
       → IfSome (map.get (at n) key) (λ version. version.number ≤ n)
   pub stands_since : (m n : ℕ) (key : List ℕ) (version : Version)
@@ -34,13 +34,13 @@ SameNumbers pins numbers = (n : ℕ) → Contains pins n ↔ Contains numbers n
 -- a snapshot shows the present version of a key just where a pin is at or above its number
 abbrev pub PinsTellOfWrites : Type 0
 PinsTellOfWrites =
-    (at : History) (store : Store) (numbers pins : List ℕ) (key : List ℕ) → IsHistory at
+    (at : History) (store : Store) (numbers pins : List ℕ) (key : List ℕ) → IsVersionHistory at
     → ShowsHistory at store numbers → SameNumbers pins numbers → PinsTell store key pins
 
 -- a version of the next number isn't shown yet
 abbrev pub NextIsNew : Type 0
 NextIsNew =
-    (at : History) (store : Store) (numbers : List ℕ) (key value : List ℕ) → IsHistory at
+    (at : History) (store : Store) (numbers : List ℕ) (key value : List ℕ) → IsVersionHistory at
     → ShowsHistory at store numbers
     → IsNewRow store key (Some (record { number = store.last + 1; value = value }))
 
@@ -55,8 +55,9 @@ IsNextNumber at last key version (Some next) =
 abbrev pub PinsTellOfDrops : Type 0
 PinsTellOfDrops =
     (at : History) (store : Store) (numbers pins : List ℕ) (key : List ℕ) (version : Version)
-    (next : Option ℕ) → IsHistory at → ShowsHistory at store numbers → SameNumbers pins numbers
-    → version.number ≤ store.last → IsNextNumber at store.last key version next
+    (next : Option ℕ) → IsVersionHistory at → ShowsHistory at store numbers
+    → SameNumbers pins numbers → version.number ≤ store.last
+    → IsNextNumber at store.last key version next
     → shown_until pins version.number next ≡ is_in (key, version) (shown_by store)
 
 -- each row is charged 16 bytes at least
@@ -65,4 +66,4 @@ RowsAreCharged = (store : Store) → 16 * map.len store.rows ≤ charge store
 
 -- a tenant's rows at the numbers of one set of messages are such a history
 abbrev pub RowsAreHistory : Type 0
-RowsAreHistory = (messages : Messages) (tenant : ℕ) → IsHistory (rows_at messages tenant)
+RowsAreHistory = (messages : Messages) (tenant : ℕ) → IsVersionHistory (rows_at messages tenant)

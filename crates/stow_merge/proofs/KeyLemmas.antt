@@ -1,4 +1,4 @@
--- Kept versions key by key.
+-- KeptVersion versions key by key.
 use Rattle.std.proofs.Common.{◌≡◌, ◌≢◌, List, [], ◌∷◌, ◌++◌, take, drop, map, ℕ, refl, ap, ◌∙◌, sym, subst, ⊎_elim}
 use Rattle.std.specs.Prelude.{Contains, false, true}
 use Rattle.std.specs.declared.cmp.Ordering.TheVariants.{Less}
@@ -16,8 +16,8 @@ use Rattle.stow_tree_model.proofs.Latest.{contains_cases}
 use Rattle.stow_tree_model.proofs.Orders.{key_cases}
 use Rattle.stow_tree_model.proofs.Pruning.{contains_here, none_in_nothing}
 use Rattle.stow_merge.specs.Pages.{read_in_order, HaveOneKey, KeysBelow}
-use Rattle.stow_merge.specs.Writing.{version_in, versions_in, IsRun, AreRuns}
-use Rattle.stow_merge.specs.declared.kept.Kept as coded
+use Rattle.stow_merge.specs.Writing.{version_in, versions_in, IsKeyRun, AreRuns}
+use Rattle.stow_merge.specs.declared.kept_version.KeptVersion as coded
 use Rattle.stow_merge.specs.declared.survey.Survey.{Survey}
 use Rattle.stow_merge.proofs.Lists.{all_member, all_front, all_mapped_member, map_filled}
 
@@ -66,7 +66,7 @@ abbrev pub KeysRise : List (List Version) → Type 0
 KeysRise [] = Unit {0}
 KeysRise (key ∷ keys) = (key ≢ []) × HaveOneKey key × KeysBelow key (read_in_order keys) × KeysRise keys
 
-of_key : {A : Type 0} (survey : Survey A) (run : List coded.Kept) (key : List ℕ) → AllByRecursion (λ (k : coded.Kept). k.key.bytes.now ≡ key) run → AllByRecursion (λ (v : Version). v.key ≡ key) (versions_in survey run)
+of_key : {A : Type 0} (survey : Survey A) (run : List coded.KeptVersion) (key : List ℕ) → AllByRecursion (λ (k : coded.KeptVersion). k.key.bytes.now ≡ key) run → AllByRecursion (λ (v : Version). v.key ≡ key) (versions_in survey run)
 of_key survey [] key h = tt
 of_key survey (k ∷ run) key h = (h.0, of_key survey run key h.1)
 
@@ -76,18 +76,18 @@ one_key versions key all = record { are_of_key = λ v w c d. own v c ∙ sym (ow
     own : (u : Version) → Contains versions u → u.key ≡ key
     own u c = all_member (λ (v : Version). v.key ≡ key) versions u all c
 
-pub runs_read : {A : Type 0} (survey : Survey A) (kept : List coded.Kept) (runs : List (List coded.Kept)) → AreRuns kept runs → read_in_order (map (versions_in survey) runs) ≡ versions_in survey kept
+pub runs_read : {A : Type 0} (survey : Survey A) (kept : List coded.KeptVersion) (runs : List (List coded.KeptVersion)) → AreRuns kept runs → read_in_order (map (versions_in survey) runs) ≡ versions_in survey kept
 runs_read survey kept [] h = ap (versions_in survey) (sym h)
 runs_read survey kept (run ∷ runs) h =
     ap (λ vs. versions_in survey run ++ vs) (runs_read survey h.0 runs h.5)
     ∙ sym (map-append (version_in survey) run h.0)
     ∙ ap (versions_in survey) (sym h.3)
 
-run_below : {A : Type 0} (survey : Survey A) (run rest : List coded.Kept) (key : List ℕ) → IsRun key run rest → VersionsRise (versions_in survey run ++ versions_in survey rest) → KeysBelow (versions_in survey run) (versions_in survey rest)
+run_below : {A : Type 0} (survey : Survey A) (run rest : List coded.KeptVersion) (key : List ℕ) → IsKeyRun key run rest → VersionsRise (versions_in survey run ++ versions_in survey rest) → KeysBelow (versions_in survey run) (versions_in survey rest)
 run_below survey run [] key is h = record { are_below = λ v w c d. absurd (none_in_nothing w d) }
 run_below survey run (k ∷ later) key is h = key_below (versions_in survey run) (versions_in survey later) (version_in survey k) key h (of_key survey run key is.are_of_key) (is.ends k later refl)
 
-pub runs_rise : {A : Type 0} (survey : Survey A) (kept : List coded.Kept) (runs : List (List coded.Kept)) → AreRuns kept runs → VersionsRise (versions_in survey kept) → KeysRise (map (versions_in survey) runs)
+pub runs_rise : {A : Type 0} (survey : Survey A) (kept : List coded.KeptVersion) (runs : List (List coded.KeptVersion)) → AreRuns kept runs → VersionsRise (versions_in survey kept) → KeysRise (map (versions_in survey) runs)
 runs_rise survey kept [] h rise = tt
 runs_rise survey kept (run ∷ runs) h rise =
     let whole : VersionsRise (versions_in survey run ++ versions_in survey h.0) = subst VersionsRise (ap (versions_in survey) h.3 ∙ map-append (version_in survey) run h.0) rise in (
@@ -100,14 +100,14 @@ runs_rise survey kept (run ∷ runs) h rise =
 -- ---- one run more
 
 -- what is of the first version's key has that version
-run_filled : (first : coded.Kept) (later : List coded.Kept) (n : ℕ) → IsRun first.key.bytes.now (take n (first ∷ later)) (drop n (first ∷ later)) → take n (first ∷ later) ≢ []
+run_filled : (first : coded.KeptVersion) (later : List coded.KeptVersion) (n : ℕ) → IsKeyRun first.key.bytes.now (take n (first ∷ later)) (drop n (first ∷ later)) → take n (first ∷ later) ≢ []
 run_filled first later n is e = is.ends first later (ap (λ xs. xs ++ drop n (first ∷ later)) (sym e) ∙ take-append-drop n (first ∷ later)) refl
 
-pub run_more : (rest : List coded.Kept) (first : coded.Kept) (n : ℕ) (runs : List (List coded.Kept)) → ((later : List coded.Kept) × (rest ≡ first ∷ later)) → IsRun first.key.bytes.now (take n rest) (drop n rest) → AreRuns (drop n rest) runs → AreRuns rest (take n rest ∷ runs)
+pub run_more : (rest : List coded.KeptVersion) (first : coded.KeptVersion) (n : ℕ) (runs : List (List coded.KeptVersion)) → ((later : List coded.KeptVersion) × (rest ≡ first ∷ later)) → IsKeyRun first.key.bytes.now (take n rest) (drop n rest) → AreRuns (drop n rest) runs → AreRuns rest (take n rest ∷ runs)
 run_more rest first n runs h is more = (
   drop n rest,
   first.key.bytes.now,
-  subst (λ (xs : List coded.Kept). IsRun first.key.bytes.now (take n xs) (drop n xs) → take n xs ≢ []) (sym h.1) (run_filled first h.0 n) is,
+  subst (λ (xs : List coded.KeptVersion). IsKeyRun first.key.bytes.now (take n xs) (drop n xs) → take n xs ≢ []) (sym h.1) (run_filled first h.0 n) is,
   sym (take-append-drop n rest),
   is,
   more,

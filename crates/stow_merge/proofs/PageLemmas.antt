@@ -14,7 +14,7 @@ use Rattle.stow_tree_model.specs.Version.{Version}
 use Rattle.stow_tree_model.proofs.Pruning.{none_in_nothing}
 use Rattle.stow_merge.specs.Cuts.{size_between, ArePages}
 use Rattle.stow_merge.specs.Pages.{read_in_order, HaveOneKey, HaveShortValues, KeysBelow, IsLeafPage, AreLeafPages}
-use Rattle.stow_merge.specs.Writing.{CanPack, CanMerge, IsShortKey, pages_at}
+use Rattle.stow_merge.specs.Writing.{CanPack, CanMerge, AreFewAndShort, pages_at}
 use Rattle.stow_merge.proofs.KeyLemmas.{KeysRise, rises_front, rises_after}
 use Rattle.stow_merge.proofs.Lists.{all_split, front_filled, split_at}
 
@@ -55,7 +55,7 @@ keys_after [] later h = h
 keys_after (key ∷ keys) later h = keys_after keys later h.3
 
 -- each key's versions are few and short
-pub keys_short : (versions before : List Version) (keys : List (List Version)) → CanMerge versions → versions ≡ before ++ read_in_order keys → KeysRise keys → AllByRecursion IsShortKey keys
+pub keys_short : (versions before : List Version) (keys : List (List Version)) → CanMerge versions → versions ≡ before ++ read_in_order keys → KeysRise keys → AllByRecursion AreFewAndShort keys
 keys_short versions before [] can e h = tt
 keys_short versions before (key ∷ keys) can e h = (
   record {

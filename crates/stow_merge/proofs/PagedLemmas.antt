@@ -11,8 +11,8 @@ use Rattle.stow_tree_model.specs.Order.{VersionsRise}
 use Rattle.stow_tree_model.specs.Version.{Version}
 use Rattle.stow_merge.specs.Cuts.{size_between, ArePages}
 use Rattle.stow_merge.specs.Pages.{read_in_order, HaveShortValues, AreLeafPages, ArePagesOf}
-use Rattle.stow_merge.specs.Writing.{versions_in, keys_in, AreRuns, AreSizes, IsShortKey, CanMerge, CanPack, pages_at, at_least_one_page}
-use Rattle.stow_merge.specs.declared.kept.Kept as coded
+use Rattle.stow_merge.specs.Writing.{versions_in, keys_in, AreRuns, AreSizes, AreFewAndShort, CanMerge, CanPack, pages_at, at_least_one_page}
+use Rattle.stow_merge.specs.declared.kept_version.KeptVersion as coded
 use Rattle.stow_merge.specs.declared.survey.Survey.{Survey}
 use Rattle.stow_merge.proofs.KeyLemmas.{KeysRise, runs_rise, runs_read}
 use Rattle.stow_merge.proofs.PageLemmas.{AreWritten, length-page, size-read, written, keys_short, can_pack}
@@ -26,17 +26,17 @@ pub record AreKeys (versions : List Version) (keys : List (List Version)) : Type
   pub rise : KeysRise keys
   pub are : read_in_order keys ≡ versions
 
-of_runs : {A : Type 0} (survey : Survey A) (keys : List (Bor (List coded.Kept))) → map (versions_in survey) (map (λ key. key.now) keys) ≡ keys_in survey keys
+of_runs : {A : Type 0} (survey : Survey A) (keys : List (Bor (List coded.KeptVersion))) → map (versions_in survey) (map (λ key. key.now) keys) ≡ keys_in survey keys
 of_runs survey [] = refl
 of_runs survey (key ∷ keys) = ap (λ vs. versions_in survey key.now ∷ vs) (of_runs survey keys)
 
-pub are_keys : {A : Type 0} (survey : Survey A) (kept : List coded.Kept) (keys : List (Bor (List coded.Kept))) → VersionsRise (versions_in survey kept) → AreRuns kept (map (λ key. key.now) keys) → AreKeys (versions_in survey kept) (keys_in survey keys)
+pub are_keys : {A : Type 0} (survey : Survey A) (kept : List coded.KeptVersion) (keys : List (Bor (List coded.KeptVersion))) → VersionsRise (versions_in survey kept) → AreRuns kept (map (λ key. key.now) keys) → AreKeys (versions_in survey kept) (keys_in survey keys)
 are_keys survey kept keys rise h = subst (AreKeys (versions_in survey kept)) (of_runs survey keys) (record {
   rise = runs_rise survey kept (map (λ key. key.now) keys) h rise;
   are = runs_read survey kept (map (λ key. key.now) keys) h;
 })
 
-pub are_short : (versions : List Version) (keys : List (List Version)) → CanMerge versions → AreKeys versions keys → AllByRecursion IsShortKey keys
+pub are_short : (versions : List Version) (keys : List (List Version)) → CanMerge versions → AreKeys versions keys → AllByRecursion AreFewAndShort keys
 are_short versions keys can h = keys_short versions [] keys can (sym h.are) h.rise
 
 small_of : (keys : List (List Version)) → AllByRecursion (λ size. size ≤ 4327440) (map (λ key. length (entries key)) keys) → AllByRecursion (λ key. length (entries key) ≤ 4327440) keys

@@ -6,8 +6,8 @@ use Rattle.std.proofs.lemmas.List.{map-append, take_more, length-take-le, drop-a
 use Rattle.stow_tree_model.specs.Op.{Op, Put, Gone, Append, bytes_in}
 use Rattle.stow_tree_model.specs.Operations.{outcome}
 use Rattle.stow_tree_model.specs.TreeMessage.{TreeMessage}
-use Rattle.stow_merge.specs.Kept.{bytes_between, value_between, start_after, kept_version}
-use Rattle.stow_merge.specs.declared.kept.Kept as coded
+use Rattle.stow_merge.specs.KeptVersion.{bytes_between, value_between, start_after, kept_version}
+use Rattle.stow_merge.specs.declared.kept_version.KeptVersion as coded
 
 -- the bytes begin at or before this place
 pub record IsBehind (start : Option ℕ) (i : ℕ) : Type 0 where
@@ -69,6 +69,6 @@ pub is_some-value : (ms : List TreeMessage) (start : Option ℕ) (i : ℕ) → i
 is_some-value ms None i = refl
 is_some-value ms (Some from) i = refl
 
-pub map_if : (ms : List TreeMessage) (b : Bool) (ks : List coded.Kept) (k : coded.Kept) → map (kept_version ms) (if b then ks ++ k ∷ [] else ks) ≡ (if b then map (kept_version ms) ks ++ kept_version ms k ∷ [] else map (kept_version ms) ks)
+pub map_if : (ms : List TreeMessage) (b : Bool) (ks : List coded.KeptVersion) (k : coded.KeptVersion) → map (kept_version ms) (if b then ks ++ k ∷ [] else ks) ≡ (if b then map (kept_version ms) ks ++ kept_version ms k ∷ [] else map (kept_version ms) ks)
 map_if ms true ks k = map-append (kept_version ms) ks (k ∷ [])
 map_if ms false ks k = refl

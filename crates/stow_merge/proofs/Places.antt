@@ -12,16 +12,16 @@ use Rattle.stow_message.specs.Rising.{IsNew}
 use Rattle.stow_page.specs.Rows.{IsCountUpTo}
 use Rattle.stow_page.proofs.Looked.{versions_rise_at}
 use Rattle.stow_tree_model.specs.Merged.{row_message}
-use Rattle.stow_tree_model.specs.Order.{Place, place_cmp, place_of, version_place, VersionsRise}
+use Rattle.stow_tree_model.specs.Order.{VersionPlace, place_cmp, place_of, version_place, VersionsRise}
 use Rattle.stow_tree_model.specs.TreeMessage.{TreeMessage}
 use Rattle.stow_tree_model.specs.Version.{Version}
 use Rattle.stow_tree_model.proofs.Orders.{place_total, place_cases}
 
 -- a version above a place, or below one that is not above it, doesn't stand there
-above_elsewhere : (place at : Place) → is_lt (place_cmp place at) ≡ true → at ≢ place
+above_elsewhere : (place at : VersionPlace) → is_lt (place_cmp place at) ≡ true → at ≢ place
 above_elsewhere place at h e = true≢false (sym h ∙ ap (λ p. is_lt (place_cmp place p)) e ∙ ap is_lt (tied_itself place_total place))
 
-below_elsewhere : (place at next : Place) → is_lt (place_cmp place next) ≡ false → place_cmp at next ≡ Less → at ≢ place
+below_elsewhere : (place at next : VersionPlace) → is_lt (place_cmp place next) ≡ false → place_cmp at next ≡ Less → at ≢ place
 below_elsewhere place at next h l e = true≢false (sym (ap is_lt (sym (ap (λ p. place_cmp p next) e) ∙ l)) ∙ h)
 
 -- where no version stands at a message's place, the message is new

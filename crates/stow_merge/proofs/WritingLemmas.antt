@@ -15,7 +15,7 @@ use Rattle.stow_tree_model.specs.Version.{Version}
 use Rattle.stow_tree_model.specs.declared.message.Message as messages
 use Rattle.stow_tree_model.proofs.Orders.{key_cases}
 use Rattle.stow_tree_model.proofs.Readings.{drop_one_less}
-use Rattle.stow_merge.specs.Kept.{bytes_between, value_between}
+use Rattle.stow_merge.specs.KeptVersion.{bytes_between, value_between}
 use Rattle.stow_merge.specs.Pages.{read_in_order}
 use Rattle.stow_merge.specs.Writing.{CanPack}
 use Rattle.stow_merge.proofs.PageLemmas.{can_front}

@@ -1,6 +1,6 @@
 pub mod PinLists
 pub mod Pins
-pub mod Kept
+pub mod KeptVersion
 pub mod Cuts
 pub mod Pages
 pub mod Writing

@@ -1,4 +1,4 @@
--- Kept versions key by key, as they are written into pages.
+-- KeptVersion versions key by key, as they are written into pages.
 use Rattle.std.specs.Prelude.{◌≡◌, ◌≢◌, ℕ, ◌<◌, ◌≤◌, ◌^◌, List, [], ◌∷◌, ◌++◌, length, map, take, drop, Some}
 use Rattle.std.specs.Borrow.{Bor}
 use Rattle.std.specs.List.{AllByRecursion}
@@ -6,34 +6,36 @@ use Rattle.stow_page.specs.Format.{entries, packed_page}
 use Rattle.stow_tree_model.specs.Order.{VersionsRise}
 use Rattle.stow_tree_model.specs.TreeMessage.{message_of}
 use Rattle.stow_tree_model.specs.Version.{Version}
-use Rattle.stow_merge.specs.Kept.{bytes_between, kept_version}
+use Rattle.stow_merge.specs.KeptVersion.{bytes_between, kept_version}
 use Rattle.stow_merge.specs.Pages.{read_in_order, HaveShortValues, HaveOneKey}
-use Rattle.stow_merge.specs.declared.kept.Kept as coded
+use Rattle.stow_merge.specs.declared.kept_version.KeptVersion as coded
 use Rattle.stow_merge.specs.declared.survey.Survey.{Survey}
 
-abbrev pub version_in : {A : Type 0} → Survey A → coded.Kept → Version
+abbrev pub version_in : {A : Type 0} → Survey A → coded.KeptVersion → Version
 version_in survey k = kept_version (map message_of survey.joined.items) k
 
-abbrev pub versions_in : {A : Type 0} → Survey A → List coded.Kept → List Version
+abbrev pub versions_in : {A : Type 0} → Survey A → List coded.KeptVersion → List Version
 versions_in survey kept = map (version_in survey) kept
 
 -- the versions of each key
-abbrev pub keys_in : {A : Type 0} → Survey A → List (Bor (List coded.Kept)) → List (List Version)
+abbrev pub keys_in : {A : Type 0} → Survey A → List (Bor (List coded.KeptVersion))
+    → List (List Version)
 keys_in survey keys = map (λ key. versions_in survey key.now) keys
 
 -- these kept versions are of the key, and the first of the others isn't
-pub record IsRun (key : List ℕ) (run rest : List coded.Kept) : Type 0 where
-  pub are_of_key : AllByRecursion (λ (k : coded.Kept). k.key.bytes.now ≡ key) run
-  pub ends : (k : coded.Kept) (later : List coded.Kept) → rest ≡ k ∷ later → key ≢ k.key.bytes.now
+pub record IsKeyRun (key : List ℕ) (run rest : List coded.KeptVersion) : Type 0 where
+  pub are_of_key : AllByRecursion (λ (k : coded.KeptVersion). k.key.bytes.now ≡ key) run
+  pub ends : (k : coded.KeptVersion) (later : List coded.KeptVersion) → rest ≡ k ∷ later
+      → key ≢ k.key.bytes.now
 
 -- kept versions key by key
-abbrev pub AreRuns : List coded.Kept → List (List coded.Kept) → Type 0
+abbrev pub AreRuns : List coded.KeptVersion → List (List coded.KeptVersion) → Type 0
 AreRuns kept [] = kept ≡ []
-AreRuns kept (run ∷ runs) = (rest : List coded.Kept) × (key : List ℕ) × (run ≢ [])
-    × (kept ≡ run ++ rest) × IsRun key run rest × AreRuns rest runs
+AreRuns kept (run ∷ runs) = (rest : List coded.KeptVersion) × (key : List ℕ) × (run ≢ [])
+    × (kept ≡ run ++ rest) × IsKeyRun key run rest × AreRuns rest runs
 
 -- where more than one message carries a version's value, the bytes are that value
-pub record IsFolded {A : Type 0} (survey : Survey A) (k : coded.Kept)
+pub record IsFolded {A : Type 0} (survey : Survey A) (k : coded.KeptVersion)
     (bytes : List ℕ) : Type 0 where
   pub are : (from : ℕ) → k.from ≡ Some from → length (drop from (take k.to survey.joined.items)) ≢ 1
       → bytes ≡ bytes_between (map message_of survey.joined.items) from k.to
@@ -45,7 +47,7 @@ pub record CanPack (versions : List Version) : Type 0 where
   pub has_room : length (packed_page versions) < 2 ^ 32
 
 -- a key's versions are as few as pins and the newest show, and short
-pub record IsShortKey (versions : List Version) : Type 0 where
+pub record AreFewAndShort (versions : List Version) : Type 0 where
   pub few : length versions ≤ 65
   pub are_short : HaveShortValues versions
 

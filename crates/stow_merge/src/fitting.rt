@@ -14,7 +14,7 @@ ghost use Rattle.stow_tree_model.specs.TreeMessage.{message_of};
 ghost use Rattle.stow_tree_model.specs.Value.{IsValue};
 
 use crate::joining::compare;
-use crate::kept::Kept;
+use crate::kept_version::KeptVersion;
 use crate::lending::{lent_messages, lent_rows};
 use crate::pins::Pins;
 use crate::survey::{Survey, between, survey_of};
@@ -93,7 +93,7 @@ fn are_short<B: Allocator + Copy>(survey: &Survey<'_, B>) -> bool
     true
 }
 
-fn is_short<B: Allocator + Copy>(survey: &Survey<'_, B>, version: Kept<'_>) -> bool
+fn is_short<B: Allocator + Copy>(survey: &Survey<'_, B>, version: KeptVersion<'_>) -> bool
     ensures { IsTrue result ↔ IsValue (version_in survey.now version.entry).value }
 {
     match version.from {

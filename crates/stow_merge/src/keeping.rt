@@ -2,14 +2,14 @@
 ghost use Rattle.std.specs.Prelude.{◌≡◌, ◌+◌, ◌<◌, ◌≤◌, ◌&&◌, ◌++◌, ◌∷◌, [], List, map, reverse, length, slice_get, IfOk, OnOk, if◌then◌else◌, nat_le, nat_lt};
 ghost use Rattle.std.specs.List.{list_any};
 ghost use Rattle.std.specs.Option.{option_map};
-ghost use Rattle.stow_merge.specs.Kept.{kept_version, start_after};
+ghost use Rattle.stow_merge.specs.KeptVersion.{kept_version, start_after};
 ghost use Rattle.stow_merge.specs.Pins.{pins_in};
 ghost use Rattle.stow_tree_model.specs.Merged.{begins_with, is_pin_within, is_kept, merged_history};
 ghost use Rattle.stow_tree_model.specs.Op.{op_of};
 ghost use Rattle.stow_tree_model.specs.Order.{MessagesRise};
 ghost use Rattle.stow_tree_model.specs.TreeMessage.{message_of};
 
-use crate::kept::Kept;
+use crate::kept_version::KeptVersion;
 use crate::pins::Pins;
 use std::alloc::{AllocError, Allocator};
 use stow_tree_model::in_order::{ends_in, nth};
@@ -22,7 +22,7 @@ pub fn keep<'a, A: Allocator + Copy, B: Allocator + Copy>(
     alloc: A,
     joined: &[Message<'a>],
     pins: &Pins<B>,
-) -> Result<Vec<Kept<'a>, A>, AllocError>
+) -> Result<Vec<KeptVersion<'a>, A>, AllocError>
     requires { MessagesRise (map message_of joined.now) }
     ensures { IfOk result (λ ks. map (kept_version (map message_of joined.now)) ks.items
         ≡ reverse (merged_history (pins_in pins.now) (reverse (map message_of joined.now)))) }
@@ -38,7 +38,7 @@ pub fn keep<'a, A: Allocator + Copy, B: Allocator + Copy>(
         let has = follows && has_older;
         let is_kept = keeps(pins, nth(joined, i + 1), message);
         let is_added = is_kept && (has || start.is_some());
-        let version = Kept {
+        let version = KeptVersion {
             key: message.key,
             number: message.number,
             from: start,
@@ -52,9 +52,9 @@ pub fn keep<'a, A: Allocator + Copy, B: Allocator + Copy>(
 
 /// Adds a version, if it is to be.
 fn add<'a, A: Allocator + Copy>(
-    kept: &mut Vec<Kept<'a>, A>,
+    kept: &mut Vec<KeptVersion<'a>, A>,
     is_added: bool,
-    version: Kept<'a>,
+    version: KeptVersion<'a>,
 ) -> Result<(), AllocError>
     ensures { OnOk result (kept.new.items
         ≡ (if is_added then kept.old.items ++ version.entry ∷ [] else kept.old.items)) }

@@ -24,7 +24,7 @@ pub mod flush_result;
 pub mod flush_target;
 pub mod joining;
 pub mod keeping;
-pub mod kept;
+pub mod kept_version;
 mod lending;
 pub mod merging;
 mod page_sizes;

@@ -1,7 +1,7 @@
 //! What a merge keeps of a leaf's rows and a batch.
 ghost use Rattle.std.specs.Prelude.{◌≡◌, ◌++◌, List, map, take, drop, IfOk, OnOk};
 ghost use Rattle.std.specs.List.{flat_map};
-ghost use Rattle.stow_merge.specs.Kept.{value_between, bytes_between, kept_version};
+ghost use Rattle.stow_merge.specs.KeptVersion.{value_between, bytes_between, kept_version};
 ghost use Rattle.stow_merge.specs.Pins.{pins_in};
 ghost use Rattle.stow_tree_model.specs.Merged.{merged};
 ghost use Rattle.stow_tree_model.specs.Op.{bytes_in};
@@ -12,7 +12,7 @@ ghost use Rattle.stow_tree_model.specs.Version.{version_of};
 
 use crate::joining::join;
 use crate::keeping::keep;
-use crate::kept::Kept;
+use crate::kept_version::KeptVersion;
 use crate::pins::Pins;
 use std::alloc::{AllocError, Allocator, Global};
 use stow_tree_model::message::Message;
@@ -22,7 +22,7 @@ use stow_tree_model::version::Version;
 #[derive(Drop)]
 pub struct Survey<'a, A: Allocator = Global> {
     pub joined: Vec<Message<'a>, A>,
-    pub kept: Vec<Kept<'a>, A>,
+    pub kept: Vec<KeptVersion<'a>, A>,
 }
 
 /// What a merge of a leaf's rows with a batch keeps under pins, in order, before any of it is written.
@@ -47,7 +47,7 @@ impl<'a, A: Allocator + Copy> Survey<'a, A> {
     /// written where the key has no value.
     pub fn append_value<B: Allocator + Copy>(
         &self,
-        version: Kept<'a>,
+        version: KeptVersion<'a>,
         bytes: &mut Vec<u8, B>,
     ) -> Result<(), AllocError>
         ensures { let joined = map message_of self.now.joined.items in

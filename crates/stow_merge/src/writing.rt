@@ -1,17 +1,17 @@
-//! Kept versions in pages.
+//! KeptVersion versions in pages.
 ghost use Rattle.std.specs.Prelude.{◌≡◌, ◌≢◌, ◌+◌, ◌<◌, ◌≤◌, ◌^◌, [], ◌∷◌, ◌++◌, length, map, take, drop, IfOk, OnOk};
 ghost use Rattle.std.specs.List.{flat_map, AllByRecursion};
 ghost use Rattle.stow_bytes.specs.Limits.{value_limit};
-ghost use Rattle.stow_merge.specs.Kept.{kept_version};
+ghost use Rattle.stow_merge.specs.KeptVersion.{kept_version};
 ghost use Rattle.stow_merge.specs.Pages.{read_in_order};
-ghost use Rattle.stow_merge.specs.Writing.{version_in, versions_in, keys_in, IsRun, AreRuns, IsFolded, CanPack, IsShortKey, AreSizes, pages_at};
+ghost use Rattle.stow_merge.specs.Writing.{version_in, versions_in, keys_in, IsKeyRun, AreRuns, IsFolded, CanPack, AreFewAndShort, AreSizes, pages_at};
 ghost use Rattle.stow_page.specs.Format.{entry, entries, tail};
 ghost use Rattle.stow_tree_model.specs.Op.{bytes_in};
 ghost use Rattle.stow_tree_model.specs.TreeMessage.{message_of};
 ghost use Rattle.stow_tree_model.specs.Value.{bytes_at, IsValue};
 ghost use Rattle.stow_tree_model.specs.Version.{version_of};
 
-use crate::kept::Kept;
+use crate::kept_version::KeptVersion;
 use crate::merging::HEADER_SIZE;
 use crate::survey::{Survey, between};
 use std::alloc::{AllocError, Allocator};
@@ -24,8 +24,8 @@ use stow_tree_model::version::Version;
 /// The kept versions key by key, lent.
 pub(crate) fn by_key<'k, A: Allocator + Copy>(
     alloc: A,
-    kept: &'k [Kept<'k>],
-) -> Result<Vec<&'k [Kept<'k>], A>, AllocError>
+    kept: &'k [KeptVersion<'k>],
+) -> Result<Vec<&'k [KeptVersion<'k>], A>, AllocError>
     ensures { IfOk result (λ keys. AreRuns kept.now (map (λ key. key.now) keys.items)) }
 {
     let mut keys = Vec::new(alloc);
@@ -40,8 +40,8 @@ pub(crate) fn by_key<'k, A: Allocator + Copy>(
 }
 
 /// How many versions at the front are of the key.
-fn run_length(key: TenantKey<'_>, kept: &[Kept<'_>]) -> usize
-    ensures run { IsRun key.entry.bytes.now (take result kept.now) (drop result kept.now) }
+fn run_length(key: TenantKey<'_>, kept: &[KeptVersion<'_>]) -> usize
+    ensures run { IsKeyRun key.entry.bytes.now (take result kept.now) (drop result kept.now) }
     ensures within { result ≤ length kept.now }
 {
     for i in 0..kept.len() {
@@ -56,9 +56,9 @@ fn run_length(key: TenantKey<'_>, kept: &[Kept<'_>]) -> usize
 pub(crate) fn sizes_of<A: Allocator + Copy, B: Allocator + Copy>(
     alloc: A,
     survey: &Survey<'_, B>,
-    keys: &[&[Kept<'_>]],
+    keys: &[&[KeptVersion<'_>]],
 ) -> Result<Vec<u32, A>, AllocError>
-    requires { AllByRecursion IsShortKey (keys_in survey.now keys.now) }
+    requires { AllByRecursion AreFewAndShort (keys_in survey.now keys.now) }
     ensures { IfOk result (λ sizes. AreSizes (keys_in survey.now keys.now) sizes.items) }
 {
     let mut sizes = Vec::new(alloc);
@@ -69,8 +69,8 @@ pub(crate) fn sizes_of<A: Allocator + Copy, B: Allocator + Copy>(
 }
 
 /// How many bytes the entries of a key's versions have.
-fn key_size<B: Allocator + Copy>(survey: &Survey<'_, B>, key: &[Kept<'_>]) -> u32
-    requires { IsShortKey (versions_in survey.now key.now) }
+fn key_size<B: Allocator + Copy>(survey: &Survey<'_, B>, key: &[KeptVersion<'_>]) -> u32
+    requires { AreFewAndShort (versions_in survey.now key.now) }
     ensures size { result ≡ length (entries (versions_in survey.now key.now)) }
     ensures small { result ≤ 4327440 }
 {
@@ -82,7 +82,7 @@ fn key_size<B: Allocator + Copy>(survey: &Survey<'_, B>, key: &[Kept<'_>]) -> u3
 }
 
 /// How many bytes a version's entry has.
-fn size_of<B: Allocator + Copy>(survey: &Survey<'_, B>, version: Kept<'_>) -> u32
+fn size_of<B: Allocator + Copy>(survey: &Survey<'_, B>, version: KeptVersion<'_>) -> u32
     requires { IsValue (version_in survey.now version).value }
     ensures size { result ≡ length (entry (version_in survey.now version.entry)) }
     ensures small { result ≤ 66576 }
@@ -91,7 +91,7 @@ fn size_of<B: Allocator + Copy>(survey: &Survey<'_, B>, version: Kept<'_>) -> u3
 }
 
 /// How many bytes the tail of a version's value has, or that of none.
-fn tail_size<B: Allocator + Copy>(survey: &Survey<'_, B>, version: Kept<'_>) -> usize
+fn tail_size<B: Allocator + Copy>(survey: &Survey<'_, B>, version: KeptVersion<'_>) -> usize
     requires { IsValue (version_in survey.now version).value }
     ensures size { result ≡ length (tail (version_in survey.now version.entry).value) }
     ensures small { result ≤ 65538 }
@@ -118,7 +118,7 @@ fn carried_size(messages: &[Message<'_>]) -> usize
 /// Folds a version's value into the bytes where more than one message carries it.
 fn fold<B: Allocator + Copy, C: Allocator + Copy>(
     survey: &Survey<'_, B>,
-    version: Kept<'_>,
+    version: KeptVersion<'_>,
     bytes: &mut Vec<u8, C>,
 ) -> Result<(), AllocError>
     ensures { OnOk result (IsFolded survey.now version.entry bytes.new.items) }
@@ -137,7 +137,7 @@ fn fold<B: Allocator + Copy, C: Allocator + Copy>(
 fn write_version<'s, A: Allocator + Copy, B: Allocator + Copy>(
     packed: &mut PackedRows<A>,
     survey: &'s Survey<'s, B>,
-    version: Kept<'s>,
+    version: KeptVersion<'s>,
     folded: &'s [u8],
 ) -> Result<(), AllocError>
     requires pack { CanPack (packed.old ++ version_in survey.now version ∷ []) }
@@ -155,7 +155,7 @@ fn write_version<'s, A: Allocator + Copy, B: Allocator + Copy>(
 /// A kept version's value, lent.
 fn value_of<'s, B: Allocator + Copy>(
     survey: &'s Survey<'s, B>,
-    version: Kept<'s>,
+    version: KeptVersion<'s>,
     folded: &'s [u8],
 ) -> Option<&'s [u8]>
     requires { IsFolded survey.now version folded.now }
@@ -184,7 +184,7 @@ fn carried_or<'s>(messages: &'s [Message<'s>], folded: &'s [u8]) -> &'s [u8]
 fn write_key<A: Allocator + Copy, B: Allocator + Copy>(
     packed: &mut PackedRows<A>,
     survey: &Survey<'_, B>,
-    key: &[Kept<'_>],
+    key: &[KeptVersion<'_>],
     folded: &mut Vec<u8, A>,
 ) -> Result<(), AllocError>
     requires { CanPack (packed.old ++ versions_in survey.now key.now) }
@@ -199,7 +199,7 @@ fn write_key<A: Allocator + Copy, B: Allocator + Copy>(
 }
 
 /// How many versions keys have.
-fn count_of(keys: &[&[Kept<'_>]]) -> usize {
+fn count_of(keys: &[&[KeptVersion<'_>]]) -> usize {
     let mut count = 0usize;
     for i in 0..keys.len() {
         count = count.saturating_add(keys[i].len());
@@ -221,7 +221,7 @@ fn page_size(sizes: &[u32], from: usize, to: usize) -> usize {
 fn write_page<A: Allocator + Copy, B: Allocator + Copy>(
     alloc: A,
     survey: &Survey<'_, B>,
-    keys: &[&[Kept<'_>]],
+    keys: &[&[KeptVersion<'_>]],
     size: usize,
     folded: &mut Vec<u8, A>,
 ) -> Result<Rows<A>, AllocError>
@@ -239,7 +239,7 @@ fn write_page<A: Allocator + Copy, B: Allocator + Copy>(
 pub(crate) fn write_pages<A: Allocator + Copy, B: Allocator + Copy>(
     alloc: A,
     survey: &Survey<'_, B>,
-    keys: &[&[Kept<'_>]],
+    keys: &[&[KeptVersion<'_>]],
     ends: &[usize],
     sizes: &[u32],
 ) -> Result<Vec<Rows<A>, A>, AllocError>

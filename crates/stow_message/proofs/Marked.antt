@@ -9,7 +9,7 @@ use Rattle.std.proofs.lemmas.Nat.Bits.{same_from_bits, bit_at_and, bit_at_or}
 use Rattle.std.specs.Prelude.{min, max}
 use Rattle.std.specs.Int.{bit_at}
 use Rattle.std.specs.Int.Bits.{bit_and, bit_or, and_self}
-use Rattle.stow_message.specs.Filter.{hash, marks_of, is_marked, may_have, Keeps, IsWordCount}
+use Rattle.stow_message.specs.Filter.{hash, marks_of, is_marked, may_have, KeepsMarks, IsWordCount}
 
 -- marks stay set as others come beside them
 still_marked : (word more marks : ℕ) → bit_and word marks ≡ marks → bit_and (bit_or word more) marks ≡ marks
@@ -36,7 +36,7 @@ module _ (words : List ℕ) (i x more : ℕ) (within : i < length words) (is : x
   same_length : length new ≡ length words
   same_length = ap length e ∙ length-set words i x
 
-  pub marks_stay : Keeps words new
+  pub marks_stay : KeepsMarks words new
   marks_stay key h = let h' = hash key in let marks = marks_of h' in let d = marks in
       subst (λ (p : List ℕ × ℕ). is_marked (get_or p.0 (h' % p.1) d) marks ≡ true) (sym (λ j. (e j, same_length j)))
       (set_keeps (λ w. is_marked w marks ≡ true) words i x (h' % length words) d
@@ -63,7 +63,7 @@ twice_tells words k e h d = let both = length (words ++ words) in
     let some : 0 < length words = omega (arith, e, pow_pos k) in
     at_twice words (h % both) d (omega (arith, mod_below h both (omega (arith, length-append words words, some)), length-append words words)) ∙ ap (λ j. get_or words j d) low
 
-pub twice_keeps : (words : List ℕ) → IsWordCount (length words) → Keeps words (words ++ words)
+pub twice_keeps : (words : List ℕ) → IsWordCount (length words) → KeepsMarks words (words ++ words)
 twice_keeps words (inl none) key h = sym (all_may_be (words ++ words) key (omega (arith, length-append words words, none)))
 twice_keeps words (inr p) key h = let marks = marks_of (hash key) in
     ap (λ w. is_marked w marks) (twice_tells words p.0 p.1 (hash key) marks) ∙ h

@@ -8,7 +8,7 @@ use Rattle.stow_tree_model.specs.TreeMessage.{TreeMessage}
 use Rattle.stow_tree_model.specs.Order.{place_of, MessagesRise}
 use Rattle.stow_raw.specs.RawBuf.{RawLists, raw_lists, raw_used}
 use Rattle.stow_message.specs.Packed.{message_bytes, message_size, IsMessage, message_at, BeginsWith, all_bytes, places_from}
-use Rattle.stow_message.specs.MessageBuf.{MessageList, message_list, messages_in, messages_from, IsFilled, IsFilledFrom}
+use Rattle.stow_message.specs.MessageBuf.{MessageList, message_list, messages_in, messages_from, IsPackedBuffer, IsFilledFrom}
 use Rattle.stow_message.specs.Rising.{is_first_below, below, all_placed, AreNew}
 use Rattle.stow_message.proofs.Reading.{length-message_bytes}
 use Rattle.stow_message.proofs.Pushed.{all_still_there, all_still_read, slots_of_messages}
@@ -77,7 +77,7 @@ module _ (raw : RawLists) (run : List TreeMessage) where
     within = (omega arith, omega arith, omega arith);
   }
 
-  module _ (h : IsFilled raw) (ok : AllByRecursion IsMessage run) where
+  module _ (h : IsPackedBuffer raw) (ok : AllByRecursion IsMessage run) where
     pub begin_there : AllByRecursion (λ slot. BeginsWith (drop slot front)) slots
     begin_there = all_merged (λ slot. BeginsWith (drop slot front)) at places raw.slots (places_begin raw.front run ok) (all_still_there raw.front (all_bytes run) raw.slots h.whole)
 
@@ -193,7 +193,7 @@ module _ (raw : RawLists) (run : List TreeMessage) where
       pub whole_used : raw_used whole ≡ raw_used raw + sum_by message_size run
       whole_used = omega (arith, length-append raw.front (all_bytes run), length-slots, all_sizes run)
 
-      pub whole_filled : raw_used raw + sum_by message_size run ≤ raw.capacity → IsFilled whole
+      pub whole_filled : raw_used raw + sum_by message_size run ≤ raw.capacity → IsPackedBuffer whole
       whole_filled fits = record {
         whole = begin_there;
         rising = subst MessagesRise (sym whole_messages) (all_placed_rises run (messages_in raw) rise h.rising (all_other run (messages_in raw) new));
@@ -204,7 +204,7 @@ module _ (raw : RawLists) (run : List TreeMessage) where
 -- the same of a buffer that was seen as v
 pub record Filling (v : MessageList) (run : List TreeMessage) (now : RawLists) (n o k here : ℕ) : Type 0 where
   pub raw : RawLists
-  pub filled : IsFilled raw
+  pub filled : IsPackedBuffer raw
   pub seen : message_list (messages_in raw) (raw_used raw) raw.capacity ≡ v
   pub merging : Merging raw run now n o k here
 
@@ -212,7 +212,7 @@ module _ (v : MessageList) (run : List TreeMessage) (room : v.used + sum_by mess
   ok : AllByRecursion IsMessage run
   ok = all_by IsMessage run valid
 
-  pub filling : (raw : RawLists) → IsFilled raw → message_list (messages_in raw) (raw_used raw) raw.capacity ≡ v → (r₁ r₂ : RawLists) → r₁ ≡ raw_lists (raw.front ++ all_bytes run) raw.slots raw.capacity
+  pub filling : (raw : RawLists) → IsPackedBuffer raw → message_list (messages_in raw) (raw_used raw) raw.capacity ≡ v → (r₁ r₂ : RawLists) → r₁ ≡ raw_lists (raw.front ++ all_bytes run) raw.slots raw.capacity
       → (n : ℕ) → n ≡ length run → r₂ ≡ raw_lists r₁.front (replicate n 0 ++ r₁.slots) r₁.capacity → (here : ℕ) → here ≡ length raw.front → Filling v run r₂ 0 n 0 here
   filling raw h seen r₁ r₂ e n is f here g = record {
     raw = raw;
@@ -299,8 +299,8 @@ module _ (v : MessageList) (run : List TreeMessage) (room : v.used + sum_by mess
       is_whole : now ≡ whole w.raw run
       is_whole = whole_is w.raw run w.filled ok now n o k here w.merging past
 
-      pub now_filled : IsFilled now
-      now_filled = subst IsFilled (sym is_whole) (whole_filled w.raw run w.filled ok rise are_new (omega (arith, same_used, same_capacity, room)))
+      pub now_filled : IsPackedBuffer now
+      now_filled = subst IsPackedBuffer (sym is_whole) (whole_filled w.raw run w.filled ok rise are_new (omega (arith, same_used, same_capacity, room)))
 
       pub now_seen : message_list (messages_in now) (raw_used now) now.capacity ≡ message_list (all_placed run v.messages) (v.used + sum_by message_size run) v.capacity
       now_seen = ap (λ (r : RawLists). message_list (messages_in r) (raw_used r) r.capacity) is_whole

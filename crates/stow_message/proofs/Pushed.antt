@@ -9,7 +9,7 @@ use Rattle.stow_tree_model.specs.declared.message.Message as coded
 use Rattle.stow_tree_model.specs.Order.{place_of, MessagesRise}
 use Rattle.stow_raw.specs.RawBuf.{RawLists, raw_lists, raw_used}
 use Rattle.stow_message.specs.Packed.{head_of, message_bytes, message_size, IsMessage, message_at, BeginsWith}
-use Rattle.stow_message.specs.MessageBuf.{MessageList, message_list, Fits, with_message, messages_in, IsFilled}
+use Rattle.stow_message.specs.MessageBuf.{MessageList, message_list, Fits, with_message, messages_in, IsPackedBuffer}
 use Rattle.stow_message.specs.Rising.{below, placed, IsNew}
 use Rattle.stow_message.proofs.Reading.{length-message_bytes, message_read}
 use Rattle.stow_message.proofs.Stored.{room, read_is}
@@ -57,7 +57,7 @@ length-insert (y ∷ ys) (suc i) x = ap suc (length-insert ys i x)
 pub slots_of_messages : (raw : RawLists) → length (messages_in raw) ≡ length raw.slots
 slots_of_messages raw = length-map raw.slots (λ slot. message_at (drop slot raw.front))
 
-module _ (raw : RawLists) (h : IsFilled raw) (m : TreeMessage) (ok : IsMessage m) where
+module _ (raw : RawLists) (h : IsPackedBuffer raw) (m : TreeMessage) (ok : IsMessage m) where
   abbrev pub pushed : RawLists
   pushed = raw_lists (raw.front ++ message_bytes m) (insert raw.slots (below (place_of m) (messages_in raw)) (length raw.front)) raw.capacity
 
@@ -74,7 +74,7 @@ module _ (raw : RawLists) (h : IsFilled raw) (m : TreeMessage) (ok : IsMessage m
   pushed_used = let i = below (place_of m) (messages_in raw) in
       omega (arith, length-append raw.front (message_bytes m), length-message_bytes m, length-insert raw.slots i (length raw.front))
 
-  pub pushed_filled : IsNew m (messages_in raw) → raw_used raw + message_size m ≤ raw.capacity → IsFilled pushed
+  pub pushed_filled : IsNew m (messages_in raw) → raw_used raw + message_size m ≤ raw.capacity → IsPackedBuffer pushed
   pushed_filled new fits = let i = below (place_of m) (messages_in raw) in record {
     whole = all_insert (λ slot. BeginsWith (drop slot (raw.front ++ message_bytes m))) raw.slots i (length raw.front) (all_still_there raw.front (message_bytes m) raw.slots h.whole) begins_here;
     rising = subst MessagesRise (sym pushed_messages) (placed_rises m (messages_in raw) h.rising new);
@@ -97,11 +97,11 @@ module _ (raw : RawLists) (h : IsFilled raw) (m : TreeMessage) (ok : IsMessage m
 -- a push into a block: its message's bytes stand at the front, and its slot comes
 pub record Push (raw r : RawLists) (v : MessageList) (m : TreeMessage) (index : ℕ) : Type 0 where
   pub room : (index ≤ length r.slots) × (raw_used r + 4 ≤ r.capacity)
-  pub filled : (last : RawLists) (at : ℕ) → at ≡ length raw.front → last ≡ raw_lists r.front (insert r.slots index at) r.capacity → IsFilled last
+  pub filled : (last : RawLists) (at : ℕ) → at ≡ length raw.front → last ≡ raw_lists r.front (insert r.slots index at) r.capacity → IsPackedBuffer last
   pub is : (last : RawLists) (at : ℕ) → at ≡ length raw.front → last ≡ raw_lists r.front (insert r.slots index at) r.capacity
       → message_list (messages_in last) (raw_used last) last.capacity ≡ with_message m v
 
-module _ (raw : RawLists) (h : IsFilled raw) (v : MessageList) (view : message_list (messages_in raw) (raw_used raw) raw.capacity ≡ v) (message : coded.Message) (asked : Fits v (message_of message) × IsNew (message_of message) v.messages) where
+module _ (raw : RawLists) (h : IsPackedBuffer raw) (v : MessageList) (view : message_list (messages_in raw) (raw_used raw) raw.capacity ≡ v) (message : coded.Message) (asked : Fits v (message_of message) × IsNew (message_of message) v.messages) where
   abbrev lent : TreeMessage
   lent = message_of message
 
@@ -127,7 +127,7 @@ module _ (raw : RawLists) (h : IsFilled raw) (v : MessageList) (view : message_l
     pub push : Push raw r v lent index
     push = record {
       room = (omega (arith, here, below_within (place_of lent) (messages_in raw), slots_of_messages raw, ap length (slots_same raw h lent is_valid r e)), slot_fits raw h lent is_valid r e fits);
-      filled = λ last at f g. subst IsFilled (sym (last_is last at f g)) (pushed_filled raw h lent is_valid new_here fits);
+      filled = λ last at f g. subst IsPackedBuffer (sym (last_is last at f g)) (pushed_filled raw h lent is_valid new_here fits);
       is = λ last at f g. ap (λ (b : RawLists). message_list (messages_in b) (raw_used b) b.capacity) (last_is last at f g)
           ∙ (λ j. message_list (pushed_messages raw h lent is_valid j) (pushed_used raw h lent is_valid j) raw.capacity)
           ∙ ap (with_message lent) view;
@@ -142,6 +142,6 @@ module _ (raw r₁ r₂ r₃ : RawLists) (m : TreeMessage) (hs vs : List ℕ) (e
       e₃ ∙ (λ i. raw_lists ((e₂ i).front ++ vs) (e₂ i).slots (e₂ i).capacity) ∙ (λ i. raw_lists (((e₁ i).front ++ m.key) ++ vs) (e₁ i).slots (e₁ i).capacity)
       ∙ ap (λ l. raw_lists l raw.slots raw.capacity) (append_assoc (raw.front ++ hs) m.key vs ∙ append_assoc raw.front hs (m.key ++ vs) ∙ (λ i. raw.front ++ (head i ++ (m.key ++ value i))))
 
-pub empty_filled : (capacity : ℕ) → capacity < 4294967296 → IsFilled (raw_lists [] [] capacity)
+pub empty_filled : (capacity : ℕ) → capacity < 4294967296 → IsPackedBuffer (raw_lists [] [] capacity)
 unfolding IsStrictlySortedBy
 empty_filled capacity small = record { whole = tt; rising = tt; live = omega arith; within = (omega arith, small) }

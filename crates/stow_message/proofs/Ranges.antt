@@ -9,7 +9,7 @@ use Rattle.std.specs.List.Sorted.{IsStrictlySortedBy}
 use Rattle.stow_bytes.specs.Bytes.{bytes_cmp}
 use Rattle.stow_bytes.specs.Limits.{number_limit}
 use Rattle.stow_tree_model.specs.TreeMessage.{TreeMessage}
-use Rattle.stow_tree_model.specs.Order.{Place, place_cmp, place_of, MessagesRise}
+use Rattle.stow_tree_model.specs.Order.{VersionPlace, place_cmp, place_of, MessagesRise}
 use Rattle.stow_message.specs.Packed.{IsMessage}
 use Rattle.stow_message.specs.Rising.{is_below, below, of_key, is_between, in_range, out_of_range}
 use Rattle.stow_message.proofs.RisingLists.{below_within, no_path, lt_is, place_total, all_by}
@@ -19,33 +19,33 @@ and_false true = refl
 and_false false = refl
 
 -- below a place no more, never again
-abbrev Ended : Place → List TreeMessage → Type 0
+abbrev Ended : VersionPlace → List TreeMessage → Type 0
 Ended p ms = AllByRecursion (λ m. is_below p m ≡ false) ms
 
-not_again : (p : Place) (n m : TreeMessage) → place_cmp (place_of n) (place_of m) ≡ Less → is_below p n ≡ false → is_below p m ≡ false
+not_again : (p : VersionPlace) (n m : TreeMessage) → place_cmp (place_of n) (place_of m) ≡ Less → is_below p n ≡ false → is_below p m ≡ false
 not_again p n m less e = step (is_below p m) refl where
   step : (b : Bool) → b ≡ is_below p m → b ≡ false
   step true h = absurd (no_path (sym e ∙ ap is_lt (place_total.trans (place_of n) (place_of m) p less (lt_is (place_cmp (place_of m) p) (sym h)))))
   step false h = refl
 
-ended : (p : Place) (n : TreeMessage) (ns : List TreeMessage) → MessagesRise (n ∷ ns) → is_below p n ≡ false → Ended p ns
+ended : (p : VersionPlace) (n : TreeMessage) (ns : List TreeMessage) → MessagesRise (n ∷ ns) → is_below p n ≡ false → Ended p ns
 unfolding IsStrictlySortedBy
 ended p n [] up e = tt
 ended p n (m ∷ ms) up e = (not_again p n m up.0.0 e, ended p n ms (up.0.1, up.1.1) e)
 
-none_below : (p : Place) (ms : List TreeMessage) → Ended p ms → below p ms ≡ 0
+none_below : (p : VersionPlace) (ms : List TreeMessage) → Ended p ms → below p ms ≡ 0
 none_below p [] h = refl
 none_below p (m ∷ ms) h = ap (λ b. if b then suc (below p ms) else 0) h.0
 
-abbrev pub is_from_to : Place → Place → TreeMessage → Bool
+abbrev pub is_from_to : VersionPlace → VersionPlace → TreeMessage → Bool
 is_from_to p q m = not (is_below p m) && is_below q m
 
-none_kept : (p q : Place) (ms : List TreeMessage) → Ended q ms → filter (is_from_to p q) ms ≡ []
+none_kept : (p q : VersionPlace) (ms : List TreeMessage) → Ended q ms → filter (is_from_to p q) ms ≡ []
 none_kept p q [] h = refl
 none_kept p q (m ∷ ms) h = ap (λ b. if b then m ∷ filter (is_from_to p q) ms else filter (is_from_to p q) ms) (ap (λ b. not (is_below p m) && b) h.0 ∙ and_false (not (is_below p m))) ∙ none_kept p q ms h.1
 
 -- one more message before the others
-from_to_step : (p q : Place) (n : TreeMessage) (ns : List TreeMessage) (a b : Bool) → (a ≡ false → below p ns ≡ 0) → (b ≡ false → filter (is_from_to p q) ns ≡ []) → take (below q ns - below p ns) (drop (below p ns) ns) ≡ filter (is_from_to p q) ns
+from_to_step : (p q : VersionPlace) (n : TreeMessage) (ns : List TreeMessage) (a b : Bool) → (a ≡ false → below p ns ≡ 0) → (b ≡ false → filter (is_from_to p q) ns ≡ []) → take (below q ns - below p ns) (drop (below p ns) ns) ≡ filter (is_from_to p q) ns
     → take ((if b then suc (below q ns) else 0) - (if a then suc (below p ns) else 0)) (drop (if a then suc (below p ns) else 0) (n ∷ ns)) ≡ (if (not a && b) then n ∷ filter (is_from_to p q) ns else filter (is_from_to p q) ns)
 from_to_step p q n ns true true first last on = let i = below p ns in let j = below q ns in let less : suc j - suc i ≡ j - i = omega arith in ap (λ k. take k (drop i ns)) less ∙ on
 from_to_step p q n ns true false first last on = let i = below p ns in let none : 0 - suc i ≡ 0 = omega arith in ap (λ k. take k (drop i ns)) none ∙ sym (last refl)
@@ -53,23 +53,23 @@ from_to_step p q n ns false true first last on = let j = below q ns in let all :
     ap (λ k. take k (n ∷ ns)) whole ∙ ap (λ l. n ∷ l) (ap (λ k. take k ns) (sym all) ∙ ap (λ i. take (j - i) (drop i ns)) (sym (first refl)) ∙ on)
 from_to_step p q n ns false false first last on = sym (last refl)
 
-pub from_to : (p q : Place) (ms : List TreeMessage) → MessagesRise ms → take (below q ms - below p ms) (drop (below p ms) ms) ≡ filter (is_from_to p q) ms
+pub from_to : (p q : VersionPlace) (ms : List TreeMessage) → MessagesRise ms → take (below q ms - below p ms) (drop (below p ms) ms) ≡ filter (is_from_to p q) ms
 unfolding IsStrictlySortedBy
 from_to p q [] up = refl
 from_to p q (n ∷ ns) up = from_to_step p q n ns (is_below p n) (is_below q n) (λ e. none_below p ns (ended p n ns up e)) (λ e. none_kept p q ns (ended q n ns up e)) (from_to p q ns up.1)
 
-from_to_clipped : (p q : Place) (ms : List TreeMessage) (lo hi : ℕ) → lo ≡ below p ms → hi ≡ max (below q ms) lo → MessagesRise ms → take (hi - lo) (drop lo ms) ≡ filter (is_from_to p q) ms
+from_to_clipped : (p q : VersionPlace) (ms : List TreeMessage) (lo hi : ℕ) → lo ≡ below p ms → hi ≡ max (below q ms) lo → MessagesRise ms → take (hi - lo) (drop lo ms) ≡ filter (is_from_to p q) ms
 from_to_clipped p q ms lo hi e f up = let less : hi - lo ≡ below q ms - below p ms = omega arith in
     ap (λ k. take k (drop lo ms)) less ∙ ap (λ j. take (below q ms - below p ms) (drop j ms)) e ∙ from_to p q ms up
 
-abbrev is_outside : Place → Place → TreeMessage → Bool
+abbrev is_outside : VersionPlace → VersionPlace → TreeMessage → Bool
 is_outside p q m = not (is_from_to p q m)
 
-all_kept : (p q : Place) (ms : List TreeMessage) → Ended q ms → filter (is_outside p q) ms ≡ ms
+all_kept : (p q : VersionPlace) (ms : List TreeMessage) → Ended q ms → filter (is_outside p q) ms ≡ ms
 all_kept p q [] h = refl
 all_kept p q (m ∷ ms) h = ap (λ b. if not b then m ∷ filter (is_outside p q) ms else filter (is_outside p q) ms) (ap (λ b. not (is_below p m) && b) h.0 ∙ and_false (not (is_below p m))) ∙ ap (λ l. m ∷ l) (all_kept p q ms h.1)
 
-outside_step : (p q : Place) (n : TreeMessage) (ns : List TreeMessage) (a b : Bool) → (a ≡ false → below p ns ≡ 0) → (b ≡ false → filter (is_outside p q) ns ≡ ns)
+outside_step : (p q : VersionPlace) (n : TreeMessage) (ns : List TreeMessage) (a b : Bool) → (a ≡ false → below p ns ≡ 0) → (b ≡ false → filter (is_outside p q) ns ≡ ns)
     → remove_range ns (below p ns) (max (below q ns) (below p ns)) ≡ filter (is_outside p q) ns
     → remove_range (n ∷ ns) (if a then suc (below p ns) else 0) (max (if b then suc (below q ns) else 0) (if a then suc (below p ns) else 0)) ≡ (if not (not a && b) then n ∷ filter (is_outside p q) ns else filter (is_outside p q) ns)
 outside_step p q n ns true true first last on = let i = below p ns in let j = below q ns in let more : max (suc j) (suc i) ≡ suc (max j i) = omega arith in
@@ -80,7 +80,7 @@ outside_step p q n ns false true first last on = let j = below q ns in let more 
     ap (λ k. drop k (n ∷ ns)) more ∙ ap (λ k. drop k ns) (sym same) ∙ ap (λ i. remove_range ns i (max j i)) (sym (first refl)) ∙ on
 outside_step p q n ns false false first last on = ap (λ l. n ∷ l) (sym (last refl))
 
-outside : (p q : Place) (ms : List TreeMessage) → MessagesRise ms → remove_range ms (below p ms) (max (below q ms) (below p ms)) ≡ filter (is_outside p q) ms
+outside : (p q : VersionPlace) (ms : List TreeMessage) → MessagesRise ms → remove_range ms (below p ms) (max (below q ms) (below p ms)) ≡ filter (is_outside p q) ms
 unfolding IsStrictlySortedBy
 outside p q [] up = refl
 outside p q (n ∷ ns) up = outside_step p q n ns (is_below p n) (is_below q n) (λ e. none_below p ns (ended p n ns up e)) (λ e. all_kept p q ns (ended q n ns up e)) (outside p q ns up.1)
@@ -109,7 +109,7 @@ range_is from to ms lo hi e f up = from_to_clipped (from, 0) (to, 0) ms lo hi e 
 
 -- the messages of the other keys
 pub rest_is : (from to : List ℕ) (ms : List TreeMessage) (lo hi : ℕ) → lo ≡ below (from, 0) ms → hi ≡ max (below (to, 0) ms) lo → MessagesRise ms → remove_range ms lo hi ≡ out_of_range from to ms
-rest_is from to ms lo hi e f up = let p : Place = (from, 0) in let q : Place = (to, 0) in
+rest_is from to ms lo hi e f up = let p : VersionPlace = (from, 0) in let q : VersionPlace = (to, 0) in
     ap (remove_range ms lo) f ∙ ap (λ k. remove_range ms k (max (below q ms) k)) e ∙ outside p q ms up
     ∙ filter_same (is_outside p q) (λ m. not (is_between from to m)) ms (every (λ m. is_outside p q m ≡ not (is_between from to m)) ms
     (λ m i. not (not (below_key_by m.number (bytes_cmp m.key from) i) && below_key_by m.number (bytes_cmp m.key to) i)))
@@ -138,7 +138,7 @@ length-filter f (m ∷ ms) = step (f m) (length-filter f ms) where
   step true on = omega arith
   step false on = omega arith
 
-pub above_filter : (p : Place) (f : TreeMessage → Bool) (ms : List TreeMessage) → AllByRecursion (λ q. place_cmp p q ≡ Less) (map place_of ms) → AllByRecursion (λ q. place_cmp p q ≡ Less) (map place_of (filter f ms))
+pub above_filter : (p : VersionPlace) (f : TreeMessage → Bool) (ms : List TreeMessage) → AllByRecursion (λ q. place_cmp p q ≡ Less) (map place_of ms) → AllByRecursion (λ q. place_cmp p q ≡ Less) (map place_of (filter f ms))
 above_filter p f [] h = tt
 above_filter p f (m ∷ ms) h = step (f m) (above_filter p f ms h.1) where
   step : (b : Bool) → AllByRecursion (λ q. place_cmp p q ≡ Less) (map place_of (filter f ms)) → AllByRecursion (λ q. place_cmp p q ≡ Less) (map place_of (if b then m ∷ filter f ms else filter f ms))

@@ -6,10 +6,10 @@ use Rattle.std.specs.List.{AllByRecursion, remove_range, sum_by, take-map, drop-
 use Rattle.std.specs.declared.cmp.Ordering.TheVariants.{Less}
 use Rattle.std.specs.List.Sorted.{IsStrictlySortedBy}
 use Rattle.stow_tree_model.specs.TreeMessage.{TreeMessage}
-use Rattle.stow_tree_model.specs.Order.{Place, place_cmp, place_of, MessagesRise}
+use Rattle.stow_tree_model.specs.Order.{VersionPlace, place_cmp, place_of, MessagesRise}
 use Rattle.stow_raw.specs.RawBuf.{RawLists, raw_lists, raw_used}
 use Rattle.stow_message.specs.Packed.{message_size, message_at, BeginsWith}
-use Rattle.stow_message.specs.MessageBuf.{messages_in, IsFilled}
+use Rattle.stow_message.specs.MessageBuf.{messages_in, IsPackedBuffer}
 
 pub all_dropped : {X : Type 0} (P : X → Type 0) (xs : List X) (j : ℕ) → AllByRecursion P xs → AllByRecursion P (drop j xs)
 all_dropped P xs zero h = h
@@ -26,13 +26,13 @@ all_removed P (x ∷ xs) (suc i) (suc j) le h = (h.0, all_removed P xs i j (omeg
 map-removed : {X Y : Type 0} (f : X → Y) (xs : List X) (i j : ℕ) → map f (remove_range xs i j) ≡ remove_range (map f xs) i j
 map-removed f xs i j = map-append f (take i xs) (drop j xs) ∙ (λ k. sym (take-map f i xs) k ++ sym (drop-map f j xs) k)
 
-sorted_dropped : (ps : List Place) (j : ℕ) → IsStrictlySortedBy place_cmp ps → IsStrictlySortedBy place_cmp (drop j ps)
+sorted_dropped : (ps : List VersionPlace) (j : ℕ) → IsStrictlySortedBy place_cmp ps → IsStrictlySortedBy place_cmp (drop j ps)
 unfolding IsStrictlySortedBy
 sorted_dropped ps zero h = h
 sorted_dropped [] (suc j) h = h
 sorted_dropped (p ∷ ps) (suc j) h = sorted_dropped ps j h.1
 
-sorted_removed : (ps : List Place) (i j : ℕ) → i ≤ j → IsStrictlySortedBy place_cmp ps → IsStrictlySortedBy place_cmp (remove_range ps i j)
+sorted_removed : (ps : List VersionPlace) (i j : ℕ) → i ≤ j → IsStrictlySortedBy place_cmp ps → IsStrictlySortedBy place_cmp (remove_range ps i j)
 unfolding IsStrictlySortedBy
 sorted_removed ps zero j le h = sorted_dropped ps j h
 sorted_removed [] (suc i) zero le h = tt
@@ -62,7 +62,7 @@ rest_sizes ms i k le = let mid = take k (drop i ms) in
       length-drop i ms,
     )
 
-module _ (raw : RawLists) (h : IsFilled raw) (i k : ℕ) (le : i + k ≤ length raw.slots) where
+module _ (raw : RawLists) (h : IsPackedBuffer raw) (i k : ℕ) (le : i + k ≤ length raw.slots) where
   abbrev pub removed : RawLists
   removed = raw_lists raw.front (remove_range raw.slots i (i + k)) raw.capacity
 
@@ -72,7 +72,7 @@ module _ (raw : RawLists) (h : IsFilled raw) (i k : ℕ) (le : i + k ≤ length 
   pub removed_used : raw_used removed + 4 * k ≡ raw_used raw
   removed_used = omega (arith, length-append (take i raw.slots) (drop (i + k) raw.slots), length-take i raw.slots, length-drop (i + k) raw.slots)
 
-  pub removed_filled : IsFilled removed
+  pub removed_filled : IsPackedBuffer removed
   removed_filled = let long = length-map raw.slots (λ slot. message_at (drop slot raw.front)) in let less : i ≤ i + k = omega arith in record {
     whole = all_removed (λ slot. BeginsWith (drop slot raw.front)) raw.slots i (i + k) less h.whole;
     rising = subst MessagesRise (sym removed_messages) (rest_rises (messages_in raw) i (i + k) less h.rising);

@@ -5,7 +5,7 @@ use Rattle.std.specs.Ordering.{is_lt, ordering_reverse}
 use Rattle.std.specs.List.{Contains, filter}
 use Rattle.std.specs.List.Sorted.{IsStrictlySortedBy}
 use Rattle.stow_tree_model.specs.TreeMessage.{TreeMessage}
-use Rattle.stow_tree_model.specs.Order.{Place, place_of, MessagesRise}
+use Rattle.stow_tree_model.specs.Order.{VersionPlace, place_of, MessagesRise}
 use Rattle.stow_message.specs.Laws.{PlacedRises, AllPlacedRise, AllPlacedHold, RangeAndRest, MoveKeepsAll, TakenAndRest, RestsRise, SizesAddUp}
 use Rattle.stow_message.specs.Rising.{is_below, is_same, is_first, placed, all_placed, is_between, in_range, out_of_range, without}
 use Rattle.stow_message.proofs.Placed.{itself, merged, put_in, merged_is, all_placed_rises, all_other, sum-all_placed}
@@ -34,7 +34,7 @@ split f (m ∷ ms) up = step (f m) (split f ms up.1) where
 pub range_and_rest : RangeAndRest
 range_and_rest from to ms up = sym (merged_is (in_range from to ms) (out_of_range from to ms) (filter_rises (is_between from to) ms up)) ∙ split (is_between from to) ms up
 
-above_kept : (p : Place) (bs ms : List TreeMessage) → AllAbove p ms → AllAbove p (kept itself bs ms)
+above_kept : (p : VersionPlace) (bs ms : List TreeMessage) → AllAbove p ms → AllAbove p (kept itself bs ms)
 above_kept p bs [] h = tt
 above_kept p bs (m ∷ ms) h = step (is_first m bs) (above_kept p (drop 1 bs) ms h.1) (above_kept p bs ms h.1) where
   step : (t : Bool) → AllAbove p (kept itself (drop 1 bs) ms) → AllAbove p (kept itself bs ms) → AllAbove p (if t then kept itself (drop 1 bs) ms else m ∷ kept itself bs ms)

@@ -10,13 +10,13 @@ use Rattle.std.specs.List.Sorted.{IsStrictlySortedBy}
 use Rattle.std.proofs.lemmas.Cmp.{nat_cmp_total, nat_list_cmp_total, on_total, then_total}
 use Rattle.std.proofs.lemmas.List.Sums.{sum_by-cons}
 use Rattle.stow_tree_model.specs.TreeMessage.{TreeMessage}
-use Rattle.stow_tree_model.specs.Order.{Place, place_cmp, place_of, MessagesRise}
+use Rattle.stow_tree_model.specs.Order.{VersionPlace, place_cmp, place_of, MessagesRise}
 use Rattle.stow_message.proofs.Stored.{all_at}
 use Rattle.stow_message.specs.Packed.{message_size}
 use Rattle.stow_message.specs.Rising.{is_below, below, placed, IsNew}
 
 pub place_total : IsTotalOrder place_cmp
-place_total = then_total (on_total (λ (p : Place). p.0) nat_list_cmp_total) (on_total (λ (p : Place). p.1) nat_cmp_total)
+place_total = then_total (on_total (λ (p : VersionPlace). p.0) nat_list_cmp_total) (on_total (λ (p : VersionPlace). p.1) nat_cmp_total)
 
 -- the message is put where those below it end
 placed_step : (m n : TreeMessage) (ns : List TreeMessage) (b : Bool) → insert ns (below (place_of m) ns) m ≡ placed m ns
@@ -28,7 +28,7 @@ pub placed_is : (m : TreeMessage) (ms : List TreeMessage) → insert ms (below (
 placed_is m [] = refl
 placed_is m (n ∷ ns) = placed_step m n ns (is_below (place_of m) n) (placed_is m ns)
 
-pub below_within : (p : Place) (ms : List TreeMessage) → below p ms ≤ length ms
+pub below_within : (p : VersionPlace) (ms : List TreeMessage) → below p ms ≤ length ms
 below_within p [] = omega arith
 below_within p (m ∷ ms) = step (is_below p m) (below_within p ms) where
   step : (b : Bool) → below p ms ≤ length ms → (if b then suc (below p ms) else 0) ≤ suc (length ms)
@@ -46,12 +46,12 @@ lt_is Less e = refl
 lt_is Equal e = absurd (no_path e)
 lt_is Greater e = absurd (no_path e)
 
-pub of_map : (P : Place → Type 0) (ms : List TreeMessage) → AllByRecursion P (map place_of ms) → AllByRecursion (λ m. P (place_of m)) ms
+pub of_map : (P : VersionPlace → Type 0) (ms : List TreeMessage) → AllByRecursion P (map place_of ms) → AllByRecursion (λ m. P (place_of m)) ms
 of_map P [] h = tt
 of_map P (m ∷ ms) h = (h.0, of_map P ms h.1)
 
 -- in a rising list what is below a later message is below an earlier one
-pub below_first : (p : Place) (m : TreeMessage) (ms : List TreeMessage) (i : ℕ) (d : TreeMessage) → MessagesRise (m ∷ ms) → i < length ms → is_below p (get_or ms i d) ≡ true → is_below p m ≡ true
+pub below_first : (p : VersionPlace) (m : TreeMessage) (ms : List TreeMessage) (i : ℕ) (d : TreeMessage) → MessagesRise (m ∷ ms) → i < length ms → is_below p (get_or ms i d) ≡ true → is_below p m ≡ true
 unfolding IsStrictlySortedBy
 below_first p m ms i d up lt h =
     ap is_lt (place_total.trans (place_of m) (place_of (get_or ms i d)) p (all_at (λ n. place_cmp (place_of m) (place_of n) ≡ Less) ms i d (of_map (λ q. place_cmp (place_of m) q ≡ Less) ms up.0) lt) (lt_is (place_cmp (place_of (get_or ms i d)) p) h))
@@ -68,7 +68,7 @@ tells_next n i true here on up = (λ h. omega (arith, on.0 h), λ h. omega (arit
 tells_next n i false here on up = (λ h. absurd (no_path (up h)), λ _. omega arith)
 
 -- what a comparison with one message tells of where the place stands
-pub below_tells : (p : Place) (ms : List TreeMessage) (i : ℕ) (d : TreeMessage) → MessagesRise ms → i < length ms → Tells (is_below p (get_or ms i d)) i (below p ms)
+pub below_tells : (p : VersionPlace) (ms : List TreeMessage) (i : ℕ) (d : TreeMessage) → MessagesRise ms → i < length ms → Tells (is_below p (get_or ms i d)) i (below p ms)
 unfolding IsStrictlySortedBy
 below_tells p [] i d up lt = absurd (omega arith)
 below_tells p (m ∷ ms) zero d up lt = tells_first (below p ms) (is_below p m)
@@ -79,17 +79,17 @@ abbrev pub all_by : {X : Type 0} (P : X → Type 0) (xs : List X) → All P xs �
 all_by P [] h = tt
 all_by P (x ∷ xs) h = (h 0 x (omega arith), all_by P xs (λ i d lt. h (suc i) d (omega arith)))
 
-abbrev pub AllAbove : Place → List TreeMessage → Type 0
+abbrev pub AllAbove : VersionPlace → List TreeMessage → Type 0
 AllAbove p ms = AllByRecursion (λ q. place_cmp p q ≡ Less) (map place_of ms)
 
-above_placed : (p : Place) (m : TreeMessage) (ns : List TreeMessage) → place_cmp p (place_of m) ≡ Less → AllAbove p ns → AllAbove p (placed m ns)
+above_placed : (p : VersionPlace) (m : TreeMessage) (ns : List TreeMessage) → place_cmp p (place_of m) ≡ Less → AllAbove p ns → AllAbove p (placed m ns)
 above_placed p m [] less h = (less, tt)
 above_placed p m (n ∷ ns) less h = step (is_below (place_of m) n) (above_placed p m ns less h.1) where
   step : (b : Bool) → AllAbove p (placed m ns) → AllAbove p (if b then n ∷ placed m ns else m ∷ n ∷ ns)
   step true on = (h.0, on)
   step false on = (less, h)
 
-pub above_all : (p q : Place) (ns : List TreeMessage) → place_cmp p q ≡ Less → AllAbove q ns → AllAbove p ns
+pub above_all : (p q : VersionPlace) (ns : List TreeMessage) → place_cmp p q ≡ Less → AllAbove q ns → AllAbove p ns
 above_all p q [] less h = tt
 above_all p q (n ∷ ns) less h = (place_total.trans p q (place_of n) less h.0, above_all p q ns less h.1)
 
@@ -122,7 +122,7 @@ sum-placed m [] = sum_by-cons message_size m []
 sum-placed m (n ∷ ns) = sum_step m n ns (is_below (place_of m) n) (sum-placed m ns)
 
 -- after a message above the place all are above it
-pub none_of : (p : Place) (ms : List TreeMessage) → AllAbove p ms → AllByRecursion (λ n. is_eq (place_cmp (place_of n) p) ≡ false) ms
+pub none_of : (p : VersionPlace) (ms : List TreeMessage) → AllAbove p ms → AllByRecursion (λ n. is_eq (place_cmp (place_of n) p) ≡ false) ms
 none_of p [] h = tt
 none_of p (m ∷ ms) h = (ap is_eq (place_total.antisymm (place_of m) p ∙ ap ordering_reverse h.0), none_of p ms h.1)
 

@@ -4,10 +4,10 @@ use Rattle.std.proofs.lemmas.List.{get_or-drop, length-map}
 use Rattle.std.specs.Prelude.{if◌then◌else◌, max}
 use Rattle.std.specs.List.{AllByRecursion, drop-map}
 use Rattle.stow_tree_model.specs.TreeMessage.{TreeMessage}
-use Rattle.stow_tree_model.specs.Order.{Place, place_of, MessagesRise}
+use Rattle.stow_tree_model.specs.Order.{VersionPlace, place_of, MessagesRise}
 use Rattle.stow_raw.specs.RawBuf.{RawLists, raw_used}
 use Rattle.stow_message.specs.Packed.{message_at, BeginsWith}
-use Rattle.stow_message.specs.MessageBuf.{MessageList, message_list, messages_in, messages_from, IsFilled, IsFilledFrom}
+use Rattle.stow_message.specs.MessageBuf.{MessageList, message_list, messages_in, messages_from, IsPackedBuffer, IsFilledFrom}
 use Rattle.stow_message.specs.Rising.{is_below, is_first_below, below}
 use Rattle.stow_message.proofs.RisingLists.{below_first, below_tells, no_path}
 use Rattle.stow_message.proofs.Removed.{all_dropped, rest_rises}
@@ -18,7 +18,7 @@ rises_from : (ms : List TreeMessage) (j : ℕ) → MessagesRise ms → MessagesR
 rises_from ms j up = rest_rises ms 0 j (omega arith) up
 
 -- of messages that stand below, those from a later one on are fewer by as many
-pub below_after : (p : Place) (ms : List TreeMessage) (j : ℕ) → j ≤ below p ms → j + below p (drop j ms) ≡ below p ms
+pub below_after : (p : VersionPlace) (ms : List TreeMessage) (j : ℕ) → j ≤ below p ms → j + below p (drop j ms) ≡ below p ms
 below_after p ms zero le = omega arith
 below_after p [] (suc j) le = absurd (omega (arith, le))
 below_after p (m ∷ ms) (suc j) le = step (is_below p m) le (below_after p ms j) where
@@ -27,14 +27,14 @@ below_after p (m ∷ ms) (suc j) le = step (is_below p m) le (below_after p ms j
   step false le on = absurd (omega (arith, le))
 
 -- past the first that doesn't stand below none does
-none_below : (p : Place) (m : TreeMessage) (ms : List TreeMessage) → MessagesRise (m ∷ ms) → is_below p m ≡ false → below p ms ≡ 0
+none_below : (p : VersionPlace) (m : TreeMessage) (ms : List TreeMessage) → MessagesRise (m ∷ ms) → is_below p m ≡ false → below p ms ≡ 0
 none_below p m [] up e = refl
 none_below p m (n ∷ ns) up e = step (is_below p n) (λ h. below_first p m (n ∷ ns) 0 n up (omega arith) h) where
   step : (b : Bool) → (b ≡ true → is_below p m ≡ true) → (if b then suc (below p ns) else 0) ≡ 0
   step true h = absurd (no_path (sym e ∙ h refl))
   step false h = refl
 
-pub below_from : (p : Place) (ms : List TreeMessage) (from : ℕ) → MessagesRise ms → from ≤ length ms → from + below p (drop from ms) ≡ max (below p ms) from
+pub below_from : (p : VersionPlace) (ms : List TreeMessage) (from : ℕ) → MessagesRise ms → from ≤ length ms → from + below p (drop from ms) ≡ max (below p ms) from
 below_from p ms zero up le = omega arith
 below_from p [] (suc from) up le = absurd (omega (arith, le))
 below_from p (m ∷ ms) (suc from) up le = step (is_below p m) refl (below_from p ms from (rises_from (m ∷ ms) 1 up) (omega (arith, le))) where
@@ -51,7 +51,7 @@ first_not_below m (n ∷ ns) = step (is_below (place_of m) n) refl (first_not_be
   step true e on = on
   step false e on = e
 
-pub all_filled : (raw : RawLists) → IsFilled raw → IsFilledFrom raw 0
+pub all_filled : (raw : RawLists) → IsPackedBuffer raw → IsFilledFrom raw 0
 all_filled raw h = record { whole = h.whole; rising = h.rising; small = omega (arith, h.within) }
 
 module _ (raw : RawLists) (from : ℕ) (h : IsFilledFrom raw from) where
@@ -71,7 +71,7 @@ module _ (raw : RawLists) (from : ℕ) (h : IsFilledFrom raw from) where
         small = h.small;
       }
 
-  pub ends_later : (p : Place) (i : ℕ) → from ≤ i → i ≤ from + below p ms → i + below p (messages_from raw i) ≡ from + below p ms
+  pub ends_later : (p : VersionPlace) (i : ℕ) → from ≤ i → i ≤ from + below p ms → i + below p (messages_from raw i) ≡ from + below p ms
   ends_later p i le within = let at : from + (i - from) ≡ i = omega (arith, le) in let f = λ (slot : ℕ). message_at (drop slot raw.front) in
       let slots : drop (i - from) (drop from raw.slots) ≡ drop i raw.slots = drop-drop (i - from) from raw.slots ∙ ap (λ n. drop n raw.slots) at in
       let later : drop (i - from) ms ≡ messages_from raw i = drop-map f (i - from) (drop from raw.slots) ∙ ap (map f) slots in
@@ -88,7 +88,7 @@ module _ (raw : RawLists) (from : ℕ) (h : IsFilledFrom raw from) where
     begins_at = subst (λ slot. BeginsWith (drop slot raw.front)) (same_slot 0) (all_at (λ slot. BeginsWith (drop slot raw.front)) (drop from raw.slots) (i - from) 0 h.whole less)
 
     -- what a comparison with one message tells
-    pub tells : (p : Place) (b : Bool) → b ≡ is_below p (message_at (drop (get_or raw.slots i 0) raw.front)) → (b ≡ true → i < from + below p ms) × (b ≡ false → from + below p ms ≤ i)
+    pub tells : (p : VersionPlace) (b : Bool) → b ≡ is_below p (message_at (drop (get_or raw.slots i 0) raw.front)) → (b ≡ true → i < from + below p ms) × (b ≡ false → from + below p ms ≤ i)
     tells p b e =
         let f = λ (slot : ℕ). message_at (drop slot raw.front) in let d = f (get_or raw.slots i 0) in
         let is : get_or ms (i - from) d ≡ d = get_or-map f (drop from raw.slots) (i - from) 0 d less ∙ ap f (same_slot 0) in
@@ -96,11 +96,11 @@ module _ (raw : RawLists) (from : ℕ) (h : IsFilledFrom raw from) where
         (λ y. let j : i - from < below p ms = t.0 (ap (is_below p) is ∙ sym e ∙ y) in omega (arith, j, le), λ y. let j : below p ms ≤ i - from = t.1 (ap (is_below p) is ∙ sym e ∙ y) in omega (arith, j, le))
 
 -- the same of a buffer that is seen as v
-module _ (raw : RawLists) (h : IsFilled raw) (v : MessageList) (view : message_list (messages_in raw) (raw_used raw) raw.capacity ≡ v) where
-  pub below_in : (p : Place) → 0 + below p (messages_from raw 0) ≡ below p v.messages
+module _ (raw : RawLists) (h : IsPackedBuffer raw) (v : MessageList) (view : message_list (messages_in raw) (raw_used raw) raw.capacity ≡ v) where
+  pub below_in : (p : VersionPlace) → 0 + below p (messages_from raw 0) ≡ below p v.messages
   below_in p = let same : below p (messages_from raw 0) ≡ below p v.messages = ap (λ (w : MessageList). below p w.messages) view in omega (arith, same)
 
-  pub below_in_from : (p : Place) (from : ℕ) → from ≤ length v.messages → from + below p (messages_from raw from) ≡ max (below p v.messages) from
+  pub below_in_from : (p : VersionPlace) (from : ℕ) → from ≤ length v.messages → from + below p (messages_from raw from) ≡ max (below p v.messages) from
   below_in_from p from le = let f = λ (slot : ℕ). message_at (drop slot raw.front) in
       ap (λ l. from + below p l) (sym (drop-map f from raw.slots))
       ∙ below_from p (messages_in raw) from h.rising (omega (arith, le, ap (λ (w : MessageList). length w.messages) view))

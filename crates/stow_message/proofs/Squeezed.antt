@@ -7,7 +7,7 @@ use Rattle.stow_tree_model.specs.TreeMessage.{TreeMessage}
 use Rattle.stow_tree_model.specs.Order.{MessagesRise}
 use Rattle.stow_raw.specs.RawBuf.{RawLists, raw_lists, raw_used}
 use Rattle.stow_message.specs.Packed.{message_bytes, message_size, IsMessage, message_at, BeginsWith, all_bytes, places_from}
-use Rattle.stow_message.specs.MessageBuf.{MessageList, message_list, messages_in, IsFilled}
+use Rattle.stow_message.specs.MessageBuf.{MessageList, message_list, messages_in, IsPackedBuffer}
 use Rattle.stow_message.proofs.Reading.{length-message_bytes, message_read}
 use Rattle.stow_message.proofs.RisingLists.{all_by}
 use Rattle.stow_message.proofs.Stored.{filled_at, filled_valid, message_there, read_is}
@@ -67,7 +67,7 @@ squeezed_messages ms capacity ok = places_read [] ms ok
 pub squeezed_used : (ms : List TreeMessage) (capacity : ℕ) → raw_used (squeezed ms capacity) ≡ sum_by message_size ms
 squeezed_used ms capacity = omega (arith, all_sizes ms, length-places 0 ms)
 
-pub squeezed_filled : (ms : List TreeMessage) (capacity : ℕ) → AllByRecursion IsMessage ms → MessagesRise ms → sum_by message_size ms ≤ capacity → capacity < 4294967296 → IsFilled (squeezed ms capacity)
+pub squeezed_filled : (ms : List TreeMessage) (capacity : ℕ) → AllByRecursion IsMessage ms → MessagesRise ms → sum_by message_size ms ≤ capacity → capacity < 4294967296 → IsPackedBuffer (squeezed ms capacity)
 squeezed_filled ms capacity ok up fits small = record {
   whole = places_begin [] ms ok;
   rising = subst MessagesRise (sym (squeezed_messages ms capacity ok)) up;
@@ -92,7 +92,7 @@ taken_within [] (suc k) = omega arith
 taken_within (m ∷ ms) (suc k) = omega (arith, taken_within ms k, length-append (message_bytes m) (all_bytes (take k ms)), length-append (message_bytes m) (all_bytes ms))
 
 -- while a block of the messages ms is squeezed: k of them are in the spare block, and their slots name their new places
-module _ (raw : RawLists) (h : IsFilled raw) (ms : List TreeMessage) (are : messages_in raw ≡ ms) (k : ℕ) where
+module _ (raw : RawLists) (h : IsPackedBuffer raw) (ms : List TreeMessage) (are : messages_in raw ≡ ms) (k : ℕ) where
   counts : length ms ≡ length raw.slots
   counts = ap length (sym are) ∙ slots_of_messages raw
 
@@ -145,11 +145,11 @@ pub record Turn (raw now spare : RawLists) (v : MessageList) (k size : ℕ) : Ty
 -- the end of a squeeze: the front is empty, and the spare block's bytes go there
 pub record End (cleared : RawLists) (v : MessageList) (bytes : List ℕ) : Type 0 where
   pub room : raw_used cleared + length bytes ≤ cleared.capacity
-  pub filled : (last : RawLists) → last ≡ raw_lists (cleared.front ++ bytes) cleared.slots cleared.capacity → IsFilled last
+  pub filled : (last : RawLists) → last ≡ raw_lists (cleared.front ++ bytes) cleared.slots cleared.capacity → IsPackedBuffer last
   pub is : (last : RawLists) → last ≡ raw_lists (cleared.front ++ bytes) cleared.slots cleared.capacity
       → message_list (messages_in last) (raw_used last) last.capacity ≡ message_list v.messages (sum_by message_size v.messages) v.capacity
 
-module _ (raw : RawLists) (h : IsFilled raw) (v : MessageList) (view : message_list (messages_in raw) (raw_used raw) raw.capacity ≡ v) where
+module _ (raw : RawLists) (h : IsPackedBuffer raw) (v : MessageList) (view : message_list (messages_in raw) (raw_used raw) raw.capacity ≡ v) where
   abbrev ms : List TreeMessage
   ms = v.messages
 
@@ -187,13 +187,13 @@ module _ (raw : RawLists) (h : IsFilled raw) (v : MessageList) (view : message_l
       valid : AllByRecursion IsMessage ms
       valid = all_by IsMessage ms (subst (All IsMessage) are (filled_valid raw h))
 
-      squeezed_whole : IsFilled (squeezed ms raw.capacity)
+      squeezed_whole : IsPackedBuffer (squeezed ms raw.capacity)
       squeezed_whole = squeezed_filled ms raw.capacity valid (subst MessagesRise are h.rising) (omega (arith, h.live, ap (sum_by message_size) are, h.within)) h.within.1
 
       pub end : End cleared v bytes
       end = record {
         room = omega (arith, ap raw_used cleared_is, ap (λ (r : RawLists). r.capacity) cleared_is, ap length bytes_are, length-places 0 ms, bytes_fit raw h ms are k);
-        filled = λ last i. subst IsFilled (sym (last_is last i)) squeezed_whole;
+        filled = λ last i. subst IsPackedBuffer (sym (last_is last i)) squeezed_whole;
         is = λ last i. ap (λ (r : RawLists). message_list (messages_in r) (raw_used r) r.capacity) (last_is last i)
             ∙ (λ j. message_list (squeezed_messages ms raw.capacity valid j) (squeezed_used ms raw.capacity j) (capacity_is j));
       }

@@ -6,7 +6,7 @@ use Rattle.stow_tree_model.specs.Op.{bytes_in}
 use Rattle.stow_tree_model.specs.TreeMessage.{TreeMessage}
 use Rattle.stow_raw.specs.RawBuf.{RawLists, raw_used}
 use Rattle.stow_message.specs.Packed.{kind_of, head_of, message_bytes, IsMessage, key_len_at, number_at, kind_at, value_len_at, message_at, BeginsWith}
-use Rattle.stow_message.specs.MessageBuf.{MessageList, message_list, messages_in, IsFilled}
+use Rattle.stow_message.specs.MessageBuf.{MessageList, message_list, messages_in, IsPackedBuffer}
 use Rattle.stow_message.proofs.Reading.{length-message_bytes, head_taken, key_len_in_head, number_in_head, kind_in_head, value_len_in_head, key_read, value_read, message_read}
 
 pub all_at : {X : Type 0} (P : X → Type 0) (xs : List X) (i : ℕ) (d : X) → AllByRecursion P xs → i < length xs → P (get_or xs i d)
@@ -57,7 +57,7 @@ module _ (front : List ℕ) (at : ℕ) (b : BeginsWith (drop at front)) where
   pub read_is : message_at (drop at front) ≡ there
   read_is = ap message_at b.is ∙ message_read there b.rest b.is_message
 
-module _ (raw : RawLists) (h : IsFilled raw) (i : ℕ) (lt : i < length raw.slots) where
+module _ (raw : RawLists) (h : IsPackedBuffer raw) (i : ℕ) (lt : i < length raw.slots) where
   pub filled_at : (at : ℕ) → at ≡ get_or raw.slots i 0 → BeginsWith (drop at raw.front)
   filled_at at e = subst (λ k. BeginsWith (drop k raw.front)) (sym e) (all_at (λ slot. BeginsWith (drop slot raw.front)) raw.slots i 0 h.whole lt)
 
@@ -69,6 +69,6 @@ pub index_within : (raw : RawLists) (v : MessageList) → message_list (messages
 index_within raw v e i lt = omega (arith, ap (λ (w : MessageList). length w.messages) e, length-map raw.slots (λ slot. message_at (drop slot raw.front)))
 
 -- each message is within the limits
-pub filled_valid : (raw : RawLists) → IsFilled raw → All IsMessage (messages_in raw)
+pub filled_valid : (raw : RawLists) → IsPackedBuffer raw → All IsMessage (messages_in raw)
 filled_valid raw h k d lt = let at = get_or raw.slots k 0 in let within : k < length raw.slots = omega (arith, length-map raw.slots (λ slot. message_at (drop slot raw.front))) in
     subst IsMessage (sym (message_there raw h k within at refl d)) (filled_at raw h k within at refl).is_message

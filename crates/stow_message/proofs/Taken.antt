@@ -10,11 +10,11 @@ use Rattle.std.specs.Ordering.{is_lt, is_eq, ordering_reverse}
 use Rattle.std.specs.List.{AllByRecursion, Contains, filter, sum_by, remove_range}
 use Rattle.std.specs.List.Sorted.{IsStrictlySortedBy}
 use Rattle.stow_tree_model.specs.TreeMessage.{TreeMessage}
-use Rattle.stow_tree_model.specs.Order.{Place, place_cmp, place_of, MessagesRise}
+use Rattle.stow_tree_model.specs.Order.{VersionPlace, place_cmp, place_of, MessagesRise}
 use Rattle.stow_tree_model.specs.Op.{bytes_in}
 use Rattle.stow_raw.specs.RawBuf.{RawLists, raw_lists, raw_used}
 use Rattle.stow_message.specs.Packed.{kind_of, op_by, message_size, message_at, BeginsWith}
-use Rattle.stow_message.specs.MessageBuf.{op_is, messages_in, IsFilled}
+use Rattle.stow_message.specs.MessageBuf.{op_is, messages_in, IsPackedBuffer}
 use Rattle.stow_message.specs.Rising.{is_same, is_first, without}
 use Rattle.stow_message.proofs.Stored.{all_at, filled_at, read_is, message_there}
 use Rattle.stow_message.proofs.Placed.{itself}
@@ -27,7 +27,7 @@ self_equal Less e = cc
 self_equal Equal e = refl
 self_equal Greater e = cc
 
-at_itself : (p : Place) → place_cmp p p ≡ Equal
+at_itself : (p : VersionPlace) → place_cmp p p ≡ Equal
 at_itself p = self_equal (place_cmp p p) (place_total.antisymm p p)
 
 and_parts : (a b : Bool) → (a && b) ≡ true → (a ≡ true) × (b ≡ true)
@@ -69,7 +69,7 @@ map_kept f bs (x ∷ xs) = step (is_first (f x) bs) (map_kept f (drop 1 bs) xs) 
   step false one other = ap (λ l. f x ∷ l) other
 
 -- what stands above all of a list stands above what is found in it
-pub unfound_above : (p : Place) (bs ms : List TreeMessage) → AllAbove p ms → unfound bs ms ≡ [] → AllAbove p bs
+pub unfound_above : (p : VersionPlace) (bs ms : List TreeMessage) → AllAbove p ms → unfound bs ms ≡ [] → AllAbove p bs
 unfound_above p bs [] h e = subst (AllAbove p) (sym e) tt
 unfound_above p [] (m ∷ ms) h e = tt
 unfound_above p (b ∷ bs) (m ∷ ms) h e = step (is_same b m) refl (unfound_above p bs ms h.1) (unfound_above p (b ∷ bs) ms h.1) e where
@@ -219,7 +219,7 @@ module _ (raw : RawLists) (bs : List TreeMessage) where
     pub counts : k + j ≡ i
     pub within : (j ≤ length bs) × (k ≤ length stay)
 
-module _ (raw : RawLists) (h : IsFilled raw) (bs : List TreeMessage) where
+module _ (raw : RawLists) (h : IsPackedBuffer raw) (bs : List TreeMessage) where
   module _ (all : unfound bs (messages_in raw) ≡ []) where
     pub taken_messages : messages_in (taken raw bs) ≡ without bs (messages_in raw)
     taken_messages = map_kept (at raw bs) bs raw.slots ∙ kept_without bs (messages_in raw) h.rising all
@@ -227,7 +227,7 @@ module _ (raw : RawLists) (h : IsFilled raw) (bs : List TreeMessage) where
     pub taken_used : raw_used (taken raw bs) + 4 * length bs ≡ raw_used raw
     taken_used = omega (arith, count (at raw bs) bs raw.slots, ap length all)
 
-    pub taken_filled : IsFilled (taken raw bs)
+    pub taken_filled : IsPackedBuffer (taken raw bs)
     taken_filled = record {
       whole = all_kept (λ slot. BeginsWith (drop slot raw.front)) (at raw bs) bs raw.slots h.whole;
       rising = subst MessagesRise (sym taken_messages) (without_rises bs (messages_in raw) h.rising);

@@ -46,8 +46,8 @@ may_have words key =
     (marks_of (hash key))
 
 -- what may be there before may be there after
-abbrev pub Keeps : List ℕ → List ℕ → Type 0
-Keeps old new = (key : List ℕ) → may_have old key ≡ true → may_have new key ≡ true
+abbrev pub KeepsMarks : List ℕ → List ℕ → Type 0
+KeepsMarks old new = (key : List ℕ) → may_have old key ≡ true → may_have new key ≡ true
 
 -- there are so many words, or none
 abbrev pub IsWordCount : ℕ → Type 0

@@ -81,7 +81,7 @@ pub record IsFilledFrom (raw : RawLists) (from : ℕ) : Type 0 where
   pub small : length raw.front + 4 * length raw.slots < 4294967296
 
 -- each slot names a message, and they rise
-pub record IsFilled (raw : RawLists) : Type 0 where
+pub record IsPackedBuffer (raw : RawLists) : Type 0 where
   pub whole : AllByRecursion (λ slot. BeginsWith (drop slot raw.front)) raw.slots
   pub rising : MessagesRise (messages_in raw)
   pub live : sum_by message_size (messages_in raw) ≤ raw_used raw
@@ -89,5 +89,5 @@ pub record IsFilled (raw : RawLists) : Type 0 where
 
 -- .. and each one's key has its marks
 pub record IsMarked (raw : RawLists) (words : List ℕ) : Type 0 where
-  pub filled : IsFilled raw
+  pub filled : IsPackedBuffer raw
   pub covers : Covers words (messages_in raw)

@@ -6,11 +6,11 @@ use Rattle.std.specs.Str.{bytes_eq}
 use Rattle.stow_bytes.specs.Bytes.{bytes_cmp}
 use Rattle.stow_tree_model.specs.Op.{bytes_in}
 use Rattle.stow_tree_model.specs.TreeMessage.{TreeMessage}
-use Rattle.stow_tree_model.specs.Order.{Place, place_cmp, place_of}
+use Rattle.stow_tree_model.specs.Order.{VersionPlace, place_cmp, place_of}
 use Rattle.stow_message.specs.Packed.{kind_of}
 
 -- the message stands below the place
-abbrev pub is_below : Place → TreeMessage → Bool
+abbrev pub is_below : VersionPlace → TreeMessage → Bool
 is_below p m = is_lt (place_cmp (place_of m) p)
 
 -- the first of the messages stands below this one
@@ -19,7 +19,7 @@ is_first_below m [] = false
 is_first_below m (n ∷ ns) = is_below (place_of m) n
 
 -- how many messages at the front stand below the place
-abbrev pub below : Place → List TreeMessage → ℕ
+abbrev pub below : VersionPlace → List TreeMessage → ℕ
 below p [] = 0
 below p (m ∷ ms) = if is_below p m then suc (below p ms) else 0
 

@@ -1,7 +1,7 @@
 //! Which keys may be among a buffer's messages.
 ghost use Rattle.std.specs.Prelude.{◌≡◌, ◌%◌, ◌<◌, ◌≤◌, length, true};
 ghost use Rattle.std.specs.Int.{IsPowerOfTwo};
-ghost use Rattle.stow_message.specs.Filter.{Covers, IsWordCount, Keeps, marks_of, may_have};
+ghost use Rattle.stow_message.specs.Filter.{Covers, IsWordCount, KeepsMarks, marks_of, may_have};
 
 use crate::hash::hash;
 use crate::run::Run;
@@ -94,7 +94,7 @@ impl<A: Allocator> Filter<A> {
     /// Adds the key.
     pub(crate) fn add(&mut self, key: &[u8])
         ensures added { may_have self.new key.now ≡ true }
-        ensures stay { Keeps self.old self.new }
+        ensures stay { KeepsMarks self.old self.new }
     {
         let count = self.words.len();
         if count == 0 {
@@ -109,7 +109,7 @@ impl<A: Allocator> Filter<A> {
     /// Twice as many words, where there is room for them: the upper half is a copy of the lower one, so that a key has its marks
     /// whichever of the two it is led to.
     fn double(&mut self)
-        ensures stay { Keeps self.old self.new }
+        ensures stay { KeepsMarks self.old self.new }
         ensures more { length self.old ≤ length self.new }
     {
         let count = self.words.len();
@@ -126,7 +126,7 @@ impl<A: Allocator> Filter<A> {
     fn mark(&mut self, key: &[u8])
         requires { 0 < length self.old }
         ensures added { may_have self.new key.now ≡ true }
-        ensures stay { Keeps self.old self.new }
+        ensures stay { KeepsMarks self.old self.new }
     {
         let hash = hash(key);
         let place = place(hash, self.words.len());
@@ -137,7 +137,7 @@ impl<A: Allocator> Filter<A> {
     /// Adds the key of each message of a run.
     pub(crate) fn add_all<B: Allocator>(&mut self, run: &Run<'_, B>)
         ensures added { Covers self.new run.now }
-        ensures stay { Keeps self.old self.new }
+        ensures stay { KeepsMarks self.old self.new }
     {
         for i in 0..run.len() {
             self.add(run.get(i).key.bytes);

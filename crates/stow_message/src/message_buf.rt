@@ -5,7 +5,7 @@ ghost use Rattle.stow_tree_model.specs.TreeMessage.{TreeMessage, message_of};
 ghost use Rattle.stow_tree_model.specs.Order.{place_cmp, place_of, MessagesRise};
 ghost use Rattle.stow_raw.specs.RawBuf.{raw_lists, RawFits};
 ghost use Rattle.stow_message.specs.Filter.{Covers};
-ghost use Rattle.stow_message.specs.MessageBuf.{message_list, messages_in, Fits, IsFilled, with_message, with_messages, without_batch, without_range};
+ghost use Rattle.stow_message.specs.MessageBuf.{message_list, messages_in, Fits, IsPackedBuffer, with_message, with_messages, without_batch, without_range};
 ghost use Rattle.stow_message.specs.Packed.{message_bytes, message_size, message_at, IsMessage, BeginsWith, all_bytes};
 ghost use Rattle.stow_message.specs.Rising.{is_below, below, placed, IsNew, of_key, in_range, out_of_range, all_placed, AreNew, is_same, is_first, AreHeld, without};
 ghost use Rattle.std.specs.List.{All, AllByRecursion, sum_by, remove_range};
@@ -126,7 +126,7 @@ fn append_all<A: Allocator, B: Allocator>(raw: &mut RawBuf<A>, run: &Run<'_, B>)
 
 /// Adds the key of each message to the filter.
 fn mark_all<A: Allocator>(raw: &RawBuf<A>, filter: &mut Filter<A>)
-    requires filled { IsFilled raw.now }
+    requires filled { IsPackedBuffer raw.now }
     ensures { Covers filter.new (messages_in raw.now) }
 {
     for i in 0..raw.slot_count() {
@@ -137,7 +137,7 @@ fn mark_all<A: Allocator>(raw: &RawBuf<A>, filter: &mut Filter<A>)
 
 /// Drops the marks of keys that left, where they may be many.
 fn renew_marks<A: Allocator>(raw: &RawBuf<A>, filter: &mut Filter<A>)
-    requires filled { IsFilled raw.now }
+    requires filled { IsPackedBuffer raw.now }
     requires covers { Covers filter.old (messages_in raw.now) }
     ensures { Covers filter.new (messages_in raw.now) }
 {

@@ -3,8 +3,7 @@ use Rattle.std.specs.Prelude.{ℕ, ℤ, pos, negsuc, Bool, List, [], ◌∷◌, 
 use Rattle.std.specs.List.{list_any}
 use Rattle.std.specs.Str.{bytes_eq}
 use Rattle.std.specs.Char.{to_ascii_lowercase}
-use Rattle.stow_bytes.specs.Limits.{key_limit}
-use Rattle.stow_model.specs.Limits.{deleted_limit}
+use Rattle.stow_bytes.specs.Limits.{deleted_limit, key_limit}
 use Rattle.stow_model.specs.NumberText.{number_of, count_of}
 use Rattle.stow_model.specs.declared.refusal.Refusal.{Refusal}
 use Rattle.stow_model.specs.declared.refusal.Refusal.TheVariants as refusal
@@ -185,18 +184,18 @@ reading_range_in (_ ∷ _ ∷ _ ∷ _ ∷ _ ∷ _) = Refused refusal.WrongArgume
 -- ---- by the name
 
 -- a name, and what the arguments after it say
-abbrev pub Entry : Type 0
-Entry = List ℕ × (List (List ℕ) → Reading)
+abbrev pub CommandEntry : Type 0
+CommandEntry = List ℕ × (List (List ℕ) → Reading)
 
 -- what the entry of the name says of the arguments, or this refusal of an unknown name
-abbrev pub reading_among : List Entry → Refusal → List ℕ → List (List ℕ) → Reading
+abbrev pub reading_among : List CommandEntry → Refusal → List ℕ → List (List ℕ) → Reading
 reading_among [] unknown name arguments = Refused unknown
 reading_among (entry ∷ entries) unknown name arguments =
     if is_named name entry.0 then entry.1 arguments
     else reading_among entries unknown name arguments
 
 -- the commands on snapshots, by the word after SNAPSHOT
-abbrev pub snapshot_commands : List Entry
+abbrev pub snapshot_commands : List CommandEntry
 snapshot_commands =
     (codes "take", of_nothing TakeSnapshot)
     ∷ (codes "list", of_nothing ListSnapshots)
@@ -211,7 +210,7 @@ reading_snapshot (name ∷ arguments) =
     reading_among snapshot_commands refusal.SyntaxError name arguments
 
 -- the commands of a store, each with its name in lower case
-abbrev pub commands : List Entry
+abbrev pub commands : List CommandEntry
 commands =
     (codes "ping", reading_ping)
     ∷ (codes "echo", of_text Echo)

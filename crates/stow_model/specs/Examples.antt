@@ -5,7 +5,7 @@ use Rattle.stow_model.specs.declared.refusal.Refusal.TheVariants.{NotAuthenticat
 use Rattle.stow_model.specs.declared.simple_string.SimpleString.TheVariants.{Ok, Pong}
 use Rattle.stow_model.specs.declared.stream_fault.StreamFault.TheVariants.{InvalidArrayLength, ExpectedBulk, InvalidBulkLength, InlineTooLong}
 use Rattle.sha2.specs.Sha256.{sha256}
-use Rattle.stow_model.specs.Limits.{line_limit}
+use Rattle.stow_bytes.specs.Limits.{line_limit}
 use Rattle.stow_bytes.specs.Bytes.{bytes_cmp}
 use Rattle.stow_model.specs.Item as item
 use Rattle.stow_model.specs.Message.{Words, Quoted, Blank}

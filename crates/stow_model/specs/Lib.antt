@@ -1,4 +1,3 @@
-pub mod Limits
 pub mod Spans
 pub mod LentWords
 pub mod Texts

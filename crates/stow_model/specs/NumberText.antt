@@ -3,8 +3,7 @@ use Rattle.std.specs.Prelude.{ℕ, ℤ, pos, negsuc, Bool, nat_le, ◌&&◌, Lis
 use Rattle.std.specs.Fmt.{signed_decimal}
 use Rattle.std.specs.Str.{bytes_eq}
 use Rattle.std.specs.Str.Parse.{signed_digits_value}
-use Rattle.stow_bytes.specs.Limits.{number_limit}
-use Rattle.stow_model.specs.Limits.{count_limit}
+use Rattle.stow_bytes.specs.Limits.{count_limit, number_limit}
 
 -- within signed 64 bits; `negsuc n` is -1 - n
 abbrev pub is_integer : ℤ → Bool

@@ -9,8 +9,7 @@ use Rattle.std.specs.Str.{bytes_eq}
 use Rattle.std.specs.FinMap.{FinMap}
 use Rattle.std.specs.FinMap as map
 use Rattle.stow_bytes.specs.Bytes.{bytes_cmp}
-use Rattle.stow_bytes.specs.Limits.{value_limit, number_limit}
-use Rattle.stow_model.specs.Limits.{snapshot_limit}
+use Rattle.stow_bytes.specs.Limits.{snapshot_limit, value_limit, number_limit}
 use Rattle.stow_model.specs.declared.refusal.Refusal.{Refusal}
 use Rattle.stow_model.specs.declared.refusal.Refusal.TheVariants as refusal
 use Rattle.stow_model.specs.declared.simple_string.SimpleString.TheVariants as simple
@@ -255,6 +254,11 @@ take_answer store =
       reply.Integer (pos store.next),
     )
     else refused store refusal.TooManySnapshots
+
+-- the number that an id is, unless it is below 0
+abbrev pub number_in : ℤ → Option ℕ
+number_in (pos n) = Some n
+number_in (negsuc n) = None
 
 -- the rows that a live snapshot shows; ids are numbers from 1 on
 abbrev pub snapshot_rows : Store → ℤ → Option Rows

@@ -3,8 +3,7 @@
 use Rattle.std.specs.Prelude.{◌≡◌, ◌≢◌, ℕ, ◌<◌, ◌≤◌, Bool, false, if◌then◌else◌, ◌==◌, ◌||◌, nat_lt, List, [], ◌∷◌, ◌++◌, length, reverse, filter, ◌⊎◌, codes}
 use Rattle.std.specs.List.{AllByRecursion, list_any, slice_split}
 use Rattle.std.specs.Fmt.{decimal}
-use Rattle.stow_bytes.specs.Limits.{value_limit}
-use Rattle.stow_model.specs.Limits.{words_limit, line_limit}
+use Rattle.stow_bytes.specs.Limits.{words_limit, line_limit, value_limit}
 use Rattle.stow_model.specs.Message.{Message, Words, Quoted, Blank}
 use Rattle.stow_model.specs.declared.stream_fault.StreamFault.{StreamFault}
 use Rattle.stow_model.specs.declared.stream_fault.StreamFault.TheVariants.{InvalidArrayLength, ExpectedBulk, InvalidBulkLength, BulkNotEnded, InlineTooLong}

@@ -34,6 +34,7 @@ pub mod reader;
 pub mod refusal;
 pub mod reply;
 pub mod simple_string;
+pub mod snapshot_id;
 pub mod span;
 pub mod stream_fault;
 pub mod stream_read;

@@ -18,13 +18,13 @@ use Rattle.stow_node.specs.Subtree.{Subtree}
 use Rattle.stow_node.specs.Parts.{Part, high_of}
 use Rattle.stow_leaf.specs.Intervals.{top_key}
 use Rattle.stow_node.specs.Nodes.{part_of, node_part, parts_of, subtree_of, IsNode}
-use Rattle.stow_node.specs.Moves.{accepted, CanAccept, IsSqueezed, Stays, bytes_for, messages_for, HandsDown}
+use Rattle.stow_node.specs.Moves.{accepted, CanAccept, IsSqueezed, StaysInMeaning, bytes_for, messages_for, HandsDown}
 use Rattle.stow_node.proofs.HandedDown.{same_node}
 use Rattle.stow_node.proofs.Lowered.{for_child, can_hand, Lowered, lowered, end_of-set}
 use Rattle.stow_leaf.proofs.Steps.{inside_of}
 use Rattle.stow_node.proofs.Stayed.{part_at, ChildStays, child_stays}
 
-pub stays_then : {x y z : Subtree} → Stays x y → Stays y z → Stays x z
+pub stays_then : {x y z : Subtree} → StaysInMeaning x y → StaysInMeaning y z → StaysInMeaning x z
 stays_then s t = record {
   low = t.low ∙ s.low;
   height = t.height ∙ s.height;
@@ -36,14 +36,14 @@ stays_then s t = record {
   count = t.count ∙ s.count;
 }
 
-stays_itself : (x : Subtree) → Stays x x
+stays_itself : (x : Subtree) → StaysInMeaning x x
 stays_itself x = record { low = refl; height = refl; width = refl; shape = refl; capacity = refl; leaves = refl; messages = λ key n. refl; count = refl }
 
-squeezed_stays : (x : Subtree) (used : ℕ) → Stays x (record x { buffer = message_list x.buffer.messages used x.buffer.capacity })
+squeezed_stays : (x : Subtree) (used : ℕ) → StaysInMeaning x (record x { buffer = message_list x.buffer.messages used x.buffer.capacity })
 squeezed_stays x used = record { low = refl; height = refl; width = refl; shape = refl; capacity = refl; leaves = refl; messages = λ key n. refl; count = refl }
 
 -- dropping dead bytes leaves what a node means
-pub squeezed_same : (x y : Subtree) → IsSqueezed x y → Stays x y × (y.weight ≡ x.weight) × (y.buffer.messages ≡ x.buffer.messages)
+pub squeezed_same : (x y : Subtree) → IsSqueezed x y → StaysInMeaning x y × (y.weight ≡ x.weight) × (y.buffer.messages ≡ x.buffer.messages)
 squeezed_same x y s = rw s.is (squeezed_stays x s.used, refl, refl)
 
 -- the child at the place is this node
@@ -97,7 +97,7 @@ some_there (m ∷ ms) h = omega arith
 -- the node in the end
 pub record WentInto {A : Type 0} (a : Inside A) (v : Vec (Child A) A) (b : MessageList) : Type 0 where
   pub is_node : IsNode (record a { children = v; buffer = b })
-  pub stays : Stays (subtree_of a) (subtree_of (record a { children = v; buffer = b }))
+  pub stays : StaysInMeaning (subtree_of a) (subtree_of (record a { children = v; buffer = b }))
   pub weight : (subtree_of (record a { children = v; buffer = b })).weight < (subtree_of a).weight
 
 pub went_into : {A : Type 0} (a : Inside A) (i : ℕ) (x y : Subtree) (v : Vec (Child A) A) (b : MessageList) → IsNode a → MessagesRise a.buffer.messages → MadeRoom a i x y → 0 < bytes_for (parts_of a.children.items) a.buffer i (node_part x) → HandsDown (set a.children.items i (in_child.Node y)) i a.buffer v.items b → WentInto a v b

@@ -4,7 +4,7 @@ use Rattle.std.specs.Prelude.{slice_get}
 use Rattle.std.proofs.lemmas.List.{length-map}
 use Rattle.std.proofs.lemmas.Option.{get_or_from_slice_get}
 use Rattle.stow_message.specs.MessageBuf.{MessageList}
-use Rattle.stow_leaf.specs.Intervals.{top_key, AreWithin}
+use Rattle.stow_leaf.specs.Intervals.{top_key, NoneOutside}
 use Rattle.stow_leaf.specs.declared.leaf.Leaf.{Leaf}
 use Rattle.stow_node.specs.declared.child.Child.{Child}
 use Rattle.stow_node.specs.declared.child.Child.TheVariants as in_child
@@ -43,5 +43,5 @@ entered {A} a i lent node high_up many e heavy = by_child (child_at a.children.i
     node = x;
     at = at;
     some = heaviest_has_bytes (parts_of a.children.items) a.buffer i (node_part x) (subst (λ (l : List (Child A)). IsHeaviest (parts_of l) a.buffer i) e heavy)
-        (subst (λ low. AreWithin low top_key a.buffer.messages) (sym node.first) node.from) many;
+        (subst (λ low. NoneOutside low top_key a.buffer.messages) (sym node.first) node.from) many;
   }

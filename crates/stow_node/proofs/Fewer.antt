@@ -15,7 +15,7 @@ use Rattle.stow_node.specs.declared.child.Child.{Child}
 use Rattle.stow_node.specs.declared.child.Child.TheVariants as in_child
 use Rattle.stow_node.specs.declared.node.Node.TheInside.{Inside}
 use Rattle.stow_node.specs.declared.shape.Shape.{Shape}
-use Rattle.stow_node.specs.Flushes.{Keeps}
+use Rattle.stow_node.specs.Flushes.{KeepsMeaning}
 use Rattle.stow_node.specs.Joins.{AreJoined, leaves_of, AreLeaves}
 use Rattle.stow_node.specs.Nodes.{leaf_part, parts_of, AreNewer, IsBelow, subtree_of, IsNode}
 use Rattle.stow_node.specs.Parts.{low_or, IsTile, TiledTo, messages_in, weight_in}
@@ -76,7 +76,7 @@ children_are_leaves a node one = lowest_are_leaves a.height a.shape a.children.i
 
 pub record HasFewer {A : Type 0} (a : Inside A) (v : Vec (Child A) A) (pins : TenantPins) : Type 0 where
   pub is_node : IsNode (record a { children = v })
-  pub keeps : Keeps pins (subtree_of a) (subtree_of (record a { children = v }))
+  pub keeps : KeepsMeaning pins (subtree_of a) (subtree_of (record a { children = v }))
   pub weight : (subtree_of (record a { children = v })).weight ≡ (subtree_of a).weight
 
 pub has_fewer : {A : Type 0} (a : Inside A) (v : Vec (Child A) A) (pins : TenantPins) → IsNode a → a.height ≡ 1 → AreLeaves v.items → AreJoined a.shape.leaf (leaves_of a.children.items) (leaves_of v.items) → HasFewer a v pins

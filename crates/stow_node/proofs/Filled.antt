@@ -10,7 +10,7 @@ use Rattle.stow_message.specs.MessageBuf.{MessageList}
 use Rattle.stow_message.specs.Packed.{message_size}
 use Rattle.stow_message.specs.Rising.{is_between, in_range}
 use Rattle.stow_node.specs.Parts.{Part, low_or, end_of}
-use Rattle.stow_leaf.specs.Intervals.{top_key, spans, AreWithin}
+use Rattle.stow_leaf.specs.Intervals.{top_key, spans, NoneOutside}
 use Rattle.stow_node.specs.Moves.{bytes_for, IsHeaviest}
 use Rattle.stow_leaf.proofs.Intervals.{lt, by_test, span_low, span_high, spanned}
 
@@ -45,17 +45,17 @@ has_bytes low high m ms s = step (is_between low high m) s where
   step true e = omega (arith, sum_by-cons message_size m (filter (is_between low high) ms))
   step false e = absurd cc
 
-first_spanned : (low : List ℕ) (m : TreeMessage) (ms : List TreeMessage) → AreWithin low top_key (m ∷ ms) → spans low top_key m.key ≡ true
+first_spanned : (low : List ℕ) (m : TreeMessage) (ms : List TreeMessage) → NoneOutside low top_key (m ∷ ms) → spans low top_key m.key ≡ true
 first_spanned low m ms w = by_test (spans low top_key m.key) (λ e. e) (λ e. absurd (nothing (ops_in-at m ms) (w.outside m.key m.number e))) where
   nothing : {o : Option Op} {op : Op} → o ≡ Some op → o ≡ None → ⊥
   nothing e f = cc
 
 -- the child for which most bytes are buffered has some, where there are messages
-pub heaviest_has_bytes : (ps : List Part) (b : MessageList) (i : ℕ) (d : Part) → IsHeaviest ps b i → AreWithin (low_or top_key ps) top_key b.messages → 0 < length b.messages → 0 < bytes_for ps b i d
+pub heaviest_has_bytes : (ps : List Part) (b : MessageList) (i : ℕ) (d : Part) → IsHeaviest ps b i → NoneOutside (low_or top_key ps) top_key b.messages → 0 < length b.messages → 0 < bytes_for ps b i d
 heaviest_has_bytes ps b i d h w some = by_list b.messages refl where
   by_list : (ms : List TreeMessage) → ms ≡ b.messages → 0 < bytes_for ps b i d
   by_list [] e = absurd (let l = ap length e in omega arith)
   by_list (m ∷ ms) e =
-      let f = find top_key ps m.key (first_spanned (low_or top_key ps) m ms (subst (AreWithin (low_or top_key ps) top_key) (sym e) w)) in
+      let f = find top_key ps m.key (first_spanned (low_or top_key ps) m ms (subst (NoneOutside (low_or top_key ps) top_key) (sym e) w)) in
       let here : 0 < bytes_for ps b f.at d = subst (λ l. 0 < sum_by message_size (in_range (get_or ps f.at d).low (end_of top_key ps f.at) l)) e (has_bytes (get_or ps f.at d).low (end_of top_key ps f.at) m ms (f.own d)) in
       omega (arith, h.most f.at d f.inside, here)

@@ -22,7 +22,7 @@ use Rattle.stow_tree_model.specs.Op.{Op}
 use Rattle.stow_tree_model.specs.Operations.{Operations, latest, or_else, value_in}
 use Rattle.stow_tree_model.specs.TreeMessage.{TreeMessage}
 use Rattle.stow_tree_model.specs.Value.{IsValue}
-use Rattle.stow_leaf.specs.Intervals.{top_key, spans, AreWithin}
+use Rattle.stow_leaf.specs.Intervals.{top_key, spans, NoneOutside}
 use Rattle.stow_leaf.specs.LeafRows.{LeafRows, leaf_rows, row_messages, first_fence, IsLeafTile, LeavesTo}
 use Rattle.stow_leaf.specs.Replacements.{IsLeafSize, AreThere, ops_with, IsFence, IsReplacement}
 use Rattle.stow_leaf.specs.declared.leaf.Leaf.{Leaf}
@@ -36,7 +36,7 @@ use Rattle.stow_node.specs.declared.child.Child.TheVariants as in_child
 use Rattle.stow_node.specs.declared.node.Node.TheInside.{Inside}
 use Rattle.stow_node.specs.declared.shape.Shape.{Shape}
 use Rattle.stow_node.specs.Absorbs.{CanAbsorb, with_leaves}
-use Rattle.stow_node.specs.Flushes.{AreShort, MeanTheSame, Keeps}
+use Rattle.stow_node.specs.Flushes.{AreShort, MeanTheSame, KeepsMeaning}
 use Rattle.stow_node.specs.Nodes.{leaf_part, part_of, node_part, parts_of, AreLeafSizes, IsBelow, subtree_of, IsNode}
 use Rattle.stow_node.specs.Parts.{Part, low_or, end_of, high_of, IsTile, TiledTo, messages_in, leaves_in, weight_in}
 use Rattle.stow_node.specs.Subtree.{Subtree, messages_of}
@@ -142,7 +142,7 @@ pub record Flushed {A : Type 0} (a : Inside A) (v : Vec (Child A) A) (i : ℕ) (
   pub at : slice_get a.children.items i ≡ Some (in_child.Leaf leaf)
   pub others : (l : LeafRows) → Contains (leaves_in (parts_of a.children.items)) l → l.0 ≢ leaf.low → Contains (leaves_in (parts_of v.items)) l
   pub is_node : IsNode (record a { children = v; buffer = b })
-  pub keeps : Keeps pins (subtree_of a) (subtree_of (record a { children = v; buffer = b }))
+  pub keeps : KeepsMeaning pins (subtree_of a) (subtree_of (record a { children = v; buffer = b }))
   pub lighter : (subtree_of (record a { children = v; buffer = b })).weight < (subtree_of a).weight
 
 pub flushed : {A : Type 0} (a : Inside A) (v : Vec (Child A) A) (i : ℕ) (leaves : List (Leaf A)) (pins : TenantPins) → IsNode a → (can : CanAbsorb a.children.items i a.buffer.messages pins a.shape.leaf)
@@ -453,7 +453,7 @@ can_absorb {A} a i pins node one heavy many short = record {
         (λ t. absurd (none_some (ops_with (in_range leaf.low high ms) leaf.rows key n)
         (both_none (ops_in (in_range leaf.low high ms) key n) (ops_in (map row_message leaf.rows) key n) ((range_within leaf.low high ms).outside key n t)
         (ap (λ l. ops_in l key n) (sym (append-nil (map row_message leaf.rows))) ∙ tile.rows.outside key n t)) s)));
-    some = λ none. no_bytes (ap (sum_by message_size) none) (heaviest_has_bytes parts a.buffer i (leaf_part leaf) heavy (subst (λ low. AreWithin low top_key ms) (sym node.first) node.from) many);
+    some = λ none. no_bytes (ap (sum_by message_size) none) (heaviest_has_bytes parts a.buffer i (leaf_part leaf) heavy (subst (λ low. NoneOutside low top_key ms) (sym node.first) node.from) many);
   };
 }
   where

@@ -17,7 +17,7 @@ use Rattle.stow_message.proofs.RisingLists.{lt_is}
 use Rattle.stow_page.specs.Format.{entry, entries, packed_page}
 use Rattle.stow_tree_model.specs.Merged.{row_message}
 use Rattle.stow_tree_model.specs.Messages.{ops_in}
-use Rattle.stow_tree_model.specs.Order.{Place, place_cmp, version_place, VersionsRise}
+use Rattle.stow_tree_model.specs.Order.{VersionPlace, place_cmp, version_place, VersionsRise}
 use Rattle.stow_tree_model.specs.TreeMessage.{TreeMessage}
 use Rattle.stow_tree_model.specs.Version.{Version}
 use Rattle.stow_tree_model.proofs.Latest.{contains_cases}
@@ -39,7 +39,7 @@ page_of_both xs ys =
     let both : length (entries (xs ++ ys)) ≡ length (entries xs) + length (entries ys) = ap length (flat_map-append entry xs ys) ∙ length-append (entries xs) (entries ys) in
     omega (arith, both, length-page (xs ++ ys), length-page xs, length-page ys)
 
-all_above : (v : Version) (ws : List Version) → ((w : Version) → Contains ws w → bytes_cmp v.key w.key ≡ Less) → AllByRecursion (λ (q : Place). place_cmp (version_place v) q ≡ Less) (map version_place ws)
+all_above : (v : Version) (ws : List Version) → ((w : Version) → Contains ws w → bytes_cmp v.key w.key ≡ Less) → AllByRecursion (λ (q : VersionPlace). place_cmp (version_place v) q ≡ Less) (map version_place ws)
 all_above v [] h = tt
 all_above v (w ∷ ws) h = (ap (λ o. ordering_then o (nat_cmp v.number w.number)) (h w (contains_here w ws)), all_above v ws (λ x c. h x (contains_there w x ws c)))
 
@@ -47,7 +47,7 @@ pub rise_both : (vs ws : List Version) → VersionsRise vs → VersionsRise ws �
 unfolding IsStrictlySortedBy
 rise_both [] ws a b k = b
 rise_both (v ∷ vs) ws a b k =
-    let P : Place → Type 0 = λ q. place_cmp (version_place v) q ≡ Less in (
+    let P : VersionPlace → Type 0 = λ q. place_cmp (version_place v) q ≡ Less in (
       subst (AllByRecursion P) (sym (map-append version_place vs ws)) (all_join P (map version_place vs) (map version_place ws) a.0 (all_above v ws (λ w d. k.are_below v w (contains_here v vs) d))),
       rise_both vs ws a.1 b (record { are_below = λ u w c d. k.are_below u w (contains_there v u vs c) d }),
     )

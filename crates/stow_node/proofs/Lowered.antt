@@ -26,7 +26,7 @@ use Rattle.stow_leaf.specs.LeafRows.{LeafRows, row_messages}
 use Rattle.stow_node.specs.Parts.{Part, low_or, end_of, high_of, IsTile, TiledTo, messages_in, leaves_in, weight_in}
 use Rattle.stow_leaf.specs.Intervals.{top_key, spans}
 use Rattle.stow_node.specs.Nodes.{part_of, node_part, parts_of, IsBelow, subtree_of, IsNode, AreLeafSizes}
-use Rattle.stow_node.specs.Moves.{accepted, CanAccept, Stays}
+use Rattle.stow_node.specs.Moves.{accepted, CanAccept, StaysInMeaning}
 use Rattle.stow_node.proofs.Accepted.{length-all_placed, below_of}
 use Rattle.stow_leaf.proofs.Found.{none_some, some_left}
 use Rattle.stow_node.proofs.Newer.{all_new_to, newer_than_part}
@@ -130,7 +130,7 @@ can_hand {A} a i x node at room = record {
 -- the node once its messages for the child at the place are the child's
 pub record Lowered {A : Type 0} (a : Inside A) (ms : List TreeMessage) (v : Vec (Child A) A) (b : MessageList) : Type 0 where
   pub is_node : IsNode (record a { children = v; buffer = b })
-  pub stays : Stays (subtree_of a) (subtree_of (record a { children = v; buffer = b }))
+  pub stays : StaysInMeaning (subtree_of a) (subtree_of (record a { children = v; buffer = b }))
   pub weight : (subtree_of (record a { children = v; buffer = b })).weight + length ms ≡ (subtree_of a).weight
 
 -- what a row of children keeps where one of them takes these messages

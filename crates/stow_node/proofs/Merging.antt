@@ -15,7 +15,7 @@ use Rattle.stow_node.specs.declared.node.Node.TheInside.{Inside}
 use Rattle.stow_node.specs.declared.room.Room.{Room}
 use Rattle.stow_node.specs.declared.shape.Shape.{Shape}
 use Rattle.stow_node.specs.Absorbs.{CanAbsorb, Merges}
-use Rattle.stow_node.specs.Flushes.{AreShort, Keeps}
+use Rattle.stow_node.specs.Flushes.{AreShort, KeepsMeaning}
 use Rattle.stow_node.specs.Joins.{AreLeaves, leaves_of}
 use Rattle.stow_node.specs.Moves.{IsHeaviest}
 use Rattle.stow_node.specs.Nodes.{parts_of, subtree_of, IsNode}
@@ -35,7 +35,7 @@ use Rattle.stow_node.proofs.Ways.{merges_heaviest}
 
 pub record MergedLeaf {A : Type 0} (a : Inside A) (v : Vec (Child A) A) (low high : List ℕ) (pins : TenantPins) (cache cache' : Cache) : Type 0 where
   pub is_node : IsNode (record a { children = v; buffer = without_range low high a.buffer })
-  pub keeps : Keeps pins (subtree_of a) (subtree_of (record a { children = v; buffer = without_range low high a.buffer }))
+  pub keeps : KeepsMeaning pins (subtree_of a) (subtree_of (record a { children = v; buffer = without_range low high a.buffer }))
   pub lighter : (subtree_of (record a { children = v; buffer = without_range low high a.buffer })).weight < (subtree_of a).weight
   pub goes : (b : MessageList) (new : Subtree) (came : List (Child A)) → b ≡ without_range low high a.buffer → Grows pins (subtree_of (record a { children = v; buffer = b })) new came → MergesHeaviest pins (subtree_of a) new came cache cache'
 

@@ -4,7 +4,7 @@ use Rattle.std.specs.Prelude.{is_some, IsSome}
 use Rattle.std.specs.List.{AllByRecursion}
 use Rattle.std.specs.Ordering.{is_eq, eq_by_cmp}
 use Rattle.stow_tree_model.specs.Messages.{ops_in}
-use Rattle.stow_tree_model.specs.Order.{Place, place_cmp, place_of}
+use Rattle.stow_tree_model.specs.Order.{VersionPlace, place_cmp, place_of}
 use Rattle.stow_tree_model.specs.TreeMessage.{TreeMessage}
 use Rattle.stow_tree_model.proofs.Orders.{place_cases}
 use Rattle.stow_tree_model.proofs.Histories.{ops_in-at}
@@ -16,7 +16,7 @@ use Rattle.stow_leaf.proofs.Found.{first_stays}
 use Rattle.stow_leaf.proofs.Ops.{Other}
 use Rattle.stow_leaf.proofs.Intervals.{by_test}
 
-eq_is : (a b : Place) → is_eq (place_cmp a b) ≡ true → a ≡ b
+eq_is : (a b : VersionPlace) → is_eq (place_cmp a b) ≡ true → a ≡ b
 eq_is a b e = ⊎_elim
     (λ (h : (a ≡ b) × (eq_by_cmp place_cmp a b ≡ true)). h.0)
     (λ (h : (a ≡ b → ⊥) × (eq_by_cmp place_cmp a b ≡ false)). absurd cc)
@@ -34,8 +34,8 @@ new_to m (n ∷ ns) above = (
   where
     at_place : place_of n ≡ place_of m → ⊥
     at_place e =
-        let key : n.key ≡ m.key = ap (λ (p : Place). p.0) e in
-        let number : n.number ≡ m.number = ap (λ (p : Place). p.1) e in
+        let key : n.key ≡ m.key = ap (λ (p : VersionPlace). p.0) e in
+        let number : n.number ≡ m.number = ap (λ (p : VersionPlace). p.1) e in
         let there : ops_in (n ∷ ns) m.key n.number ≡ Some n.op = ap (λ k. ops_in (n ∷ ns) k n.number) (sym key) ∙ ops_in-at n ns in
         let less : n.number < m.number = above n.number (ap is_some there) in
         omega (arith, less, number)

@@ -21,12 +21,12 @@ use Rattle.stow_node.specs.declared.room.Room.{Room}
 use Rattle.stow_node.specs.declared.shape.Shape.{Shape}
 use Rattle.stow_node.specs.Rooms.{AreShells, groups, IsLast}
 use Rattle.std.specs.Vec.{vec_capacity}
-use Rattle.stow_node.specs.Flushes.{MeanTheSame, Keeps}
+use Rattle.stow_node.specs.Flushes.{MeanTheSame, KeepsMeaning}
 use Rattle.stow_node.specs.Halves.{IsLike, AreHalves}
 use Rattle.stow_node.specs.Joins.{leaves_of}
 use Rattle.stow_node.specs.Nodes.{node_part, parts_of, AreLeafSizes, IsBelow, subtree_of, IsNode}
 use Rattle.stow_node.specs.Parts.{Part, low_or, IsTile, TiledTo, messages_in, leaves_in, weight_in}
-use Rattle.stow_node.specs.Regroups.{nodes, run_parts, run_messages, TakePlace, AreFew, Grows, Stands, Steps, AreBehind}
+use Rattle.stow_node.specs.Regroups.{nodes, run_parts, run_messages, TakePlace, AreFew, Grows, StandAsOne, StepsAsOne, AreBehind}
 use Rattle.stow_node.specs.Subtree.{Subtree, buffered, messages_of}
 use Rattle.stow_node.proofs.Cut.{row_out, below_end}
 use Rattle.stow_node.proofs.Groups.{groups_few, groups_hold}
@@ -206,7 +206,7 @@ settling_ends old now room room' left pins s l = settled pins old now room'.came
 
 -- ---- a node that means the same grew
 
-pub steps : {A : Type 0} (pins : TenantPins) (x y z : Subtree) (came : List (Child A)) → Keeps pins x y → y.weight < x.weight → Grows pins y z came → length came < 4294967296 → Steps pins x z came
+pub steps : {A : Type 0} (pins : TenantPins) (x y z : Subtree) (came : List (Child A)) → KeepsMeaning pins x y → y.weight < x.weight → Grows pins y z came → length came < 4294967296 → StepsAsOne pins x z came
 steps {A} pins x y z came k less g few = record {
   stands = record {
     run = g.run;
@@ -258,7 +258,7 @@ root_above a v b =
 
 pub record Rooted {A : Type 0} (a : Inside A) (v : Vec (Child A) A) (came : List (Child A)) : Type 0 where
   pub is_node : IsNode (root_above a v (message_list [] 0 a.shape.buffer))
-  pub stands : (pins : TenantPins) (x z : Subtree) (came' : List (Child A)) → Stands pins x (subtree_of a) came → Grows pins (subtree_of (root_above a v (message_list [] 0 a.shape.buffer))) z came' → Stands pins x z came'
+  pub stands : (pins : TenantPins) (x z : Subtree) (came' : List (Child A)) → StandAsOne pins x (subtree_of a) came → Grows pins (subtree_of (root_above a v (message_list [] 0 a.shape.buffer))) z came' → StandAsOne pins x z came'
   pub leaves : leaves_in (parts_of v.items) ≡ (subtree_of a).leaves ++ leaves_of came
 
 pub rooted : {A : Type 0} (a : Inside A) (v : Vec (Child A) A) (came : List (Child A)) → IsNode a → AreBehind (subtree_of a) came → v.items ≡ in_child.Node (subtree_of a) ∷ came → Rooted a v came
@@ -306,7 +306,7 @@ rooted {A} a v came node b items = record {
     root : Subtree
     root = subtree_of (root_above a v (message_list [] 0 a.shape.buffer))
 
-    above : (pins : TenantPins) (x z : Subtree) (came' : List (Child A)) → Stands pins x (subtree_of a) came → Grows pins root z came' → Stands pins x z came'
+    above : (pins : TenantPins) (x z : Subtree) (came' : List (Child A)) → StandAsOne pins x (subtree_of a) came → Grows pins root z came' → StandAsOne pins x z came'
     above pins x z came' s g = record {
       run = g.run;
       are = g.are;

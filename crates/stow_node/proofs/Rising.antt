@@ -13,10 +13,10 @@ use Rattle.stow_node.specs.declared.shape.Shape.{Shape}
 use Rattle.stow_node.specs.Flushes.{MeanTheSame, Flushes}
 use Rattle.stow_node.specs.Forgets.{Forgets}
 use Rattle.stow_node.specs.Joins.{leaves_of}
-use Rattle.stow_node.specs.Moves.{Stays}
+use Rattle.stow_node.specs.Moves.{StaysInMeaning}
 use Rattle.stow_node.specs.Nodes.{node_part}
 use Rattle.stow_node.specs.Parts.{Part, IsTile}
-use Rattle.stow_node.specs.Regroups.{nodes, run_parts, run_messages, Stands, Steps, ForgetsCame}
+use Rattle.stow_node.specs.Regroups.{nodes, run_parts, run_messages, StandAsOne, StepsAsOne, ForgetsCame}
 use Rattle.stow_node.specs.Rooms.{HasRoom}
 use Rattle.stow_node.specs.Subtree.{Subtree, buffered, messages_of}
 use Rattle.stow_node.specs.Ways.{Goes, StepsDown}
@@ -32,14 +32,14 @@ pub record WentUp {A : Type 0} (pins : TenantPins) (old now : Subtree) (came : L
 
 -- how far the code is: some nodes stand behind the root
 pub record IsRising {A : Type 0} (pins : TenantPins) (old now : Subtree) (room : Room A) (cache cache' : Cache) : Type 0 where
-  pub stands : Stands pins old now room.came.items
+  pub stands : StandAsOne pins old now room.came.items
   pub tile : IsTile (node_part old) top_key
   pub has_room : HasRoom old.shape [] room
   pub counted : now.height + length room.came.items ≤ 9223372041149743104
   pub forgets : ForgetsCame old now room.came.items cache cache'
   pub up : WentUp pins old now room.came.items cache cache'
 
-pub rising_begins : {A : Type 0} (pins : TenantPins) (old now : Subtree) (room : Room A) (cache cache' : Cache) → IsTile (node_part old) top_key → old.height ≤ 9223372036854775808 → Steps pins old now room.came.items → Goes old.height pins old now room.came.items cache cache' → HasRoom old.shape [] room → ForgetsCame old now room.came.items cache cache' → IsRising pins old now room cache cache'
+pub rising_begins : {A : Type 0} (pins : TenantPins) (old now : Subtree) (room : Room A) (cache cache' : Cache) → IsTile (node_part old) top_key → old.height ≤ 9223372036854775808 → StepsAsOne pins old now room.came.items → Goes old.height pins old now room.came.items cache cache' → HasRoom old.shape [] room → ForgetsCame old now room.came.items cache cache' → IsRising pins old now room cache cache'
 rising_begins pins old now room cache cache' tile low s goes r f = record {
   stands = s.stands;
   tile = tile;
@@ -49,7 +49,7 @@ rising_begins pins old now room cache cache' tile low s goes r f = record {
   up = record { stepped = now; behind = room.came.items; goes = goes; alone = λ e. (refl, e); height = omega arith; leaves = refl };
 }
 
-pub rising_next : {A : Type 0} (pins : TenantPins) (old now new : Subtree) (room room' : Room A) (cache cache' : Cache) → IsRising pins old now room cache cache' → Stands pins old new room'.came.items → HasRoom now.shape [] room' → length room'.came.items < length room.came.items → new.height ≡ now.height + 1
+pub rising_next : {A : Type 0} (pins : TenantPins) (old now new : Subtree) (room room' : Room A) (cache cache' : Cache) → IsRising pins old now room cache cache' → StandAsOne pins old new room'.came.items → HasRoom now.shape [] room' → length room'.came.items < length room.came.items → new.height ≡ now.height + 1
     → new.leaves ++ leaves_of room'.came.items ≡ now.leaves ++ leaves_of room.came.items → IsRising pins old new room' cache cache'
 rising_next pins old now new room room' cache cache' i s r fewer higher leaves = record {
   stands = s;
@@ -107,5 +107,5 @@ rising_down {A} pins old now room cache cache' i none = record {
   leaves = sym (append-nil now.leaves) ∙ ap (λ ls. now.leaves ++ ls) (sym (no_leaves room.came.items none)) ∙ i.up.leaves;
 }
 
-pub stays_itself : (x : Subtree) → Stays x x
+pub stays_itself : (x : Subtree) → StaysInMeaning x x
 stays_itself x = record { low = refl; height = refl; width = refl; shape = refl; capacity = refl; leaves = refl; messages = λ key n. refl; count = refl }

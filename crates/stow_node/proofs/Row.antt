@@ -7,7 +7,7 @@ use Rattle.stow_tree_model.specs.Messages.{ops_in}
 use Rattle.stow_tree_model.specs.TreeMessage.{TreeMessage}
 use Rattle.stow_leaf.specs.LeafRows.{row_messages}
 use Rattle.stow_node.specs.Parts.{Part, IsTile, TiledTo, low_or, end_of}
-use Rattle.stow_leaf.specs.Intervals.{spans, AreWithin}
+use Rattle.stow_leaf.specs.Intervals.{spans, NoneOutside}
 use Rattle.stow_leaf.proofs.Intervals.{lt, lt_trans, lt_le, le_le, lt_not, lt_self, under, beyond, span_low, span_high}
 use Rattle.stow_leaf.proofs.Found.{both_none, or_none, none_or}
 use Rattle.stow_leaf.proofs.Ops.{ops-append}
@@ -25,7 +25,7 @@ message_taken p = p.messages
 -- what is taken of each part is of its own keys
 abbrev pub Apart : Taken → List ℕ → List Part → Type 0
 Apart f high [] = Unit {0}
-Apart f high (p ∷ ps) = ((lt p.low (low_or high ps) ≡ true) × AreWithin p.low (low_or high ps) (f p)) × Apart f high ps
+Apart f high (p ∷ ps) = ((lt p.low (low_or high ps) ≡ true) × NoneOutside p.low (low_or high ps) (f p)) × Apart f high ps
 
 pub messages_apart : (high : List ℕ) (ps : List Part) → TiledTo high ps → Apart message_taken high ps
 messages_apart high [] t = tt

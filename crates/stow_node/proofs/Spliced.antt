@@ -25,7 +25,7 @@ use Rattle.stow_node.specs.declared.child.Child.{Child}
 use Rattle.stow_node.specs.declared.child.Child.TheVariants as in_child
 use Rattle.stow_node.specs.declared.node.Node.TheInside.{Inside}
 use Rattle.stow_node.specs.declared.shape.Shape.{Shape}
-use Rattle.stow_node.specs.Flushes.{AreShort, MeanTheSame, Keeps}
+use Rattle.stow_node.specs.Flushes.{AreShort, MeanTheSame, KeepsMeaning}
 use Rattle.stow_node.specs.Halves.{IsLike, AreHalves}
 use Rattle.stow_node.specs.Regroups.{nodes, run_parts, run_messages, TakePlace, AreFew}
 use Rattle.stow_node.specs.Nodes.{part_of, node_part, parts_of, AreLeafSizes, IsBelow, subtree_of, IsNode}
@@ -45,7 +45,7 @@ use Rattle.stow_node.proofs.Stayed.{level_at}
 
 pub record Spliced {A : Type 0} (a : Inside A) (v : Vec (Child A) A) (x : Subtree) (run : List Subtree) (pins : TenantPins) : Type 0 where
   pub is_node : IsNode (record a { children = v })
-  pub keeps : Keeps pins (subtree_of a) (subtree_of (record a { children = v }))
+  pub keeps : KeepsMeaning pins (subtree_of a) (subtree_of (record a { children = v }))
   pub weight : (subtree_of (record a { children = v })).weight + x.weight ≡ (subtree_of a).weight + weight_in (run_parts run)
   -- the leaves below and above stay
   pub before : List LeafRows
@@ -365,7 +365,7 @@ child_short a i x node at short key = by_test (spans x.low (low_or top_key (afte
 
 -- ---- one node in the place
 
-pub one_takes_place : (pins : TenantPins) (x y : Subtree) → Keeps pins x y → TakePlace pins x (y ∷ [])
+pub one_takes_place : (pins : TenantPins) (x y : Subtree) → KeepsMeaning pins x y → TakePlace pins x (y ∷ [])
 one_takes_place pins x y k = record {
   tiled = λ high t. ((k.tile high t, tt), k.low);
   sizes = subst (λ (s : Shape). AreLeafSizes s.leaf (leaves_in (run_parts (y ∷ [])))) k.shape (subst (AreLeafSizes y.shape.leaf) (sym (append-nil y.leaves)) k.sizes);

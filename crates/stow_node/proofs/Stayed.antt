@@ -18,7 +18,7 @@ use Rattle.stow_leaf.specs.LeafRows.{LeafRows, row_messages}
 use Rattle.stow_node.specs.Parts.{Part, low_or, high_of, IsTile, TiledTo, messages_in, leaves_in, weight_in}
 use Rattle.stow_leaf.specs.Intervals.{top_key}
 use Rattle.stow_node.specs.Nodes.{part_of, node_part, parts_of, IsBelow, subtree_of, IsNode, AreLeafSizes}
-use Rattle.stow_node.specs.Moves.{Stays}
+use Rattle.stow_node.specs.Moves.{StaysInMeaning}
 use Rattle.stow_leaf.proofs.Ops.{ops-append}
 use Rattle.stow_leaf.proofs.Steps.{inside_of}
 use Rattle.stow_node.proofs.Row.{message_taken, same_at, low_or-set, tiled-set, tile_at}
@@ -50,7 +50,7 @@ level_at height shape (d ∷ cs) zero c all e = subst (IsBelow height shape) (so
 level_at height shape (d ∷ cs) (suc i) c all e = level_at height shape cs i c all.1 e
 
 -- a child that means the same is a tile where the other was one
-pub same_tile : (x y : Subtree) (high : List ℕ) → Stays x y → IsTile (node_part x) high → IsTile (node_part y) high
+pub same_tile : (x y : Subtree) (high : List ℕ) → StaysInMeaning x y → IsTile (node_part x) high → IsTile (node_part y) high
 same_tile x y high s t = record {
   fences = rw (s.leaves, s.low) t.fences;
   first = rw (s.leaves, s.low) t.first;
@@ -70,7 +70,7 @@ pub record RowStays {A : Type 0} (a : Inside A) (x y : Subtree) (l : List (Child
   pub count : length (messages_in (parts_of l)) ≡ length (messages_in (parts_of a.children.items))
   pub weight : weight_in (parts_of l) + x.weight ≡ weight_in (parts_of a.children.items) + y.weight
 
-row_stays : {A : Type 0} (a : Inside A) (i : ℕ) (x y : Subtree) → IsNode a → slice_get a.children.items i ≡ Some (in_child.Node x) → Stays x y → RowStays a x y (set a.children.items i (in_child.Node y))
+row_stays : {A : Type 0} (a : Inside A) (i : ℕ) (x y : Subtree) → IsNode a → slice_get a.children.items i ≡ Some (in_child.Node x) → StaysInMeaning x y → RowStays a x y (set a.children.items i (in_child.Node y))
 row_stays {A} a i x y node at s = record {
   tiled = subst (TiledTo top_key) (sym parts) (tiled-set top_key ps i (node_part x) (node_part y) node.tiled inside low (same_tile x y (high_of ps i) s tile));
   first = ap (low_or top_key) parts ∙ low_or-set top_key ps i (node_part x) (node_part y) inside low ∙ node.first;
@@ -112,10 +112,10 @@ row_stays {A} a i x y node at s = record {
 -- the node with the other child
 pub record ChildStays {A : Type 0} (a : Inside A) (x y : Subtree) (v : Vec (Child A) A) : Type 0 where
   pub is_node : IsNode (record a { children = v })
-  pub stays : Stays (subtree_of a) (subtree_of (record a { children = v }))
+  pub stays : StaysInMeaning (subtree_of a) (subtree_of (record a { children = v }))
   pub weight : (subtree_of (record a { children = v })).weight + x.weight ≡ (subtree_of a).weight + y.weight
 
-pub child_stays : {A : Type 0} (a : Inside A) (v : Vec (Child A) A) (i : ℕ) (x y : Subtree) → IsNode a → slice_get a.children.items i ≡ Some (in_child.Node x) → v.items ≡ set a.children.items i (in_child.Node y) → Stays x y → ChildStays a x y v
+pub child_stays : {A : Type 0} (a : Inside A) (v : Vec (Child A) A) (i : ℕ) (x y : Subtree) → IsNode a → slice_get a.children.items i ≡ Some (in_child.Node x) → v.items ≡ set a.children.items i (in_child.Node y) → StaysInMeaning x y → ChildStays a x y v
 child_stays {A} a v i x y node at e s = record {
   is_node = record {
     tiled = row.tiled;

@@ -19,14 +19,14 @@ use Rattle.stow_node.specs.declared.child.Child.{Child}
 use Rattle.stow_node.specs.declared.child.Child.TheVariants as in_child
 use Rattle.stow_node.specs.declared.node.Node.TheInside.{Inside}
 use Rattle.stow_node.specs.declared.shape.Shape.{Shape}
-use Rattle.stow_node.specs.Flushes.{AreShort, Keeps}
+use Rattle.stow_node.specs.Flushes.{AreShort, KeepsMeaning}
 use Rattle.stow_node.specs.Forgets.{Forgets}
 use Rattle.stow_node.specs.Halves.{IsLike}
 use Rattle.stow_node.specs.Joins.{leaves_of}
-use Rattle.stow_node.specs.Moves.{IsSqueezed, Stays, bytes_for, IsHeaviest}
+use Rattle.stow_node.specs.Moves.{IsSqueezed, StaysInMeaning, bytes_for, IsHeaviest}
 use Rattle.stow_node.specs.Nodes.{part_of, node_part, parts_of, AreLeafSizes, IsBelow, subtree_of, IsNode}
 use Rattle.stow_node.specs.Parts.{Part, high_of, leaves_in}
-use Rattle.stow_node.specs.Regroups.{nodes, run_parts, run_messages, TakePlace, Steps, ForgetsCame}
+use Rattle.stow_node.specs.Regroups.{nodes, run_parts, run_messages, TakePlace, StepsAsOne, ForgetsCame}
 use Rattle.stow_node.specs.Subtree.{Subtree, messages_of}
 use Rattle.stow_node.proofs.Down.{IsNext, node_at, squeezed_same, full_has_messages}
 use Rattle.stow_node.proofs.Entered.{Entered, entered}
@@ -38,7 +38,7 @@ use Rattle.stow_node.proofs.Spliced.{Spliced, spliced, one_takes_place, child_sh
 use Rattle.stow_node.proofs.Standing.{parts_ops}
 use Rattle.stow_node.proofs.Stayed.{same_tile, level_at}
 
-pub keeps_then : (pins : TenantPins) (s t u : Subtree) → Keeps pins s t → Keeps pins t u → Keeps pins s u
+pub keeps_then : (pins : TenantPins) (s t u : Subtree) → KeepsMeaning pins s t → KeepsMeaning pins t u → KeepsMeaning pins s u
 keeps_then pins s t u a b = record {
   low = b.low ∙ a.low;
   height = b.height ∙ a.height;
@@ -50,7 +50,7 @@ keeps_then pins s t u a b = record {
 }
 
 -- a node whose messages only moved below it means the same
-pub stays_keeps : (pins : TenantPins) (x y : Subtree) → Stays x y → AreLeafSizes y.shape.leaf y.leaves → Keeps pins x y
+pub stays_keeps : (pins : TenantPins) (x y : Subtree) → StaysInMeaning x y → AreLeafSizes y.shape.leaf y.leaves → KeepsMeaning pins x y
 stays_keeps pins x y s sizes = record {
   low = s.low;
   height = s.height;
@@ -108,7 +108,7 @@ can_step {A} a i bytes ample x y node n q full most short = record {
   lower = let h = squeezed.height in let l = n.lower in omega (arith, h, l);
 }
   where
-    squeezed : Stays x y
+    squeezed : StaysInMeaning x y
     squeezed = (squeezed_same x y q).0
 
     level : IsBelow {A = A} a.height a.shape (in_child.Node x)
@@ -145,7 +145,7 @@ behind_length xs i came l =
     omega (arith, a, b, t, d, l)
 
 -- a node that has none behind it
-pub steps_alone : {A : Type 0} (pins : TenantPins) (x y : Subtree) (came : List (Child A)) → Stays x y → AreLeafSizes y.shape.leaf y.leaves → y.weight < x.weight → x.width ≤ x.shape.fan_out → came ≡ [] → Steps pins x y came
+pub steps_alone : {A : Type 0} (pins : TenantPins) (x y : Subtree) (came : List (Child A)) → StaysInMeaning x y → AreLeafSizes y.shape.leaf y.leaves → y.weight < x.weight → x.width ≤ x.shape.fan_out → came ≡ [] → StepsAsOne pins x y came
 steps_alone pins x y came s sizes less few none = record {
   stands = record {
     run = [];
@@ -162,7 +162,7 @@ steps_alone pins x y came s sizes less few none = record {
 }
 
 -- a node that stands where another stays
-pub place_of_stayed : (pins : TenantPins) (x y : Subtree) (run : List Subtree) → Stays x y → TakePlace pins y run → TakePlace pins x run
+pub place_of_stayed : (pins : TenantPins) (x y : Subtree) (run : List Subtree) → StaysInMeaning x y → TakePlace pins y run → TakePlace pins x run
 place_of_stayed pins x y run s p = record {
   tiled = λ high t. let u = p.tiled high (same_tile x y high s t) in (u.0, u.1 ∙ s.low);
   sizes = subst (λ (h : Shape). AreLeafSizes h.leaf (leaves_in (run_parts run))) s.shape p.sizes;
@@ -176,17 +176,17 @@ place_of_stayed pins x y run s p = record {
 
 pub record Stepped {A : Type 0} (a : Inside A) (v : Vec (Child A) A) (pins : TenantPins) : Type 0 where
   pub is_node : IsNode (record a { children = v })
-  pub keeps : Keeps pins (subtree_of a) (subtree_of (record a { children = v }))
+  pub keeps : KeepsMeaning pins (subtree_of a) (subtree_of (record a { children = v }))
   pub lighter : (subtree_of (record a { children = v })).weight < (subtree_of a).weight
 
-pub stepped : {A : Type 0} (a : Inside A) (v : Vec (Child A) A) (i bytes : ℕ) (x y z : Subtree) (came : List (Child A)) (pins : TenantPins) → IsNode a → IsNext a i bytes x → IsSqueezed x y → Steps pins y z came → v.items ≡ take (i + 1) (set a.children.items i (in_child.Node z)) ++ (came ++ drop (i + 1) (set a.children.items i (in_child.Node z))) → Stepped a v pins
+pub stepped : {A : Type 0} (a : Inside A) (v : Vec (Child A) A) (i bytes : ℕ) (x y z : Subtree) (came : List (Child A)) (pins : TenantPins) → IsNode a → IsNext a i bytes x → IsSqueezed x y → StepsAsOne pins y z came → v.items ≡ take (i + 1) (set a.children.items i (in_child.Node z)) ++ (came ++ drop (i + 1) (set a.children.items i (in_child.Node z))) → Stepped a v pins
 stepped {A} a v i bytes x y z came pins node n q s items = record {
   is_node = whole.is_node;
   keeps = whole.keeps;
   lighter = let w = whole.weight in let l = s.stands.lighter in let e = (squeezed_same x y q).1 in omega (arith, w, l, e);
 }
   where
-    st : Stays x y
+    st : StaysInMeaning x y
     st = (squeezed_same x y q).0
 
     like_x : IsLike x z
@@ -202,7 +202,7 @@ stepped {A} a v i bytes x y z came pins node n q s items = record {
         ∙ behind_set a.children.items i (in_child.Node z) (nodes A s.stands.run) (inside_of a.children.items i (in_child.Node x) n.at))
 
 -- the leaves that went with a child, the cache lost
-pub stepped_forgets : {A : Type 0} (a : Inside A) (v : Vec (Child A) A) (i bytes : ℕ) (x y z : Subtree) (came : List (Child A)) (pins : TenantPins) (cache cache' : Cache) → IsNode a → IsNext a i bytes x → IsSqueezed x y → Steps pins y z came → v.items ≡ take (i + 1) (set a.children.items i (in_child.Node z)) ++ (came ++ drop (i + 1) (set a.children.items i (in_child.Node z)))
+pub stepped_forgets : {A : Type 0} (a : Inside A) (v : Vec (Child A) A) (i bytes : ℕ) (x y z : Subtree) (came : List (Child A)) (pins : TenantPins) (cache cache' : Cache) → IsNode a → IsNext a i bytes x → IsSqueezed x y → StepsAsOne pins y z came → v.items ≡ take (i + 1) (set a.children.items i (in_child.Node z)) ++ (came ++ drop (i + 1) (set a.children.items i (in_child.Node z)))
     → ForgetsCame y z came cache cache' → Forgets (leaves_in (parts_of a.children.items)) (leaves_in (parts_of v.items)) cache cache'
 stepped_forgets {A} a v i bytes x y z came pins cache cache' node n q s items f =
     forgets_within (leaves_in (before_of a i)) x.leaves (z.leaves ++ leaves_of came) (leaves_in (after_of a i)) (leaves_in (parts_of a.children.items)) (leaves_in (parts_of v.items)) cache cache'

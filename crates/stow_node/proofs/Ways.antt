@@ -16,7 +16,7 @@ use Rattle.stow_node.specs.Nodes.{node_part, parts_of, IsBelow, subtree_of, IsNo
 use Rattle.stow_node.specs.Parts.{high_of}
 use Rattle.stow_node.specs.Regroups.{Grows}
 use Rattle.stow_node.specs.Subtree.{Subtree}
-use Rattle.stow_node.specs.Ways.{MergesHeaviest, GoesOn, Goes}
+use Rattle.stow_node.specs.Ways.{MergesHeaviest, GoesDown, Goes}
 use Rattle.stow_node.proofs.Down.{IsNext, squeezed_same}
 use Rattle.stow_node.proofs.Stayed.{level_at}
 use Rattle.stow_node.proofs.Stepping.{behind_set}
@@ -52,7 +52,7 @@ merges_heaviest a v i low high pins new came cache cache' node after heavy m l h
 }
 
 -- a node above nodes, of a child's height
-higher : {A : Type 0} (k height : ℕ) (pins : TenantPins) (old new : Subtree) (came : List (Child A)) (cache cache' : Cache) → 1 ≤ k → k + 1 ≡ height → GoesOn (Goes k pins) pins old new came cache cache' → Goes height pins old new came cache cache'
+higher : {A : Type 0} (k height : ℕ) (pins : TenantPins) (old new : Subtree) (came : List (Child A)) (cache cache' : Cache) → 1 ≤ k → k + 1 ≡ height → GoesDown (Goes k pins) pins old new came cache cache' → Goes height pins old new came cache cache'
 higher zero height pins old new came cache cache' l e h = absurd (omega arith)
 higher (suc k) height pins old new came cache cache' l e h = subst (λ n. Goes n pins old new came cache cache') (let t : suc (suc k) ≡ suc k + 1 = omega arith in t ∙ e) h
 

@@ -21,7 +21,7 @@ pub record MeanTheSame (pins : List ℕ) (f g : Operations) : Type 0 where
   pub there : AreThere g → AreThere f
 
 -- the node means the same under the pins, and stands where it stood
-pub record Keeps (pins : TenantPins) (old new : Subtree) : Type 0 where
+pub record KeepsMeaning (pins : TenantPins) (old new : Subtree) : Type 0 where
   pub low : new.low ≡ old.low
   pub height : new.height ≡ old.height
   pub shape : new.shape ≡ old.shape

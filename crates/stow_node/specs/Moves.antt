@@ -10,7 +10,7 @@ use Rattle.stow_node.specs.declared.child.Child.{Child}
 use Rattle.stow_node.specs.declared.child.Child.TheVariants as in_child
 use Rattle.stow_node.specs.Subtree.{Subtree, buffered, messages_of}
 use Rattle.stow_node.specs.Parts.{Part, high_of}
-use Rattle.stow_leaf.specs.Intervals.{top_key, AreWithin}
+use Rattle.stow_leaf.specs.Intervals.{top_key, NoneOutside}
 use Rattle.stow_node.specs.Nodes.{AreNewer, parts_of}
 
 -- the node with these messages more in its own buffer
@@ -22,7 +22,7 @@ accepted ms t =
 pub record CanAccept (ms : List TreeMessage) (t : Subtree) : Type 0 where
   pub room : t.buffer.used + sum_by message_size ms ≤ t.buffer.capacity
   pub newer : AreNewer ms (messages_of t)
-  pub within : AreWithin t.low top_key ms
+  pub within : NoneOutside t.low top_key ms
 
 -- dead bytes are dropped, and nothing else changed
 abbrev pub squeezed : MessageList → MessageList
@@ -46,7 +46,7 @@ bytes_for parts b i d =
     sum_by message_size (in_range (slice_index_or parts i d).low (high_of parts i) b.messages)
 
 -- all that a node means stays, as messages move below it
-pub record Stays (old new : Subtree) : Type 0 where
+pub record StaysInMeaning (old new : Subtree) : Type 0 where
   pub low : new.low ≡ old.low
   pub height : new.height ≡ old.height
   pub width : new.width ≡ old.width

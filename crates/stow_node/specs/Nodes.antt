@@ -12,7 +12,7 @@ use Rattle.stow_node.specs.Subtree.{Subtree, buffered, right_above_leaves, lower
 use Rattle.stow_leaf.specs.LeafRows.{LeafRows, row_messages}
 use Rattle.stow_leaf.specs.Replacements.{IsLeafSize}
 use Rattle.stow_node.specs.Parts.{Part, TiledTo, low_or, messages_in, leaves_in, weight_in}
-use Rattle.stow_leaf.specs.Intervals.{top_key, AreWithin}
+use Rattle.stow_leaf.specs.Intervals.{top_key, NoneOutside}
 
 abbrev pub leaf_part : {A : Type 0} → Leaf A → Part
 leaf_part leaf =
@@ -99,7 +99,7 @@ pub record IsNode {A : Type 0} (a : Inside A) : Type 0 where
   pub level : AllByRecursion (IsBelow a.height a.shape) a.children.items
   pub some : 1 ≤ length a.children.items
   pub fits : a.buffer.capacity ≡ a.shape.buffer
-  pub from : AreWithin a.low top_key a.buffer.messages
+  pub from : NoneOutside a.low top_key a.buffer.messages
   pub newer : AreNewer a.buffer.messages
       (messages_in (parts_of a.children.items)
       ++ row_messages (leaves_in (parts_of a.children.items)))
@@ -116,5 +116,5 @@ pub record AreChildren {A : Type 0} (t : Subtree) (children : List (Child A)) : 
   pub leaves : t.leaves ≡ leaves_in (parts_of children)
   pub tiled : TiledTo top_key (parts_of children)
   pub level : AllByRecursion (IsBelow t.height t.shape) children
-  pub from : AreWithin t.low top_key t.buffer.messages
+  pub from : NoneOutside t.low top_key t.buffer.messages
   pub newer : AreNewer t.buffer.messages (t.deeper ++ row_messages t.leaves)

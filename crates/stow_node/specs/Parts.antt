@@ -4,7 +4,7 @@ use Rattle.std.specs.declared.cmp.Ordering.TheVariants.{Less}
 use Rattle.std.specs.List.{AllByRecursion, flat_map, sum_by}
 use Rattle.stow_bytes.specs.Bytes.{bytes_cmp}
 use Rattle.stow_tree_model.specs.TreeMessage.{TreeMessage}
-use Rattle.stow_leaf.specs.Intervals.{top_key, spans, AreWithin}
+use Rattle.stow_leaf.specs.Intervals.{top_key, spans, NoneOutside}
 use Rattle.stow_leaf.specs.LeafRows.{LeafRows, row_messages, first_fence}
 
 -- what a parent knows of a child
@@ -26,8 +26,8 @@ pub record IsTile (p : Part) (high : List ℕ) : Type 0 where
   pub fences : AllByRecursion (λ leaf. spans p.low high leaf.0 ≡ true) p.leaves
   pub first : first_fence high p.leaves ≡ p.low
   pub ordered : bytes_cmp p.low high ≡ Less
-  pub messages : AreWithin p.low high p.messages
-  pub rows : AreWithin p.low high (row_messages p.leaves)
+  pub messages : NoneOutside p.low high p.messages
+  pub rows : NoneOutside p.low high (row_messages p.leaves)
 
 -- each part ends where the next begins, and the last at the upper end
 abbrev pub TiledTo : List ℕ → List Part → Type 0

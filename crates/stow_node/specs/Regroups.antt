@@ -52,7 +52,7 @@ pub record Grows {A : Type 0} (pins : TenantPins) (old new : Subtree)
   pub leaves : leaves_in (run_parts (new ∷ run)) ≡ old.leaves
 
 -- a node and others that came behind it mean what one node meant, and weigh less
-pub record Stands {A : Type 0} (pins : TenantPins) (old new : Subtree)
+pub record StandAsOne {A : Type 0} (pins : TenantPins) (old new : Subtree)
     (came : List (Child A)) : Type 0 where
   pub run : List Subtree
   pub are : came ≡ nodes A run
@@ -64,9 +64,9 @@ pub record Stands {A : Type 0} (pins : TenantPins) (old new : Subtree)
   pub lighter : weight_in (run_parts (new ∷ run)) < old.weight
 
 -- and they stand where the one stood; none, or not too many to count
-pub record Steps {A : Type 0} (pins : TenantPins) (old new : Subtree)
+pub record StepsAsOne {A : Type 0} (pins : TenantPins) (old new : Subtree)
     (came : List (Child A)) : Type 0 where
-  pub stands : Stands pins old new came
+  pub stands : StandAsOne pins old new came
   pub height : new.height ≡ old.height
   pub counted : length came < 2 ^ 32
 
@@ -75,7 +75,7 @@ pub record AreBehind {A : Type 0} (new : Subtree) (came : List (Child A)) : Type
   pub pins : TenantPins
   pub old : Subtree
   pub tile : IsTile (node_part old) top_key
-  pub stands : Stands pins old new came
+  pub stands : StandAsOne pins old new came
 
 -- the cache lost the leaves that went
 abbrev pub ForgetsCame : {A : Type 0} → Subtree → Subtree → List (Child A) → Cache → Cache → Type 0

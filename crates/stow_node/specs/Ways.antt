@@ -39,7 +39,7 @@ pub record MergesHeaviest {A : Type 0} (pins : TenantPins) (old new : Subtree)
       (high_of (parts_of to.children) to.index) old.buffer) new came
 
 -- the child takes all its messages out of the buffer above it
-pub record Takes {A : Type 0} (children : List (Child A)) (index : ℕ) (old new : Subtree)
+pub record ChildTakes {A : Type 0} (children : List (Child A)) (index : ℕ) (old new : Subtree)
     (came : List (Child A)) (cache cache' : Cache) : Type 0 where
   pub after : List (Child A)
   pub down : HandsDown children index old.buffer after new.buffer
@@ -61,7 +61,7 @@ pub record Enters {A : Type 0}
 
 -- further up: the heaviest child, a node of which dead bytes may have gone, takes them or is
 -- entered
-pub record GoesOn {A : Type 0}
+pub record GoesDown {A : Type 0}
     (below : Subtree → Subtree → List (Child A) → Cache → Cache → Type 0) (pins : TenantPins)
     (old new : Subtree) (came : List (Child A)) (cache cache' : Cache) : Type 0 where
   pub to : Heaviest A old
@@ -69,7 +69,7 @@ pub record GoesOn {A : Type 0}
   pub at : slice_get to.children to.index ≡ Some (in_child.Node node)
   pub ready : Subtree
   pub squeezed : IsSqueezed node ready
-  pub way : Takes (slice_set to.children to.index (in_child.Node ready)) to.index old new came
+  pub way : ChildTakes (slice_set to.children to.index (in_child.Node ready)) to.index old new came
       cache cache' ⊎ Enters below pins to.children to.index ready old new came cache cache'
 
 -- the step of a node of this height goes down along the heaviest children
@@ -78,7 +78,7 @@ abbrev pub Goes : {A : Type 0} → ℕ → TenantPins → Subtree → Subtree �
 Goes zero pins old new came cache cache' = ⊥
 Goes (suc zero) pins old new came cache cache' = MergesHeaviest pins old new came cache cache'
 Goes (suc (suc height)) pins old new came cache cache' =
-    GoesOn (Goes (suc height) pins) pins old new came cache cache'
+    GoesDown (Goes (suc height) pins) pins old new came cache cache'
 
 -- a root's step: it goes down along the heaviest children, and nodes that come behind the root get
 -- roots above them, at most one for each

@@ -34,7 +34,7 @@ impl<A: Allocator> Child<A> {
 }
 
 /// The upper end of all tenants' keys.
-pub(crate) fn top_key() -> TenantKey<'static>
+pub fn top_key() -> TenantKey<'static>
     ensures { result.bytes.now ≡ top_key }
 {
     TenantKey::from_packed(&[0, 1, 0, 0])

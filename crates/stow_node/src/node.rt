@@ -12,11 +12,11 @@ ghost use Rattle.stow_node.specs.Flushes.{AreShort, Flushes};
 ghost use Rattle.stow_node.specs.Forgets.{Forgets};
 ghost use Rattle.stow_node.specs.Halves.{AreHalves};
 ghost use Rattle.stow_node.specs.Joins.{leaves_of};
-ghost use Rattle.stow_node.specs.Moves.{accepted, CanAccept, IsSqueezed, Stays};
+ghost use Rattle.stow_node.specs.Moves.{accepted, CanAccept, IsSqueezed, StaysInMeaning};
 ghost use Rattle.stow_node.specs.Nodes.{AreChildren, AreLeafSizes, node_part};
 ghost use Rattle.stow_leaf.specs.Intervals.{top_key};
 ghost use Rattle.stow_node.specs.Parts.{IsTile};
-ghost use Rattle.stow_node.specs.Regroups.{Grows, Steps, Stands, AreBehind, ForgetsCame};
+ghost use Rattle.stow_node.specs.Regroups.{Grows, StepsAsOne, StandAsOne, AreBehind, ForgetsCame};
 ghost use Rattle.stow_node.specs.Rooms.{AreShells, HasRoom, groups};
 ghost use Rattle.stow_node.specs.Subtree.{Subtree, first_subtree, messages_of};
 ghost use Rattle.stow_node.specs.Ways.{Goes, StepsDown};
@@ -110,8 +110,8 @@ impl<A: Allocator + Copy> Node<A> {
         ensures halves { AreHalves self.old self.new result }
         ensures width { self.new.width ≡ at }
     {
-        let _len = self.buffer.len();
-        let _used = self.buffer.used();
+        let _known = self.buffer.len();
+        let _known = self.buffer.used();
         let (list, mut buffer, fence) = shell.into_parts();
         let low = Fence::copied(fence, self.children[at].low());
         let children = moved_from(&mut self.children, at, list);
@@ -200,7 +200,7 @@ impl<A: Allocator + Copy> Node<A> {
         requires some { 0 < length self.old.buffer.messages }
         requires fan_out { 1 ≤ self.old.shape.fan_out }
         requires short { AreShort (messages_of self.old) }
-        ensures ok { IfOk result (λ room. Steps (pins_in pins.now) self.old self.new room.came.items) }
+        ensures ok { IfOk result (λ room. StepsAsOne (pins_in pins.now) self.old self.new room.came.items) }
         ensures goes { IfOk result (λ room. Goes self.old.height (pins_in pins.now) self.old self.new
             room.came.items cache.old cache.new) }
         ensures room { IfOk result (HasRoom self.old.shape above.now) }
@@ -248,18 +248,18 @@ impl<A: Allocator + Copy> Node<A> {
         requires fan_out { 4 ≤ self.old.shape.fan_out }
         requires short { AreShort (messages_of self.old) }
         requires spare { self.old.buffer.capacity ≤ spare.old.capacity }
-        ensures ok { IfOk result (λ room. Steps (pins_in pins.now) self.old self.new room.came.items) }
+        ensures ok { IfOk result (λ room. StepsAsOne (pins_in pins.now) self.old self.new room.came.items) }
         ensures goes { IfOk result (λ room. Goes self.old.height (pins_in pins.now) self.old self.new
             room.came.items cache.old cache.new) }
         ensures room { IfOk result (HasRoom self.old.shape above.old.items) }
-        ensures err { OnErr result (Stays self.old self.new) }
+        ensures err { OnErr result (StaysInMeaning self.old self.new) }
         ensures cache { IfOk result (λ room. ForgetsCame self.old self.new room.came.items
             cache.old cache.new) }
         ensures kept { OnErr result (Forgets self.old.leaves self.old.leaves cache.old cache.new) }
         ensures spare { spare.new.capacity ≡ spare.old.capacity }
     {
-        let _used = self.buffer.used();
-        let _len = self.buffer.len();
+        let _known = self.buffer.used();
+        let _known = self.buffer.len();
         if self.height == 1 {
             return self.merge_leaf(alloc, pins, cache, above.as_slice());
         }
@@ -290,8 +290,8 @@ impl<A: Allocator + Copy> Node<A> {
         requires fan_out { 4 ≤ self.old.shape.fan_out }
         requires height { self.old.height + 1 < 2 ^ 64 }
         requires are { AreBehind self.old room.old.came.items }
-        ensures rises { (pins : TenantPins) (x : Subtree) → Stands pins x self.old room.old.came.items
-            → Stands pins x self.new room.new.came.items }
+        ensures rises { (pins : TenantPins) (x : Subtree) → StandAsOne pins x self.old room.old.came.items
+            → StandAsOne pins x self.new room.new.came.items }
         ensures leaves { self.new.leaves ++ leaves_of room.new.came.items
             ≡ self.old.leaves ++ leaves_of room.old.came.items }
         ensures fewer { length room.new.came.items < length room.old.came.items }
@@ -331,11 +331,11 @@ impl<A: Allocator + Copy> Node<A> {
         ensures ok { OnOk result (Flushes (pins_in pins.now) self.old self.new) }
         ensures down { OnOk result (StepsDown A (pins_in pins.now) self.old self.new
             cache.old cache.new) }
-        ensures err { OnErr result (Stays self.old self.new) }
+        ensures err { OnErr result (StaysInMeaning self.old self.new) }
         ensures cache { Forgets self.old.leaves self.new.leaves cache.old cache.new }
         ensures spare { spare.new.capacity ≡ spare.old.capacity }
     {
-        let _shape = self.shape();
+        let _known = self.shape();
         if self.height() > MOST_HEIGHT {
             return Err(AllocError);
         }
@@ -417,7 +417,7 @@ impl<A: Allocator> Node<A> {
             ≡ accepted (in_range self.old.low to.entry.bytes.now from.old.messages) self.old }
         ensures left { from.new ≡ without_range self.old.low to.entry.bytes.now from.old }
     {
-        let _count = from.len();
+        let _known = from.len();
         from.move_range(self.low.as_key(), to, &mut self.buffer);
     }
 

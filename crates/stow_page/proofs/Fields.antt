@@ -11,7 +11,7 @@ use Rattle.stow_tree_model.specs.Keys.{IsTenantKey, IsOfTenant, tenant_of}
 use Rattle.stow_tree_model.specs.Version.{Version}
 use Rattle.stow_page.specs.Format.{entry, tail, header, place_bytes}
 use Rattle.stow_page.proofs.Entries.{entry-append}
-use Rattle.stow_page.specs.Faults.{Nothing, Length, Index, Key, Number, Put, PutLength, front_bytes, IsKeyLength, IsTenantIndex, IsNumber, IsGood, EndsInField, HasBadField}
+use Rattle.stow_page.specs.Faults.{Nothing, Length, Index, Key, Number, Put, PutLength, front_bytes, IsKeyLength, IsTenantIndex, IsVersionNumber, IsGood, EndsInField, HasBadField}
 
 -- what a test of a field found to be out of its range
 pub unfit : {P : Type 0} (found : Bool) → (IsTrue found ↔ P) → found ≡ false → P → ⊥
@@ -139,7 +139,7 @@ key_is_read bytes rest key after n h e l = h.are ∙ (λ i. to_be_bytes w16 (sym
 
 -- ---- a number
 
-pub bad_number : (key rest : List ℕ) (n : ℕ) → IsGood (Key key) → 8 ≤ length rest → AreBytes rest → n ≡ from_be_bytes w64 rest → n < 2 ^ 64 → (IsNumber n → ⊥) → HasBadField (front_bytes (Key key) ++ rest)
+pub bad_number : (key rest : List ℕ) (n : ℕ) → IsGood (Key key) → 8 ≤ length rest → AreBytes rest → n ≡ from_be_bytes w64 rest → n < 2 ^ 64 → (IsVersionNumber n → ⊥) → HasBadField (front_bytes (Key key) ++ rest)
 bad_number key rest n good long fits e low bad = record {
   front = Key key;
   is_good = good;
@@ -147,7 +147,7 @@ bad_number key rest n good long fits e low bad = record {
   rest = drop 8 rest;
   are = ap (λ b. front_bytes (Key key) ++ b) (split64 rest long fits);
   is_whole = refl;
-  is_bad = λ r. bad (subst IsNumber (from_be_bytes-to_be_bytes_8 (from_be_bytes w64 rest) (subst (λ m. m < 2 ^ 64) e low) ∙ sym e) r);
+  is_bad = λ r. bad (subst IsVersionNumber (from_be_bytes-to_be_bytes_8 (from_be_bytes w64 rest) (subst (λ m. m < 2 ^ 64) e low) ∙ sym e) r);
 }
 
 pub number_ends : (key rest : List ℕ) → IsGood (Key key) → length rest < 8 → EndsInField (front_bytes (Key key) ++ rest)

@@ -17,7 +17,7 @@ use Rattle.std.proofs.lemmas.Option.{slice_get_within, slice_get-map, slice_get-
 use Rattle.std.proofs.lemmas.List.{length-map}
 use Rattle.stow_bytes.specs.Bytes.{bytes_cmp}
 use Rattle.stow_tree_model.specs.Version.{Version}
-use Rattle.stow_tree_model.specs.Order.{Place, place_cmp, version_place, VersionsRise}
+use Rattle.stow_tree_model.specs.Order.{VersionPlace, place_cmp, version_place, VersionsRise}
 use Rattle.stow_tree_model.proofs.Orders.{place_total, less_than, same_number, more_than}
 use Rattle.stow_page.specs.Rows.{is_above, is_up_to, last_of, version_at, IsCountUpTo}
 
@@ -28,7 +28,7 @@ all_at P [] i x all e = let none = slice_get_within [] i x e in absurd (omega ar
 all_at P (y ∷ ys) zero x all e = subst P (ap (λ o. unwrap_or o x) e) all.0
 all_at P (y ∷ ys) (suc i) x all e = all_at P ys i x all.1 e
 
-rise_at : (ps : List Place) (i j : ℕ) (a b : Place) → IsStrictlySortedBy place_cmp ps → i < j → slice_get ps i ≡ Some a → slice_get ps j ≡ Some b → place_cmp a b ≡ Less
+rise_at : (ps : List VersionPlace) (i j : ℕ) (a b : VersionPlace) → IsStrictlySortedBy place_cmp ps → i < j → slice_get ps i ≡ Some a → slice_get ps j ≡ Some b → place_cmp a b ≡ Less
 unfolding IsStrictlySortedBy
 rise_at [] i j a b rise low e f = let none = slice_get_within [] i a e in absurd (omega arith)
 rise_at (p ∷ ps) i zero a b rise low e f = absurd (omega arith)
@@ -74,11 +74,11 @@ lt_is Equal e = cc
 lt_is Greater e = cc
 
 -- above a version that stands above the place all stand above it
-pub above_later : (place a b : Place) → is_lt (place_cmp place a) ≡ true → place_cmp a b ≡ Less → is_lt (place_cmp place b) ≡ true
+pub above_later : (place a b : VersionPlace) → is_lt (place_cmp place a) ≡ true → place_cmp a b ≡ Less → is_lt (place_cmp place b) ≡ true
 above_later place a b h l = ap is_lt (place_total.trans place a b (lt_is _ h) l)
 
 -- below a version that doesn't stand above the place none stands above it
-pub not_above_earlier : (place a b : Place) → is_lt (place_cmp place b) ≡ false → place_cmp a b ≡ Less → is_lt (place_cmp place a) ≡ false
+pub not_above_earlier : (place a b : VersionPlace) → is_lt (place_cmp place b) ≡ false → place_cmp a b ≡ Less → is_lt (place_cmp place a) ≡ false
 not_above_earlier place a b h l = ⊎_elim
     (λ (y : is_lt (place_cmp place a) ≡ true). absurd (true≢false (sym (above_later place a b y l) ∙ h)))
     (λ (n : is_lt (place_cmp place a) ≡ false). n)
@@ -174,13 +174,13 @@ found_other rows key number count i v rise h e f isnt = last_none (is_up_to key 
 -- ---- the search for a place
 
 -- what is known of the places below the one bound and from the other on
-pub record IsNarrowed (rows : List Version) (place : Place) (low high : ℕ) : Type 0 where
+pub record IsNarrowed (rows : List Version) (place : VersionPlace) (low high : ℕ) : Type 0 where
   pub ordered : low ≤ high
   pub within : high ≤ length rows
   pub up_to : (i : ℕ) (v : Version) → i < low → slice_get rows i ≡ Some v → is_above place v ≡ false
   pub above : (i : ℕ) (v : Version) → high ≤ i → slice_get rows i ≡ Some v → is_above place v ≡ true
 
-pub narrowed_first : (rows : List Version) (place : Place) → IsNarrowed rows place 0 (length rows)
+pub narrowed_first : (rows : List Version) (place : VersionPlace) → IsNarrowed rows place 0 (length rows)
 narrowed_first rows place = record {
   ordered = omega arith;
   within = omega arith;
@@ -191,7 +191,7 @@ narrowed_first rows place = record {
 same_at : (rows : List Version) (i : ℕ) (v w : Version) → slice_get rows i ≡ Some v → slice_get rows i ≡ Some w → v ≡ w
 same_at rows i v w e f = ap (λ o. unwrap_or o v) (sym e ∙ f)
 
-pub narrowed_down : (rows : List Version) (place : Place) (low high middle : ℕ) (v : Version) → VersionsRise rows → IsNarrowed rows place low high → low ≤ middle → middle < high → slice_get rows middle ≡ Some v → is_above place v ≡ true → IsNarrowed rows place low middle
+pub narrowed_down : (rows : List Version) (place : VersionPlace) (low high middle : ℕ) (v : Version) → VersionsRise rows → IsNarrowed rows place low high → low ≤ middle → middle < high → slice_get rows middle ≡ Some v → is_above place v ≡ true → IsNarrowed rows place low middle
 narrowed_down rows place low high middle v rise h a b e is = record {
   ordered = a;
   within = let within = h.within in omega arith;
@@ -205,7 +205,7 @@ narrowed_down rows place low high middle v rise h a b e is = record {
       (cases_order i middle);
 }
 
-pub narrowed_up : (rows : List Version) (place : Place) (low high middle : ℕ) (v : Version) → VersionsRise rows → IsNarrowed rows place low high → low ≤ middle → middle < high → slice_get rows middle ≡ Some v → is_above place v ≡ false → IsNarrowed rows place (middle + 1) high
+pub narrowed_up : (rows : List Version) (place : VersionPlace) (low high middle : ℕ) (v : Version) → VersionsRise rows → IsNarrowed rows place low high → low ≤ middle → middle < high → slice_get rows middle ≡ Some v → is_above place v ≡ false → IsNarrowed rows place (middle + 1) high
 narrowed_up rows place low high middle v rise h a b e is = record {
   ordered = omega arith;
   within = h.within;
@@ -219,26 +219,26 @@ narrowed_up rows place low high middle v rise h a b e is = record {
       (cases_order i middle);
 }
 
-pub narrowed_last : (rows : List Version) (place : Place) (low high : ℕ) → IsNarrowed rows place low high → high ≤ low → IsCountUpTo rows place low
+pub narrowed_last : (rows : List Version) (place : VersionPlace) (low high : ℕ) → IsNarrowed rows place low high → high ≤ low → IsCountUpTo rows place low
 narrowed_last rows place low high h e =
     let ordered = h.ordered in
     let within = h.within in
     record { within = omega arith; up_to = h.up_to; above = λ i v past f. h.above i v (omega arith) f }
 
 -- with the version before a count not above the place, and the one at it above, it is how many stand up to it
-pub counted_from : (rows : List Version) (place : Place) (count : ℕ) → count ≤ length rows → count ≡ 0 → IsNarrowed rows place count (length rows)
+pub counted_from : (rows : List Version) (place : VersionPlace) (count : ℕ) → count ≤ length rows → count ≡ 0 → IsNarrowed rows place count (length rows)
 counted_from rows place count within e = subst (λ n. IsNarrowed rows place n (length rows)) (sym e) (narrowed_first rows place)
 
-pub counted_up : (rows : List Version) (place : Place) (count : ℕ) (v : Version) → VersionsRise rows → count ≤ length rows → 0 < count → slice_get rows (count - 1) ≡ Some v → is_above place v ≡ false → IsNarrowed rows place count (length rows)
+pub counted_up : (rows : List Version) (place : VersionPlace) (count : ℕ) (v : Version) → VersionsRise rows → count ≤ length rows → 0 < count → slice_get rows (count - 1) ≡ Some v → is_above place v ≡ false → IsNarrowed rows place count (length rows)
 counted_up rows place count v rise within some e is =
     let same : count - 1 + 1 ≡ count = omega arith in
     subst (λ n. IsNarrowed rows place n (length rows)) same
     (narrowed_up rows place 0 (length rows) (count - 1) v rise (narrowed_first rows place) (omega arith) (omega arith) e is)
 
-pub counted_all : (rows : List Version) (place : Place) (count : ℕ) → IsNarrowed rows place count (length rows) → count ≡ length rows → IsCountUpTo rows place count
+pub counted_all : (rows : List Version) (place : VersionPlace) (count : ℕ) → IsNarrowed rows place count (length rows) → count ≡ length rows → IsCountUpTo rows place count
 counted_all rows place count h e = narrowed_last rows place count (length rows) h (omega arith)
 
-pub counted_here : (rows : List Version) (place : Place) (count : ℕ) (v : Version) → VersionsRise rows → IsNarrowed rows place count (length rows) → slice_get rows count ≡ Some v → is_above place v ≡ true → IsCountUpTo rows place count
+pub counted_here : (rows : List Version) (place : VersionPlace) (count : ℕ) (v : Version) → VersionsRise rows → IsNarrowed rows place count (length rows) → slice_get rows count ≡ Some v → is_above place v ≡ true → IsCountUpTo rows place count
 counted_here rows place count v rise h e is =
     narrowed_last rows place count count (narrowed_down rows place count (length rows) count v rise h (omega arith) (slice_get_within rows count v e) e is) (omega arith)
 
@@ -299,12 +299,12 @@ get_behind : (rows : List Version) (v : Version) → slice_get (rows ++ v ∷ []
 get_behind [] v = refl
 get_behind (_ ∷ rows) v = get_behind rows v
 
-rises_behind : (ps : List Place) (p : Place) → IsStrictlySortedBy place_cmp ps → ((i : ℕ) (q : Place) → slice_get ps i ≡ Some q → place_cmp q p ≡ Less) → IsStrictlySortedBy place_cmp (ps ++ p ∷ [])
+rises_behind : (ps : List VersionPlace) (p : VersionPlace) → IsStrictlySortedBy place_cmp ps → ((i : ℕ) (q : VersionPlace) → slice_get ps i ≡ Some q → place_cmp q p ≡ Less) → IsStrictlySortedBy place_cmp (ps ++ p ∷ [])
 unfolding IsStrictlySortedBy
 rises_behind [] p rise below = (tt, tt)
 rises_behind (q ∷ ps) p rise below = (first ps rise.0, rises_behind ps p rise.1 (λ i r e. below (suc i) r e))
   where
-    first : (rs : List Place) → AllByRecursion (λ r. place_cmp q r ≡ Less) rs → AllByRecursion (λ r. place_cmp q r ≡ Less) (rs ++ p ∷ [])
+    first : (rs : List VersionPlace) → AllByRecursion (λ r. place_cmp q r ≡ Less) rs → AllByRecursion (λ r. place_cmp q r ≡ Less) (rs ++ p ∷ [])
     first [] all = (below 0 q refl, tt)
     first (r ∷ rs) all = (all.0, first rs all.1)
 
@@ -322,7 +322,7 @@ pub rise_behind : (rows : List Version) (i : ℕ) (last v : Version) → Version
 rise_behind rows i last v rise e f l =
     subst (IsStrictlySortedBy place_cmp) (sym (places_behind rows v)) (rises_behind (map version_place rows) (version_place v) rise below)
   where
-    below : (j : ℕ) (q : Place) → slice_get (map version_place rows) j ≡ Some q → place_cmp q (version_place v) ≡ Less
+    below : (j : ℕ) (q : VersionPlace) → slice_get (map version_place rows) j ≡ Some q → place_cmp q (version_place v) ≡ Less
     below j q g =
         let within : j < length rows = subst (λ n. j < n) (length-map rows version_place) (slice_get_within (map version_place rows) j q g) in
         let w : Version = get_or rows j last in

@@ -4,7 +4,7 @@ use Rattle.std.specs.Int.{to_be_bytes, from_be_bytes, w16, w32, w64}
 use Rattle.stow_tree_model.specs.Keys.{IsTenantKey, IsOfTenant, tenant_of}
 use Rattle.stow_page.specs.Format.{place_bytes}
 use Rattle.stow_page.specs.Rows.{after_key}
-use Rattle.stow_page.specs.Faults.{Front, Nothing, Length, Index, Key, Number, Put, PutLength, front_bytes, width, IsKeyLength, IsTenantIndex, IsNumber, IsGood, IsOutOfRange, EndsInField, HasBadField}
+use Rattle.stow_page.specs.Faults.{Front, Nothing, Length, Index, Key, Number, Put, PutLength, front_bytes, width, IsKeyLength, IsTenantIndex, IsVersionNumber, IsGood, IsOutOfRange, EndsInField, HasBadField}
 use Rattle.stow_page.proofs.Entries.{from16, from64}
 use Rattle.stow_page.proofs.Unique.{from32, front16, front32, front64, behind_key, behind_number}
 
@@ -31,10 +31,10 @@ module _ (bytes : List ℕ) where
   behind : (key : List ℕ) (number : ℕ) (later : List ℕ) → bytes ≡ front_bytes (Number key number) ++ later → bytes ≡ front_bytes (Key key) ++ (to_be_bytes w64 number ++ later)
   behind key number later are = are ∙ ap (λ b. to_be_bytes w16 (length key) ++ b) (append_assoc key (to_be_bytes w64 number) later)
 
-  good_number : (key : List ℕ) (number : ℕ) (later : List ℕ) → IsGood (Number key number) → bytes ≡ front_bytes (Number key number) ++ later → IsNumber (from_be_bytes w64 (after_key bytes))
+  good_number : (key : List ℕ) (number : ℕ) (later : List ℕ) → IsGood (Number key number) → bytes ≡ front_bytes (Number key number) ++ later → IsVersionNumber (from_be_bytes w64 (after_key bytes))
   good_number key number later good are =
       let high = good.2.1 in
-      subst IsNumber (sym (ap (λ b. from_be_bytes w64 (after_key b)) (behind key number later are) ∙ ap (from_be_bytes w64) (behind_key key (to_be_bytes w64 number ++ later) good.0) ∙ from64 number later (omega arith))) good.2
+      subst IsVersionNumber (sym (ap (λ b. from_be_bytes w64 (after_key b)) (behind key number later are) ∙ ap (from_be_bytes w64) (behind_key key (to_be_bytes w64 number ++ later) good.0) ∙ from64 number later (omega arith))) good.2
 
   long_key : (key later : List ℕ) → bytes ≡ front_bytes (Key key) ++ later → length bytes ≡ 2 + (length key + length later)
   long_key key later are = ap length are ∙ length-append (to_be_bytes w16 (length key)) (key ++ later) ∙ ap (λ m. 2 + m) (length-append key later)
@@ -70,7 +70,7 @@ module _ (bytes rest : List ℕ) where
   past_index (PutLength key number n) good are short = inr (good_index bytes key _ (good.0, good.1) (behind bytes key number _ (length_behind bytes key number n rest are)))
 
   -- bytes that end before a number's field does are short
-  before_number : (front : Front) → IsGood front → bytes ≡ front_bytes front ++ rest → length rest < width front → (length bytes < 10 + from_be_bytes w16 bytes) ⊎ IsNumber (from_be_bytes w64 (after_key bytes))
+  before_number : (front : Front) → IsGood front → bytes ≡ front_bytes front ++ rest → length rest < width front → (length bytes < 10 + from_be_bytes w16 bytes) ⊎ IsVersionNumber (from_be_bytes w64 (after_key bytes))
   before_number Nothing good are short = inl (let same = ap length are in omega arith)
   before_number (Length n) good are short = inl (let same : length bytes ≡ 2 + length rest = ap length are ∙ length-append (front_bytes (Length n)) rest in omega arith)
   before_number (Index n tenant) good are short = inl (
@@ -134,7 +134,7 @@ not_both bytes e b = by b.front b.is_good b.are b.is_whole b.is_bad
         let both = length-append b.field b.rest in
         let is = key_length bytes key (key ++ (b.field ++ b.rest)) good.0 are in
         omega arith)
-        (λ (fits : IsNumber (from_be_bytes w64 (after_key bytes))). bad (subst IsNumber (ap (λ c. from_be_bytes w64 (after_key c)) are ∙ ap (from_be_bytes w64) (behind_key key (b.field ++ b.rest) good.0) ∙ front64 b.field b.rest whole) fits))
+        (λ (fits : IsVersionNumber (from_be_bytes w64 (after_key bytes))). bad (subst IsVersionNumber (ap (λ c. from_be_bytes w64 (after_key c)) are ∙ ap (from_be_bytes w64) (behind_key key (b.field ++ b.rest) good.0) ∙ front64 b.field b.rest whole) fits))
         (before_number bytes e.rest e.front e.is_good e.are e.ends)
     by (Number key number) good are whole bad = ⊎_elim
         (λ (short : length bytes < 11 + from_be_bytes w16 bytes).

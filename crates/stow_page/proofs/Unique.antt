@@ -9,7 +9,7 @@ use Rattle.stow_tree_model.specs.Value.{IsValue}
 use Rattle.stow_tree_model.specs.Version.{Version}
 use Rattle.stow_page.specs.Format.{entry, tail, place_bytes, IsVersion}
 use Rattle.stow_page.specs.Rows.{version_in, after_key, IsAtFront}
-use Rattle.stow_page.specs.Faults.{Front, Nothing, Length, Index, Key, Number, Put, PutLength, front_bytes, width, IsKeyLength, IsTenantIndex, IsNumber, IsGood, IsOutOfRange, EndsInField, HasBadField}
+use Rattle.stow_page.specs.Faults.{Front, Nothing, Length, Index, Key, Number, Put, PutLength, front_bytes, width, IsKeyLength, IsTenantIndex, IsVersionNumber, IsGood, IsOutOfRange, EndsInField, HasBadField}
 use Rattle.stow_page.proofs.Entries.{Parts, parts_at, version_in-at}
 
 -- ---- one entry at most
@@ -170,7 +170,7 @@ entry_has_no_bad_field v bytes h e = by e.front e.is_good e.are e.is_whole e.is_
     by (Key key) good are whole bad =
         let rest : after_key bytes ≡ e.field ++ e.rest = ap after_key are ∙ behind_key key (e.field ++ e.rest) good.0 in
         let is : from_be_bytes w64 e.field ≡ v.number = sym (front64 e.field e.rest whole) ∙ ap (from_be_bytes w64) (sym rest) ∙ parts.number in
-        bad (subst IsNumber (sym is) h.is_version.is_numbered)
+        bad (subst IsVersionNumber (sym is) h.is_version.is_numbered)
     by (Number key number) good are whole bad =
         let rest : drop 8 (after_key bytes) ≡ e.field ++ e.rest = ap (λ b. drop 8 (after_key b)) are ∙ behind_number key (e.field ++ e.rest) number good.0 in
         bad_kind v.value parts.tail_at.rest e.field e.rest (sym parts.tail_at.is_tail ∙ rest) whole bad.0 bad.1

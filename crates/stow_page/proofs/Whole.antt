@@ -6,11 +6,11 @@ use Rattle.std.specs.Int.{from_be_bytes, w32}
 use Rattle.std.specs.List.{AllByRecursion}
 use Rattle.std.specs.List.Sorted.{IsStrictlySortedBy}
 use Rattle.std.specs.declared.cmp.Ordering.TheVariants.{Less}
-use Rattle.stow_tree_model.specs.Order.{Place, place_cmp, version_place, VersionsRise}
+use Rattle.stow_tree_model.specs.Order.{VersionPlace, place_cmp, version_place, VersionsRise}
 use Rattle.stow_tree_model.specs.Version.{Version}
 use Rattle.stow_page.specs.Format.{entry, entries, header, packed_page, IsVersion, AreVersions}
 use Rattle.stow_page.specs.Rows.{IsAtFront}
-use Rattle.stow_page.specs.Faults.{Begins, EndsInField, HasBadField, EndsInHeader, HasFaultyEntry, HasEntryOutOfOrder, HasBytesBehind, IsPageFault}
+use Rattle.stow_page.specs.Faults.{BeginsPage, EndsInField, HasBadField, EndsInHeader, HasFaultyEntry, HasEntryOutOfOrder, HasBytesBehind, IsPageFault}
 use Rattle.stow_page.specs.Laws.{AreRows, PackedOnce, PageHasNoFault, OneFault}
 use Rattle.stow_page.specs.declared.page_fault.PageFault.{PageFault}
 use Rattle.stow_page.specs.declared.page_fault.PageFault.TheVariants as fault
@@ -26,7 +26,7 @@ same_count m n x y hm hn e = sym (from32 m x hm) ∙ ap (λ b. from_be_bytes w32
 same_behind : (m n : ℕ) (x y : List ℕ) → header m ++ x ≡ header n ++ y → x ≡ y
 same_behind m n x y e = ap (drop 5) e
 
-all_in_front : (P : Place → Type 0) (some : List Version) (v : Version) (more : List Version) → AllByRecursion P (map version_place (some ++ v ∷ more)) → AllByRecursion P (map version_place (some ++ v ∷ []))
+all_in_front : (P : VersionPlace → Type 0) (some : List Version) (v : Version) (more : List Version) → AllByRecursion P (map version_place (some ++ v ∷ more)) → AllByRecursion P (map version_place (some ++ v ∷ []))
 all_in_front P [] v more all = (all.0, tt)
 all_in_front P (w ∷ some) v more all = (all.0, all_in_front P some v more all.1)
 
@@ -68,7 +68,7 @@ compared (v ∷ rows) (w ∷ others) x y all some e =
 
 -- reading stops behind these versions: no version whose entry follows stands above them, or none is to follow
 record Stops (bytes : List ℕ) (count : ℕ) (rows : List Version) (rest : List ℕ) : Type 0 where
-  begins : Begins bytes count rows rest
+  begins : BeginsPage bytes count rows rest
   few : length rows ≤ count
   stops : (v : Version) (later : List ℕ) → rest ≡ entry v ++ later → IsVersion v → VersionsRise (rows ++ v ∷ []) → length rows < count → ⊥
 
@@ -222,7 +222,7 @@ placed fault.LengthOrField bytes (inl h) = inr (at_field bytes h)
 placed fault.LengthOrField bytes (inr h) = inr (at_last bytes h)
 placed fault.Memory bytes h = absurd h
 
-whole_header : (reason : PageFault) (bytes : List ℕ) (count : ℕ) (rows : List Version) (rest : List ℕ) → IsInHeader reason bytes → Begins bytes count rows rest → ⊥
+whole_header : (reason : PageFault) (bytes : List ℕ) (count : ℕ) (rows : List Version) (rest : List ℕ) → IsInHeader reason bytes → BeginsPage bytes count rows rest → ⊥
 whole_header fault.FormatByte bytes count rows rest h b = h.3 (ap (λ c. get_or c 0 0) (sym h.2 ∙ b.are))
 whole_header fault.Truncated bytes count rows rest (inl none) b = (let long : length bytes ≡ 5 + length (entries rows ++ rest) = ap length b.are ∙ length-append (header count) (entries rows ++ rest) in let no_bytes = ap length none in omega arith)
 whole_header fault.Truncated bytes count rows rest (inr short) b = (let long : length bytes ≡ 5 + length (entries rows ++ rest) = ap length b.are ∙ length-append (header count) (entries rows ++ rest) in let same = ap length short.1 in let low = short.2 in omega arith)

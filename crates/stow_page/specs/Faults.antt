@@ -43,8 +43,8 @@ IsKeyLength n = (4 ≤ n) × (n ≤ 4 + key_limit)
 abbrev pub IsTenantIndex : ℕ → Type 0
 IsTenantIndex tenant = (1 ≤ tenant) × (tenant ≤ tenant_limit)
 
-abbrev pub IsNumber : ℕ → Type 0
-IsNumber number = (1 ≤ number) × (number ≤ number_limit)
+abbrev pub IsVersionNumber : ℕ → Type 0
+IsVersionNumber number = (1 ≤ number) × (number ≤ number_limit)
 
 -- the fields that were read are in their ranges
 abbrev pub IsGood : Front → Type 0
@@ -52,9 +52,9 @@ IsGood Nothing = Unit {0}
 IsGood (Length n) = IsKeyLength n
 IsGood (Index n tenant) = IsKeyLength n × IsTenantIndex tenant
 IsGood (Key key) = IsTenantKey key × IsOfTenant key
-IsGood (Number key number) = IsTenantKey key × IsOfTenant key × IsNumber number
-IsGood (Put key number) = IsTenantKey key × IsOfTenant key × IsNumber number
-IsGood (PutLength key number n) = IsTenantKey key × IsOfTenant key × IsNumber number
+IsGood (Number key number) = IsTenantKey key × IsOfTenant key × IsVersionNumber number
+IsGood (Put key number) = IsTenantKey key × IsOfTenant key × IsVersionNumber number
+IsGood (PutLength key number n) = IsTenantKey key × IsOfTenant key × IsVersionNumber number
     × (n ≤ value_limit)
 
 -- how many bytes the next field has
@@ -71,7 +71,7 @@ width (PutLength key number n) = n
 abbrev pub IsOutOfRange : Front → List ℕ → Type 0
 IsOutOfRange Nothing field = IsKeyLength (from_be_bytes w16 field) → ⊥
 IsOutOfRange (Length n) field = IsTenantIndex (from_be_bytes w32 field) → ⊥
-IsOutOfRange (Key key) field = IsNumber (from_be_bytes w64 field) → ⊥
+IsOutOfRange (Key key) field = IsVersionNumber (from_be_bytes w64 field) → ⊥
 IsOutOfRange (Number key number) field = (field ≢ 0 ∷ []) × (field ≢ 1 ∷ [])
 IsOutOfRange (Index n tenant) field = ⊥
 IsOutOfRange (Put key number) field = ⊥
@@ -124,7 +124,8 @@ IsFaultBehindNumber reason bytes = (key : List ℕ) (number : ℕ) → IsGood (N
 -- ---- in a page
 
 -- after the header of this many entries stand these good ones, which rise, and then a rest
-pub record Begins (bytes : List ℕ) (count : ℕ) (rows : List Version) (rest : List ℕ) : Type 0 where
+pub record BeginsPage (bytes : List ℕ) (count : ℕ) (rows : List Version) (rest : List ℕ)
+    : Type 0 where
   pub are : bytes ≡ header count ++ (entries rows ++ rest)
   pub is_counted : count < 4294967296
   pub are_versions : AreVersions rows
@@ -135,7 +136,7 @@ pub record HasFaultyEntry (fault : PageFault) (bytes : List ℕ) : Type 0 where
   pub count : ℕ
   pub rows : List Version
   pub rest : List ℕ
-  pub begins : Begins bytes count rows rest
+  pub begins : BeginsPage bytes count rows rest
   pub is_short : length rows < count
   pub is_faulty : IsEntryFault fault rest
 
@@ -149,7 +150,7 @@ pub record HasEntryOutOfOrder (bytes : List ℕ) : Type 0 where
   pub rows : List Version
   pub version : Version
   pub rest : List ℕ
-  pub begins : Begins bytes count rows (entry version ++ rest)
+  pub begins : BeginsPage bytes count rows (entry version ++ rest)
   pub is_short : length rows < count
   pub is_version : IsVersion version
   pub is_not_above : VersionsRise (rows ++ version ∷ []) → ⊥
@@ -158,7 +159,7 @@ pub record HasEntryOutOfOrder (bytes : List ℕ) : Type 0 where
 pub record HasBytesBehind (bytes : List ℕ) : Type 0 where
   pub rows : List Version
   pub rest : List ℕ
-  pub begins : Begins bytes (length rows) rows rest
+  pub begins : BeginsPage bytes (length rows) rows rest
   pub is_more : rest ≢ []
 
 -- the bytes are no page, and this is the first fault in reading order

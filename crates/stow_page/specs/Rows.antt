@@ -3,7 +3,7 @@ use Rattle.std.specs.Prelude.{◌≡◌, ℕ, zero, suc, ◌<◌, ◌≤◌, ◌
 use Rattle.std.specs.Int.{from_be_bytes, to_be_bytes, w16, w32, w64}
 use Rattle.std.specs.Ordering.{is_lt}
 use Rattle.std.specs.Str.{bytes_eq}
-use Rattle.stow_tree_model.specs.Order.{Place, place_cmp, version_place, VersionsRise}
+use Rattle.stow_tree_model.specs.Order.{VersionPlace, place_cmp, version_place, VersionsRise}
 use Rattle.stow_tree_model.specs.Version.{Version, version_of}
 use Rattle.stow_tree_model.specs.declared.version.Version as lent
 use Rattle.stow_tree_model.specs.Value.{IsValue}
@@ -77,11 +77,11 @@ counted bytes v count = with_count (bytes ++ entry v) count
 -- ---- what is looked up
 
 -- the version stands above the place
-abbrev pub is_above : Place → Version → Bool
+abbrev pub is_above : VersionPlace → Version → Bool
 is_above place v = is_lt (place_cmp place (version_place v))
 
 -- this many versions stand at the place or below it, and all others above it
-pub record IsCountUpTo (rows : List Version) (place : Place) (count : ℕ) : Type 0 where
+pub record IsCountUpTo (rows : List Version) (place : VersionPlace) (count : ℕ) : Type 0 where
   pub within : count ≤ length rows
   pub up_to : (i : ℕ) (v : Version) → i < count → slice_get rows i ≡ Some v
       → is_above place v ≡ false

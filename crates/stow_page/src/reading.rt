@@ -4,7 +4,7 @@ ghost use Rattle.std.specs.Int.{to_be_bytes, w64};
 ghost use Rattle.stow_tree_model.specs.Value.{bytes_at};
 ghost use Rattle.stow_tree_model.specs.Version.{version_of};
 ghost use Rattle.stow_page.specs.Format.{entry, header, packed_page};
-ghost use Rattle.stow_page.specs.Faults.{IsKeyLength, IsTenantIndex, IsNumber, IsKeyRead, IsTailRead, IsFaultBehindKey, IsFaultBehindNumber, IsEntryFault, IsPageFault, IsRefusal};
+ghost use Rattle.stow_page.specs.Faults.{IsKeyLength, IsTenantIndex, IsVersionNumber, IsKeyRead, IsTailRead, IsFaultBehindKey, IsFaultBehindNumber, IsEntryFault, IsPageFault, IsRefusal};
 
 use crate::big_endian::{u16_at_front, u32_at_front, u64_at_front};
 use crate::packed_rows::PackedRows;
@@ -31,7 +31,7 @@ fn is_tenant_index(tenant: u32) -> bool
 
 /// A version can have this number.
 fn is_number(number: u64) -> bool
-    ensures { IsTrue result ↔ IsNumber number }
+    ensures { IsTrue result ↔ IsVersionNumber number }
 {
     1 <= number && number <= NUMBER_LIMIT
 }
@@ -65,7 +65,8 @@ fn read_key(bytes: &[u8]) -> Result<(TenantKey<'_>, &[u8]), PageFault>
 
 /// The number that follows a key, and what follows it.
 fn read_number(bytes: &[u8]) -> Result<(u64, &[u8]), PageFault>
-    ensures ok { IfOk result (λ p. (bytes.now ≡ to_be_bytes w64 p.0 ++ p.1.now) × IsNumber p.0) }
+    ensures ok { IfOk result (λ p. (bytes.now ≡ to_be_bytes w64 p.0 ++ p.1.now)
+        × IsVersionNumber p.0) }
     ensures err { IfErr result (λ f. IsFaultBehindKey f bytes.now) }
 {
     if bytes.len() < 8 {

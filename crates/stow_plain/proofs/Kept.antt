@@ -16,7 +16,7 @@ use Rattle.stow_model.specs.Reply.{Reply}
 use Rattle.stow_model.specs.Reply as reply
 use Rattle.stow_model.specs.declared.refusal.Refusal.TheVariants as refusal
 use Rattle.stow_model.specs.declared.usage.Usage.{Usage}
-use Rattle.stow_model.specs.Store.{Version, Rows, Store, Answer, Shown, shown_by, charge, usage, can_take, id_items, snapshot_rows, written, within_quota, refused, one_more}
+use Rattle.stow_model.specs.Store.{Version, Rows, Store, Answer, Shown, shown_by, charge, usage, can_take, id_items, snapshot_rows, written, within_quota, refused, one_more, number_in}
 use Rattle.stow_ledger.specs.declared.charge.Charge.{Charge}
 use Rattle.stow_ledger.specs.declared.shown_row.ShownRow.{ShownRow}
 use Rattle.stow_ledger.specs.Charges.{is_shown, row_freed}
@@ -25,7 +25,7 @@ use Rattle.stow_ledger.proofs.KeptLemmas.{take_is_free_law}
 use Rattle.stow_ledger.proofs.DropLemmas.{drop_is_charged_law}
 use Rattle.stow_plain.specs.declared.plain_snapshot.PlainSnapshot.{PlainSnapshot}
 use Rattle.stow_plain.specs.declared.plain_store.PlainStore.{PlainStore}
-use Rattle.stow_plain.specs.Contents.{Contents, number_in, is_allowed, bare, charge_of, pairs_of, snapshots_of, shown_in, AreContents}
+use Rattle.stow_plain.specs.Contents.{Contents, is_allowed, bare, charge_of, pairs_of, snapshots_of, shown_in, AreContents}
 use Rattle.stow_plain.specs.OwnRun.{store_of}
 use Rattle.stow_plain.proofs.Copies.{entries_of, keys_of_pairs, len_of, get_of, shown_of, new_id, rise_push, insert_push, all_push, rise_filter, all_filter, remove_filter}
 

@@ -50,11 +50,6 @@ charge_of c = charge (bare c)
 abbrev pub is_allowed : ℕ → ℕ → ℕ → Bool
 is_allowed quota before after = nat_le after quota || nat_le after before
 
--- the number that an id is, unless it is below 0
-abbrev pub number_in : ℤ → Option ℕ
-number_in (pos n) = Some n
-number_in (negsuc n) = None
-
 -- ---- a list of copies
 
 abbrev pub pairs_of : {A : Type 0} → List (PlainSnapshot A) → List (ℕ × Rows)

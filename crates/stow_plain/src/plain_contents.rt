@@ -8,18 +8,17 @@ ghost use Rattle.stow_bytes.specs.Limits.{number_limit};
 ghost use Rattle.stow_ledger.specs.Shown.{cost_of_all};
 ghost use Rattle.stow_model.specs.Item.{Integer};
 ghost use Rattle.stow_model.specs.Store as store;
-ghost use Rattle.stow_plain.specs.Contents.{Contents, new_contents, bare, charge_of, is_allowed, number_in, pairs_of, shown_in};
+ghost use Rattle.stow_model.specs.Store.{number_in};
+ghost use Rattle.stow_plain.specs.Contents.{Contents, new_contents, bare, charge_of, is_allowed, pairs_of, shown_in};
 
 use crate::plain_number::PlainNumber;
 use crate::plain_rows::PlainRows;
 use crate::plain_snapshot::PlainSnapshot;
 use std::alloc::{AllocError, Allocator, Global};
 use std::marker::Model;
-use stow_bytes::limits::NUMBER_LIMIT;
+use stow_bytes::limits::{NUMBER_LIMIT, SNAPSHOT_LIMIT};
 use stow_model::items::Items;
-
-/// Live snapshots of a tenant, at most.
-const SNAPSHOT_LIMIT: usize = 64;
+use stow_model::snapshot_id::number_in;
 
 /// The rows, and the live snapshots with rising ids, each with a whole copy of the rows. What is charged for them is at
 /// most 9,223,372,036,854,775,807.
@@ -192,13 +191,6 @@ fn push_id<A: Allocator>(items: &mut Items<A>, id: u64) -> Result<(), AllocError
 {
     items.push_integer(id as i64)?;
     Ok(())
-}
-
-/// The number that an id is, unless it is below 0.
-fn number_in(id: i64) -> Option<u64>
-    ensures { result ≡ number_in id }
-{
-    if id < 0 { None } else { Some(id as u64) }
 }
 
 /// The copy of the rows that a snapshot has.

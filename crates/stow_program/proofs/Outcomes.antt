@@ -10,14 +10,14 @@ use Rattle.stow_workers.specs.Failures.{HasFailed}
 use Rattle.stow_workers.specs.Sent.{WritesAll, Written}
 use Rattle.stow_run.specs.declared.failure.Failure.{Failure}
 use Rattle.stow_run.specs.declared.failure.Failure.TheVariants as failure
-use Rattle.stow_run.specs.declared.failure.Place.{Place}
-use Rattle.stow_run.specs.declared.failure.Place.TheVariants as place
+use Rattle.stow_run.specs.declared.failure.Endpoint.{Endpoint}
+use Rattle.stow_run.specs.declared.failure.Endpoint.TheVariants as endpoint
 use Rattle.stow_tasks.specs.Ends.{IsOfOutput}
 use Rattle.stow_run.specs.Statuses.{failure_at, failure_of_kind}
 use Rattle.stow_program.specs.Outcomes.{EndsServing}
 
 -- the failure is one of there
-pub failed_there : {T : Type 0} (Is : Failure → Type 0) (at : Place) (outcome : Result T Error) (f : Failure)
+pub failed_there : {T : Type 0} (Is : Failure → Type 0) (at : Endpoint) (outcome : Result T Error) (f : Failure)
     → MatchResult outcome (λ v. ◌≡◌ {A = Result T Failure} (Err f) (Ok v)) (λ error. ◌≡◌ {A = Result T Failure} (Err f) (Err (failure_at at error)))
     → ((error : Error) → Is (failure_at at error)) → Is f
 failed_there Is at (Ok v) f is can = cc is
@@ -27,15 +27,15 @@ pub handed_on : {T : Type 0} (Is : Failure → Type 0) (r : Result T Failure) (f
 handed_on Is (Ok v) f is ends = absurd is
 handed_on Is (Err e) f is ends = subst Is (sym is) ends
 
-network_of_kind : (old new : ℕ) (k : ErrorKind) (error : Error) → EndsServing old new (failure_of_kind k place.Network error)
+network_of_kind : (old new : ℕ) (k : ErrorKind) (error : Error) → EndsServing old new (failure_of_kind k endpoint.Network error)
 network_of_kind old new kind.OutOfMemory error = tt
 network_of_kind old new _ error = tt
 
-pub ends_at_network : (old new : ℕ) (error : Error) → EndsServing old new (failure_at place.Network error)
+pub ends_at_network : (old new : ℕ) (error : Error) → EndsServing old new (failure_at endpoint.Network error)
 ends_at_network old new error = network_of_kind old new (error_kind error) error
 
 ends_at_output : (f : Failure) (old new : ℕ) → IsOfOutput f → HasFailed old new → EndsServing old new f
-ends_at_output (failure.InputOutput place.Output error) old new is failed = failed
+ends_at_output (failure.InputOutput endpoint.Output error) old new is failed = failed
 ends_at_output failure.Memory old new is failed = tt
 ends_at_output _ old new is failed = absurd is
 

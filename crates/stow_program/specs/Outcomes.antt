@@ -10,7 +10,7 @@ use Rattle.stow_run.specs.declared.job.Job.{Job}
 use Rattle.stow_run.specs.declared.job.Job.TheVariants as job
 use Rattle.stow_run.specs.declared.failure.Failure.{Failure}
 use Rattle.stow_run.specs.declared.failure.Failure.TheVariants.{Tenants, InputOutput, Memory}
-use Rattle.stow_run.specs.declared.failure.Place.TheVariants as place
+use Rattle.stow_run.specs.declared.failure.Endpoint.TheVariants as endpoint
 use Rattle.stow_workers.specs.Failures.{HasFailed}
 use Rattle.stow_workers.specs.Sent.{Written, WritesAll}
 use Rattle.stow_tasks.specs.Ends.{InputFails, IsOfOutput, Unread}
@@ -22,14 +22,14 @@ use Rattle.stow_command_line.specs.Words.{RefusesWords}
 -- the tenant file gives no tenants
 abbrev pub RefusesTenants : Failure → Type 0
 RefusesTenants (Tenants fault reason) = Unit {0}
-RefusesTenants (InputOutput (place.File path) error) = Unit {0}
+RefusesTenants (InputOutput (endpoint.File path) error) = Unit {0}
 RefusesTenants Memory = Unit {0}
 RefusesTenants _ = ⊥
 
 -- connections are served no further; a call of the output failed where it is told so
 abbrev pub EndsServing : ℕ → ℕ → Failure → Type 0
-EndsServing old new (InputOutput place.Network error) = Unit {0}
-EndsServing old new (InputOutput place.Output error) = HasFailed old new
+EndsServing old new (InputOutput endpoint.Network error) = Unit {0}
+EndsServing old new (InputOutput endpoint.Output error) = HasFailed old new
 EndsServing old new Memory = Unit {0}
 EndsServing old new _ = ⊥
 
@@ -50,15 +50,15 @@ FailsBefore Is s (Ok done) = ⊥
 FailsBefore Is s (Err failure) = Is failure × (s.left ≡ s.unread) × (s.after ≡ s.before)
 
 -- the job was done over the tenants of the file, or ended so
-abbrev pub IsDone : Job → Streams → Result (Unit {0}) Failure → Type 0
-IsDone (job.Input task) s r = (entries : List Entry)
+abbrev pub IsJobDone : Job → Streams → Result (Unit {0}) Failure → Type 0
+IsJobDone (job.Input task) s r = (entries : List Entry)
     × IsTaskServed task entries s.unread s.left s.before s.after r
     × InputFails r s.unread.failures s.left.failures
-IsDone (job.Serve serving) s r =
+IsJobDone (job.Serve serving) s r =
     IfErr r (EndsServing s.before.failures s.after.failures) × (s.left ≡ s.unread)
 
-abbrev pub IsRun : Job → Streams → Result (Unit {0}) Failure → Type 0
-IsRun asked s r = FailsBefore RefusesTenants s r ⊎ IsDone asked s r
+abbrev pub IsJobRun : Job → Streams → Result (Unit {0}) Failure → Type 0
+IsJobRun asked s r = FailsBefore RefusesTenants s r ⊎ IsJobDone asked s r
 
 -- a text was written, and nothing was read
 abbrev pub IsHelp : Streams → Result (Unit {0}) Failure → Type 0
@@ -90,11 +90,12 @@ IsChecked old new r = (IfErr r RefusesTenants × IsErr r × (new ≡ old))
 -- ---- all of it
 
 -- the words asked for help, a job, an entry or a look at a file, or they are refused
-abbrev pub IsOutcome : (List ℕ → Type 0) → Streams → Result (Unit {0}) Failure → Type 0
-IsOutcome Gives s r = FailsBefore RefusesWords s r ⊎ IsHelp s r ⊎ ((asked : Job) × IsRun asked s r)
+abbrev pub IsProgramRun : (List ℕ → Type 0) → Streams → Result (Unit {0}) Failure → Type 0
+IsProgramRun Gives s r = FailsBefore RefusesWords s r ⊎ IsHelp s r
+    ⊎ ((asked : Job) × IsJobRun asked s r)
     ⊎ IsEntryMade Gives s r ⊎ (IsChecked s.before s.after r × (s.left ≡ s.unread))
 
 -- the status is that of what the program came to, where salts come from such a source
 abbrev pub EndsWith : (List ℕ → Type 0) → Streams → ℕ → Type 0
-EndsWith Gives s status = (outcome : Result (Unit {0}) Failure) × IsOutcome Gives s outcome
+EndsWith Gives s status = (outcome : Result (Unit {0}) Failure) × IsProgramRun Gives s outcome
     × (status ≡ status_after outcome)

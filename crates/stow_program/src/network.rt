@@ -9,7 +9,7 @@ use std::net::{Net, TcpListener, TcpStream};
 use std::sync::Wait;
 use std::thread::Threads;
 use stow_login::tenants::Tenants;
-use stow_run::failure::{Failure, Place};
+use stow_run::failure::{Failure, Endpoint};
 use stow_run::serving::Serving;
 use stow_tree::tree_shape::TreeShape;
 use stow_workers::sink::Sink;
@@ -30,7 +30,7 @@ where
     ensures err { IfErr result (EndsServing (W.failures output.old) (W.failures output.new)) }
     ensures same_output { W.borrow output.new ≡ W.borrow output.old }
 {
-    let listener = Place::Network.check(TcpListener::bind(rt, serving.listen))?;
+    let listener = Endpoint::Network.check(TcpListener::bind(rt, serving.listen))?;
     serve_connections(
         rt, alloc, &listener, tenants, shape, serving, output, errors,
     )

@@ -2,7 +2,7 @@
 ghost use Rattle.std.specs.Prelude.{◌≡◌, IfErr};
 ghost use Rattle.stow_workers.specs.Counted.{borrow_of};
 ghost use Rattle.stow_tasks.specs.Ends.{held_by, unread_of};
-ghost use Rattle.stow_program.specs.Outcomes.{EndsWith, IsRun, streams_of};
+ghost use Rattle.stow_program.specs.Outcomes.{EndsWith, IsJobRun, streams_of};
 
 use crate::check::check;
 use crate::network::listen;
@@ -77,7 +77,7 @@ fn run<'a, H, D: Folder, R: Read, W: Write, E: Write>(
 ) -> Result<(), Failure<'a>>
 where
     H: Net<Listener = TcpListener, Stream = TcpStream> + Threads + Wait + Sync,
-    ensures runs { IsRun arguments.now.job (streams_of (unread_of R.remaining input.old)
+    ensures runs { IsJobRun arguments.now.job (streams_of (unread_of R.remaining input.old)
         (unread_of R.remaining input.new) (held_by W.contents output.old)
         (held_by W.contents output.new)) result }
     ensures same_input { borrow_of input.new ≡ borrow_of input.old }

@@ -10,7 +10,7 @@ use std::net::{SocketAddr, TcpListener};
 use std::sync::{Arc, Wait};
 use std::thread::Threads;
 use stow_login::tenants::Tenants;
-use stow_run::failure::{Failure, Place};
+use stow_run::failure::{Failure, Endpoint};
 use stow_run::serving::Serving;
 use stow_shared::open_fault::OpenFault;
 use stow_shared::seat::Seat;
@@ -47,7 +47,7 @@ where
     let Ok((shared, seats)) = Shared::<Unkept, A>::open(alloc, core, serving.workers) else {
         return Err(Failure::Memory);
     };
-    let address = Place::Network.check(listener.local_addr())?;
+    let address = Endpoint::Network.check(listener.local_addr())?;
     tell_address(alloc, address, output)?;
     notice(serving, "start", errors);
     let (_, fault) = Pool::run(
@@ -61,7 +61,7 @@ where
         &OpenGate,
     );
     match fault {
-        Some(PoolFault::AcceptFailed(error)) => return Err(Failure::at(Place::Network, error)),
+        Some(PoolFault::AcceptFailed(error)) => return Err(Failure::at(Endpoint::Network, error)),
         Some(PoolFault::Refused) => return Err(Failure::Memory),
         None => notice(serving, "end", errors),
     }

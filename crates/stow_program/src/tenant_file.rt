@@ -8,7 +8,7 @@ use std::io::Read;
 use stow_login::explaining::explain;
 use stow_login::tenants::Tenants;
 use stow_login::tenants_fault::TenantsFault;
-use stow_run::failure::{Failure, Place};
+use stow_run::failure::{Failure, Endpoint};
 use stow_run::folder::Folder;
 
 /// The tenants of the file of this path. A file that isn't UTF-8 is no TOML text.
@@ -20,7 +20,7 @@ pub(crate) fn read_tenants<'a, D: Folder>(
     ensures ok { IfOk result AreOfText }
     ensures err { IfErr result RefusesTenants }
 {
-    let bytes = Place::File(path).check(read_file(alloc, folder, path))?;
+    let bytes = Endpoint::File(path).check(read_file(alloc, folder, path))?;
     let Ok(text) = std::str::from_utf8(bytes.as_slice()) else {
         let reason = String::from_str(alloc, "the file is no UTF-8 text")?;
         return Err(Failure::tenants(TenantsFault::NotToml, Some(reason)));

@@ -17,7 +17,7 @@ use Rattle.stow_node.specs.Subtree.{Subtree}
 use Rattle.stow_node.proofs.Lowered.{rows_by_part, end_at_most}
 use Rattle.stow_node.proofs.Row.{message_taken, row_taken, messages_apart, rows_apart, at_part}
 use Rattle.stow_node.proofs.Stayed.{level_at}
-use Rattle.stow_read.specs.Descent.{part_messages, LeadsTo, LeadsAllTo}
+use Rattle.stow_read.specs.Descent.{part_messages, LeadsDown, LeadsAllTo}
 
 leaves_of : (ps : List Part) (i : ℕ) (d : Part) (leaf : LeafRows) → i < length ps → Contains (get_or ps i d).leaves leaf → Contains (leaves_in ps) leaf
 leaves_of [] i d leaf h c = absurd (omega arith)
@@ -33,7 +33,7 @@ row_has ps i d key n tiled for =
     ((ap (λ ms. ops_in ms key n) (rows_by_part ps) ∙ at_part row_taken top_key ps i d key n (rows_apart top_key ps tiled) for.inside (for.spanned d)) j))
     ∙ sym (ops-append (get_or ps i d).messages (row_messages (get_or ps i d).leaves) key n)
 
-pub leads_to : {A : Type 0} (t : Subtree) (cs : List (Child A)) (key : List ℕ) (i : ℕ) (c : Child A) → AreChildren t cs → IsFor (parts_of cs) key i → c ≡ get_or cs i c → LeadsTo t key c
+pub leads_to : {A : Type 0} (t : Subtree) (cs : List (Child A)) (key : List ℕ) (i : ℕ) (c : Child A) → AreChildren t cs → IsFor (parts_of cs) key i → c ≡ get_or cs i c → LeadsDown t key c
 leads_to t cs key i c are for e = record {
   spanned = ap (λ (p : Part). spans p.low top_key key) (sym is) ∙ spanned (get_or (parts_of cs) i (part_of c)).low top_key key (span_low _ (high_of (parts_of cs) i) key (for.spanned (part_of c)))
       (lt_le key (high_of (parts_of cs) i) top_key (span_high (get_or (parts_of cs) i (part_of c)).low (high_of (parts_of cs) i) key (for.spanned (part_of c)))

@@ -8,7 +8,7 @@ use Rattle.stow_tree_model.specs.Merged.{row_message}
 use Rattle.stow_tree_model.specs.Messages.{ops_in}
 use Rattle.stow_tree_model.specs.Op.{Op}
 use Rattle.stow_tree_model.specs.Operations.{or_else}
-use Rattle.stow_tree_model.specs.Order.{Place, place_cmp, place_of, MessagesRise}
+use Rattle.stow_tree_model.specs.Order.{VersionPlace, place_cmp, place_of, MessagesRise}
 use Rattle.stow_tree_model.specs.TreeMessage.{TreeMessage}
 use Rattle.stow_tree_model.proofs.Falling.{IsHistory}
 use Rattle.stow_tree_model.proofs.Histories.{ops_in-at, ops_in-skip, falls_number}
@@ -22,7 +22,7 @@ use Rattle.stow_node.specs.declared.child.Child.{Child}
 use Rattle.stow_node.specs.declared.child.Child.TheVariants as in_child
 use Rattle.stow_node.specs.Nodes.{AreChildren}
 use Rattle.stow_node.specs.Subtree.{Subtree, messages_of}
-use Rattle.stow_read.specs.Descent.{LeadsTo}
+use Rattle.stow_read.specs.Descent.{LeadsDown}
 use Rattle.stow_read.specs.Path.{NumbersFall, IsPath}
 use Rattle.stow_read.specs.Suffixes.{IsAbove}
 use Rattle.stow_read.proofs.Looked.{newest_of, newest_falls, newest_all, ops_of_newest}
@@ -74,9 +74,9 @@ fall_onto key (m ∷ ms) ns own fall own' fall' above = (
 pub under_number : (n : ℕ) (ms : List TreeMessage) (key : List ℕ) (k : ℕ) → AllUnder n ms → IsSome (ops_in ms key k) → k < n
 under_number n [] key k h s = absurd cc
 under_number n (m ∷ ms) key k h s = ⊎_elim
-    (λ (e : (◌≡◌ {A = Place} (key, k) (place_of m)) × (eq_by_cmp place_cmp (key, k) (place_of m) ≡ true)).
-    let q : k ≡ m.number = ap (λ (p : Place). p.1) e.0 in let l = h.0 in omega arith)
-    (λ (e : (◌≡◌ {A = Place} (key, k) (place_of m) → ⊥) × (eq_by_cmp place_cmp (key, k) (place_of m) ≡ false)).
+    (λ (e : (◌≡◌ {A = VersionPlace} (key, k) (place_of m)) × (eq_by_cmp place_cmp (key, k) (place_of m) ≡ true)).
+    let q : k ≡ m.number = ap (λ (p : VersionPlace). p.1) e.0 in let l = h.0 in omega arith)
+    (λ (e : (◌≡◌ {A = VersionPlace} (key, k) (place_of m) → ⊥) × (eq_by_cmp place_cmp (key, k) (place_of m) ≡ false)).
     under_number n ms key k h.1 (subst IsSome (ops_in-skip m ms key k e.0) s))
     (place_cases (key, k) (place_of m))
 
@@ -125,7 +125,7 @@ gathered root here cs key ms g are up = record {
     same : (n : ℕ) → ops_in newest key n ≡ ops_in here.buffer.messages key n
     same n = ops_of_newest key here.buffer.messages n up
 
-pub gathering_on : {A : Type 0} (root here lower : Subtree) (cs : List (Child A)) (c : Child A) (key : List ℕ) (ms : List TreeMessage) → IsGathering root here key ms → AreChildren here cs → MessagesRise here.buffer.messages → LeadsTo here key c → c ≡ in_child.Node lower
+pub gathering_on : {A : Type 0} (root here lower : Subtree) (cs : List (Child A)) (c : Child A) (key : List ℕ) (ms : List TreeMessage) → IsGathering root here key ms → AreChildren here cs → MessagesRise here.buffer.messages → LeadsDown here key c → c ≡ in_child.Node lower
     → IsGathering root lower key (ms ++ newest_of key here.buffer.messages)
 gathering_on {A} root here lower cs c key ms g are up leads is = record {
   spanned = to.spanned;
@@ -135,13 +135,13 @@ gathering_on {A} root here lower cs c key ms g are up leads is = record {
   messages = λ n. all.messages n ∙ ap (or_else (ops_in (ms ++ newest_of key here.buffer.messages) key n)) (to.messages n);
 }
   where
-    to : LeadsTo {A = A} here key (in_child.Node lower)
-    to = subst (LeadsTo here key) is leads
+    to : LeadsDown {A = A} here key (in_child.Node lower)
+    to = subst (LeadsDown here key) is leads
 
     all : IsGathered root here key (ms ++ newest_of key here.buffer.messages)
     all = gathered root here cs key ms g are up
 
-pub is_path : {A : Type 0} (root here : Subtree) (leaf : Leaf A) (cs : List (Child A)) (c : Child A) (key : List ℕ) (ms : List TreeMessage) → IsGathering root here key ms → AreChildren here cs → MessagesRise here.buffer.messages → LeadsTo here key c → c ≡ in_child.Leaf leaf
+pub is_path : {A : Type 0} (root here : Subtree) (leaf : Leaf A) (cs : List (Child A)) (c : Child A) (key : List ℕ) (ms : List TreeMessage) → IsGathering root here key ms → AreChildren here cs → MessagesRise here.buffer.messages → LeadsDown here key c → c ≡ in_child.Leaf leaf
     → IsPath root key (ms ++ newest_of key here.buffer.messages) leaf.rows
 is_path {A} root here leaf cs c key ms g are up leads is = record {
   own = all.own;
@@ -150,8 +150,8 @@ is_path {A} root here leaf cs c key ms g are up leads is = record {
   messages = λ n. all.messages n ∙ ap (or_else (ops_in (ms ++ newest_of key here.buffer.messages) key n)) (rows n);
 }
   where
-    to : LeadsTo {A = A} here key (in_child.Leaf leaf)
-    to = subst (LeadsTo here key) is leads
+    to : LeadsDown {A = A} here key (in_child.Leaf leaf)
+    to = subst (LeadsDown here key) is leads
 
     all : IsGathered root here key (ms ++ newest_of key here.buffer.messages)
     all = gathered root here cs key ms g are up

@@ -9,7 +9,7 @@ use Rattle.stow_bytes.specs.Limits.{value_limit}
 use Rattle.stow_tree_model.specs.Operations.{NumberedValue, Operations, latest, value_in, bytes_or_none}
 use Rattle.stow_tree_model.specs.Value.{IsValue}
 use Rattle.stow_read.specs.Suffixes.{continued, extended}
-use Rattle.stow_read.specs.Walk.{head_of, IsHead, IsNext}
+use Rattle.stow_read.specs.Walk.{head_of, IsHead, IsNumberAfter}
 use Rattle.stow_read.specs.declared.row_head.RowHead.{RowHead}
 use Rattle.stow_read.specs.declared.value_head.ValueHead.{ValueHead}
 
@@ -63,7 +63,7 @@ same_head : (a b : ValueHead) → ◌≡◌ {A = Option ValueHead} (Some a) (Som
 same_head a b e = cc
 
 -- the row has the head of the value that the key has
-pub is_head : {A : Type 0} (ops : Operations) (at : ℕ) (o : Option NumberedValue) (h : ValueHead) (row : RowHead A) → latest ops at ≡ o → option_map head_of o ≡ Some h → row.number ≡ h.number → row.length ≡ h.length → IsNext ops at row.next → IsHead ops at row
+pub is_head : {A : Type 0} (ops : Operations) (at : ℕ) (o : Option NumberedValue) (h : ValueHead) (row : RowHead A) → latest ops at ≡ o → option_map head_of o ≡ Some h → row.number ≡ h.number → row.length ≡ h.length → IsNumberAfter ops at row.next → IsHead ops at row
 is_head ops at None h row has e number size next = absurd cc
 is_head ops at (Some v) h row has e number size next = record {
   value = v;

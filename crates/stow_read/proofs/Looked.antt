@@ -13,7 +13,7 @@ use Rattle.stow_bytes.specs.Bytes.{bytes_cmp}
 use Rattle.stow_tree_model.specs.Op.{Append}
 use Rattle.stow_tree_model.specs.Operations.{NumberedValue, Operations, applied, latest, or_else, over, numbered, value_in, bytes_or_none}
 use Rattle.stow_tree_model.specs.Messages.{ops_in}
-use Rattle.stow_tree_model.specs.Order.{Place, place_cmp, place_of, MessagesRise}
+use Rattle.stow_tree_model.specs.Order.{VersionPlace, place_cmp, place_of, MessagesRise}
 use Rattle.stow_tree_model.specs.TreeMessage.{TreeMessage}
 use Rattle.stow_tree_model.proofs.Falling.{IsHistory}
 use Rattle.stow_tree_model.proofs.Latest.{latest_same}
@@ -70,7 +70,7 @@ none_above m [] h = refl
 none_above m (x ∷ xs) h =
     ops_in-skip x xs m.key m.number (λ e. absurd (less_itself (place_of m) (place_of x) h.0 e)) ∙ none_above m xs h.1
   where
-    less_itself : (p q : Place) → place_cmp p q ≡ Less → p ≡ q → ⊥
+    less_itself : (p q : VersionPlace) → place_cmp p q ≡ Less → p ≡ q → ⊥
     less_itself p q l e = cc (tied_itself place_total p)
 
 -- a rising list has the same operations the other way round
@@ -82,10 +82,10 @@ ops_reversed (m ∷ ms) key n up =
     ∙ ops-append (reverse ms) (m ∷ []) key n
     ∙ ap (λ o. or_else o (ops_in (m ∷ []) key n)) (ops_reversed ms key n up.1)
     ∙ ⊎_elim
-    (λ (e : (◌≡◌ {A = Place} (key, n) (place_of m)) × (eq_by_cmp place_cmp (key, n) (place_of m) ≡ true)).
-    none_or (ops_in ms key n) (ops_in (m ∷ []) key n) (ap (λ (p : Place). ops_in ms p.0 p.1) e.0 ∙ none_above m ms up.0)
+    (λ (e : (◌≡◌ {A = VersionPlace} (key, n) (place_of m)) × (eq_by_cmp place_cmp (key, n) (place_of m) ≡ true)).
+    none_or (ops_in ms key n) (ops_in (m ∷ []) key n) (ap (λ (p : VersionPlace). ops_in ms p.0 p.1) e.0 ∙ none_above m ms up.0)
     ∙ cond-true _ _ _ e.1 ∙ sym (cond-true _ _ _ e.1))
-    (λ (e : (◌≡◌ {A = Place} (key, n) (place_of m) → ⊥) × (eq_by_cmp place_cmp (key, n) (place_of m) ≡ false)).
+    (λ (e : (◌≡◌ {A = VersionPlace} (key, n) (place_of m) → ⊥) × (eq_by_cmp place_cmp (key, n) (place_of m) ≡ false)).
     or_none (ops_in ms key n) (ops_in (m ∷ []) key n) (cond-false _ _ _ e.1) ∙ sym (cond-false _ _ _ e.1))
     (place_cases (key, n) (place_of m))
 

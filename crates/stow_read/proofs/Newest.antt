@@ -3,7 +3,7 @@ use Rattle.std.proofs.Common.{◌≡◌, ℕ, zero, suc, ◌<◌, ◌≤◌, Lis
 use Rattle.std.specs.Prelude.{IsSome, is_some}
 use Rattle.stow_tree_model.specs.Operations.{Operations, applied, latest, or_else, over}
 use Rattle.stow_tree_model.specs.Messages.{ops_in}
-use Rattle.stow_tree_model.specs.Order.{Place, place_of}
+use Rattle.stow_tree_model.specs.Order.{VersionPlace, place_of}
 use Rattle.stow_tree_model.specs.TreeMessage.{TreeMessage}
 use Rattle.stow_tree_model.proofs.Falling.{IsHistory}
 use Rattle.stow_tree_model.proofs.Histories.{ops_in-at, ops_in-skip, ops_in-above}
@@ -25,7 +25,7 @@ newest_step f g n at l none rest same =
 
 -- an operation that the newest one's key has at another number is of an older message
 skip_number : (m : TreeMessage) (older : List TreeMessage) (k : ℕ) → (k ≡ m.number → ⊥) → ops_in (m ∷ older) m.key k ≡ ops_in older m.key k
-skip_number m older k ne = ops_in-skip m older m.key k (λ e. ne (ap (λ (p : Place). p.1) e))
+skip_number m older k ne = ops_in-skip m older m.key k (λ e. ne (ap (λ (p : VersionPlace). p.1) e))
 
 -- the newest message of a history stands over the older ones and over what is older still
 own_step : (m : TreeMessage) (older : List TreeMessage) (rest : Operations) (at : ℕ) → IsHistory (m ∷ older) → m.number ≤ at → ((k : ℕ) → IsSome (rest k) → k < m.number)
@@ -51,4 +51,4 @@ pub read_above : (m : TreeMessage) (older : List TreeMessage) (key : List ℕ) (
     → latest (over (ops_in (m ∷ older) key) rest) at ≡ latest (over (ops_in older key) rest) at
 read_above m older key rest at l =
     latest_same (over (ops_in (m ∷ older) key) rest) (over (ops_in older key) rest) at
-    (λ k a. ap (λ o. or_else o (rest k)) (ops_in-skip m older key k (λ e. let q : k ≡ m.number = ap (λ (p : Place). p.1) e in omega arith)))
+    (λ k a. ap (λ o. or_else o (rest k)) (ops_in-skip m older key k (λ e. let q : k ≡ m.number = ap (λ (p : VersionPlace). p.1) e in omega arith)))

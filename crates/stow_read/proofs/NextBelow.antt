@@ -25,7 +25,7 @@ use Rattle.stow_node.proofs.Stayed.{level_at}
 use Rattle.std.proofs.lemmas.Option.{slice_get-get_or}
 use Rattle.stow_node.proofs.Row.{message_taken, messages_apart, tile_at}
 use Rattle.stow_read.specs.Descent.{part_messages}
-use Rattle.stow_read.specs.NextKey.{is_from, fence_at, IsFromPart, IsEnd, HaveNone, IsLowest, IsNextKey}
+use Rattle.stow_read.specs.NextKey.{is_from, fence_at, IsFromPart, IsSearchEnd, HaveNone, IsLowest, IsNextKey}
 use Rattle.stow_read.proofs.Below.{row_has}
 use Rattle.stow_read.proofs.NextKeys.{apart, not_is, not_under, from_above, drop_past}
 use Rattle.stow_read.proofs.Walked.{ops_over, none_outside}
@@ -138,7 +138,7 @@ none_below ps start after end first i c l key f below n = c.none key f below (lt
 -- ---- a node's own messages, and those below
 
 -- of both the own key is the next one, or there is none
-pub own_next : (own rest all : List ℕ → Operations) (start : List ℕ) (after : Bool) (to end : List ℕ) (found : Option (List ℕ)) → ((key : List ℕ) (n : ℕ) → all key n ≡ or_else (own key n) (rest key n)) → IsNextKey own start after to found → IsEnd to found end
+pub own_next : (own rest all : List ℕ → Operations) (start : List ℕ) (after : Bool) (to end : List ℕ) (found : Option (List ℕ)) → ((key : List ℕ) (n : ℕ) → all key n ≡ or_else (own key n) (rest key n)) → IsNextKey own start after to found → IsSearchEnd to found end
     → HaveNone rest start after end → IsNextKey all start after to found
 own_next own rest all start after to end None same next is none =
     λ key f l n. same key n ∙ both_none (own key n) (rest key n) (next key f l n) (none key f (ap (lt key) is ∙ l) n)
@@ -151,7 +151,7 @@ own_next own rest all start after to end (Some k) same next is none = record {
 }
 
 -- of both the key below is the next one
-pub below_next : (own rest all : List ℕ → Operations) (start : List ℕ) (after : Bool) (to end : List ℕ) (found : Option (List ℕ)) (key : List ℕ) → ((k : List ℕ) (n : ℕ) → all k n ≡ or_else (own k n) (rest k n)) → IsNextKey own start after to found → IsEnd to found end
+pub below_next : (own rest all : List ℕ → Operations) (start : List ℕ) (after : Bool) (to end : List ℕ) (found : Option (List ℕ)) (key : List ℕ) → ((k : List ℕ) (n : ℕ) → all k n ≡ or_else (own k n) (rest k n)) → IsNextKey own start after to found → IsSearchEnd to found end
     → IsLowest rest start after end key → IsLowest all start after to key
 below_next own rest all start after to end None key same next is low = record {
   from = low.from;
@@ -218,7 +218,7 @@ child_clear t cs start after end first i c from own (Some key) are for l e clear
 
 -- the next key stands in this child
 pub child_found : {A : Type 0} (t : Subtree) (cs : List (Child A)) (start : List ℕ) (after : Bool) (to end : List ℕ) (first i : ℕ) (c : Child A) (from : List ℕ) (own : Bool) (here found : Option (List ℕ)) → AreChildren t cs → i < length cs → c ≡ get_or cs i c
-    → IsClear (parts_of cs) start after end first i → IsFromPart (parts_of cs) start after first i from own → IsNextKey (ops_in t.buffer.messages) start after to here → IsEnd to here end → IsNextKey (ops_in (part_messages (part_of c))) from own end found → is_some found ≡ true
+    → IsClear (parts_of cs) start after end first i → IsFromPart (parts_of cs) start after first i from own → IsNextKey (ops_in t.buffer.messages) start after to here → IsSearchEnd to here end → IsNextKey (ops_in (part_messages (part_of c))) from own end found → is_some found ≡ true
     → IsNextKey (ops_in (messages_of t)) start after to found
 child_found t cs start after to end first i c from own here None are l e clear p next is low e' = absurd (let z : false ≡ true = e' in cc)
 child_found t cs start after to end first i c from own here (Some key) are l e clear p next is low e' =
@@ -228,7 +228,7 @@ child_found t cs start after to end first i c from own here (Some key) are l e c
 
 -- the next child begins where the search ends
 pub children_end : {A : Type 0} (t : Subtree) (cs : List (Child A)) (start : List ℕ) (after : Bool) (to end : List ℕ) (first i : ℕ) (c : Child A) (here : Option (List ℕ)) → AreChildren t cs → i < length cs → c ≡ get_or cs i c
-    → IsClear (parts_of cs) start after end first i → IsNextKey (ops_in t.buffer.messages) start after to here → IsEnd to here end → lt (part_of c).low end ≡ false → IsNextKey (ops_in (messages_of t)) start after to here
+    → IsClear (parts_of cs) start after end first i → IsNextKey (ops_in t.buffer.messages) start after to here → IsSearchEnd to here end → lt (part_of c).low end ≡ false → IsNextKey (ops_in (messages_of t)) start after to here
 children_end t cs start after to end first i c here are l e clear next is low =
     own_next (ops_in t.buffer.messages) (ops_in (messages_in (parts_of cs) ++ row_messages (leaves_in (parts_of cs)))) (ops_in (messages_of t)) start after to end here (λ k n. rest_of t cs k n are) next is
     (none_below (parts_of cs) start after end first i clear (ap (λ k. lt k end) (sym (fence_of_child cs i c l e)) ∙ low))
@@ -239,7 +239,7 @@ none_right (Some op) b e = absurd cc
 
 -- no child is left
 pub children_done : {A : Type 0} (t : Subtree) (cs : List (Child A)) (start : List ℕ) (after : Bool) (to end : List ℕ) (first i : ℕ) (here : Option (List ℕ)) → AreChildren t cs → length cs ≤ i
-    → IsClear (parts_of cs) start after end first i → IsNextKey (ops_in t.buffer.messages) start after to here → IsEnd to here end → IsNextKey (ops_in (messages_of t)) start after to here
+    → IsClear (parts_of cs) start after end first i → IsNextKey (ops_in t.buffer.messages) start after to here → IsSearchEnd to here end → IsNextKey (ops_in (messages_of t)) start after to here
 children_done t cs start after to end first i here are l clear next is =
     own_next (ops_in t.buffer.messages) (ops_in (messages_in (parts_of cs) ++ row_messages (leaves_in (parts_of cs)))) (ops_in (messages_of t)) start after to end here (λ k n. rest_of t cs k n are) next is
     (λ key f below n. by_test (lt key top_key)

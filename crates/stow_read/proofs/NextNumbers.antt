@@ -13,7 +13,7 @@ use Rattle.stow_bytes.specs.Bytes.{bytes_cmp}
 use Rattle.stow_tree_model.specs.Merged.{row_message, same_key}
 use Rattle.stow_tree_model.specs.Messages.{ops_in}
 use Rattle.stow_tree_model.specs.Operations.{Operations, NoneAbove, over}
-use Rattle.stow_tree_model.specs.Order.{Place, place_cmp, place_of, version_place, MessagesRise, VersionsRise}
+use Rattle.stow_tree_model.specs.Order.{VersionPlace, place_cmp, place_of, version_place, MessagesRise, VersionsRise}
 use Rattle.stow_tree_model.specs.TreeMessage.{TreeMessage}
 use Rattle.stow_tree_model.specs.Version.{Version}
 use Rattle.stow_tree_model.proofs.Histories.{ops_in-skip, falls_number}
@@ -28,8 +28,8 @@ use Rattle.stow_page.proofs.Looked.{versions_rise_at}
 use Rattle.stow_leaf.proofs.Found.{none_unless, both_none, some_left, some_right, row_there, place_le}
 use Rattle.stow_leaf.proofs.Intervals.{lt, at_most}
 use Rattle.stow_read.specs.Suffixes.{IsAbove}
-use Rattle.stow_read.specs.Walk.{IsNext}
-use Rattle.stow_read.specs.Way.{is_next, key_in, buffers_of, ops_down, NewerDown, IsTold}
+use Rattle.stow_read.specs.Walk.{IsNumberAfter}
+use Rattle.stow_read.specs.Way.{is_next, key_in, buffers_of, ops_down, NewerDown, IsNextTold}
 use Rattle.stow_read.specs.declared.level.Level.{Level}
 use Rattle.stow_read.proofs.NextKeys.{apart}
 use Rattle.stow_read.proofs.NextMessages.{valid_at, each_there}
@@ -38,8 +38,8 @@ use Rattle.stow_read.proofs.NextMessages.{valid_at, each_there}
 found_numbered : {X : Type 0} (ms : List TreeMessage) (key : List ℕ) (n : ℕ) → IsSome (ops_in ms key n) → ((m : TreeMessage) → Contains ms m → m.key ≡ key → m.number ≡ n → X) → X
 found_numbered [] key n s f = absurd cc
 found_numbered (m ∷ ms) key n s f = ⊎_elim
-    (λ (e : (◌≡◌ {A = Place} (key, n) (place_of m)) × (eq_by_cmp place_cmp (key, n) (place_of m) ≡ true)). f m (contains_here m ms) (sym (ap (λ (p : Place). p.0) e.0)) (sym (ap (λ (p : Place). p.1) e.0)))
-    (λ (e : (◌≢◌ {A = Place} (key, n) (place_of m)) × (eq_by_cmp place_cmp (key, n) (place_of m) ≡ false)).
+    (λ (e : (◌≡◌ {A = VersionPlace} (key, n) (place_of m)) × (eq_by_cmp place_cmp (key, n) (place_of m) ≡ true)). f m (contains_here m ms) (sym (ap (λ (p : VersionPlace). p.0) e.0)) (sym (ap (λ (p : VersionPlace). p.1) e.0)))
+    (λ (e : (◌≢◌ {A = VersionPlace} (key, n) (place_of m)) × (eq_by_cmp place_cmp (key, n) (place_of m) ≡ false)).
     found_numbered ms key n (subst IsSome (ops_in-skip m ms key n e.0) s) (λ w c k l. f w (contains_there m w ms c) k l))
     (place_cases (key, n) (place_of m))
 
@@ -47,8 +47,8 @@ found_numbered (m ∷ ms) key n s f = ⊎_elim
 found_row_numbered : {X : Type 0} (vs : List Version) (key : List ℕ) (n : ℕ) → IsSome (ops_in (map row_message vs) key n) → ((v : Version) → Contains vs v → v.key ≡ key → v.number ≡ n → X) → X
 found_row_numbered [] key n s f = absurd cc
 found_row_numbered (v ∷ vs) key n s f = ⊎_elim
-    (λ (e : (◌≡◌ {A = Place} (key, n) (place_of (row_message v))) × (eq_by_cmp place_cmp (key, n) (place_of (row_message v)) ≡ true)). f v (contains_here v vs) (sym (ap (λ (p : Place). p.0) e.0)) (sym (ap (λ (p : Place). p.1) e.0)))
-    (λ (e : (◌≢◌ {A = Place} (key, n) (place_of (row_message v))) × (eq_by_cmp place_cmp (key, n) (place_of (row_message v)) ≡ false)).
+    (λ (e : (◌≡◌ {A = VersionPlace} (key, n) (place_of (row_message v))) × (eq_by_cmp place_cmp (key, n) (place_of (row_message v)) ≡ true)). f v (contains_here v vs) (sym (ap (λ (p : VersionPlace). p.0) e.0)) (sym (ap (λ (p : VersionPlace). p.1) e.0)))
+    (λ (e : (◌≢◌ {A = VersionPlace} (key, n) (place_of (row_message v))) × (eq_by_cmp place_cmp (key, n) (place_of (row_message v)) ≡ false)).
     found_row_numbered vs key n (subst IsSome (ops_in-skip (row_message v) (map row_message vs) key n e.0) s) (λ w c k l. f w (contains_there v w vs c) k l))
     (place_cases (key, n) (place_of (row_message v)))
 
@@ -107,11 +107,11 @@ message_above ms key at bound count n up b is above s g = found_numbered ms key 
     let tells = (below_tells (key, bound) ms c.0 w up c.1).1 here in
     g c.0 w (omega (arith, tells, is)) c.1 c.2 k num)
 
-pub number_none : (ms : List TreeMessage) (key : List ℕ) (at bound count : ℕ) → MessagesRise ms → IsBound at bound → count ≡ below (key, bound) ms → length ms ≤ count → IsNext (ops_in ms key) at None
+pub number_none : (ms : List TreeMessage) (key : List ℕ) (at bound count : ℕ) → MessagesRise ms → IsBound at bound → count ≡ below (key, bound) ms → length ms ≤ count → IsNumberAfter (ops_in ms key) at None
 number_none ms key at bound count up b is past n l = none_unless (ops_in ms key n) (λ s. message_above ms key at bound count n up b is l s (λ i w h inside e k num. absurd (omega arith)))
 
 -- the message at the count is the key's
-pub number_next : (ms : List TreeMessage) (key : List ℕ) (at bound count : ℕ) (m : TreeMessage) → All IsMessage ms → MessagesRise ms → IsBound at bound → count ≡ below (key, bound) ms → count < length ms → get_or ms count m ≡ m → same_key m.key key ≡ true → IsNext (ops_in ms key) at (Some m.number)
+pub number_next : (ms : List TreeMessage) (key : List ℕ) (at bound count : ℕ) (m : TreeMessage) → All IsMessage ms → MessagesRise ms → IsBound at bound → count ≡ below (key, bound) ms → count < length ms → get_or ms count m ≡ m → same_key m.key key ≡ true → IsNumberAfter (ops_in ms key) at (Some m.number)
 number_next ms key at bound count m valid up b is inside e same = record {
   above = b.high m.number not_under (let limit = (valid_at ms count m valid inside e).is_numbered.1 in omega arith);
   there = subst (λ k. IsSome (ops_in ms k m.number)) own (subst (λ (x : TreeMessage). IsSome (ops_in ms x.key x.number)) e (all_at (λ (x : TreeMessage). IsSome (ops_in ms x.key x.number)) ms count m (each_there ms) inside));
@@ -133,7 +133,7 @@ number_next ms key at bound count m valid up b is inside e same = record {
         (cases_lt m.number bound)
 
 -- the message at the count is another key's
-pub number_end : (ms : List TreeMessage) (key : List ℕ) (at bound count : ℕ) (m : TreeMessage) → MessagesRise ms → IsBound at bound → count ≡ below (key, bound) ms → count < length ms → get_or ms count m ≡ m → same_key m.key key ≡ false → IsNext (ops_in ms key) at None
+pub number_end : (ms : List TreeMessage) (key : List ℕ) (at bound count : ℕ) (m : TreeMessage) → MessagesRise ms → IsBound at bound → count ≡ below (key, bound) ms → count < length ms → get_or ms count m ≡ m → same_key m.key key ≡ false → IsNumberAfter (ops_in ms key) at None
 number_end ms key at bound count m up b is inside e other n l = none_unless (ops_in ms key n) (λ s. message_above ms key at bound count n up b is l s (λ i w behind within f k num.
     let first : is_below (m.key, 0) (get_or ms count m) ≡ false = ap (is_below (m.key, 0)) e ∙ own_not_below m m.key 0 refl (omega arith) in
     let later : is_below (m.key, 0) (get_or ms i w) ≡ true = ap (is_below (m.key, 0)) f ∙ lower_below w m.key 0 (ap (λ x. lt x m.key) k ∙ higher) in
@@ -173,11 +173,11 @@ row_above rows key at count n up above s g = found_row_numbered rows key n s (λ
     (λ (l : count ≤ c.0). g c.0 w l here k num)
     (cases_lt c.0 count))
 
-pub row_none : (rows : List Version) (key : List ℕ) (at count : ℕ) → IsCountUpTo rows (key, at) count → length rows ≤ count → IsNext (ops_in (map row_message rows) key) at None
+pub row_none : (rows : List Version) (key : List ℕ) (at count : ℕ) → IsCountUpTo rows (key, at) count → length rows ≤ count → IsNumberAfter (ops_in (map row_message rows) key) at None
 row_none rows key at count up past n l = none_unless (ops_in (map row_message rows) key n) (λ s. row_above rows key at count n up l s (λ i w b e k num. let inside = slice_get_within rows i w e in omega arith))
 
 -- the row at the count is the key's
-pub row_next : (rows : List Version) (key : List ℕ) (at count : ℕ) (v : Version) → VersionsRise rows → IsCountUpTo rows (key, at) count → slice_get rows count ≡ Some v → same_key v.key key ≡ true → IsNext (ops_in (map row_message rows) key) at (Some v.number)
+pub row_next : (rows : List Version) (key : List ℕ) (at count : ℕ) (v : Version) → VersionsRise rows → IsCountUpTo rows (key, at) count → slice_get rows count ≡ Some v → same_key v.key key ≡ true → IsNumberAfter (ops_in (map row_message rows) key) at (Some v.number)
 row_next rows key at count v rise up e same = record {
   above = ⊎_elim
       (λ (l : at < v.number). l)
@@ -196,7 +196,7 @@ row_next rows key at count v rise up e same = record {
     own = is_own key v.key same
 
 -- the row at the count is another key's
-pub row_end : (rows : List Version) (key : List ℕ) (at count : ℕ) (v : Version) → VersionsRise rows → IsCountUpTo rows (key, at) count → slice_get rows count ≡ Some v → same_key v.key key ≡ false → IsNext (ops_in (map row_message rows) key) at None
+pub row_end : (rows : List Version) (key : List ℕ) (at count : ℕ) (v : Version) → VersionsRise rows → IsCountUpTo rows (key, at) count → slice_get rows count ≡ Some v → same_key v.key key ≡ false → IsNumberAfter (ops_in (map row_message rows) key) at None
 row_end rows key at count v rise up e other n l = none_unless (ops_in (map row_message rows) key n) (λ s. row_above rows key at count n up l s (λ i w b f k num. ⊎_elim
     (λ (t : count ≡ i). apart (not_other key v.key (ap (λ (x : Version). x.key) (same_row v w (sym e ∙ ap (slice_get rows) t ∙ f)) ∙ k)) other)
     (λ (o : (count < i) ⊎ (i < count)). ⊎_elim
@@ -213,14 +213,14 @@ row_end rows key at count v rise up e other n l = none_unless (ops_in (map row_m
 -- ---- on the way down
 
 -- where the next key isn't this one, it has no next number
-pub told_none : (ops : Operations) (next : Option (List ℕ)) (key : List ℕ) (at : ℕ) → IsTold ops next key → is_next next key ≡ false → IsNext ops at None
+pub told_none : (ops : Operations) (next : Option (List ℕ)) (key : List ℕ) (at : ℕ) → IsNextTold ops next key → is_next next key ≡ false → IsNumberAfter ops at None
 told_none ops next key at told e n l = ⊎_elim
     (λ (h : is_next next key ≡ true). apart h e)
     (λ (h : (k : ℕ) → ops k ≡ None). h n)
     told
 
 -- newer operations leave what is next below them
-below_stays : (own lower : Operations) (at number : ℕ) → IsAbove own lower → IsNext lower at (Some number) → IsNext (over own lower) at (Some number)
+below_stays : (own lower : Operations) (at number : ℕ) → IsAbove own lower → IsNumberAfter lower at (Some number) → IsNumberAfter (over own lower) at (Some number)
 below_stays own lower at number newer next = record {
   above = next.above;
   there = some_right (own number) (lower number) next.there;
@@ -228,7 +228,7 @@ below_stays own lower at number newer next = record {
 }
 
 -- where there is none below, theirs is next
-own_is_next : (own lower : Operations) (at : ℕ) (next : Option ℕ) → NoneAbove at lower → IsNext own at next → IsNext (over own lower) at next
+own_is_next : (own lower : Operations) (at : ℕ) (next : Option ℕ) → NoneAbove at lower → IsNumberAfter own at next → IsNumberAfter (over own lower) at next
 own_is_next own lower at None none next = λ n l. both_none (own n) (lower n) (next n l) (none n l)
 own_is_next own lower at (Some number) none next = record {
   above = next.above;
@@ -239,16 +239,16 @@ own_is_next own lower at (Some number) none next = record {
 -- what the levels from the place on, and the rows below them, have next
 pub record IsNextFrom {A : Type 0} (levels : List (Level A)) (rows : Operations) (key : List ℕ) (at i : ℕ) (next : Option ℕ) : Type 0 where
   pub within : i ≤ length levels
-  pub so_far : IsNext (ops_down key (buffers_of (drop i levels)) rows) at next
+  pub so_far : IsNumberAfter (ops_down key (buffers_of (drop i levels)) rows) at next
 
 all_left : {A : Type 0} (levels : List (Level A)) → drop (length levels) levels ≡ []
 all_left [] = refl
 all_left (x ∷ xs) = all_left xs
 
-pub next_from_rows : {A : Type 0} (levels : List (Level A)) (rows : Operations) (key : List ℕ) (at : ℕ) (next : Option ℕ) → IsNext rows at next → IsNextFrom levels rows key at (length levels) next
+pub next_from_rows : {A : Type 0} (levels : List (Level A)) (rows : Operations) (key : List ℕ) (at : ℕ) (next : Option ℕ) → IsNumberAfter rows at next → IsNextFrom levels rows key at (length levels) next
 next_from_rows {A} levels rows key at next is = record {
   within = omega arith;
-  so_far = subst (λ (ls : List (Level A)). IsNext (ops_down key (buffers_of ls) rows) at next) (sym (all_left levels)) is;
+  so_far = subst (λ (ls : List (Level A)). IsNumberAfter (ops_down key (buffers_of ls) rows) at next) (sym (all_left levels)) is;
 }
 
 newer_dropped : {A : Type 0} (levels : List (Level A)) (rows : Operations) (key : List ℕ) (i : ℕ) → NewerDown key (buffers_of levels) rows → NewerDown key (buffers_of (drop i levels)) rows
@@ -263,16 +263,16 @@ cut_at levels i l h e = at_drop_more (λ xs. xs) levels i l h ∙ ap (λ x. x �
 pub next_stays : {A : Type 0} (levels : List (Level A)) (rows : Operations) (key : List ℕ) (at i number : ℕ) (l : Level A) → i < length levels → l ≡ get_or levels i l → NewerDown key (buffers_of levels) rows → IsNextFrom levels rows key at (i + 1) (Some number) → IsNextFrom levels rows key at i (Some number)
 next_stays {A} levels rows key at i number l h e newer is = record {
   within = omega arith;
-  so_far = subst (λ (ls : List (Level A)). IsNext (ops_down key (buffers_of ls) rows) at (Some number)) (sym (cut_at levels i l h e))
+  so_far = subst (λ (ls : List (Level A)). IsNumberAfter (ops_down key (buffers_of ls) rows) at (Some number)) (sym (cut_at levels i l h e))
       (below_stays (ops_in l.buffer.now.messages key) (ops_down key (buffers_of (drop (i + 1) levels)) rows) at number
       (subst (λ (ls : List (Level A)). NewerDown key (buffers_of ls) rows) (cut_at levels i l h e) (newer_dropped levels rows key i newer)).0 is.so_far);
 }
 
 -- none of them has one
-pub next_here : {A : Type 0} (levels : List (Level A)) (rows : Operations) (key : List ℕ) (at i : ℕ) (next : Option ℕ) (l : Level A) → i < length levels → l ≡ get_or levels i l → IsNextFrom levels rows key at (i + 1) None → IsNext (ops_in l.buffer.now.messages key) at next → IsNextFrom levels rows key at i next
+pub next_here : {A : Type 0} (levels : List (Level A)) (rows : Operations) (key : List ℕ) (at i : ℕ) (next : Option ℕ) (l : Level A) → i < length levels → l ≡ get_or levels i l → IsNextFrom levels rows key at (i + 1) None → IsNumberAfter (ops_in l.buffer.now.messages key) at next → IsNextFrom levels rows key at i next
 next_here {A} levels rows key at i next l h e is own = record {
   within = omega arith;
-  so_far = subst (λ (ls : List (Level A)). IsNext (ops_down key (buffers_of ls) rows) at next) (sym (cut_at levels i l h e))
+  so_far = subst (λ (ls : List (Level A)). IsNumberAfter (ops_down key (buffers_of ls) rows) at next) (sym (cut_at levels i l h e))
       (own_is_next (ops_in l.buffer.now.messages key) (ops_down key (buffers_of (drop (i + 1) levels)) rows) at next is.so_far own);
 }
 
@@ -288,19 +288,19 @@ up_kept levels rows key at i (Some number) l h e newer some is =
     next_stays levels rows key at (i - 1) number l (let w = is.within in omega (arith, h, w)) e newer (subst (λ k. IsNextFrom levels rows key at k (Some number)) (again i h) is)
 
 -- the level's own one is next
-pub up_here : {A : Type 0} (levels : List (Level A)) (rows : Operations) (key : List ℕ) (at i : ℕ) (next found : Option ℕ) (l : Level A) → 0 < i → l ≡ get_or levels (i - 1) l → is_some next ≡ false → IsNext (ops_in l.buffer.now.messages key) at found → IsNextFrom levels rows key at i next → IsNextFrom levels rows key at (i - 1) found
+pub up_here : {A : Type 0} (levels : List (Level A)) (rows : Operations) (key : List ℕ) (at i : ℕ) (next found : Option ℕ) (l : Level A) → 0 < i → l ≡ get_or levels (i - 1) l → is_some next ≡ false → IsNumberAfter (ops_in l.buffer.now.messages key) at found → IsNextFrom levels rows key at i next → IsNextFrom levels rows key at (i - 1) found
 up_here levels rows key at i (Some number) found l h e none own is = absurd (let z : true ≡ false = none in cc)
 up_here levels rows key at i None found l h e none own is =
     next_here levels rows key at (i - 1) found l (let w = is.within in omega (arith, h, w)) e (subst (λ k. IsNextFrom levels rows key at k None) (again i h) is) own
 
 -- neither the level nor what is below it has one
-pub up_none : {A : Type 0} (levels : List (Level A)) (rows : Operations) (key : List ℕ) (at i : ℕ) (next : Option ℕ) (l : Level A) → 0 < i → l ≡ get_or levels (i - 1) l → AllByRecursion (λ (x : Level A). IsTold (ops_in x.buffer.now.messages key) (key_in x.next) key) levels → is_next (key_in l.next) key ≡ false → is_some next ≡ false → IsNextFrom levels rows key at i next
+pub up_none : {A : Type 0} (levels : List (Level A)) (rows : Operations) (key : List ℕ) (at i : ℕ) (next : Option ℕ) (l : Level A) → 0 < i → l ≡ get_or levels (i - 1) l → AllByRecursion (λ (x : Level A). IsNextTold (ops_in x.buffer.now.messages key) (key_in x.next) key) levels → is_next (key_in l.next) key ≡ false → is_some next ≡ false → IsNextFrom levels rows key at i next
     → IsNextFrom levels rows key at (i - 1) next
 up_none levels rows key at i (Some number) l h e told other none is = absurd (let z : true ≡ false = none in cc)
 up_none {A} levels rows key at i None l h e told other none is = up_here levels rows key at i None None l h e none (told_none (ops_in l.buffer.now.messages key) (key_in l.next) key at own other) is where
-  own : IsTold (ops_in l.buffer.now.messages key) (key_in l.next) key
-  own = subst (λ (x : Level A). IsTold (ops_in x.buffer.now.messages key) (key_in x.next) key) (sym e) (all_at (λ (x : Level A). IsTold (ops_in x.buffer.now.messages key) (key_in x.next) key) levels (i - 1) l told (let w = is.within in omega (arith, h, w)))
+  own : IsNextTold (ops_in l.buffer.now.messages key) (key_in l.next) key
+  own = subst (λ (x : Level A). IsNextTold (ops_in x.buffer.now.messages key) (key_in x.next) key) (sym e) (all_at (λ (x : Level A). IsNextTold (ops_in x.buffer.now.messages key) (key_in x.next) key) levels (i - 1) l told (let w = is.within in omega (arith, h, w)))
 
 -- all levels have been gone over
-pub up_done : {A : Type 0} (levels : List (Level A)) (rows : Operations) (key : List ℕ) (at i : ℕ) (next : Option ℕ) → i ≤ 0 → IsNextFrom levels rows key at i next → IsNext (ops_down key (buffers_of levels) rows) at next
-up_done {A} levels rows key at i next h is = subst (λ k. IsNext (ops_down key (buffers_of (drop k levels)) rows) at next) (let none : i ≡ 0 = omega (arith, h) in none) is.so_far
+pub up_done : {A : Type 0} (levels : List (Level A)) (rows : Operations) (key : List ℕ) (at i : ℕ) (next : Option ℕ) → i ≤ 0 → IsNextFrom levels rows key at i next → IsNumberAfter (ops_down key (buffers_of levels) rows) at next
+up_done {A} levels rows key at i next h is = subst (λ k. IsNumberAfter (ops_down key (buffers_of (drop k levels)) rows) at next) (let none : i ≡ 0 = omega (arith, h) in none) is.so_far

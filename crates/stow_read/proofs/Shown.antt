@@ -10,7 +10,7 @@ use Rattle.std.proofs.lemmas.Bool.{cases_Bool, cases_lt, le-leb, lt-leb, and_fro
 use Rattle.stow_tree_model.specs.Merged.{op_of_value, row_message}
 use Rattle.stow_tree_model.specs.Messages.{ops_in}
 use Rattle.stow_tree_model.specs.Operations.{NumberedValue, Operations, applied, latest, numbered}
-use Rattle.stow_tree_model.specs.Order.{Place, place_cmp, version_place, VersionsRise}
+use Rattle.stow_tree_model.specs.Order.{VersionPlace, place_cmp, version_place, VersionsRise}
 use Rattle.stow_tree_model.specs.Version.{Version}
 use Rattle.stow_tree_model.proofs.Histories.{ops_in-at, ops_in-skip, latest_none, falls_number}
 use Rattle.stow_tree_model.proofs.Latest.{latest_stays}
@@ -61,14 +61,14 @@ none_after : (w : Version) (rows : List Version) (k : ℕ) → AllByRecursion (�
 none_after w [] k h l = refl
 none_after w (x ∷ rows) k h l =
     ops_in-skip (row_message x) (map row_message rows) w.key k (λ e.
-    let key : w.key ≡ x.key = ap (λ (p : Place). p.0) e in
-    let number : k ≡ x.number = ap (λ (p : Place). p.1) e in
+    let key : w.key ≡ x.key = ap (λ (p : VersionPlace). p.0) e in
+    let number : k ≡ x.number = ap (λ (p : VersionPlace). p.1) e in
     let less : w.number < x.number = falls_number w.key w.number x.number (subst (λ y. place_cmp (w.key, w.number) (y, x.number) ≡ Less) (sym key) h.0) in
     omega arith)
     ∙ none_after w rows k h.1 l
 
 skip_row : (w : Version) (rows : List Version) (key : List ℕ) (k : ℕ) → (key ≡ w.key → k ≡ w.number → ⊥) → ops_in (map row_message (w ∷ rows)) key k ≡ ops_in (map row_message rows) key k
-skip_row w rows key k ne = ops_in-skip (row_message w) (map row_message rows) key k (λ e. ne (ap (λ (p : Place). p.0) e) (ap (λ (p : Place). p.1) e))
+skip_row w rows key k ne = ops_in-skip (row_message w) (map row_message rows) key k (λ e. ne (ap (λ (p : VersionPlace). p.0) e) (ap (λ (p : VersionPlace). p.1) e))
 
 -- an operation of the rows after one is above it
 above_first : (w : Version) (rows : List Version) (key : List ℕ) (k : ℕ) → AllByRecursion (λ q. place_cmp (version_place w) q ≡ Less) (map version_place rows) → key ≡ w.key → IsSome (ops_in (map row_message rows) key k) → w.number < k

@@ -10,7 +10,7 @@ use Rattle.stow_tree_model.specs.Merged as merged
 use Rattle.stow_tree_model.specs.Messages.{ops_in}
 use Rattle.stow_tree_model.specs.Op.{Op}
 use Rattle.stow_tree_model.specs.Operations.{Operations, applied, latest, numbered, outcome, value_in, or_else, over}
-use Rattle.stow_tree_model.specs.Order.{Place, place_cmp, version_place, VersionsRise}
+use Rattle.stow_tree_model.specs.Order.{VersionPlace, place_cmp, version_place, VersionsRise}
 use Rattle.stow_tree_model.specs.TreeMessage.{TreeMessage}
 use Rattle.stow_tree_model.specs.Version.{Version}
 use Rattle.stow_tree_model.proofs.Histories.{ops_in-at, ops_in-skip, latest_none}
@@ -52,7 +52,7 @@ same_versions f g key vs same are = record {
 abbrev pub own_rows : List ℕ → List Version → List Version
 own_rows key rows = filter (λ (v : Version). same_key key v.key) rows
 
-above_own : (p : Place) (key : List ℕ) (rows : List Version) → AllByRecursion (λ q. place_cmp p q ≡ Less) (map version_place rows) → AllByRecursion (λ q. place_cmp p q ≡ Less) (map version_place (own_rows key rows))
+above_own : (p : VersionPlace) (key : List ℕ) (rows : List Version) → AllByRecursion (λ q. place_cmp p q ≡ Less) (map version_place rows) → AllByRecursion (λ q. place_cmp p q ≡ Less) (map version_place (own_rows key rows))
 above_own p key [] h = tt
 above_own p key (v ∷ rows) h = step (same_key key v.key) (above_own p key rows h.1) where
   step : (b : Bool) → AllByRecursion (λ q. place_cmp p q ≡ Less) (map version_place (own_rows key rows)) → AllByRecursion (λ q. place_cmp p q ≡ Less) (map version_place (cond b (v ∷ own_rows key rows) (own_rows key rows)))
@@ -126,7 +126,7 @@ versions_of_rows key rows up = record {
 
 -- ---- one version more
 
-push_above : (p : Place) (vs : List Version) (w : Version) → AllByRecursion (λ q. place_cmp p q ≡ Less) (map version_place vs) → place_cmp p (version_place w) ≡ Less → AllByRecursion (λ q. place_cmp p q ≡ Less) (map version_place (vs ++ w ∷ []))
+push_above : (p : VersionPlace) (vs : List Version) (w : Version) → AllByRecursion (λ q. place_cmp p q ≡ Less) (map version_place vs) → place_cmp p (version_place w) ≡ Less → AllByRecursion (λ q. place_cmp p q ≡ Less) (map version_place (vs ++ w ∷ []))
 push_above p [] w a l = (l, tt)
 push_above p (v ∷ vs) w a l = (a.0, push_above p vs w a.1 l)
 
@@ -262,7 +262,7 @@ next_version t key ms rows vs count i m path len l e are =
           ∙ ap (λ k. or_else (ops_in (m ∷ older) k m.number) (ops_in (map row_message rows) key m.number)) own
           ∙ ap (λ o. or_else o (ops_in (map row_message rows) key m.number)) (ops_in-at m older);
       other = λ k ne. ap (λ xs. or_else (ops_in xs key k) (ops_in (map row_message rows) key k)) cut
-          ∙ ap (λ o. or_else o (ops_in (map row_message rows) key k)) (ops_in-skip m older key k (λ p. ne (ap (λ (q : Place). q.1) p)));
+          ∙ ap (λ o. or_else o (ops_in (map row_message rows) key k)) (ops_in-skip m older key k (λ p. ne (ap (λ (q : VersionPlace). q.1) p)));
       under = λ k s. some_or (ops_in older key k) (ops_in (map row_message rows) key k)
           (λ a. under_number m.number older key k falls.0 a)
           (λ a. path.above m.number k (there_dropped ms (count - (i + 1)) key m.number (subst (λ xs. IsSome (ops_in xs key m.number)) (sym cut) (there_first key m older own))) a)

@@ -20,7 +20,7 @@ use Rattle.stow_node.specs.declared.child.Child.{Child}
 use Rattle.stow_node.specs.declared.child.Child.TheVariants as in_child
 use Rattle.stow_node.specs.Nodes.{parts_of, AreChildren}
 use Rattle.stow_node.specs.Subtree.{Subtree, messages_of}
-use Rattle.stow_read.specs.Descent.{LeadsTo}
+use Rattle.stow_read.specs.Descent.{LeadsDown}
 use Rattle.stow_read.specs.Found.{lent_of}
 use Rattle.stow_read.specs.Suffixes.{SuffixList, continued, looked, Carries}
 use Rattle.stow_read.specs.declared.lent_value.LentValue.{LentValue}
@@ -52,7 +52,7 @@ looked_here root here cs key at old before now look walking are carries =
 
 -- the walk goes on in a lower node
 pub walking_on : {A : Type 0} (root here lower : Subtree) (cs : List (Child A)) (c : Child A) (key : List ℕ) (at : ℕ) (old before now : SuffixList) (look : Look) → IsWalking root here key at old before → AreChildren here cs → Carries (ops_in here.buffer.messages key) at before now look
-    → look ≡ in_look.Deeper → LeadsTo here key c → c ≡ in_child.Node lower → IsWalking root lower key at old now
+    → look ≡ in_look.Deeper → LeadsDown here key c → c ≡ in_child.Node lower → IsWalking root lower key at old now
 walking_on {A} root here lower cs c key at old before now look walking are carries deeper leads is = record {
   spanned = to.spanned;
   so_far = looked_here root here cs key at old before now look walking are carries
@@ -61,12 +61,12 @@ walking_on {A} root here lower cs c key at old before now look walking are carri
   leaves = λ leaf k. walking.leaves leaf (to.leaves leaf k);
 }
   where
-    to : LeadsTo {A = A} here key (in_child.Node lower)
-    to = subst (LeadsTo here key) is leads
+    to : LeadsDown {A = A} here key (in_child.Node lower)
+    to = subst (LeadsDown here key) is leads
 
 -- the walk ends in a leaf
 pub walked : {A : Type 0} (root here : Subtree) (leaf : Leaf A) (cs : List (Child A)) (c : Child A) (key : List ℕ) (at : ℕ) (old before now : SuffixList) (look : Look) (base : Option LentValue) → IsWalking root here key at old before → AreChildren here cs → Carries (ops_in here.buffer.messages key) at before now look
-    → look ≡ in_look.Deeper → LeadsTo here key c → c ≡ in_child.Leaf leaf → option_map lent_of base ≡ latest (ops_in (map row_message leaf.rows) key) at
+    → look ≡ in_look.Deeper → LeadsDown here key c → c ≡ in_child.Leaf leaf → option_map lent_of base ≡ latest (ops_in (map row_message leaf.rows) key) at
     → continued old (latest (ops_in (messages_of root) key) at) ≡ continued now (option_map lent_of base)
 walked {A} root here leaf cs c key at old before now look base walking are carries deeper leads is found =
     looked_here root here cs key at old before now look walking are carries
@@ -75,14 +75,14 @@ walked {A} root here leaf cs c key at old before now look base walking are carri
     to.messages k ∙ ops-append (map row_message leaf.rows) [] key k ∙ or_none (ops_in (map row_message leaf.rows) key k) None refl))
     ∙ ap (continued now) (sym found)
   where
-    to : LeadsTo {A = A} here key (in_child.Leaf leaf)
-    to = subst (LeadsTo here key) is leads
+    to : LeadsDown {A = A} here key (in_child.Leaf leaf)
+    to = subst (LeadsDown here key) is leads
 
-pub leaf_there : {A : Type 0} (root here : Subtree) (leaf : Leaf A) (c : Child A) (key : List ℕ) (at : ℕ) (old now : SuffixList) → IsWalking root here key at old now → LeadsTo here key c → c ≡ in_child.Leaf leaf → Contains root.leaves (leaf_rows leaf)
+pub leaf_there : {A : Type 0} (root here : Subtree) (leaf : Leaf A) (c : Child A) (key : List ℕ) (at : ℕ) (old now : SuffixList) → IsWalking root here key at old now → LeadsDown here key c → c ≡ in_child.Leaf leaf → Contains root.leaves (leaf_rows leaf)
 leaf_there {A} root here leaf c key at old now walking leads is = walking.leaves (leaf_rows leaf) (to.leaves (leaf_rows leaf) (0, omega arith, refl))
   where
-    to : LeadsTo {A = A} here key (in_child.Leaf leaf)
-    to = subst (LeadsTo here key) is leads
+    to : LeadsDown {A = A} here key (in_child.Leaf leaf)
+    to = subst (LeadsDown here key) is leads
 
 -- the nodes down to this one hold the key's leaf
 pub record IsLeading (root here : Subtree) (key : List ℕ) : Type 0 where
@@ -92,15 +92,15 @@ pub record IsLeading (root here : Subtree) (key : List ℕ) : Type 0 where
 pub leading_first : (root : Subtree) (key : List ℕ) → spans root.low top_key key ≡ true → IsLeading root root key
 leading_first root key s = record { spanned = s; leaves = λ leaf c. c }
 
-pub leading_on : {A : Type 0} (root here lower : Subtree) (c : Child A) (key : List ℕ) → IsLeading root here key → LeadsTo here key c → c ≡ in_child.Node lower → (lower.height < here.height) × IsLeading root lower key
+pub leading_on : {A : Type 0} (root here lower : Subtree) (c : Child A) (key : List ℕ) → IsLeading root here key → LeadsDown here key c → c ≡ in_child.Node lower → (lower.height < here.height) × IsLeading root lower key
 leading_on {A} root here lower c key leading leads is = (to.lower, record { spanned = to.spanned; leaves = λ leaf k. leading.leaves leaf (to.leaves leaf k) }) where
-  to : LeadsTo {A = A} here key (in_child.Node lower)
-  to = subst (LeadsTo here key) is leads
+  to : LeadsDown {A = A} here key (in_child.Node lower)
+  to = subst (LeadsDown here key) is leads
 
-pub leading_to : {A : Type 0} (root here : Subtree) (leaf : Leaf A) (c : Child A) (key : List ℕ) → IsLeading root here key → LeadsTo here key c → c ≡ in_child.Leaf leaf → Contains root.leaves (leaf_rows leaf)
+pub leading_to : {A : Type 0} (root here : Subtree) (leaf : Leaf A) (c : Child A) (key : List ℕ) → IsLeading root here key → LeadsDown here key c → c ≡ in_child.Leaf leaf → Contains root.leaves (leaf_rows leaf)
 leading_to {A} root here leaf c key leading leads is = leading.leaves (leaf_rows leaf) (to.leaves (leaf_rows leaf) (0, omega arith, refl)) where
-  to : LeadsTo {A = A} here key (in_child.Leaf leaf)
-  to = subst (LeadsTo here key) is leads
+  to : LeadsDown {A = A} here key (in_child.Leaf leaf)
+  to = subst (LeadsDown here key) is leads
 
 -- a node has nothing of a key that it may not hold
 pub none_outside : {A : Type 0} (t : Subtree) (cs : List (Child A)) (key : List ℕ) (k : ℕ) → AreChildren t cs → spans t.low top_key key ≡ false → ops_in (messages_of t) key k ≡ None

@@ -23,10 +23,10 @@ use Rattle.stow_node.specs.declared.child.Child.{Child}
 use Rattle.stow_node.specs.declared.child.Child.TheVariants as in_child
 use Rattle.stow_node.specs.Nodes.{AreChildren}
 use Rattle.stow_node.specs.Subtree.{Subtree, messages_of}
-use Rattle.stow_read.specs.Descent.{LeadsTo, LeadsAllTo}
+use Rattle.stow_read.specs.Descent.{LeadsDown, LeadsAllTo}
 use Rattle.stow_read.specs.NextKey.{HaveNone, IsNextKey}
 use Rattle.stow_read.specs.Suffixes.{SuffixList, IsAbove, Carries, continued, looked}
-use Rattle.stow_read.specs.Way.{key_in, is_next, lower_key, lower_next, least_of, AreNext, buffers_of, ops_down, NewerDown, HaveAll, row_ops, way_ops, IsSameWay, StandsAt, IsAt, IsTold, IsReadyFor}
+use Rattle.stow_read.specs.Way.{key_in, is_next, lower_key, lower_next, least_of, AreNext, buffers_of, ops_down, NewerDown, HaveAll, row_ops, way_ops, IsSameWay, WayStandsAt, IsAt, IsNextTold, IsReadyFor}
 use Rattle.stow_read.specs.declared.level.Level.{Level}
 use Rattle.stow_read.specs.declared.suffixes.Look.{Look}
 use Rattle.stow_read.specs.declared.suffixes.Look.TheVariants as in_look
@@ -85,12 +85,12 @@ all_settled (x ∷ xs) rows start to k row are is l clear =
     )
 
 -- the way stands at the key that is found
-stands_at : {A : Type 0} (way : Way A) (start to k : List ℕ) → AreNext start true to way.levels.items → IsNextKey (row_ops way) start true to (key_in way.next_row) → IsNextKey (way_ops way) start true to (Some k) → StandsAt way k to
+stands_at : {A : Type 0} (way : Way A) (start to k : List ℕ) → AreNext start true to way.levels.items → IsNextKey (row_ops way) start true to (key_in way.next_row) → IsNextKey (way_ops way) start true to (Some k) → WayStandsAt way k to
 stands_at way start to k are is low =
     let both = all_settled way.levels.items (row_ops way) start to k (key_in way.next_row) are is low.from low.none in
     record { levels = both.0; row = both.1 }
 
-pub stands_where : {A : Type 0} (way : Way A) (start to : List ℕ) (next : Option TenantKey) → AreNext start true to way.levels.items → IsNextKey (row_ops way) start true to (key_in way.next_row) → IsNextKey (way_ops way) start true to (key_in next) → IfSome next (λ k. StandsAt way k.bytes.now to)
+pub stands_where : {A : Type 0} (way : Way A) (start to : List ℕ) (next : Option TenantKey) → AreNext start true to way.levels.items → IsNextKey (row_ops way) start true to (key_in way.next_row) → IsNextKey (way_ops way) start true to (key_in next) → IfSome next (λ k. WayStandsAt way k.bytes.now to)
 stands_where way start to None are is none = tt
 stands_where way start to (Some k) are is low = stands_at way start to k.bytes.now are is low
 
@@ -181,14 +181,14 @@ passing_done key to i old now h p = all_passed key to i now h p.so_far
 
 -- ---- what stands at the key
 
-told_of : (ops : List ℕ → Operations) (key to : List ℕ) (next : Option (List ℕ)) → IsNextKey ops key false to next → lt key to ≡ true → IsTold (ops key) next key
+told_of : (ops : List ℕ → Operations) (key to : List ℕ) (next : Option (List ℕ)) → IsNextKey ops key false to next → lt key to ≡ true → IsNextTold (ops key) next key
 told_of ops key to None none l = inr (λ n. none key (ap not (lt_self key)) l n)
 told_of ops key to (Some j) low l = ⊎_elim
     (λ (h : key ≡ j). inl (ap (same_key j) h ∙ own_key j))
     (λ (h : lt key j ≡ true). inr (λ n. low.none key (ap not (lt_self key)) h n))
     (at_most key j (not_is (lt j key) low.from))
 
-all_told : {A : Type 0} (levels : List (Level A)) (key to : List ℕ) → AreNext key false to levels → lt key to ≡ true → AllByRecursion (λ (l : Level A). IsTold (ops_in l.buffer.now.messages key) (key_in l.next) key) levels
+all_told : {A : Type 0} (levels : List (Level A)) (key to : List ℕ) → AreNext key false to levels → lt key to ≡ true → AllByRecursion (λ (l : Level A). IsNextTold (ops_in l.buffer.now.messages key) (key_in l.next) key) levels
 all_told [] key to are l = tt
 all_told (x ∷ xs) key to are l = (told_of (ops_in x.buffer.now.messages) key to (key_in x.next) are.0 l, all_told xs key to are.1 l)
 
@@ -213,7 +213,7 @@ all_by_way t way key to is = λ i n. sym ((has_own t way key to is).messages n) 
 -- the levels before the place have been looked at
 pub record IsLookedDown {A : Type 0} (levels : List (Level A)) (rows : Operations) (key : List ℕ) (at i : ℕ) (old now : SuffixList) : Type 0 where
   pub so_far : continued old (latest (ops_down key (buffers_of levels) rows) at) ≡ continued now (latest (ops_down key (buffers_of (drop i levels)) rows) at)
-  pub told : AllByRecursion (λ (l : Level A). IsTold (ops_in l.buffer.now.messages key) (key_in l.next) key) (drop i levels)
+  pub told : AllByRecursion (λ (l : Level A). IsNextTold (ops_in l.buffer.now.messages key) (key_in l.next) key) (drop i levels)
   pub newer : NewerDown key (buffers_of (drop i levels)) rows
 
 pub down_first : {A : Type 0} (way : Way A) (key : List ℕ) (at : ℕ) (old : SuffixList) → IsReadyFor way key → IsLookedDown way.levels.items (row_ops way key) key at 0 old old
@@ -236,7 +236,7 @@ pub down_on : {A : Type 0} (levels : List (Level A)) (rows : Operations) (key : 
 down_on {A} levels rows key at i old before now l look h e d carries deeper = record {
   so_far = down_look levels rows key at i old before now l look h e d carries
       ∙ ap (λ x. looked x now (latest (ops_down key (buffers_of (drop (i + 1) levels)) rows) at)) deeper;
-  told = (subst (AllByRecursion (λ (x : Level A). IsTold (ops_in x.buffer.now.messages key) (key_in x.next) key)) (left levels i l h e) d.told).1;
+  told = (subst (AllByRecursion (λ (x : Level A). IsNextTold (ops_in x.buffer.now.messages key) (key_in x.next) key)) (left levels i l h e) d.told).1;
   newer = (subst (λ ls. NewerDown key (buffers_of ls) rows) (left levels i l h e) d.newer).1;
 }
 
@@ -251,8 +251,8 @@ down_past {A} levels rows key at i old now l h e d t = record {
   newer = (subst (λ ls. NewerDown key (buffers_of ls) rows) (left levels i l h e) d.newer).1;
 }
   where
-    tells : AllByRecursion (λ (x : Level A). IsTold (ops_in x.buffer.now.messages key) (key_in x.next) key) (l ∷ drop (i + 1) levels)
-    tells = subst (AllByRecursion (λ (x : Level A). IsTold (ops_in x.buffer.now.messages key) (key_in x.next) key)) (left levels i l h e) d.told
+    tells : AllByRecursion (λ (x : Level A). IsNextTold (ops_in x.buffer.now.messages key) (key_in x.next) key) (l ∷ drop (i + 1) levels)
+    tells = subst (AllByRecursion (λ (x : Level A). IsNextTold (ops_in x.buffer.now.messages key) (key_in x.next) key)) (left levels i l h e) d.told
 
     none : (n : ℕ) → ops_in l.buffer.now.messages key n ≡ None
     none n = ⊎_elim
@@ -270,7 +270,7 @@ down_rows {A} levels rows key at i old now h d = d.so_far ∙ ap (λ (ls : List 
   nothing (x ∷ xs) (suc k) h = nothing xs k (omega arith)
 
 -- rows that have none of the key
-pub no_rows : (rows : Operations) (next : Option (List ℕ)) (key : List ℕ) (at : ℕ) → IsTold rows next key → is_next next key ≡ false → latest rows at ≡ None
+pub no_rows : (rows : Operations) (next : Option (List ℕ)) (key : List ℕ) (at : ℕ) → IsNextTold rows next key → is_next next key ≡ false → latest rows at ≡ None
 no_rows rows next key at told t = ⊎_elim
     (λ (h : is_next next key ≡ true). apart h t)
     (λ (h : (n : ℕ) → rows n ≡ None). latest_none rows at (λ n l. h n))
@@ -297,7 +297,7 @@ next_on_way t old new key to k at same low h = record {
     has : (x : List ℕ) → lt key x ≡ true → lt x new.end.bytes.now ≡ true → HaveAll t x (buffers_of new.levels.items) (row_ops new x)
     has x f l = all_same t old new key to x at same (spanned key new.end.bytes.now x (lt_not key x f) l)
 
-pub at_next : {A : Type 0} (t : Subtree) (old new : Way A) (key to k : List ℕ) → IsAt t old key to → IsSameWay old new → lt key k ≡ true → lt k new.end.bytes.now ≡ true → StandsAt new k to → IsAt t new k to
+pub at_next : {A : Type 0} (t : Subtree) (old new : Way A) (key to k : List ℕ) → IsAt t old key to → IsSameWay old new → lt key k ≡ true → lt k new.end.bytes.now ≡ true → WayStandsAt new k to → IsAt t new k to
 at_next t old new key to k at same f h stands = record {
   inside = h;
   all = λ x s. all_same t old new key to x at same
@@ -354,7 +354,7 @@ below_lower a b key l h = step (lt b a) where
   step false = l
 
 all_down : {A : Type 0} (root here : Subtree) (cs : List (Child A)) (c : Child A) (key end high : List ℕ) (buffers : List MessageList) (below : List ℕ → Operations) → AreOnWay root here key end buffers → AreChildren here cs → LeadsAllTo here key high c
-    → ((other : List ℕ) (n : ℕ) → LeadsTo here other c → ops_in (here.deeper ++ row_messages here.leaves) other n ≡ below other n)
+    → ((other : List ℕ) (n : ℕ) → LeadsDown here other c → ops_in (here.deeper ++ row_messages here.leaves) other n ≡ below other n)
     → (other : List ℕ) → spans key (lower_key high end) other ≡ true → HaveAll root other (buffers ++ here.buffer ∷ []) (below other)
 all_down root here cs c key end high buffers below on are leads same other s =
     lower_both high end other (span_high key (lower_key high end) other s) (λ h e.
@@ -374,11 +374,11 @@ on_way_on {A} root here lower cs c key end high buffers on are leads is = (
   record {
     inside = below_lower high end key leads.inside on.inside;
     within = own.spanned;
-    all = all_down root here cs c key end high buffers (ops_in (messages_of lower)) on are leads (λ other n to. (subst (LeadsTo here other) is to).messages n);
+    all = all_down root here cs c key end high buffers (ops_in (messages_of lower)) on are leads (λ other n to. (subst (LeadsDown here other) is to).messages n);
   },
 ) where
-  own : LeadsTo {A = A} here key (in_child.Node lower)
-  own = subst (LeadsTo here key) is (leads.each key (spanned key high key (lt_self key) leads.inside))
+  own : LeadsDown {A = A} here key (in_child.Node lower)
+  own = subst (LeadsDown here key) is (leads.each key (spanned key high key (lt_self key) leads.inside))
 
 -- the way ends in a leaf
 pub on_way_end : {A : Type 0} (root here : Subtree) (leaf : Leaf A) (cs : List (Child A)) (c : Child A) (key end high : List ℕ) (buffers : List MessageList) → AreOnWay root here key end buffers → AreChildren here cs → LeadsAllTo here key high c → c ≡ in_child.Leaf leaf
@@ -386,5 +386,5 @@ pub on_way_end : {A : Type 0} (root here : Subtree) (leaf : Leaf A) (cs : List (
 on_way_end root here leaf cs c key end high buffers on are leads is = (
   below_lower high end key leads.inside on.inside,
   all_down root here cs c key end high buffers (ops_in (map row_message leaf.rows)) on are leads (λ other n to.
-      (subst (LeadsTo here other) is to).messages n ∙ ops-append (map row_message leaf.rows) [] other n ∙ or_none (ops_in (map row_message leaf.rows) other n) None refl),
+      (subst (LeadsDown here other) is to).messages n ∙ ops-append (map row_message leaf.rows) [] other n ∙ or_none (ops_in (map row_message leaf.rows) other n) None refl),
 )

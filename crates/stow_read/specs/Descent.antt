@@ -17,7 +17,7 @@ abbrev pub part_messages : Part → List TreeMessage
 part_messages p = p.messages ++ row_messages p.leaves
 
 -- all that stands below the node's own buffer for the key stands in this child
-pub record LeadsTo {A : Type 0} (t : Subtree) (key : List ℕ) (child : Child A) : Type 0 where
+pub record LeadsDown {A : Type 0} (t : Subtree) (key : List ℕ) (child : Child A) : Type 0 where
   pub spanned : spans (part_of child).low top_key key ≡ true
   pub lower : (part_of child).height < t.height
   pub messages : (n : ℕ) → ops_in (t.deeper ++ row_messages t.leaves) key n
@@ -29,4 +29,4 @@ pub record LeadsTo {A : Type 0} (t : Subtree) (key : List ℕ) (child : Child A)
 pub record LeadsAllTo {A : Type 0} (t : Subtree) (low high : List ℕ) (child : Child A)
     : Type 0 where
   pub inside : is_lt (bytes_cmp low high) ≡ true
-  pub each : (key : List ℕ) → spans low high key ≡ true → LeadsTo t key child
+  pub each : (key : List ℕ) → spans low high key ≡ true → LeadsDown t key child

@@ -47,6 +47,6 @@ pub record IsFromPart (ps : List Part) (start : List ℕ) (after : Bool) (first 
   pub later_is : first < i → (key ≡ fence_at ps i) × (own ≡ false)
 
 -- where the search below a node ends: at its own next key, or where the interval does
-abbrev pub IsEnd : List ℕ → Option (List ℕ) → List ℕ → Type 0
-IsEnd to None end = end ≡ to
-IsEnd to (Some key) end = end ≡ key
+abbrev pub IsSearchEnd : List ℕ → Option (List ℕ) → List ℕ → Type 0
+IsSearchEnd to None end = end ≡ to
+IsSearchEnd to (Some key) end = end ≡ key

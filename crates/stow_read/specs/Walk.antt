@@ -38,9 +38,9 @@ pub record IsLeastAbove (ops : Operations) (at number : ℕ) : Type 0 where
   pub none : (n : ℕ) → at < n → n < number → ops n ≡ None
 
 -- the next number that has an operation, or none
-abbrev pub IsNext : Operations → ℕ → Option ℕ → Type 0
-IsNext ops at None = NoneAbove at ops
-IsNext ops at (Some number) = IsLeastAbove ops at number
+abbrev pub IsNumberAfter : Operations → ℕ → Option ℕ → Type 0
+IsNumberAfter ops at None = NoneAbove at ops
+IsNumberAfter ops at (Some number) = IsLeastAbove ops at number
 
 -- what is told of a value: its number, and how many bytes it has
 abbrev pub head_of : NumberedValue → ValueHead
@@ -52,7 +52,7 @@ pub record IsHead {A : Type 0} (ops : Operations) (at : ℕ) (row : RowHead A) :
   pub has : latest ops at ≡ Some value
   pub number : row.number ≡ value.number
   pub size : row.length ≡ length value.value
-  pub next : IsNext ops at row.next
+  pub next : IsNumberAfter ops at row.next
 
 -- nothing is told of a key that has no value
 abbrev pub IsHeadOf : {A : Type 0} → List ℕ → Operations → ℕ → Option (RowHead A) → Type 0

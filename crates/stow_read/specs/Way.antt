@@ -79,7 +79,7 @@ pub record IsSameWay {A : Type 0} (old new : Way A) : Type 0 where
   pub end : new.end.bytes.now ≡ old.end.bytes.now
 
 -- each part's next key is the lowest from this one on
-pub record StandsAt {A : Type 0} (way : Way A) (key to : List ℕ) : Type 0 where
+pub record WayStandsAt {A : Type 0} (way : Way A) (key to : List ℕ) : Type 0 where
   pub levels : AreNext key false to way.levels.items
   pub row : IsNextKey (row_ops way) key false to (key_in way.next_row)
 
@@ -89,15 +89,15 @@ pub record IsAt {A : Type 0} (t : Subtree) (way : Way A) (key to : List ℕ) : T
   pub inside : is_lt (bytes_cmp key way.end.bytes.now) ≡ true
   pub all : (other : List ℕ) → spans key way.end.bytes.now other ≡ true
       → HaveAll t other (buffers_of way.levels.items) (row_ops way other)
-  pub stands : StandsAt way key to
+  pub stands : WayStandsAt way key to
 
 -- where the key isn't the next one, it has no operations
-abbrev pub IsTold : Operations → Option (List ℕ) → List ℕ → Type 0
-IsTold ops next key = (is_next next key ≡ true) ⊎ ((n : ℕ) → ops n ≡ None)
+abbrev pub IsNextTold : Operations → Option (List ℕ) → List ℕ → Type 0
+IsNextTold ops next key = (is_next next key ≡ true) ⊎ ((n : ℕ) → ops n ≡ None)
 
 -- what the way has of the key stands where its parts' next keys are
 pub record IsReadyFor {A : Type 0} (way : Way A) (key : List ℕ) : Type 0 where
   pub levels : AllByRecursion (λ level.
-      IsTold (ops_in level.buffer.now.messages key) (key_in level.next) key) way.levels.items
-  pub row : IsTold (row_ops way key) (key_in way.next_row) key
+      IsNextTold (ops_in level.buffer.now.messages key) (key_in level.next) key) way.levels.items
+  pub row : IsNextTold (row_ops way key) (key_in way.next_row) key
   pub newer : NewerDown key (buffers_of way.levels.items) (row_ops way key)

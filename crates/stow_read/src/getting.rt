@@ -40,7 +40,7 @@ pub(crate) fn value_in_rows<'a, A: Allocator>(
     ensures { option_map lent_of result
         ≡ latest (ops_in (map row_message rows.now) key.entry.bytes.now) at }
 {
-    let _len = rows.len();
+    let _known = rows.len();
     let version = rows.version_at(key, at, guess)?;
     let number = version.number;
     let value = version.value?;
@@ -63,7 +63,7 @@ fn walk<'a, A: Allocator + Copy>(
 {
     let mut here = node;
     loop {
-        let _children = here.children();
+        let _known = here.children();
         if let Look::Base(base) = suffixes.look(here.buffer(), key, at, usize::MAX)? {
             return Ok(End { base, leaf: None });
         }
@@ -91,7 +91,7 @@ pub fn get<'a, A: Allocator + Copy>(
     ensures leaf { IfOk result (λ lookup. IfSome lookup.leaf
         (λ leaf. Contains node.now.leaves (leaf_rows leaf.now))) }
 {
-    let _children = node.children();
+    let _known = node.children();
     if !may_hold(node, key) {
         return Ok(Lookup {
             found: None,

@@ -8,7 +8,7 @@ ghost use Rattle.stow_node.specs.Nodes.{parts_of};
 ghost use Rattle.stow_node.specs.Subtree.{messages_of};
 ghost use Rattle.stow_tree_model.specs.Merged.{row_message};
 ghost use Rattle.stow_tree_model.specs.Messages.{ops_in};
-ghost use Rattle.stow_read.specs.NextKey.{IsNextKey, IsEnd, IsFromPart, passed_number};
+ghost use Rattle.stow_read.specs.NextKey.{IsNextKey, IsSearchEnd, IsFromPart, passed_number};
 
 use crate::guesses::Guesses;
 use crate::start::Start;
@@ -74,7 +74,8 @@ pub(crate) fn next_in_rows<'a, A: Allocator>(
 
 /// The key, or else the upper end.
 fn lower_end<'b>(key: Option<TenantKey<'b>>, to: TenantKey<'b>) -> TenantKey<'b>
-    ensures { IsEnd to.entry.bytes.now (option_map (λ k. k.bytes.now) key.entry) result.bytes.now }
+    ensures { IsSearchEnd to.entry.bytes.now (option_map (λ k. k.bytes.now) key.entry)
+        result.bytes.now }
 {
     match key {
         None => to,

@@ -2,7 +2,7 @@
 ghost use Rattle.std.specs.Prelude.{map};
 ghost use Rattle.stow_tree_model.specs.Merged.{row_message};
 ghost use Rattle.stow_tree_model.specs.Messages.{ops_in};
-ghost use Rattle.stow_read.specs.Walk.{IsNext};
+ghost use Rattle.stow_read.specs.Walk.{IsNumberAfter};
 
 use std::alloc::Allocator;
 use stow_message::message_buf::MessageBuf;
@@ -17,7 +17,7 @@ pub(crate) fn number_in_buffer<A: Allocator>(
     at: u64,
     guess: usize,
 ) -> Option<u64>
-    ensures { IsNext (ops_in buffer.now.messages key.entry.bytes.now) at result }
+    ensures { IsNumberAfter (ops_in buffer.now.messages key.entry.bytes.now) at result }
 {
     let place = buffer.count_below(key, at.saturating_add(1), guess);
     if place >= buffer.len() {
@@ -39,7 +39,7 @@ pub(crate) fn number_in_rows<A: Allocator>(
     at: u64,
     guess: usize,
 ) -> Option<u64>
-    ensures { IsNext (ops_in (map row_message rows.now) key.entry.bytes.now) at result }
+    ensures { IsNumberAfter (ops_in (map row_message rows.now) key.entry.bytes.now) at result }
 {
     let len = rows.len();
     let place = rows.count_near(key, at, guess);

@@ -53,8 +53,8 @@ pub(crate) fn path_of<'a, A: Allocator + Copy>(
     let mut messages = Vec::new(alloc);
     let mut here = node;
     loop {
-        let _children = here.children();
-        let _len = here.buffer().len();
+        let _known = here.children();
+        let _known = here.buffer().len();
         add_older(&mut messages, here.buffer(), key)?;
         match below(here, key) {
             Child::Leaf(leaf) => return Ok(Path { messages, leaf }),

@@ -40,7 +40,7 @@ pub fn range<A: Allocator + Copy>(
     ensures { IfOk result (λ rows. IsRange (ops_in (messages_of node.now)) from.entry.bytes.now
         to.entry.bytes.now at count (map key_value rows.items)) }
 {
-    let _children = node.children();
+    let _known = node.children();
     let mut rows = Vec::new(alloc);
     let mut guesses = Guesses::none();
     let start = Start {

@@ -25,7 +25,7 @@ pub(crate) fn first_key<'a, A: Allocator>(
     ensures { IsNextKey (ops_in (messages_of node.now)) start.entry.key.bytes.now start.entry.after
         to.entry.bytes.now (option_map (λ key. key.bytes.now) result) }
 {
-    let _children = node.children();
+    let _known = node.children();
     let mut from = start;
     if is_below(start.key, node.low()) {
         from = Start {
@@ -56,7 +56,7 @@ pub(crate) fn step<'a, A: Allocator + Copy>(
     ensures at { IfOk result (λ next. IfSome next
         (λ k. IsAt node.now way.new k.bytes.now to.entry.bytes.now)) }
 {
-    let _children = node.children();
+    let _known = node.children();
     if let Some(next) = way.pass(key, to) {
         if is_below(next, way.end) {
             return Ok(Some(next));

@@ -70,7 +70,7 @@ impl<'a, A: Allocator + Copy> Suffixes<'a, A> {
         ensures { IfOk result (λ look. Carries (ops_in buffer.now.messages key.entry.bytes.now) at
             (suffixes_of self.old) (suffixes_of self.new) look) }
     {
-        let _len = buffer.len();
+        let _known = buffer.len();
         let newest = buffer.of_key_near(key, guess);
         for i in 0..newest.len() {
             let message = newest.get(i);

@@ -132,13 +132,13 @@ pub fn versions<A: Allocator + Copy>(
     ensures { IfOk result (λ versions. AreVersionsOf (ops_in (messages_of node.now) key.entry.bytes.now)
         key.entry.bytes.now (map version_of_buf versions.items)) }
 {
-    let _children = node.children();
+    let _known = node.children();
     if !may_hold(node, key) {
         return Ok(Vec::new(alloc));
     }
     let path = path_of(alloc, node, key)?;
     let rows = &path.leaf.rows;
-    let _len = rows.len();
+    let _known = rows.len();
     let mut versions = rows_of_key(alloc, rows, key)?;
     let count = path.messages.len();
     for i in 0..count {

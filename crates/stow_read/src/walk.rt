@@ -28,7 +28,7 @@ pub fn walk<A: Allocator + Copy>(
     ensures { IfOk result (λ rows. IsWalk (ops_in (messages_of node.now)) from.entry.key.bytes.now
         from.entry.after to.entry.bytes.now at count rows.items) }
 {
-    let _children = node.children();
+    let _known = node.children();
     let mut rows = Vec::new(alloc);
     let mut guesses = Guesses::none();
     let Some(first) = first_key(node, from, to, &mut guesses) else {

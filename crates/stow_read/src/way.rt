@@ -10,8 +10,8 @@ ghost use Rattle.stow_tree_model.specs.Value.{IsValue};
 ghost use Rattle.stow_read.specs.Found.{found_value, lent_of};
 ghost use Rattle.stow_read.specs.NextKey.{IsNextKey};
 ghost use Rattle.stow_read.specs.Suffixes.{suffixes_of, continued};
-ghost use Rattle.stow_read.specs.Walk.{head_of, IsHeadOf, IsNext};
-ghost use Rattle.stow_read.specs.Way.{buffers_of, key_in, is_next, lower_key, lower_next, least_of, AreNext, row_ops, way_ops, IsReadyFor, StandsAt, IsAt, IsSameWay};
+ghost use Rattle.stow_read.specs.Walk.{head_of, IsHeadOf, IsNumberAfter};
+ghost use Rattle.stow_read.specs.Way.{buffers_of, key_in, is_next, lower_key, lower_next, least_of, AreNext, row_ops, way_ops, IsReadyFor, WayStandsAt, IsAt, IsSameWay};
 
 use crate::descent::below_until;
 use crate::found::Found;
@@ -26,7 +26,7 @@ use crate::start::Start;
 use crate::suffixes::{Look, Suffixes};
 use crate::value_head::ValueHead;
 use std::alloc::{AllocError, Allocator};
-use stow_node::child::Child;
+use stow_node::child::{Child, top_key};
 use stow_node::node::Node;
 use stow_page::rows::Rows;
 use stow_tree_model::tenant_key::TenantKey;
@@ -129,11 +129,11 @@ impl<'a, A: Allocator> Way<'a, A> {
 
     /// Goes on to the lowest key behind this one and below `to` that has messages here.
     pub(crate) fn pass(&mut self, key: TenantKey<'_>, to: TenantKey<'_>) -> Option<TenantKey<'a>>
-        requires { StandsAt self.old key.bytes.now to.bytes.now }
+        requires { WayStandsAt self.old key.bytes.now to.bytes.now }
         ensures same { IsSameWay self.old self.new }
         ensures next { IsNextKey (way_ops self.new) key.entry.bytes.now true to.entry.bytes.now
             (key_in result) }
-        ensures stands { IfSome result (λ k. StandsAt self.new k.bytes.now to.entry.bytes.now) }
+        ensures stands { IfSome result (λ k. WayStandsAt self.new k.bytes.now to.entry.bytes.now) }
     {
         pass_levels(&mut self.levels, key, to);
         self.pass_row(key, to);
@@ -156,9 +156,9 @@ impl<'a, A: Allocator + Copy> Way<'a, A> {
         let start = Start { key, after: false };
         let mut levels = Vec::new(alloc);
         let mut here = node;
-        let mut end = TenantKey::from_packed(&[0, 1, 0, 0]);
+        let mut end = top_key();
         loop {
-            let _children = here.children();
+            let _known = here.children();
             let guess = guesses.at(levels.len());
             levels.push(Level::new(here.buffer(), start, to, guess))?;
             let below = below_until(here, key);
@@ -243,7 +243,7 @@ impl<'a, A: Allocator + Copy> Way<'a, A> {
     /// The least number above this one of the key's rows.
     fn next_row_number(&self, key: TenantKey<'_>, at: u64) -> Option<u64>
         requires { IsReadyFor self.now key.bytes.now }
-        ensures { IsNext (row_ops self.now key.entry.bytes.now) at result }
+        ensures { IsNumberAfter (row_ops self.now key.entry.bytes.now) at result }
     {
         if is_next(self.next_row, key) {
             number_in_rows(self.rows, key, at, self.place.saturating_add(1))
@@ -255,7 +255,7 @@ impl<'a, A: Allocator + Copy> Way<'a, A> {
     /// The least number above this one of the key's messages: those in a buffer are newer than those below it.
     fn next_number(&self, key: TenantKey<'_>, at: u64) -> Option<u64>
         requires { IsReadyFor self.now key.bytes.now }
-        ensures { IsNext (way_ops self.now key.entry.bytes.now) at result }
+        ensures { IsNumberAfter (way_ops self.now key.entry.bytes.now) at result }
     {
         let mut next = self.next_row_number(key, at);
         let mut i = self.levels.len();

@@ -14,7 +14,7 @@ use Rattle.stow_model.proofs.Spelling.{bulk_once}
 use Rattle.stow_model.proofs.Messages.{array_begun, array_faulty, array_whole, one_more_word, one_more_fits}
 use Rattle.stow_resp.specs.declared.progress.Progress.{Progress}
 use Rattle.stow_resp.specs.Scans.{IsProgress, IsStart, HasAllSpans, IsFilled}
-use Rattle.stow_resp.specs.Spans.{IsKept}
+use Rattle.stow_resp.specs.Spans.{IsSpanKept}
 use Rattle.stow_resp.specs.Next.{IsTaken, HasWords}
 use Rattle.stow_resp.proofs.Lists.{drop_front, slice_from, length_front}
 
@@ -61,7 +61,7 @@ behind_at before word span h =
     ∙ take_at word (13 ∷ 10 ∷ []) (length word) refl
 
 -- the words that were kept are the first, and one more is kept behind all of them or not
-kept_words : (before word : List ℕ) (words : List (List ℕ)) (found : ℕ) (span : Span) (old new : List Span) → IsBehind before word span → length words ≡ found → length old ≤ found → AreInside before old → words_at before old ≡ take (length old) words → IsKept old found span new → (length new ≤ found + 1) × AreInside (before ++ bulk word) new × (words_at (before ++ bulk word) new ≡ take (length new) (words ++ word ∷ []))
+kept_words : (before word : List ℕ) (words : List (List ℕ)) (found : ℕ) (span : Span) (old new : List Span) → IsBehind before word span → length words ≡ found → length old ≤ found → AreInside before old → words_at before old ≡ take (length old) words → IsSpanKept old found span new → (length new ≤ found + 1) × AreInside (before ++ bulk word) new × (words_at (before ++ bulk word) new ≡ take (length new) (words ++ word ∷ []))
 kept_words before word words found span old new h n few inside at (inl same) =
     let long : length old ≤ length words = omega arith in (
       subst (λ s. length s ≤ found + 1) (sym same) (omega arith),
@@ -111,7 +111,7 @@ fits_before p bytes word after h is =
     let f = length-append word (13 ∷ 10 ∷ []) in
     omega arith
 
-pub scan_word : {A : Type 0} (p : Progress A) (bytes word after : List ℕ) (span : Span) (spans : Vec Span A) (h : IsProgress p bytes) → h.rest ≡ bulk word ++ after → p.found < p.count → FitsBulk word → span.end + 2 + length after ≡ length bytes → span.start + length word ≡ span.end → IsKept p.spans.items p.found span spans.items → IsProgress (record { count = p.count; line = p.line; found = p.found + 1; scanned = span.end + 2; spans = spans }) bytes
+pub scan_word : {A : Type 0} (p : Progress A) (bytes word after : List ℕ) (span : Span) (spans : Vec Span A) (h : IsProgress p bytes) → h.rest ≡ bulk word ++ after → p.found < p.count → FitsBulk word → span.end + 2 + length after ≡ length bytes → span.start + length word ≡ span.end → IsSpanKept p.spans.items p.found span spans.items → IsProgress (record { count = p.count; line = p.line; found = p.found + 1; scanned = span.end + 2; spans = spans }) bytes
 scan_word p bytes word after span spans h is fewer fit ends starts kept =
     let words : List (List ℕ) = h.words ++ word ∷ [] in
     let at : bytes ≡ array_line p.count ++ (bulks words ++ after) = h.at ∙ ap (λ t. array_line p.count ++ t) (one_more_word h.words word (bulks h.words ++ h.rest) h.rest after refl is) in

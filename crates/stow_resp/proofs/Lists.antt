@@ -2,9 +2,9 @@
 use Rattle.std.proofs.Common.{◌≡◌, ℕ, ◌-◌, List, ◌++◌, length, take, drop, ap, ◌∙◌, sym, arith, append_assoc, length-append, length-drop}
 use Rattle.std.proofs.Math.Seq.{drop-append_seam}
 use Rattle.std.proofs.lemmas.List.{take_all}
-use Rattle.stow_resp.specs.Keeps.{Keeps}
+use Rattle.stow_resp.specs.Extends.{Extends}
 
-pub keeps_more : (a b c : List ℕ) → Keeps a b → Keeps b c → Keeps a c
+pub keeps_more : (a b c : List ℕ) → Extends a b → Extends b c → Extends a c
 keeps_more a b c h k = (h.0 ++ k.0, k.1 ∙ ap (λ t. t ++ k.0) h.1 ∙ append_assoc a h.0 k.0)
 
 -- what comes after the front

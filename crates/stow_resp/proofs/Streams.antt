@@ -4,7 +4,7 @@ use Rattle.std.proofs.lemmas.List.{reverse-append, reverse-reverse}
 use Rattle.stow_model.specs.Message.{Message}
 use Rattle.stow_model.specs.Wire.{SpellsAll, Splits, HasNoMessage, IsBegun}
 use Rattle.stow_model.proofs.Spelling.{spelled_once, splits_once_lem}
-use Rattle.stow_resp.specs.Actions.{Action, Fed, Given, LeadsTo, fed, given, IsAtRest, CutsDoNotMatter}
+use Rattle.stow_resp.specs.Actions.{Action, Fed, Given, ActionsLeadTo, fed, given, IsAtRest, CutsDoNotMatter}
 
 -- what begins a spelling has none at its front
 begun_has_none : (bytes : List ℕ) → IsBegun bytes → HasNoMessage bytes
@@ -22,7 +22,7 @@ record Fits (actions : List Action) (unread : List ℕ) : Type 0 where
   spelled : SpellsAll (given actions) front
   whole : fed actions ≡ front ++ unread
 
-fits : (actions : List Action) (unread : List ℕ) → LeadsTo actions unread → Fits actions unread
+fits : (actions : List Action) (unread : List ℕ) → ActionsLeadTo actions unread → Fits actions unread
 fits [] unread none = record { front = []; spelled = refl; whole = sym none }
 fits (Fed piece ∷ earlier) unread (before, leads, e) =
     let f = fits earlier before leads in
@@ -49,7 +49,7 @@ split_after (m ∷ taken) later front bytes rest (before, last, s, spelled, e) s
     (subst (λ ms. Splits (before ++ (last ++ bytes)) ms rest) (sym messages)
     (split_after taken (m ∷ later) before (last ++ bytes) rest s (last, bytes, spelled, refl, split)))
 
-split : (actions : List Action) (unread : List ℕ) → LeadsTo actions unread → IsAtRest unread → Splits (fed actions) (reverse (given actions)) unread
+split : (actions : List Action) (unread : List ℕ) → ActionsLeadTo actions unread → IsAtRest unread → Splits (fed actions) (reverse (given actions)) unread
 split actions unread leads rest =
     let f = fits actions unread leads in
     subst (λ t. Splits t (reverse (given actions)) unread) (sym f.whole)

@@ -11,11 +11,11 @@ pub data Action : Type 0 where
   Given : Message → Action
 
 -- the actions, told newest first, lead from an empty input to these unread bytes
-abbrev pub LeadsTo : List Action → List ℕ → Type 0
-LeadsTo [] unread = unread ≡ []
-LeadsTo (Fed piece ∷ earlier) unread = (before : List ℕ) × LeadsTo earlier before
+abbrev pub ActionsLeadTo : List Action → List ℕ → Type 0
+ActionsLeadTo [] unread = unread ≡ []
+ActionsLeadTo (Fed piece ∷ earlier) unread = (before : List ℕ) × ActionsLeadTo earlier before
     × (unread ≡ before ++ piece)
-LeadsTo (Given message ∷ earlier) unread = (before : List ℕ) × LeadsTo earlier before
+ActionsLeadTo (Given message ∷ earlier) unread = (before : List ℕ) × ActionsLeadTo earlier before
     × IsTaken message before unread
 
 -- all bytes that were fed
@@ -36,6 +36,6 @@ IsAtRest unread = IsBegun unread ⊎ ((fault : StreamFault) × IsFaulty unread f
 
 -- the same bytes give the same messages and leave the same bytes, in whatever pieces they come
 abbrev pub CutsDoNotMatter : Type 0
-CutsDoNotMatter = (a b : List Action) (unread unread' : List ℕ) → LeadsTo a unread
-    → LeadsTo b unread' → fed a ≡ fed b → IsAtRest unread → IsAtRest unread'
+CutsDoNotMatter = (a b : List Action) (unread unread' : List ℕ) → ActionsLeadTo a unread
+    → ActionsLeadTo b unread' → fed a ≡ fed b → IsAtRest unread → IsAtRest unread'
     → (given a ≡ given b) × (unread ≡ unread')

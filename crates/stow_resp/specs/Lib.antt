@@ -1,4 +1,4 @@
-pub mod Keeps
+pub mod Extends
 pub mod Spans
 pub mod Next
 pub mod Scans

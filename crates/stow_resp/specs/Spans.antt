@@ -3,5 +3,5 @@ use Rattle.std.specs.Prelude.{◌≡◌, ℕ, List, [], ◌∷◌, ◌++◌, len
 use Rattle.stow_model.specs.declared.span.Span.{Span}
 
 -- the span of the word after so many is kept behind the spans of all these, or none is
-abbrev pub IsKept : List Span → ℕ → Span → List Span → Type 0
-IsKept old found span new = (new ≡ old) ⊎ ((length old ≡ found) × (new ≡ old ++ span ∷ []))
+abbrev pub IsSpanKept : List Span → ℕ → Span → List Span → Type 0
+IsSpanKept old found span new = (new ≡ old) ⊎ ((length old ≡ found) × (new ≡ old ++ span ∷ []))

@@ -3,7 +3,7 @@ ghost use Rattle.std.specs.Prelude.{◌≡◌, ◌++◌, List, ℕ, codes, OnOk,
 ghost use Rattle.stow_model.specs.Item.{item_of, item_encoding, integer_encoding, bulk_encoding, line};
 ghost use Rattle.stow_model.specs.Reply.{reply_of, encoding, Array};
 ghost use Rattle.stow_model.specs.Texts.{fault_text};
-ghost use Rattle.stow_resp.specs.Keeps.{Keeps};
+ghost use Rattle.stow_resp.specs.Extends.{Extends};
 
 use itoa::Buffer;
 use std::alloc::{AllocError, Allocator};
@@ -42,7 +42,7 @@ fn write_reply<A: Allocator, B: Allocator>(
     out: &mut Vec<u8, B>,
 ) -> Result<(), AllocError>
     ensures ok { OnOk result (out.new.items ≡ out.old.items ++ encoding (reply_of reply.now)) }
-    ensures keeps { Keeps out.old.items out.new.items }
+    ensures keeps { Extends out.old.items out.new.items }
 {
     match reply {
         Reply::Simple(SimpleString::Ok) => out.extend_from_slice(b"+OK\r\n"),
@@ -62,7 +62,7 @@ fn write_protocol_error<B: Allocator>(
 ) -> Result<(), AllocError>
     ensures ok { OnOk result (out.new.items
         ≡ out.old.items ++ line 45 (codes "ERR Protocol error: " ++ fault_text fault)) }
-    ensures keeps { Keeps out.old.items out.new.items }
+    ensures keeps { Extends out.old.items out.new.items }
 {
     out.extend_from_slice(b"-ERR Protocol error: ")?;
     out.extend_from_slice(fault_text(fault))?;
@@ -75,7 +75,7 @@ fn write_array<A: Allocator, B: Allocator>(
     out: &mut Vec<u8, B>,
 ) -> Result<(), AllocError>
     ensures ok { OnOk result (out.new.items ≡ out.old.items ++ encoding (Array items.now)) }
-    ensures keeps { Keeps out.old.items out.new.items }
+    ensures keeps { Extends out.old.items out.new.items }
 {
     write_line(b'*', Buffer::new().format(items.len()).as_bytes(), out)?;
     for index in 0..items.len() {
@@ -87,7 +87,7 @@ fn write_array<A: Allocator, B: Allocator>(
 fn write_item<B: Allocator>(item: Item<'_>, out: &mut Vec<u8, B>) -> Result<(), AllocError>
     ensures ok { OnOk result (out.new.items
         ≡ out.old.items ++ item_encoding (item_of item.entry)) }
-    ensures keeps { Keeps out.old.items out.new.items }
+    ensures keeps { Extends out.old.items out.new.items }
 {
     match item {
         Item::Integer(number) => write_integer(number, out),
@@ -98,14 +98,14 @@ fn write_item<B: Allocator>(item: Item<'_>, out: &mut Vec<u8, B>) -> Result<(), 
 
 fn write_integer<B: Allocator>(number: i64, out: &mut Vec<u8, B>) -> Result<(), AllocError>
     ensures ok { OnOk result (out.new.items ≡ out.old.items ++ integer_encoding number) }
-    ensures keeps { Keeps out.old.items out.new.items }
+    ensures keeps { Extends out.old.items out.new.items }
 {
     write_line(b':', Buffer::new().format(number).as_bytes(), out)
 }
 
 fn write_bulk<B: Allocator>(bytes: &[u8], out: &mut Vec<u8, B>) -> Result<(), AllocError>
     ensures ok { OnOk result (out.new.items ≡ out.old.items ++ bulk_encoding bytes.now) }
-    ensures keeps { Keeps out.old.items out.new.items }
+    ensures keeps { Extends out.old.items out.new.items }
 {
     write_line(b'$', Buffer::new().format(bytes.len()).as_bytes(), out)?;
     out.extend_from_slice(bytes)?;
@@ -115,7 +115,7 @@ fn write_bulk<B: Allocator>(bytes: &[u8], out: &mut Vec<u8, B>) -> Result<(), Al
 /// A line: its first byte, a text, CR, LF.
 fn write_line<B: Allocator>(sign: u8, text: &[u8], out: &mut Vec<u8, B>) -> Result<(), AllocError>
     ensures ok { OnOk result (out.new.items ≡ out.old.items ++ line sign text.now) }
-    ensures keeps { Keeps out.old.items out.new.items }
+    ensures keeps { Extends out.old.items out.new.items }
 {
     out.push(sign)?;
     out.extend_from_slice(text)?;

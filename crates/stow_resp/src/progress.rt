@@ -1,6 +1,6 @@
 //! How much of an array is there.
 ghost use Rattle.std.specs.Prelude.{◌≡◌, ◌+◌, ◌≤◌, length, OnOk};
-ghost use Rattle.stow_resp.specs.Spans.{IsKept};
+ghost use Rattle.stow_resp.specs.Spans.{IsSpanKept};
 
 use std::alloc::{AllocError, Allocator, Global};
 use stow_model::bulk_at::{BulkAt, bulk};
@@ -128,7 +128,7 @@ fn span_before(bytes: &[u8], word: &[u8], after: &[u8]) -> Span
 
 /// Keeps the span of the word after so many, where the spans of these are kept and there is room for it.
 fn keep<A: Allocator>(spans: &mut Vec<Span, A>, found: u32, span: Span)
-    ensures { IsKept spans.old.items found span spans.new.items }
+    ensures { IsSpanKept spans.old.items found span spans.new.items }
 {
     if spans.len() == found as usize && spans.len() < spans.capacity() {
         let _kept = spans.push(span);

@@ -9,7 +9,7 @@ use Rattle.std.specs.declared.io.ErrorKind.TheVariants as kind
 use Rattle.stow_login.specs.TenantFile.{fault_number}
 use Rattle.stow_run.specs.declared.failure.Failure.{Failure}
 use Rattle.stow_run.specs.declared.failure.Failure.TheVariants.{Arguments, BadAddress, Tenants, BadLine, InputOutput, Memory}
-use Rattle.stow_run.specs.declared.failure.Place.{Place}
+use Rattle.stow_run.specs.declared.failure.Endpoint.{Endpoint}
 
 abbrev pub status_of : Failure → ℕ
 status_of (Arguments text) = 2
@@ -20,11 +20,11 @@ status_of (InputOutput place error) = 4
 status_of Memory = 5
 
 -- want of memory is a failure of its own, wherever it was told
-abbrev pub failure_of_kind : ErrorKind → Place → Error → Failure
+abbrev pub failure_of_kind : ErrorKind → Endpoint → Error → Failure
 failure_of_kind kind.OutOfMemory place error = Memory
 failure_of_kind _ place error = InputOutput place error
 
-abbrev pub failure_at : Place → Error → Failure
+abbrev pub failure_at : Endpoint → Error → Failure
 failure_at place error = failure_of_kind (error_kind error) place error
 
 -- the line on standard error, or the text of the arguments' parser

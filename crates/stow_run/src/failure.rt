@@ -18,7 +18,7 @@ pub const MEMORY: u8 = 5;
 
 /// Where bytes are read or written.
 #[derive(Clone, Copy, Debug)]
-pub enum Place<'a> {
+pub enum Endpoint<'a> {
     /// The file of this path.
     File(&'a str),
     Input,
@@ -41,13 +41,13 @@ pub enum Failure<'a> {
     /// The script's line of this number, counted from 1, is none, and what it stumbles on.
     BadLine(usize, Stumble),
     /// Bytes can't be read or written there, for this reason.
-    InputOutput(Place<'a>, io::Error),
+    InputOutput(Endpoint<'a>, io::Error),
     Memory,
 }
 
 impl<'a> Failure<'a> {
     /// Reading or writing failed there.
-    pub fn at(place: Place<'a>, error: io::Error) -> Failure<'a>
+    pub fn at(place: Endpoint<'a>, error: io::Error) -> Failure<'a>
         ensures { result ≡ failure_at place.entry error }
     {
         if error.kind() == io::ErrorKind::OutOfMemory {
@@ -113,7 +113,7 @@ impl<'a> Failure<'a> {
     }
 }
 
-impl<'a> Place<'a> {
+impl<'a> Endpoint<'a> {
     /// What was read or written there, or the failure that it ended with.
     pub fn check<T: Drop>(self, outcome: io::Result<T>) -> Result<T, Failure<'a>>
         ensures { MatchResult outcome (λ value. result ≡ Ok value)
@@ -127,11 +127,11 @@ impl<'a> Place<'a> {
 
     fn name(self) -> &'a str {
         match self {
-            Place::File(path) => path,
-            Place::Input => "standard input",
-            Place::Output => "standard output",
-            Place::Network => "the address",
-            Place::Random => "the random source",
+            Endpoint::File(path) => path,
+            Endpoint::Input => "standard input",
+            Endpoint::Output => "standard output",
+            Endpoint::Network => "the address",
+            Endpoint::Random => "the random source",
         }
     }
 }

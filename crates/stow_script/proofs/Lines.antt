@@ -17,11 +17,11 @@ use Rattle.stow_model.specs.Login.{Entry}
 use Rattle.stow_model.specs.Event.{Event, On, By, SetQuota, Open, Piece, Serve, Close, Plan, Merge, Install, Resize}
 use Rattle.stow_script.specs.Text.{StandsFor}
 use Rattle.stow_script.specs.declared.script_line.ScriptLine as script_line
-use Rattle.stow_script.specs.Script.{Line, AsksFor, AsksForEvent, Asks, Shape, Usage, IsArgument, IsBad, IsConnection, IsField, IsName, IsNumber, IsSkipped, word_of}
+use Rattle.stow_script.specs.Script.{Line, AsksFor, AsksForEvent, Asks, Shape, Usage, IsArgument, IsBad, IsConnection, IsField, IsName, IsNumberText, IsSkipped, word_of}
 use Rattle.stow_model.specs.declared.event.Event as coded
 use Rattle.stow_script.specs.declared.text.TextFault.{TextFault}
 use Rattle.stow_script.specs.declared.text.TextFault.TheVariants.{Malformed, Memory}
-use Rattle.stow_script.specs.Read.{IsCut, IsEventOf, IsEventRead, IsFault, IsIndexRead, IsLineRead, IsNameRead, IsNoEvent, IsNoName, IsNoNumber, IsNumberRead, StandsForNone}
+use Rattle.stow_script.specs.Read.{IsCut, IsEventOf, IsEventRead, IsFault, IsIndexRead, IsLineRead, IsNameRead, IsNoEvent, IsNoName, IsNoNumberText, IsNumberRead, StandsForNone}
 use Rattle.stow_script.proofs.Numbers.{own}
 
 -- ---- words without a space
@@ -168,7 +168,7 @@ no_text entries rest number cut e h = let p = piece_only entries rest e h in has
 connection_has_no_space : (number : List ℕ) (c : ℕ) → IsConnection number c → HasNoSpace number
 connection_has_no_space number c is = let few : c ≤ 65535 = is.1 in subst HasNoSpace (sym is.2) (number_has_no_space c (omega arith))
 
-pub bad_connection : (entries : List Entry) (rest number : List ℕ) (text : Bor (List ℕ)) → IsCut 32 rest number (Some text) → IsNoNumber 1 65535 number → IsNoEvent entries (codes "piece") rest
+pub bad_connection : (entries : List Entry) (rest number : List ℕ) (text : Bor (List ℕ)) → IsCut 32 rest number (Some text) → IsNoNumberText 1 65535 number → IsNoEvent entries (codes "piece") rest
 bad_connection entries rest number text cut none e h =
     let p = piece_only entries rest e h in
     let same = same_cut number p.0 text.now p.1 cut.1 (connection_has_no_space p.0 p.2 p.5) (sym cut.0 ∙ p.4) in
@@ -183,7 +183,7 @@ bad_text entries rest number text cut none e h =
 -- ---- quotas
 
 -- what an event is whose word is that of a quota
-quota_only : (entries : List Entry) (rest : List ℕ) (e : Event) → IsEventOf entries (codes "quota") rest e → (name : List ℕ) × (number : List ℕ) × (tenant : ℕ) × (quota : ℕ) × (rest ≡ name ++ 32 ∷ number) × IsName entries name tenant × IsNumber 0 number_limit number quota
+quota_only : (entries : List Entry) (rest : List ℕ) (e : Event) → IsEventOf entries (codes "quota") rest e → (name : List ℕ) × (number : List ℕ) × (tenant : ℕ) × (quota : ℕ) × (rest ≡ name ++ 32 ∷ number) × IsName entries name tenant × IsNumberText 0 number_limit number quota
 quota_only entries rest (SetQuota tenant quota) h = (h.1.0, h.1.1, tenant, quota, h.1.2, h.1.3, h.1.4)
 quota_only entries rest (On c Open) h = absurd (different (codes "quota") (codes "open") refl h.0)
 quota_only entries rest (On c (Piece bytes)) h = absurd (different (codes "quota") (codes "piece") refl h.0)
@@ -203,13 +203,13 @@ bad_name entries rest name text cut none e h =
     let same = same_cut name q.0 text.now q.1 cut.1 q.5.0 (sym cut.0 ∙ q.4) in
     none_some q.2 (sym none ∙ ap (index_named entries) same.0 ∙ q.5.1)
 
-pub bad_quota : (entries : List Entry) (rest name : List ℕ) (text : Bor (List ℕ)) → IsCut 32 rest name (Some text) → IsNoNumber 0 number_limit text.now → IsNoEvent entries (codes "quota") rest
+pub bad_quota : (entries : List Entry) (rest name : List ℕ) (text : Bor (List ℕ)) → IsCut 32 rest name (Some text) → IsNoNumberText 0 number_limit text.now → IsNoEvent entries (codes "quota") rest
 bad_quota entries rest name text cut none e h =
     let q = quota_only entries rest e h in
     let same = same_cut name q.0 text.now q.1 cut.1 q.5.0 (sym cut.0 ∙ q.4) in
-    none q.3 (subst (λ t. IsNumber 0 number_limit t q.3) (sym same.1) q.6)
+    none q.3 (subst (λ t. IsNumberText 0 number_limit t q.3) (sym same.1) q.6)
 
-pub a_quota : (entries : List Entry) (rest name : List ℕ) (text : Bor (List ℕ)) (tenant quota : ℕ) → IsCut 32 rest name (Some text) → index_named entries name ≡ Some tenant → IsNumber 0 number_limit text.now quota → IsEventOf entries (codes "quota") rest (SetQuota tenant quota)
+pub a_quota : (entries : List Entry) (rest name : List ℕ) (text : Bor (List ℕ)) (tenant quota : ℕ) → IsCut 32 rest name (Some text) → index_named entries name ≡ Some tenant → IsNumberText 0 number_limit text.now quota → IsEventOf entries (codes "quota") rest (SetQuota tenant quota)
 a_quota entries rest name text tenant quota cut is number = (refl, (name, text.now, cut.0, (cut.1, is), number))
 
 -- ---- faults
@@ -219,7 +219,7 @@ pub fault_so : (P Q : Type 0) (fault : TextFault) → (P → Q) → IsFault P fa
 fault_so P Q (Malformed at) so h = so h
 fault_so P Q Memory so h = tt
 
-pub number_fault : (low high : ℕ) (text : List ℕ) (fault : TextFault) → IsNumberRead low high text (Err fault) → IsFault (IsNoNumber low high text) fault
+pub number_fault : (low high : ℕ) (text : List ℕ) (fault : TextFault) → IsNumberRead low high text (Err fault) → IsFault (IsNoNumberText low high text) fault
 number_fault low high text (Malformed at) h = h
 number_fault low high text Memory h = absurd h
 

@@ -10,7 +10,7 @@ use Rattle.stow_script.specs.declared.text.TextFault.{TextFault}
 use Rattle.stow_script.specs.declared.text.TextFault.TheVariants.{Malformed, Memory}
 use Rattle.stow_script.specs.Text.{StandsFor}
 use Rattle.stow_script.specs.declared.script_line.ScriptLine as script_line
-use Rattle.stow_script.specs.Script.{AsksFor, IsArgument, IsBad, IsName, IsNumber, IsSkipped, line_of, word_of}
+use Rattle.stow_script.specs.Script.{AsksFor, IsArgument, IsBad, IsName, IsNumberText, IsSkipped, line_of, word_of}
 
 -- a front of the text is one of the byte, and the rest comes after it
 abbrev pub HasFront : (List ℕ → ℕ → Type 0) → List ℕ → ℕ → List ℕ → Type 0
@@ -34,12 +34,12 @@ abbrev pub StandsForNone : List ℕ → Type 0
 StandsForNone text = (bytes : List ℕ) → ¬ StandsFor text bytes
 
 -- the number within these limits that the text is
-abbrev pub IsNoNumber : ℕ → ℕ → List ℕ → Type 0
-IsNoNumber low high text = (n : ℕ) → ¬ IsNumber low high text n
+abbrev pub IsNoNumberText : ℕ → ℕ → List ℕ → Type 0
+IsNoNumberText low high text = (n : ℕ) → ¬ IsNumberText low high text n
 
 abbrev pub IsNumberRead : ℕ → ℕ → List ℕ → Result ℕ TextFault → Type 0
-IsNumberRead low high text (Ok n) = IsNumber low high text n
-IsNumberRead low high text (Err (Malformed at)) = IsNoNumber low high text
+IsNumberRead low high text (Ok n) = IsNumberText low high text n
+IsNumberRead low high text (Err (Malformed at)) = IsNoNumberText low high text
 IsNumberRead low high text (Err Memory) = ⊥
 
 -- what stands before the first byte of this value, and what comes after it, if there is one

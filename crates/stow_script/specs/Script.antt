@@ -3,9 +3,8 @@
 use Rattle.std.specs.Prelude.{◌≡◌, ◌≢◌, ℕ, ◌+◌, ◌≤◌, ◌==◌, List, [], ◌∷◌, ◌++◌, Some, length, codes, ◌⊎◌}
 use Rattle.std.specs.List.{All, slice_split}
 use Rattle.std.specs.Fmt.{decimal}
-use Rattle.stow_bytes.specs.Limits.{number_limit}
+use Rattle.stow_bytes.specs.Limits.{cache_limit, number_limit}
 use Rattle.stow_login.specs.Entries.{index_named}
-use Rattle.stow_model.specs.Limits.{cache_limit}
 use Rattle.stow_model.specs.Login.{Entry}
 use Rattle.stow_model.specs.Event.{Event, event_of, On, By, SetQuota, Open, Piece, Serve, Close, Plan, Merge, Install, Resize}
 use Rattle.stow_script.specs.declared.script_line.ScriptLine as coded
@@ -40,14 +39,14 @@ word_of (By (Resize n)) = codes "resize"
 word_of (SetQuota tenant quota) = codes "quota"
 
 -- the number within these limits whose decimal text this is: no sign, no leading zero
-abbrev pub IsNumber : ℕ → ℕ → List ℕ → ℕ → Type 0
-IsNumber low high text n = (low ≤ n) × (n ≤ high) × (text ≡ decimal n)
+abbrev pub IsNumberText : ℕ → ℕ → List ℕ → ℕ → Type 0
+IsNumberText low high text n = (low ≤ n) × (n ≤ high) × (text ≡ decimal n)
 
 abbrev pub IsConnection : List ℕ → ℕ → Type 0
-IsConnection text c = IsNumber 1 65535 text c
+IsConnection text c = IsNumberText 1 65535 text c
 
 abbrev pub IsFlusher : List ℕ → ℕ → Type 0
-IsFlusher text f = IsNumber 1 64 text f
+IsFlusher text f = IsNumberText 1 64 text f
 
 -- fields are separated by a space, and have none
 abbrev pub IsField : List ℕ → Type 0
@@ -67,10 +66,10 @@ IsArgument entries text (On c Close) = IsConnection text c
 IsArgument entries text (By (Plan f)) = IsFlusher text f
 IsArgument entries text (By (Merge f)) = IsFlusher text f
 IsArgument entries text (By (Install f)) = IsFlusher text f
-IsArgument entries text (By (Resize n)) = IsNumber 0 cache_limit text n
+IsArgument entries text (By (Resize n)) = IsNumberText 0 cache_limit text n
 IsArgument entries text (SetQuota tenant quota) = (name : List ℕ) × (number : List ℕ)
     × (text ≡ name ++ 32 ∷ number) × IsName entries name tenant
-    × IsNumber 0 number_limit number quota
+    × IsNumberText 0 number_limit number quota
 
 -- the line asks for the event
 abbrev pub AsksForEvent : List Entry → List ℕ → Event → Type 0

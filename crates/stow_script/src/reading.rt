@@ -7,6 +7,7 @@ use crate::number::{number, quota};
 use crate::script_line::ScriptLine;
 use crate::text::{TextFault, unescape};
 use std::alloc::Allocator;
+use stow_bytes::limits::CACHE_LIMIT;
 use stow_login::tenants::Tenants;
 use stow_model::event::Event;
 
@@ -14,8 +15,6 @@ use stow_model::event::Event;
 const CONNECTIONS: u32 = 65_535;
 /// The greatest number of a flusher in a script.
 const FLUSHERS: u32 = 64;
-/// The greatest size of the cache in a script.
-const LEAVES: u32 = 65_536;
 
 /// What a line asks for, of a service of these tenants; nothing for an empty line and a comment.
 pub fn read_line<'a, A: Allocator + Copy>(
@@ -66,7 +65,7 @@ fn read_event<'a, A: Allocator + Copy>(
     } else if is_same(word, b"install") {
         Ok(Event::Install(number(rest, 1, FLUSHERS)?))
     } else if is_same(word, b"resize") {
-        Ok(Event::Resize(number(rest, 0, LEAVES)? as usize))
+        Ok(Event::Resize(number(rest, 0, CACHE_LIMIT)? as usize))
     } else if is_same(word, b"quota") {
         read_quota(tenants, rest)
     } else {

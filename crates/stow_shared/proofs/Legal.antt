@@ -15,8 +15,8 @@ use Rattle.stow_state.specs.Steps.{Call, Maintenance}
 use Rattle.stow_state.proofs.Steps.{step_is_there_law, stays_sound_law}
 use Rattle.stow_state.specs.Steps as in_state
 use Rattle.stow_shared.specs.Entries.{Entry, call_entry, resize_entry, quota_entry}
-use Rattle.stow_shared.specs.Journals.{line_in, told_in, IsAnswered, IsLegal, with_entry}
-use Rattle.stow_shared.specs.Books.{IsKept, IsBook, Serves}
+use Rattle.stow_shared.specs.Journals.{line_in, told_in, RefusesStrangers, IsLegal, with_entry}
+use Rattle.stow_shared.specs.Books.{IsJournalKept, IsBook, ServesCall}
 
 -- an index is a tenant's, or none's
 pub tenant_or_not : (entries : List login.Entry) (t : ℕ) → IsTenant entries t ⊎ (¬ IsTenant entries t)
@@ -58,7 +58,7 @@ as_tenant old new tenant e is = let P : List login.Entry → Type 0 = λ t. IsTe
 
 pub legal_same : (es : List Entry) (old new : CoreState) → Keeps old new → IsLegal es old → IsLegal es new
 legal_same es old new same legal =
-    let P : List login.Entry → Type 0 = λ t. AllByRecursion (λ entry. IsAnswered t entry.step) es in
+    let P : List login.Entry → Type 0 = λ t. AllByRecursion (λ entry. RefusesStrangers t entry.step) es in
     record {
       told = λ tenant is. same_replies es old.entries new.entries tenant same.entries (legal.told tenant (as_tenant old.entries new.entries tenant same.entries is));
       stores = λ tenant is. same_stores es old.entries new.entries tenant (store_of new tenant) same.entries (same.stores tenant ∙ legal.stores tenant (as_tenant old.entries new.entries tenant same.entries is));
@@ -93,7 +93,7 @@ legal_resize n leaves es core legal = record {
   answered = (tt, legal.answered);
 }
 
-kept_resize : (keeps : Bool) (n leaves : ℕ) (es : List Entry) (core : CoreState) → IsKept keeps es core → IsKept keeps (with_entry keeps (resize_entry n leaves) es) core
+kept_resize : (keeps : Bool) (n leaves : ℕ) (es : List Entry) (core : CoreState) → IsJournalKept keeps es core → IsJournalKept keeps (with_entry keeps (resize_entry n leaves) es) core
 kept_resize true n leaves es core kept is = legal_resize n leaves es core (kept is)
 kept_resize false n leaves es core kept is = kept is
 
@@ -123,7 +123,7 @@ unfolding answer_with
 alone store next words told is = is
 
 -- the caller's own answer, as its run over its line gives it
-own_answer : (t : ℕ) (words : List (List ℕ)) (told : Reply) (es : List Entry) (old new : CoreState) → Serves old t words told new → IsLegal es old → (tenant : ℕ) → IsTenant old.entries tenant → (t == tenant) ≡ true
+own_answer : (t : ℕ) (words : List (List ℕ)) (told : Reply) (es : List Entry) (old new : CoreState) → ServesCall old t words told new → IsLegal es old → (tenant : ℕ) → IsTenant old.entries tenant → (t == tenant) ≡ true
     → ◌≡◌ {A = Answer} (store_of new tenant, told) (answer (store_after (quota_of old.entries tenant) (line_in tenant es)) words)
 own_answer t words told es old new serves legal tenant is here =
     let same : t ≡ tenant = eqb-true t tenant here in
@@ -131,7 +131,7 @@ own_answer t words told es old new serves legal tenant is here =
     let Q : ℕ → Type 0 = λ n. IsTenant old.entries n in
     subst P same (alone (store_of old t) (store_of new t) words told (serves.own (subst Q (sym same) is)).alone) ∙ ap (λ store. answer store words) (legal.stores tenant is)
 
-legal_call_old : (n t : ℕ) (words : List (List ℕ)) (told : Reply) (es : List Entry) (old new : CoreState) → Serves old t words told new → IsLegal es old → (tenant : ℕ) → IsTenant old.entries tenant
+legal_call_old : (n t : ℕ) (words : List (List ℕ)) (told : Reply) (es : List Entry) (old new : CoreState) → ServesCall old t words told new → IsLegal es old → (tenant : ℕ) → IsTenant old.entries tenant
     → (told_in tenant (call_entry n t words told ∷ es) ≡ replies_after (quota_of old.entries tenant) (line_in tenant (call_entry n t words told ∷ es)))
     × (store_of new tenant ≡ store_after (quota_of old.entries tenant) (line_in tenant (call_entry n t words told ∷ es)))
 unfolding line_in told_in
@@ -142,9 +142,9 @@ legal_call_old n t words told es old new serves legal tenant is =
           (λ away. serves.others tenant (differs t tenant away) ∙ legal.stores tenant is),
     )
 
-legal_call : (n t : ℕ) (words : List (List ℕ)) (told : Reply) (es : List Entry) (old new : CoreState) → Serves old t words told new → IsLegal es old → IsLegal (call_entry n t words told ∷ es) new
+legal_call : (n t : ℕ) (words : List (List ℕ)) (told : Reply) (es : List Entry) (old new : CoreState) → ServesCall old t words told new → IsLegal es old → IsLegal (call_entry n t words told ∷ es) new
 legal_call n t words told es old new serves legal =
-    let P : List login.Entry → Type 0 = λ e. AllByRecursion (λ entry. IsAnswered e entry.step) (call_entry n t words told ∷ es) in
+    let P : List login.Entry → Type 0 = λ e. AllByRecursion (λ entry. RefusesStrangers e entry.step) (call_entry n t words told ∷ es) in
     let here = legal_call_old n t words told es old new serves legal in
     record {
       told = λ tenant is. same_replies (call_entry n t words told ∷ es) old.entries new.entries tenant serves.tenants (here tenant (as_tenant old.entries new.entries tenant serves.tenants is)).0;
@@ -152,11 +152,11 @@ legal_call n t words told es old new serves legal =
       answered = subst P (sym serves.tenants) ((λ no. (serves.stranger no).told_is), legal.answered);
     }
 
-kept_call : (keeps : Bool) (n t : ℕ) (words : List (List ℕ)) (told : Reply) (es : List Entry) (old new : CoreState) → Serves old t words told new → IsKept keeps es old → IsKept keeps (with_entry keeps (call_entry n t words told) es) new
+kept_call : (keeps : Bool) (n t : ℕ) (words : List (List ℕ)) (told : Reply) (es : List Entry) (old new : CoreState) → ServesCall old t words told new → IsJournalKept keeps es old → IsJournalKept keeps (with_entry keeps (call_entry n t words told) es) new
 kept_call true n t words told es old new serves kept is = legal_call n t words told es old new serves (kept is)
 kept_call false n t words told es old new serves kept is = absurd (false≢true is)
 
-pub book_call : (keeps : Bool) (n t : ℕ) (words : List (List ℕ)) (told : Reply) (es : List Entry) (old new : CoreState) → Serves old t words told new → IsBook keeps es old → IsBook keeps (with_entry keeps (call_entry n t words told) es) new
+pub book_call : (keeps : Bool) (n t : ℕ) (words : List (List ℕ)) (told : Reply) (es : List Entry) (old new : CoreState) → ServesCall old t words told new → IsBook keeps es old → IsBook keeps (with_entry keeps (call_entry n t words told) es) new
 book_call keeps n t words told es old new serves book = record {
   sound = ⊎_elim
       (λ (is : IsTenant old.entries t). stays_sound_law.of_step (shared_of old) (shared_of new) (Call t (Asked (record { words = words; is_refused = false }))) (Some told) book.sound (serves.own is).step)
@@ -223,7 +223,7 @@ legal_quota_old n t quota es old new gives legal tenant is = (
 
 legal_quota : (n t quota : ℕ) (es : List Entry) (old new : CoreState) → GivesQuota old t quota new → IsLegal es old → IsLegal (quota_entry n t quota ∷ es) new
 legal_quota n t quota es old new gives legal =
-    let P : List login.Entry → Type 0 = λ e. AllByRecursion (λ entry. IsAnswered e entry.step) (quota_entry n t quota ∷ es) in
+    let P : List login.Entry → Type 0 = λ e. AllByRecursion (λ entry. RefusesStrangers e entry.step) (quota_entry n t quota ∷ es) in
     let here = legal_quota_old n t quota es old new gives legal in
     let same = (stays old t quota new gives).entries in
     record {
@@ -232,7 +232,7 @@ legal_quota n t quota es old new gives legal =
       answered = subst P (sym same) (tt, legal.answered);
     }
 
-kept_quota : (keeps : Bool) (n t quota : ℕ) (es : List Entry) (old new : CoreState) → GivesQuota old t quota new → IsKept keeps es old → IsKept keeps (with_entry keeps (quota_entry n t quota) es) new
+kept_quota : (keeps : Bool) (n t quota : ℕ) (es : List Entry) (old new : CoreState) → GivesQuota old t quota new → IsJournalKept keeps es old → IsJournalKept keeps (with_entry keeps (quota_entry n t quota) es) new
 kept_quota true n t quota es old new gives kept is = legal_quota n t quota es old new gives (kept is)
 kept_quota false n t quota es old new gives kept is = absurd (false≢true is)
 

@@ -16,7 +16,7 @@ use Rattle.stow_core.specs.State.{CoreState, store_of, AnswersRequest, Keeps, Mo
 use Rattle.stow_state.proofs.Steps.{steps_after_maintenance_law}
 use Rattle.stow_core.specs.State as in_core
 use Rattle.stow_shared.specs.declared.copies.Copies.{Copies}
-use Rattle.stow_shared.specs.Books.{BookState, Serves, CallStep}
+use Rattle.stow_shared.specs.Books.{BookState, ServesCall, CallStep}
 use Rattle.stow_shared.specs.Copies.{AreCopies, AreAlike, copied}
 use Rattle.stow_shared.specs.Entries.{Entry, call_entry}
 use Rattle.stow_shared.specs.Journals.{with_entry}
@@ -63,7 +63,7 @@ serves : {A : Type 0} (old mid new : CoreState) (tenant : ℕ) (words : List (Li
     → told ≡ p.reply
     → (IsTenant mid.entries p.tenant → Moves mid p.tenant (effect p (store_of mid p.tenant)) new)
     → (¬ (IsTenant mid.entries p.tenant) → new ≡ mid)
-    → Serves old tenant words (reply_of told) new
+    → ServesCall old tenant words (reply_of told) new
 serves {A = A} old mid new tenant words p told keeps is own stranger says moves stays =
     let P : List login.Entry → ℕ → Type 0 = λ es t. IsTenant es t in
     let as_mid : IsTenant old.entries tenant → IsTenant mid.entries p.tenant = λ known. subst (λ es. P es p.tenant) (sym keeps.entries) (subst (λ t. P old.entries t) (sym is) known) in
@@ -91,7 +91,7 @@ pub serves_back : {A : Type 0} (old mid new : CoreState) (tenant : ℕ) (words :
     → told ≡ q.reply
     → (IsTenant mid.entries q.tenant → Moves mid q.tenant (effect q (store_of mid q.tenant)) new)
     → (¬ (IsTenant mid.entries q.tenant) → new ≡ mid)
-    → Serves old tenant words (reply_of told) new
+    → ServesCall old tenant words (reply_of told) new
 serves_back {A = A} old mid new tenant words p q told back keeps is own stranger says moves stays =
     let M : Prepared A → Type 0 = λ x. IsTenant mid.entries x.tenant → Moves mid x.tenant (effect x (store_of mid x.tenant)) new in
     let S : Prepared A → Type 0 = λ x. ¬ (IsTenant mid.entries x.tenant) → new ≡ mid in
@@ -100,7 +100,7 @@ serves_back {A = A} old mid new tenant words p q told back keeps is own stranger
 -- ---- what a seat gains
 
 -- what an answered call is told isn't want of memory
-answered_memory : (old : CoreState) (tenant : ℕ) (words : List (List ℕ)) (told : Reply) (new : CoreState) → Serves old tenant words told new → is_out_of_memory told ≡ false
+answered_memory : (old : CoreState) (tenant : ℕ) (words : List (List ℕ)) (told : Reply) (new : CoreState) → ServesCall old tenant words told new → is_out_of_memory told ≡ false
 answered_memory old tenant words told new s =
     ⊎_elim
     (λ (known : IsTenant old.entries tenant). ap (λ (a : Answer). is_out_of_memory a.1) (s.own known).alone ∙ want_of_memory_lem (store_of old tenant) (record { words = words; is_refused = false }))

@@ -16,19 +16,19 @@ pub record BookState : Type 0 where
   pub entries : List Entry
 
 -- where entries are kept, the core is where they lead
-abbrev pub IsKept : Bool → List Entry → CoreState → Type 0
-IsKept keeps entries core = keeps ≡ true → IsLegal entries core
+abbrev pub IsJournalKept : Bool → List Entry → CoreState → Type 0
+IsJournalKept keeps entries core = keeps ≡ true → IsLegal entries core
 
 -- what the book's type keeps: the state that all tenants share is sound, and the journal leads to
 -- it
 pub record IsBook (keeps : Bool) (entries : List Entry) (core : CoreState) : Type 0 where
   pub sound : IsSound (shared_of core)
-  pub kept : IsKept keeps entries core
+  pub kept : IsJournalKept keeps entries core
 
 -- The words were answered in the caller's own store, as its own step says, to which nothing was
 -- refused, and that is a step of the state that all share. An index that is no tenant's was
 -- refused, and nothing changed. No other store moved.
-pub record Serves (old : CoreState) (tenant : ℕ) (words : List (List ℕ)) (told : Reply)
+pub record ServesCall (old : CoreState) (tenant : ℕ) (words : List (List ℕ)) (told : Reply)
     (new : CoreState) : Type 0 where
   pub own : IsTenant old.entries tenant
       → AnswersRequest old new tenant (record { words = words; is_refused = false }) told
@@ -50,7 +50,7 @@ pub record Leaves (old new : BookState) : Type 0 where
 -- a call that was answered, with its one entry and receipt
 pub record AnswersCall (keeps : Bool) (old : BookState) (seat : SeatState) (tenant : ℕ)
     (words : List (List ℕ)) (told : Reply) (new : BookState) (seat' : SeatState) : Type 0 where
-  pub core : Serves old.core tenant words told new.core
+  pub core : ServesCall old.core tenant words told new.core
   pub adds : Adds keeps (call_entry seat.number tenant words told) old.entries seat new.entries
       seat'
 

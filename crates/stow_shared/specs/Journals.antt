@@ -43,11 +43,11 @@ told_in tenant [] = []
 told_in tenant (newest ∷ earlier) = with_told tenant newest.step (told_in tenant earlier)
 
 -- an index that is no tenant's is refused
-abbrev pub IsAnswered : List login.Entry → Step → Type 0
-IsAnswered tenants (Call index words told) = ¬ (IsTenant tenants index)
+abbrev pub RefusesStrangers : List login.Entry → Step → Type 0
+RefusesStrangers tenants (Call index words told) = ¬ (IsTenant tenants index)
     → told ≡ reply.Error refusal.NotAuthenticated
-IsAnswered tenants (Resize leaves) = Unit {0}
-IsAnswered tenants (Quota index quota) = Unit {0}
+RefusesStrangers tenants (Resize leaves) = Unit {0}
+RefusesStrangers tenants (Quota index quota) = Unit {0}
 
 -- the journal leads from empty stores to the core: each tenant was told what its own run over its
 -- line tells, and its store is the last of that run; a change of the cache's size changes no store
@@ -58,4 +58,4 @@ pub record IsLegal (journal : List Entry) (core : CoreState) : Type 0 where
   pub stores : (tenant : ℕ) → IsTenant core.entries tenant
       → store_of core tenant
       ≡ store_after (quota_of core.entries tenant) (line_in tenant journal)
-  pub answered : AllByRecursion (λ entry. IsAnswered core.entries entry.step) journal
+  pub answered : AllByRecursion (λ entry. RefusesStrangers core.entries entry.step) journal

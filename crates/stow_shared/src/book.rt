@@ -43,7 +43,7 @@ impl<J: Journal, A: Allocator + Copy> Model for Book<J, A> {
 }
 
 impl<J: Journal, A: Allocator + Copy> Book<J, A> {
-    ghost use Rattle.stow_shared.specs.Books.{CallStep, Orders, Resizes, Leaves, IsKept};
+    ghost use Rattle.stow_shared.specs.Books.{CallStep, Orders, Resizes, Leaves, IsJournalKept};
 
     /// A book of a core in which every store is empty.
     pub fn new(alloc: A, core: Core<A>) -> Book<J, A>
@@ -76,7 +76,7 @@ impl<J: Journal, A: Allocator + Copy> Book<J, A> {
     pub fn is_whole(&self, tenants: &Tenants<A>, count: u32, seats: &[Seat<J, A>]) -> bool
         ensures whole { IsTrue result
             ↔ IsWhole J.keeps (record { tenants = tenants.now; seats = count }) seats.now self.now }
-        ensures kept { IsKept J.keeps self.now.entries self.now.core }
+        ensures kept { IsJournalKept J.keeps self.now.entries self.now.core }
     {
         if !are_one_each(seats, count) || !self.core.tenants().is_same(tenants) {
             return false;

@@ -12,7 +12,7 @@ use Rattle.stow_model.specs.Store.{Rows, Version, rows_without}
 use Rattle.stow_tree_model.specs.Keys.{packed, own_key}
 use Rattle.stow_tree_model.specs.Op.{Op, Put, Gone}
 use Rattle.stow_tree_model.specs.TreeMessage.{TreeMessage}
-use Rattle.stow_tree_model.specs.Order.{Place}
+use Rattle.stow_tree_model.specs.Order.{VersionPlace}
 use Rattle.stow_tree_model.specs.Operations.{NumberedValue, Operations, numbered, value_in, outcome as operated, applied, latest, or_else}
 use Rattle.stow_tree_model.specs.Messages.{Messages, ops_of, ops_in, value, with_all}
 use Rattle.stow_tree_model.specs.Merged.{same_key}
@@ -22,7 +22,7 @@ use Rattle.stow_tree_model.proofs.Latest.{latest_same}
 use Rattle.stow_tree_model.proofs.Histories.{ops_in-at, ops_in-skip}
 use Rattle.stow_tree_model.proofs.SetLemmas.{ops-with_all, set_by_ops_law}
 use Rattle.stow_state.specs.Rows.{version_of, rows_at}
-use Rattle.stow_state.specs.Changes.{is_same_row, keys_of_both, changed_keys, op_to, message_to, changes, op_between, AreOwn, AreBelow, put_message, gone_message, AreWritten, RowsAreBelow, WritesByMessages, ChangesByRows, ChangesOnce, OwnRowsMove, EarlierRowsStay, WritesAreWritten}
+use Rattle.stow_state.specs.Changes.{is_same_row, keys_of_both, changed_keys, op_to, message_to, changes, op_between, AreOwn, AreRowsBefore, put_message, gone_message, AreWritten, RowsAreBelow, WritesByMessages, ChangesByRows, ChangesOnce, OwnRowsMove, EarlierRowsStay, WritesAreWritten}
 use Rattle.stow_state.proofs.Rows.{rows_by_value_law, rows_by_values, same_rows}
 
 -- ---- the same row
@@ -80,7 +80,7 @@ ops_in-messages tenant number op (x ∷ keys) k =
     ∙ sym (cond-true _ _ _ (or_left (same_key k x) (list_any (same_key k) keys) s.1)))
     (λ (s : (k ≢ x) × (same_key k x ≡ false)).
     ops_in-skip first (messages_of tenant number op keys) (packed tenant k) number
-    (λ e. s.0 (sym (own_key-packed tenant k) ∙ ap (λ (p : Place). own_key p.0) e ∙ own_key-packed tenant x))
+    (λ e. s.0 (sym (own_key-packed tenant k) ∙ ap (λ (p : VersionPlace). own_key p.0) e ∙ own_key-packed tenant x))
     ∙ ops_in-messages tenant number op keys k
     ∙ sym (ap (λ b. cond (b || list_any (same_key k) keys) (Some (op k)) None) s.1))
     (key_cases k x)
@@ -89,7 +89,7 @@ ops_in-messages tenant number op (x ∷ keys) k =
 own_elsewhere : (tenant number : ℕ) (ms : List TreeMessage) (key : List ℕ) (n : ℕ) → AreOwn tenant number ms → n ≢ number → ops_in ms key n ≡ None
 own_elsewhere tenant number [] key n own ne = refl
 own_elsewhere tenant number (x ∷ ms) key n own ne =
-    ops_in-skip x ms key n (λ e. ne (ap (λ (p : Place). p.1) e ∙ own.0.1)) ∙ own_elsewhere tenant number ms key n own.1 ne
+    ops_in-skip x ms key n (λ e. ne (ap (λ (p : VersionPlace). p.1) e ∙ own.0.1)) ∙ own_elsewhere tenant number ms key n own.1 ne
 
 -- what makes a key's row what it is in these rows
 abbrev op_in : Rows → List ℕ → Op
@@ -135,7 +135,7 @@ changes_by_rows_law tenant number before after k =
 ops_in-others : (tenant number : ℕ) (ms : List TreeMessage) (key : List ℕ) (n : ℕ) → AreOwn tenant number ms → packed tenant (own_key key) ≢ key → ops_in ms key n ≡ None
 ops_in-others tenant number [] key n own ne = refl
 ops_in-others tenant number (x ∷ ms) key n own ne =
-    ops_in-skip x ms key n (λ e. let k : key ≡ x.key = ap (λ (p : Place). p.0) e in ne (ap (λ y. packed tenant (own_key y)) k ∙ own.0.0 ∙ sym k))
+    ops_in-skip x ms key n (λ e. let k : key ≡ x.key = ap (λ (p : VersionPlace). p.0) e in ne (ap (λ y. packed tenant (own_key y)) k ∙ own.0.0 ∙ sym k))
     ∙ ops_in-others tenant number ms key n own.1 ne
 
 pub changes_once_law : ChangesOnce
@@ -264,7 +264,7 @@ other_number number value (Some v) h = and_left (eqb v.number number) (bytes_eq 
 op_to_same : (o : Option Version) → op_between o o ≡ None
 op_to_same o = cond-true _ _ _ (same_itself o)
 
-one_put : (m : Messages) (tenant number : ℕ) (rows : Rows) (key value : List ℕ) → AreBelow number rows
+one_put : (m : Messages) (tenant number : ℕ) (rows : Rows) (key value : List ℕ) → AreRowsBefore number rows
     → with_all m (put_message tenant number key value ∷ []) ≡ with_all m (changes tenant number rows (finite.insert rows key (record { number = number; value = value })))
 one_put m tenant number rows key value below =
     let after : Rows = finite.insert rows key (record { number = number; value = value }) in

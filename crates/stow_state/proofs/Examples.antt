@@ -21,7 +21,7 @@ use Rattle.stow_model.specs.Store.{Store, Answer, Rows, Version, cost, distinct,
 use Rattle.stow_tree_model.specs.Keys.{packed, own_key, tenant_of}
 use Rattle.stow_tree_model.specs.Op.{Put, Gone}
 use Rattle.stow_tree_model.specs.TreeMessage.{TreeMessage}
-use Rattle.stow_tree_model.specs.Order.{Place, place_cmp}
+use Rattle.stow_tree_model.specs.Order.{VersionPlace, place_cmp}
 use Rattle.stow_tree_model.specs.Operations.{latest, or_else}
 use Rattle.stow_tree_model.specs.Messages.{ops_of, ops_in, set_of}
 use Rattle.stow_tree_model.specs.Agreement.{Agree}
@@ -56,7 +56,7 @@ AllOfA ms = AllByRecursion (λ m. own_key m.key ≡ codes "a") ms
 none_else : (ms : List TreeMessage) (tenant : ℕ) (q : List ℕ) (n : ℕ) → AllOfA ms → q ≢ codes "a" → ops_in ms (packed tenant q) n ≡ None
 none_else [] tenant q n all ne = refl
 none_else (m ∷ ms) tenant q n all ne =
-    ops_in-skip m ms (packed tenant q) n (λ e. ne (sym (own_key-packed tenant q) ∙ ap (λ (p : Place). own_key p.0) e ∙ all.0))
+    ops_in-skip m ms (packed tenant q) n (λ e. ne (sym (own_key-packed tenant q) ∙ ap (λ (p : VersionPlace). own_key p.0) e ∙ all.0))
     ∙ none_else ms tenant q n all.1 ne
 
 -- rows are known by `a`

@@ -15,7 +15,7 @@ use Rattle.std.proofs.lemmas.Map.Lookups.{exact_bytes}
 use Rattle.stow_model.specs.Store.{Rows, Version, Shown, is_within}
 use Rattle.stow_tree_model.specs.Keys.{packed, own_key, tenant_of}
 use Rattle.stow_tree_model.specs.Op.{Op}
-use Rattle.stow_tree_model.specs.Order.{Place, place_cmp}
+use Rattle.stow_tree_model.specs.Order.{VersionPlace, place_cmp}
 use Rattle.stow_tree_model.specs.Operations.{latest}
 use Rattle.stow_tree_model.specs.Messages.{Messages, ops_of, value, with_all}
 use Rattle.stow_tree_model.specs.Merged.{same_key}
@@ -30,21 +30,21 @@ get-with_row k None rows q = finite.get-remove nat_list_cmp_total rows k q
 get-with_row k (Some v) rows q = finite.get-insert nat_list_cmp_total rows k v q
 
 -- the key stands at none of the places
-abbrev Missing : List ℕ → List Place → Type 0
+abbrev Missing : List ℕ → List VersionPlace → Type 0
 Missing key places = AllByRecursion (λ p. p.0 ≢ key) places
 
 -- a key with a place shows its value, and one without shows nothing
-abbrev Shows : Messages → ℕ → ℕ → List Place → List ℕ → Type 0
+abbrev Shows : Messages → ℕ → ℕ → List VersionPlace → List ℕ → Type 0
 Shows m tenant n places q = (finite.get (rows_among m tenant n places) q ≡ version_of (value m (packed tenant q) n))
     ⊎ (Missing (packed tenant q) places × (finite.get (rows_among m tenant n places) q ≡ None))
 
 -- a place of another key is passed over
-passed : (m : Messages) (tenant n : ℕ) (p : Place) (places : List Place) (q : List ℕ) → p.0 ≢ packed tenant q
+passed : (m : Messages) (tenant n : ℕ) (p : VersionPlace) (places : List VersionPlace) (q : List ℕ) → p.0 ≢ packed tenant q
     → finite.get (rows_among m tenant n (p ∷ places)) q ≡ finite.get (rows_among m tenant n places) q → Shows m tenant n places q → Shows m tenant n (p ∷ places) q
 passed m tenant n p places q ne e (inl h) = inl (e ∙ h)
 passed m tenant n p places q ne e (inr h) = inr ((ne, h.0), e ∙ h.1)
 
-shows : (m : Messages) (tenant n : ℕ) (places : List Place) (q : List ℕ) → Shows m tenant n places q
+shows : (m : Messages) (tenant n : ℕ) (places : List VersionPlace) (q : List ℕ) → Shows m tenant n places q
 shows m tenant n [] q = inr (tt, finite.get-empty _ q)
 shows m tenant n (p ∷ places) q = ⊎_elim
     (λ (h : (packed tenant (own_key p.0) ≡ p.0) × (is_of tenant p.0 ≡ true)).
@@ -61,11 +61,11 @@ shows m tenant n (p ∷ places) q = ⊎_elim
     (ap (λ (r : Rows). finite.get r q) (cond-false _ _ _ h.1)) (shows m tenant n places q))
     (key_cases (packed tenant (own_key p.0)) p.0)
 
-find_missing : (es : List (Place × Op)) (key : List ℕ) (k : ℕ) → Missing key (map (λ e. e.0) es) → find place_cmp (key, k) es ≡ None
+find_missing : (es : List (VersionPlace × Op)) (key : List ℕ) (k : ℕ) → Missing key (map (λ e. e.0) es) → find place_cmp (key, k) es ≡ None
 find_missing [] key k h = refl
 find_missing (e ∷ es) key k h = ⊎_elim
-    (λ (s : (◌≡◌ {A = Place} (key, k) e.0) × (eq_by_cmp place_cmp (key, k) e.0 ≡ true)). absurd (h.0 (sym (ap (λ (p : Place). p.0) s.0))))
-    (λ (s : (◌≢◌ {A = Place} (key, k) e.0) × (eq_by_cmp place_cmp (key, k) e.0 ≡ false)). cond-false _ _ _ s.1 ∙ find_missing es key k h.1)
+    (λ (s : (◌≡◌ {A = VersionPlace} (key, k) e.0) × (eq_by_cmp place_cmp (key, k) e.0 ≡ true)). absurd (h.0 (sym (ap (λ (p : VersionPlace). p.0) s.0))))
+    (λ (s : (◌≢◌ {A = VersionPlace} (key, k) e.0) × (eq_by_cmp place_cmp (key, k) e.0 ≡ false)). cond-false _ _ _ s.1 ∙ find_missing es key k h.1)
     (place_cases (key, k) e.0)
 
 pub rows_by_value_law : RowsByValue

@@ -53,8 +53,8 @@ AreOwn tenant number ms =
     AllByRecursion (λ m. (packed tenant (own_key m.key) ≡ m.key) × (m.number ≡ number)) ms
 
 -- the row of each key has a number below this, where there is one
-abbrev pub AreBelow : ℕ → Rows → Type 0
-AreBelow number rows = (key : List ℕ)
+abbrev pub AreRowsBefore : ℕ → Rows → Type 0
+AreRowsBefore number rows = (key : List ℕ)
     → IfSome (finite.get rows key) (λ version. version.number < number)
 
 -- the message that puts a value under the tenant's key
@@ -112,13 +112,13 @@ pub record WritesAreWritten : Type 0 where
 
 -- no row is shown before the number of its write
 abbrev pub RowsAreBelow : Type 0
-RowsAreBelow = (m : Messages) (tenant n : ℕ) → AreBelow (suc n) (rows_at m tenant n)
+RowsAreBelow = (m : Messages) (tenant n : ℕ) → AreRowsBefore (suc n) (rows_at m tenant n)
 
 -- The messages of the write of one row are a put alone, and those of the removal of rows that are
 -- there a removal for each; where no row changes there is none.
 pub record WritesByMessages : Type 0 where
   pub of_one : (m : Messages) (tenant number : ℕ) (rows : Rows) (key value : List ℕ)
-      → AreBelow number rows
+      → AreRowsBefore number rows
       → with_all m (put_message tenant number key value ∷ [])
       ≡ with_all m (changes tenant number rows
       (finite.insert rows key (record { number = number; value = value })))

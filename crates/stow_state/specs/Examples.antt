@@ -13,7 +13,7 @@ use Rattle.stow_tree_model.specs.TreeMessage.{TreeMessage}
 use Rattle.stow_tree_model.specs.Messages.{Messages, set_of}
 use Rattle.stow_tree_model.specs.Examples.{two_writes, last_write}
 use Rattle.stow_state.specs.Rows.{IsIndex, is_of, rows_at, RowsRise}
-use Rattle.stow_state.specs.Changes.{is_same_row, changes, op_between, AreOwn, AreBelow, AreWritten}
+use Rattle.stow_state.specs.Changes.{is_same_row, changes, op_between, AreOwn, AreRowsBefore, AreWritten}
 use Rattle.stow_state.specs.State.{TenantState, SharedState, view, IsSound, new_tenant, new_state}
 use Rattle.stow_state.specs.Steps.{Call, Maintenance, HasIndex, IsElsewhere, numbers_of, moved, SharedStep, ToldEvent, SharedRun, line_of, replies_of, KeepsRows, WritesRows, WritesOnce}
 
@@ -75,8 +75,8 @@ pub record OfChanges : Type 0 where
   pub none_between : op_between None None ≡ None
   pub own : AreOwn 1 2 (message 1 2 Gone ∷ [])
   pub not_own : AreOwn 1 2 (message 2 2 Gone ∷ []) → ⊥
-  pub below : AreBelow 2 (other_row 1)
-  pub not_below : AreBelow 1 (other_row 1) → ⊥
+  pub below : AreRowsBefore 2 (other_row 1)
+  pub not_below : AreRowsBefore 1 (other_row 1) → ⊥
   pub written : AreWritten 2 two_rows (other_row 2)
   -- a row that changes has the write's number
   pub not_written : AreWritten 2 two_rows (other_row 1) → ⊥

@@ -9,7 +9,7 @@ use Rattle.stow_model.specs.Store.{Rows, Version, Shown, is_within}
 use Rattle.stow_tree_model.specs.Keys.{packed, own_key}
 use Rattle.stow_tree_model.specs.Operations.{NumberedValue}
 use Rattle.stow_tree_model.specs.TreeMessage.{TreeMessage}
-use Rattle.stow_tree_model.specs.Order.{Place}
+use Rattle.stow_tree_model.specs.Order.{VersionPlace}
 use Rattle.stow_tree_model.specs.Messages.{Messages, value, with_all, IsCall}
 use Rattle.stow_tree_model.specs.Merged.{same_key}
 use Rattle.stow_tree_model.specs.Agreement.{TenantPins, TenantBounds, Agree}
@@ -33,7 +33,7 @@ with_row key None rows = map.remove rows key
 with_row key (Some version) rows = map.insert rows key version
 
 -- what the tenant's keys among these places have at the number, each under its own key
-abbrev pub rows_among : Messages → ℕ → ℕ → List Place → Rows
+abbrev pub rows_among : Messages → ℕ → ℕ → List VersionPlace → Rows
 rows_among messages tenant n [] = map.empty
 rows_among messages tenant n (place ∷ places) =
     if is_of tenant place.0 then with_row (own_key place.0) (version_of (value messages place.0 n))

@@ -11,22 +11,22 @@ use Rattle.stow_workers.specs.declared.served.Served.TheVariants as how
 use Rattle.stow_workers.specs.Failures.{CountsFailure}
 use Rattle.stow_workers.specs.Sent.{Written}
 use Rattle.stow_run.specs.declared.failure.Failure.{Failure}
-use Rattle.stow_run.specs.declared.failure.Place.TheVariants as place
+use Rattle.stow_run.specs.declared.failure.Endpoint.TheVariants as endpoint
 use Rattle.stow_run.specs.Statuses.{failure_at}
-use Rattle.stow_tasks.specs.Pipes.{IsEnd, IsFlushed, IsPiped}
+use Rattle.stow_tasks.specs.Pipes.{IsEndTold, IsFlushed, IsPiped}
 
 -- a good end is told as what came of the flush
 pub told_as_flushed : (flush : Result (Unit {0}) Error) (r : Result (Unit {0}) Failure) (old new : Written)
-    → MatchResult flush (λ v. ◌≡◌ {A = Result (Unit {0}) Failure} r (Ok v)) (λ error. ◌≡◌ {A = Result (Unit {0}) Failure} r (Err (failure_at place.Output error)))
+    → MatchResult flush (λ v. ◌≡◌ {A = Result (Unit {0}) Failure} r (Ok v)) (λ error. ◌≡◌ {A = Result (Unit {0}) Failure} r (Err (failure_at endpoint.Output error)))
     → Keeps old.contents new.contents → CountsFailure flush old.failures new.failures → IsFlushed r old new
 told_as_flushed (Ok done) r old new is kept same = (kept, inl (subst IsOk (sym is) refl, same))
 told_as_flushed (Err error) r old new is kept failed = (kept, inr ((error, is), failed))
 
 -- the client quit, or its input ended or has a fault
-pub ends_well : (served : Served) (r : Result (Unit {0}) Failure) (old new : Written) → (served ≡ how.Quit) ⊎ (served ≡ how.Ended) ⊎ ((fault : StreamFault) × (served ≡ how.Faulted fault)) → IsFlushed r old new → IsEnd served r old new
-ends_well served r old new (inl is) end = subst (λ s. IsEnd s r old new) (sym is) end
-ends_well served r old new (inr (inl is)) end = subst (λ s. IsEnd s r old new) (sym is) end
-ends_well served r old new (inr (inr (fault, is))) end = subst (λ s. IsEnd s r old new) (sym is) end
+pub ends_well : (served : Served) (r : Result (Unit {0}) Failure) (old new : Written) → (served ≡ how.Quit) ⊎ (served ≡ how.Ended) ⊎ ((fault : StreamFault) × (served ≡ how.Faulted fault)) → IsFlushed r old new → IsEndTold served r old new
+ends_well served r old new (inl is) end = subst (λ s. IsEndTold s r old new) (sym is) end
+ends_well served r old new (inr (inl is)) end = subst (λ s. IsEndTold s r old new) (sym is) end
+ends_well served r old new (inr (inr (fault, is))) end = subst (λ s. IsEndTold s r old new) (sym is) end
 
 -- the same of equal tenants
 pub of_equal_tenants : (entries own : List Entry) (unread left : Option (List ℕ)) (old new : CoreState) (before after : Written) (r : Result (Unit {0}) Failure)

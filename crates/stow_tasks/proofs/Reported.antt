@@ -13,7 +13,7 @@ use Rattle.stow_house.specs.Steps.{state_of}
 use Rattle.stow_run.specs.declared.failure.Failure.{Failure}
 use Rattle.stow_workers.specs.Sent.{WritesAll}
 use Rattle.stow_tasks.specs.Ends.{IsOfOutput}
-use Rattle.stow_tasks.specs.Told.{IsReported, Progress, usages_of}
+use Rattle.stow_tasks.specs.Told.{IsReported, ScriptState, usages_of}
 use Rattle.stow_tasks.proofs.Telling.{ends_at_output}
 
 -- what a run without a fault shows
@@ -22,7 +22,7 @@ pub run_of : {A E : Type 0} (old new : House A) (events : List (coded.Event A)) 
 run_of old new events (Ok outputs) good ran = (outputs, ran)
 run_of old new events (Err e) good ran = cc good
 
-pub reported : (events : List Event) (old new : Progress) (r : Result (Unit {0}) Failure) (bytes : List ℕ) (told : List Told) (marks : List Mark)
+pub reported : (events : List Event) (old new : ScriptState) (r : Result (Unit {0}) Failure) (bytes : List ℕ) (told : List Told) (marks : List Mark)
     → RunsOver old.house events told marks new.house → bytes ≡ usages_of new.house.core
     → WritesAll r bytes old.written new.written → IfErr r IsOfOutput → IsReported events old new r
 reported events old new (Ok done) bytes told marks runs is written of_output = record {

@@ -26,7 +26,7 @@ use Rattle.stow_workers.specs.Failures.{CountsFailure, HasFailed}
 use Rattle.stow_workers.specs.Sent.{Begins, WritesAll, Written}
 use Rattle.stow_run.specs.declared.failure.Failure.{Failure}
 use Rattle.stow_run.specs.declared.failure.Failure.TheVariants as failure
-use Rattle.stow_run.specs.declared.failure.Place.TheVariants as place
+use Rattle.stow_run.specs.declared.failure.Endpoint.TheVariants as endpoint
 use Rattle.stow_tasks.specs.Ends.{IsOfOutput}
 use Rattle.stow_tasks.specs.Lines.{IsText, WritesLine}
 use Rattle.stow_tasks.specs.Read.{IsScriptRead}
@@ -34,12 +34,12 @@ use Rattle.stow_script.specs.Text.{text_of}
 use Rattle.stow_run.specs.Statuses.{failure_at, failure_of_kind}
 use Rattle.stow_script.specs.declared.script_line.ScriptLine as script_line
 use Rattle.stow_script.specs.Script.{AskFor, AsksFor, Asks, Line, Shape, Usage, line_of, lines_of}
-use Rattle.stow_tasks.specs.Told.{CarriesOut, CarriesOutPart, EndsTelling, IsCarriedOut, IsDone, IsIdle, IsScript, IsOfTenant, IsScripted, IsToldLine, Leads, LineLeads, Progress}
+use Rattle.stow_tasks.specs.Told.{DoesAll, CarriesOutPart, EndsTelling, IsCarriedOut, IsLineDone, IsIdle, IsScript, IsTenantThere, IsScripted, IsToldLine, LinesLead, LineLeads, ScriptState}
 
 -- ---- one line more
 
 leads_more : (old : HouseState) (asked : List Line) (lines : List ℕ) (mid : HouseState) (l : Line) (new : HouseState) (text : List ℕ)
-    → Leads old asked lines mid → LineLeads l mid text new → Leads old (asked ++ l ∷ []) (lines ++ (text ++ 10 ∷ [])) new
+    → LinesLead old asked lines mid → LineLeads l mid text new → LinesLead old (asked ++ l ∷ []) (lines ++ (text ++ 10 ∷ [])) new
 leads_more old [] lines mid l new text h leads =
     (new, text, [], subst (λ house. LineLeads l house text new) h.1 leads, ap (λ ls. ls ++ (text ++ 10 ∷ [])) h.0, (refl, refl))
 leads_more old (first ∷ asked) lines mid l new text h leads =
@@ -52,44 +52,44 @@ line_tenants (Asks e) old text new leads = leads.1.tenants
 line_tenants Shape old text new leads = ap (λ (h : HouseState). h.core.entries) leads.3
 line_tenants (Usage tenant) old text new leads = ap (λ (h : HouseState). h.core.entries) leads.1
 
-pub led_tenants : (old : HouseState) (asked : List Line) (lines : List ℕ) (new : HouseState) → Leads old asked lines new → new.core.entries ≡ old.core.entries
+pub led_tenants : (old : HouseState) (asked : List Line) (lines : List ℕ) (new : HouseState) → LinesLead old asked lines new → new.core.entries ≡ old.core.entries
 led_tenants old [] lines new h = ap (λ (x : HouseState). x.core.entries) h.1
 led_tenants old (first ∷ asked) lines new h = led_tenants h.0 asked h.2 new h.5 ∙ line_tenants first old h.1 h.0 h.3
 
 -- the tenants whom a script's lines are of are there
-of_tenant : (entries : List Entry) (line : List ℕ) (l : Line) → AsksFor entries line l → IsOfTenant entries l
+of_tenant : (entries : List Entry) (line : List ℕ) (l : Line) → AsksFor entries line l → IsTenantThere entries l
 of_tenant entries line (Asks e) h = tt
 of_tenant entries line Shape h = tt
 of_tenant entries line (Usage tenant) h = named_within entries h.0 tenant h.2.1
 
-pub of_tenants : (entries : List Entry) (lines : List (List ℕ)) (asked : List Line) → AskFor entries lines asked → All (IsOfTenant entries) asked
-of_tenants entries [] asked h = subst (All (IsOfTenant entries)) (sym h) (All-nil (IsOfTenant entries))
+pub of_tenants : (entries : List Entry) (lines : List (List ℕ)) (asked : List Line) → AskFor entries lines asked → All (IsTenantThere entries) asked
+of_tenants entries [] asked h = subst (All (IsTenantThere entries)) (sym h) (All-nil (IsTenantThere entries))
 of_tenants entries (line ∷ lines) asked (inl h) = of_tenants entries lines asked h.1
 of_tenants entries (line ∷ lines) asked (inr h) =
-    subst (All (IsOfTenant entries)) (sym h.2) (All-cons (IsOfTenant entries) h.0 h.1 (of_tenant entries line h.0 h.3) (of_tenants entries lines h.1 h.4))
+    subst (All (IsTenantThere entries)) (sym h.2) (All-cons (IsTenantThere entries) h.0 h.1 (of_tenant entries line h.0 h.3) (of_tenants entries lines h.1 h.4))
 
 pub lines_of_tenants : {A Z : Type 0} (entries entries' : List Entry) (text : List ℕ) (r : Result (Vec (script_line.ScriptLine A) Z) Failure) → entries ≡ entries' → IsScriptRead entries text r
-    → IfOk r (λ lines. All (IsOfTenant entries') (map line_of lines.items))
-lines_of_tenants entries entries' text (Ok lines) same h = subst (λ es. All (IsOfTenant es) (map line_of lines.items)) same (of_tenants entries (lines_of text) (map line_of lines.items) h)
+    → IfOk r (λ lines. All (IsTenantThere entries') (map line_of lines.items))
+lines_of_tenants entries entries' text (Ok lines) same h = subst (λ es. All (IsTenantThere es) (map line_of lines.items)) same (of_tenants entries (lines_of text) (map line_of lines.items) h)
 lines_of_tenants entries entries' text (Err f) same h = tt
 
 -- .. and so is that of each line
-pub of_tenant_at : {A : Type 0} (entries entries' : List Entry) (lines : List (script_line.ScriptLine A)) (i : ℕ) (l : script_line.ScriptLine A) → entries ≡ entries' → All (IsOfTenant entries) (map line_of lines) → i < length lines → l ≡ get_or lines i l
-    → IsOfTenant entries' (line_of l)
+pub of_tenant_at : {A : Type 0} (entries entries' : List Entry) (lines : List (script_line.ScriptLine A)) (i : ℕ) (l : script_line.ScriptLine A) → entries ≡ entries' → All (IsTenantThere entries) (map line_of lines) → i < length lines → l ≡ get_or lines i l
+    → IsTenantThere entries' (line_of l)
 of_tenant_at entries entries' lines i l same all lt is =
-    subst (λ es. IsOfTenant es (line_of l)) same
-    (subst (IsOfTenant entries) (sym (mapped_at line_of lines i l lt is)) (all i (line_of l) (length_of_map line_of lines i lt)))
+    subst (λ es. IsTenantThere es (line_of l)) same
+    (subst (IsTenantThere entries) (sym (mapped_at line_of lines i l lt is)) (all i (line_of l) (length_of_map line_of lines i lt)))
 
 -- this was done; of the lines that tell it some were written, and the rest waits
-pub record IsToldSoFar (done : List Line) (old new : Progress) (waiting : List ℕ) : Type 0 where
+pub record IsToldSoFar (done : List Line) (old new : ScriptState) (waiting : List ℕ) : Type 0 where
   pub lines : List ℕ
-  pub leads : Leads old.house done lines new.house
+  pub leads : LinesLead old.house done lines new.house
   pub sent : List ℕ
   pub split : lines ≡ sent ++ waiting
   pub written : Appends old.written.contents new.written.contents sent
   pub failures : new.written.failures ≡ old.written.failures
 
-pub told_more : (done : List Line) (old mid : Progress) (waiting : List ℕ) (l : Line) (house : HouseState) (more : List ℕ)
+pub told_more : (done : List Line) (old mid : ScriptState) (waiting : List ℕ) (l : Line) (house : HouseState) (more : List ℕ)
     → IsToldSoFar done old mid waiting → IsToldLine l mid.house house waiting more
     → IsToldSoFar (done ++ l ∷ []) old (record { house = house; written = mid.written }) more
 told_more done old mid waiting l house more told (text, leads, added) = record {
@@ -106,7 +106,7 @@ abbrev pub HasWritten : List ℕ → Written → Written → Type 0
 HasWritten bytes old new = Appends old.contents new.contents bytes × (new.failures ≡ old.failures)
 
 -- what waited was written
-pub told_sent : (done : List Line) (old mid : Progress) (waiting : List ℕ) (written : Written) (none : List ℕ)
+pub told_sent : (done : List Line) (old mid : ScriptState) (waiting : List ℕ) (written : Written) (none : List ℕ)
     → IsToldSoFar done old mid waiting → HasWritten waiting mid.written written → none ≡ []
     → IsToldSoFar done old (record { house = mid.house; written = written }) none
 told_sent done old mid waiting written none told appended empty = record {
@@ -118,9 +118,9 @@ told_sent done old mid waiting written none told appended empty = record {
   failures = appended.1 ∙ told.failures;
 }
 
-pub told_all : (asked : List Line) (old mid : Progress) (waiting : List ℕ) (written : Written)
+pub told_all : (asked : List Line) (old mid : ScriptState) (waiting : List ℕ) (written : Written)
     → IsToldSoFar asked old mid waiting → HasWritten waiting mid.written written
-    → CarriesOut asked old (record { house = mid.house; written = written })
+    → DoesAll asked old (record { house = mid.house; written = written })
 told_all asked old mid waiting written told appended = record {
   lines = told.lines;
   leads = told.leads;
@@ -129,7 +129,7 @@ told_all asked old mid waiting written told appended = record {
 }
 
 -- of what waited a beginning was written
-pub told_part : (asked done later : List Line) (old mid : Progress) (waiting front : List ℕ) (written : Written)
+pub told_part : (asked done later : List Line) (old mid : ScriptState) (waiting front : List ℕ) (written : Written)
     → asked ≡ done ++ later → IsToldSoFar done old mid waiting → Begins front waiting → Appends mid.written.contents written.contents front
     → CarriesOutPart asked old (record { house = mid.house; written = written })
 told_part asked done later old mid waiting front written split told begins appended = record {
@@ -173,8 +173,8 @@ a_text (SetQuota tenant quota) Refused can = (codes "refused", refl)
 a_text (SetQuota tenant quota) _ can = absurd can
 
 -- what tells the last line was not kept
-pub told_refused : (asked done later : List Line) (old mid : Progress) (waiting front : List ℕ) (l : Line) (house : HouseState) (written : Written)
-    → asked ≡ (done ++ l ∷ []) ++ later → IsToldSoFar done old mid waiting → IsDone l mid.house house
+pub told_refused : (asked done later : List Line) (old mid : ScriptState) (waiting front : List ℕ) (l : Line) (house : HouseState) (written : Written)
+    → asked ≡ (done ++ l ∷ []) ++ later → IsToldSoFar done old mid waiting → IsLineDone l mid.house house
     → Begins front waiting → Appends mid.written.contents written.contents front
     → CarriesOutPart asked old (record { house = house; written = written })
 told_refused asked done later old mid waiting front l house written split told (text, leads) begins appended =
@@ -194,26 +194,26 @@ some_written bytes old new (Err error) h = (h.front, h.begins, h.appends)
 
 -- ---- failures
 
-ends_of_kind : (k : ErrorKind) (error : Error) (old new : ℕ) → HasFailed old new → EndsTelling (failure_of_kind k place.Output error) old new
+ends_of_kind : (k : ErrorKind) (error : Error) (old new : ℕ) → HasFailed old new → EndsTelling (failure_of_kind k endpoint.Output error) old new
 ends_of_kind kind.OutOfMemory error old new failed = inr failed
 ends_of_kind _ error old new failed = failed
 
 -- a failure of the output ends the telling, where one was counted
 pub ends_at_output : (f : Failure) (old new : ℕ) → IsOfOutput f → HasFailed old new → EndsTelling f old new
-ends_at_output (failure.InputOutput place.Output error) old new is failed = failed
+ends_at_output (failure.InputOutput endpoint.Output error) old new is failed = failed
 ends_at_output failure.Memory old new is failed = inr failed
 ends_at_output _ old new is failed = absurd is
 
 -- an ending is handed on
-pub ended : (asked : List Line) (old new : Progress) (r : Result (Unit {0}) Failure) (f : Failure) → IsErrAnd r (λ e. e ≡ f) → EndsTelling f old.written.failures new.written.failures → CarriesOutPart asked old new → IsCarriedOut asked old new r
+pub ended : (asked : List Line) (old new : ScriptState) (r : Result (Unit {0}) Failure) (f : Failure) → IsErrAnd r (λ e. e ≡ f) → EndsTelling f old.written.failures new.written.failures → CarriesOutPart asked old new → IsCarriedOut asked old new r
 ended asked old new (Ok done) f is ends part = absurd is
 ended asked old new (Err e) f is ends part = (subst (λ k. EndsTelling k old.written.failures new.written.failures) (sym is) ends, part)
 
 -- what a write that failed is told as
-pub failed_write : (r : Result (Unit {0}) Error) (f : Failure) (bytes : List ℕ) (old new : Written) (is : MatchResult r (λ u. ◌≡◌ {A = Result (Unit {0}) Failure} (Err f) (Ok u)) (λ error. ◌≡◌ {A = Result (Unit {0}) Failure} (Err f) (Err (failure_at place.Output error)))) → WritesAll r bytes old new → EndsTelling f old.failures new.failures
+pub failed_write : (r : Result (Unit {0}) Error) (f : Failure) (bytes : List ℕ) (old new : Written) (is : MatchResult r (λ u. ◌≡◌ {A = Result (Unit {0}) Failure} (Err f) (Ok u)) (λ error. ◌≡◌ {A = Result (Unit {0}) Failure} (Err f) (Err (failure_at endpoint.Output error)))) → WritesAll r bytes old new → EndsTelling f old.failures new.failures
 failed_write (Ok done) f bytes old new is w = cc is
 failed_write (Err error) f bytes old new is w =
-    let same : f ≡ failure_at place.Output error = cc is in
+    let same : f ≡ failure_at endpoint.Output error = cc is in
     subst (λ k. EndsTelling k old.failures new.failures) (sym same) (ends_of_kind (error_kind error) error old.failures new.failures w.failures)
 
 -- .. since the telling began, where nothing had failed until then
@@ -237,7 +237,7 @@ lines_split lines i = ap (map line_of) (sym (take-append-drop i lines)) ∙ map-
 
 -- ---- as the code carries lines out
 
-pub line_told : {A : Type 0} (lines : List (script_line.ScriptLine A)) (i : ℕ) (l : script_line.ScriptLine A) (old mid : Progress) (house : HouseState) (kept more : List ℕ)
+pub line_told : {A : Type 0} (lines : List (script_line.ScriptLine A)) (i : ℕ) (l : script_line.ScriptLine A) (old mid : ScriptState) (house : HouseState) (kept more : List ℕ)
     → i < length lines → l ≡ get_or lines i l → IsToldSoFar (map line_of (take i lines)) old mid kept
     → IsToldLine (line_of l) mid.house house kept more
     → IsToldSoFar (map line_of (take (i + 1) lines)) old (record { house = house; written = mid.written }) more
@@ -245,7 +245,7 @@ line_told lines i l old mid house kept more lt is told tells =
     subst (λ done. IsToldSoFar done old (record { house = house; written = mid.written }) more) (sym (line_at lines i l lt is))
     (told_more (map line_of (take i lines)) old mid kept (line_of l) house more told tells)
 
-pub part_told : {A : Type 0} (lines : List (script_line.ScriptLine A)) (i : ℕ) (old mid : Progress) (kept : List ℕ) (written : Written) (bytes : List ℕ) (r : Result (Unit {0}) Error)
+pub part_told : {A : Type 0} (lines : List (script_line.ScriptLine A)) (i : ℕ) (old mid : ScriptState) (kept : List ℕ) (written : Written) (bytes : List ℕ) (r : Result (Unit {0}) Error)
     → IsToldSoFar (map line_of (take i lines)) old mid kept → bytes ≡ kept → WritesAll r bytes mid.written written
     → CarriesOutPart (map line_of lines) old (record { house = mid.house; written = written })
 part_told lines i old mid kept written bytes r told same h =
@@ -253,16 +253,16 @@ part_told lines i old mid kept written bytes r told same h =
     told_part (map line_of lines) (map line_of (take i lines)) (map line_of (drop i lines)) old mid kept some.0 written (lines_split lines i) told
     (subst (Begins some.0) same some.1) some.2
 
-pub refused_part : {A : Type 0} (lines : List (script_line.ScriptLine A)) (i : ℕ) (l : script_line.ScriptLine A) (old mid : Progress) (house : HouseState) (kept bytes front : List ℕ) (written : Written)
+pub refused_part : {A : Type 0} (lines : List (script_line.ScriptLine A)) (i : ℕ) (l : script_line.ScriptLine A) (old mid : ScriptState) (house : HouseState) (kept bytes front : List ℕ) (written : Written)
     → i < length lines → l ≡ get_or lines i l → IsToldSoFar (map line_of (take i lines)) old mid kept
-    → IsDone (line_of l) mid.house house → bytes ≡ kept → Begins front bytes → Appends mid.written.contents written.contents front
+    → IsLineDone (line_of l) mid.house house → bytes ≡ kept → Begins front bytes → Appends mid.written.contents written.contents front
     → CarriesOutPart (map line_of lines) old (record { house = house; written = written })
 refused_part lines i l old mid house kept bytes front written lt is told done same begins appended =
     told_refused (map line_of lines) (map line_of (take i lines)) (map line_of (drop (i + 1) lines)) old mid kept front (line_of l) house written
     (lines_split lines (i + 1) ∙ ap (λ d. d ++ map line_of (drop (i + 1) lines)) (line_at lines i l lt is))
     told done (subst (Begins front) same begins) appended
 
-pub finished_all : {A : Type 0} (lines : List (script_line.ScriptLine A)) (i : ℕ) (old mid : Progress) (kept bytes : List ℕ) (written : Written) (r : Result (Unit {0}) Failure)
+pub finished_all : {A : Type 0} (lines : List (script_line.ScriptLine A)) (i : ℕ) (old mid : ScriptState) (kept bytes : List ℕ) (written : Written) (r : Result (Unit {0}) Failure)
     → length lines ≤ i → IsToldSoFar (map line_of (take i lines)) old mid kept → bytes ≡ kept → WritesAll r bytes mid.written written → IfErr r IsOfOutput
     → IsCarriedOut (map line_of lines) old (record { house = mid.house; written = written }) r
 finished_all lines i old mid kept bytes written (Ok done) all told same h ends =
@@ -283,19 +283,19 @@ err_so (Err e) p = p
 -- ---- as the code writes
 
 pub checked_ok : (r : Result (Unit {0}) Error) (u : Unit {0}) (bytes : List ℕ) (old new : Written)
-    → MatchResult r (λ v. ◌≡◌ {A = Result (Unit {0}) Failure} (Ok u) (Ok v)) (λ error. ◌≡◌ {A = Result (Unit {0}) Failure} (Ok u) (Err (failure_at place.Output error)))
+    → MatchResult r (λ v. ◌≡◌ {A = Result (Unit {0}) Failure} (Ok u) (Ok v)) (λ error. ◌≡◌ {A = Result (Unit {0}) Failure} (Ok u) (Err (failure_at endpoint.Output error)))
     → WritesAll r bytes old new → HasWritten bytes old new
 checked_ok (Ok done) u bytes old new is h = h
 checked_ok (Err error) u bytes old new is h = cc is
 
 -- what was written was flushed
 pub flushed : (bytes : List ℕ) (old mid new : Written) (flush : Result (Unit {0}) Error) (r : Result (Unit {0}) Failure) → HasWritten bytes old mid → Keeps mid.contents new.contents → CountsFailure flush mid.failures new.failures
-    → MatchResult flush (λ v. ◌≡◌ {A = Result (Unit {0}) Failure} r (Ok v)) (λ error. ◌≡◌ {A = Result (Unit {0}) Failure} r (Err (failure_at place.Output error)))
+    → MatchResult flush (λ v. ◌≡◌ {A = Result (Unit {0}) Failure} r (Ok v)) (λ error. ◌≡◌ {A = Result (Unit {0}) Failure} r (Err (failure_at endpoint.Output error)))
     → WritesAll r bytes old new
 flushed bytes old mid new (Ok done) r wrote kept same is =
     subst (λ q. WritesAll q bytes old new) (sym is) (Appends-kept old.contents mid.contents new.contents bytes wrote.0 kept, same ∙ wrote.1)
 flushed bytes old mid new (Err error) r wrote kept failed is =
-    let part : WritesAll {E = Failure} (Err (failure_at place.Output error)) bytes old new = record {
+    let part : WritesAll {E = Failure} (Err (failure_at endpoint.Output error)) bytes old new = record {
       front = bytes;
       begins = all_begins bytes;
       appends = Appends-kept old.contents mid.contents new.contents bytes wrote.0 kept;

@@ -9,7 +9,7 @@ use Rattle.stow_login.specs.declared.new_tenant.NewTenant.{NewTenant}
 use Rattle.stow_workers.specs.Sent.{Written, WritesAll}
 use Rattle.stow_run.specs.declared.failure.Failure.{Failure}
 use Rattle.stow_run.specs.declared.failure.Failure.TheVariants.{InputOutput, Memory}
-use Rattle.stow_run.specs.declared.failure.Place.TheVariants as place
+use Rattle.stow_run.specs.declared.failure.Endpoint.TheVariants as endpoint
 use Rattle.stow_tasks.specs.Ends.{IsOfOutput}
 
 -- the bytes without this end, where they have it
@@ -30,7 +30,7 @@ IsSaltFor Gives None salt = Gives salt
 
 -- a failure of the random source; want of memory that it tells is one too
 abbrev pub IsOfSource : Failure → Type 0
-IsOfSource (InputOutput place.Random error) = Unit {0}
+IsOfSource (InputOutput endpoint.Random error) = Unit {0}
 IsOfSource Memory = Unit {0}
 IsOfSource _ = ⊥
 
@@ -46,8 +46,8 @@ pub record IsEntryText (Gives : List ℕ → Type 0) (tenant : NewTenant) (known
 
 -- the random source or the reader failed, or memory was refused
 abbrev pub IsOfSources : Failure → Type 0
-IsOfSources (InputOutput place.Random error) = Unit {0}
-IsOfSources (InputOutput place.Input error) = Unit {0}
+IsOfSources (InputOutput endpoint.Random error) = Unit {0}
+IsOfSources (InputOutput endpoint.Input error) = Unit {0}
 IsOfSources Memory = Unit {0}
 IsOfSources _ = ⊥
 

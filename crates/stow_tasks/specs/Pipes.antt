@@ -11,26 +11,26 @@ use Rattle.stow_workers.specs.Sent.{Written}
 use Rattle.stow_workers.specs.Talks.{ServesConnection}
 use Rattle.stow_run.specs.declared.failure.Failure.{Failure}
 use Rattle.stow_run.specs.declared.failure.Failure.TheVariants.{Memory}
-use Rattle.stow_run.specs.declared.failure.Place.{Place}
-use Rattle.stow_run.specs.declared.failure.Place.TheVariants as place
+use Rattle.stow_run.specs.declared.failure.Endpoint.{Endpoint}
+use Rattle.stow_run.specs.declared.failure.Endpoint.TheVariants as endpoint
 use Rattle.stow_run.specs.Statuses.{failure_at}
 
 -- reading or writing failed there, for some reason
-abbrev pub FailsAt : Place → Result (Unit {0}) Failure → Type 0
+abbrev pub FailsAt : Endpoint → Result (Unit {0}) Failure → Type 0
 FailsAt at r = (error : Error) × (r ≡ Err (failure_at at error))
 
 -- the writer was flushed; it failed in that where it is told so, and nowhere else
 abbrev pub IsFlushed : Result (Unit {0}) Failure → Written → Written → Type 0
 IsFlushed r old new = Keeps old.contents new.contents
     × ((IsOk r × (new.failures ≡ old.failures))
-    ⊎ (FailsAt place.Output r × HasFailed old.failures new.failures))
+    ⊎ (FailsAt endpoint.Output r × HasFailed old.failures new.failures))
 
 -- what is told of a connection's end; where it ended well, its last bytes may not have been flushed
-abbrev pub IsEnd : Served → Result (Unit {0}) Failure → Written → Written → Type 0
-IsEnd served.ReadFailed r old new = FailsAt place.Input r × (new ≡ old)
-IsEnd served.WriteFailed r old new = FailsAt place.Output r × (new ≡ old)
-IsEnd served.NoMemory r old new = (r ≡ Err Memory) × (new ≡ old)
-IsEnd _ r old new = IsFlushed r old new
+abbrev pub IsEndTold : Served → Result (Unit {0}) Failure → Written → Written → Type 0
+IsEndTold served.ReadFailed r old new = FailsAt endpoint.Input r × (new ≡ old)
+IsEndTold served.WriteFailed r old new = FailsAt endpoint.Output r × (new ≡ old)
+IsEndTold served.NoMemory r old new = (r ≡ Err Memory) × (new ≡ old)
+IsEndTold _ r old new = IsFlushed r old new
 
 -- The bytes were read, served through the core and answered, as one connection, until it ended so.
 pub record IsPiped (entries : List Entry) (unread left : Option (List ℕ)) (old new : CoreState)
@@ -38,4 +38,4 @@ pub record IsPiped (entries : List Entry) (unread left : Option (List ℕ)) (old
   pub served : Served
   pub answered : Written
   pub serves : ServesConnection Calls entries served unread left old new before answered
-  pub end : IsEnd served result answered after
+  pub end : IsEndTold served result answered after

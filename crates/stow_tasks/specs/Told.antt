@@ -14,7 +14,7 @@ use Rattle.stow_workers.specs.Failures.{HasFailed}
 use Rattle.stow_workers.specs.Sent.{Begins, Written, WritesAll, written_of}
 use Rattle.stow_run.specs.declared.failure.Failure.{Failure}
 use Rattle.stow_run.specs.declared.failure.Failure.TheVariants.{BadLine, InputOutput, Memory}
-use Rattle.stow_run.specs.declared.failure.Place.TheVariants as place
+use Rattle.stow_run.specs.declared.failure.Endpoint.TheVariants as endpoint
 use Rattle.stow_model.specs.Event.{Event, event_of}
 use Rattle.stow_model.specs.declared.event.Event as coded
 use Rattle.stow_model.specs.Login.{Entry, IsTenant}
@@ -33,10 +33,10 @@ abbrev pub usage_of : CoreState → ℕ → List ℕ
 usage_of core tenant = usage_text (name_of core.entries tenant) (usage (store_of core tenant))
 
 -- the tenant whom the line is of, if it is of one, is there
-abbrev pub IsOfTenant : List Entry → Line → Type 0
-IsOfTenant entries (Asks e) = Unit {0}
-IsOfTenant entries Shape = Unit {0}
-IsOfTenant entries (Usage tenant) = IsTenant entries tenant
+abbrev pub IsTenantThere : List Entry → Line → Type 0
+IsTenantThere entries (Asks e) = Unit {0}
+IsTenantThere entries Shape = Unit {0}
+IsTenantThere entries (Usage tenant) = IsTenant entries tenant
 
 -- an event is a step of the house, and its line is that of the answer; the other lines tell how
 -- large the house's tree is, and what a tenant uses, and change nothing
@@ -47,14 +47,14 @@ LineLeads Shape old text new = (report : ShapeReport) × IsReport old.core.tree 
 LineLeads (Usage tenant) old text new = (text ≡ usage_of old.core tenant) × (new ≡ old)
 
 -- what the lines ask for was done one after another, and these are the lines that were told of it
-abbrev pub Leads : HouseState → List Line → List ℕ → HouseState → Type 0
-Leads old [] lines new = (lines ≡ []) × (new ≡ old)
-Leads old (asked ∷ all) lines new = (next : HouseState) × (text : List ℕ) × (later : List ℕ)
-    × LineLeads asked old text next × (lines ≡ text ++ 10 ∷ later) × Leads next all later new
+abbrev pub LinesLead : HouseState → List Line → List ℕ → HouseState → Type 0
+LinesLead old [] lines new = (lines ≡ []) × (new ≡ old)
+LinesLead old (asked ∷ all) lines new = (next : HouseState) × (text : List ℕ) × (later : List ℕ)
+    × LineLeads asked old text next × (lines ≡ text ++ 10 ∷ later) × LinesLead next all later new
 
 -- what a line asks for was done
-abbrev pub IsDone : Line → HouseState → HouseState → Type 0
-IsDone asked old new = (text : List ℕ) × LineLeads asked old text new
+abbrev pub IsLineDone : Line → HouseState → HouseState → Type 0
+IsLineDone asked old new = (text : List ℕ) × LineLeads asked old text new
 
 -- .. and was told behind what there was
 abbrev pub IsToldLine : Line → HouseState → HouseState → List ℕ → List ℕ → Type 0
@@ -62,45 +62,45 @@ IsToldLine asked old new before after = (text : List ℕ) × LineLeads asked old
     × (after ≡ before ++ (text ++ 10 ∷ []))
 
 -- a house, and its writer
-pub record Progress : Type 0 where
+pub record ScriptState : Type 0 where
   pub house : HouseState
   pub written : Written
 
-abbrev pub progress_of : {A : Type 0} → House A → Option (List ℕ) → ℕ → Progress
+abbrev pub progress_of : {A : Type 0} → House A → Option (List ℕ) → ℕ → ScriptState
 progress_of house contents failures =
     record { house = state_of house; written = written_of contents failures }
 
 -- all was done, and all lines that tell it were written, at the first try
-pub record CarriesOut (asked : List Line) (old new : Progress) : Type 0 where
+pub record DoesAll (asked : List Line) (old new : ScriptState) : Type 0 where
   pub lines : List ℕ
-  pub leads : Leads old.house asked lines new.house
+  pub leads : LinesLead old.house asked lines new.house
   pub written : Appends old.written.contents new.written.contents lines
   pub failures : new.written.failures ≡ old.written.failures
 
 -- what the first lines ask for was done, and a beginning of what tells it was written
-pub record CarriesOutPart (asked : List Line) (old new : Progress) : Type 0 where
+pub record CarriesOutPart (asked : List Line) (old new : ScriptState) : Type 0 where
   pub done : List Line
   pub later : List Line
   pub split : asked ≡ done ++ later
   pub lines : List ℕ
-  pub leads : Leads old.house done lines new.house
+  pub leads : LinesLead old.house done lines new.house
   pub front : List ℕ
   pub begins : Begins front lines
   pub written : Appends old.written.contents new.written.contents front
 
 -- a call of the output failed where it is told so; where memory was refused one may have
 abbrev pub EndsTelling : Failure → ℕ → ℕ → Type 0
-EndsTelling (InputOutput place.Output error) old new = HasFailed old new
+EndsTelling (InputOutput endpoint.Output error) old new = HasFailed old new
 EndsTelling Memory old new = (new ≡ old) ⊎ HasFailed old new
 EndsTelling _ old new = ⊥
 
-abbrev pub IsCarriedOut : List Line → Progress → Progress → Result (Unit {0}) Failure → Type 0
-IsCarriedOut asked old new (Ok done) = CarriesOut asked old new
+abbrev pub IsCarriedOut : List Line → ScriptState → ScriptState → Result (Unit {0}) Failure → Type 0
+IsCarriedOut asked old new (Ok done) = DoesAll asked old new
 IsCarriedOut asked old new (Err failure) =
     EndsTelling failure old.written.failures new.written.failures × CarriesOutPart asked old new
 
 -- nothing was done, and nothing was written
-abbrev pub IsIdle : Progress → Progress → Type 0
+abbrev pub IsIdle : ScriptState → ScriptState → Type 0
 IsIdle old new = (new.house ≡ old.house) × (new.written ≡ old.written)
 
 -- all of a reader's bytes are a script that asks for this, of these tenants
@@ -113,12 +113,13 @@ IsBadScript entries known number = (text : List ℕ) × IfSome known (λ bytes. 
     × IsFirstBad entries (lines_of text) number
 
 -- what a reader's script leads to: nothing before the whole of it was read
-abbrev pub IsScripted : Option (List ℕ) → Progress → Progress → Result (Unit {0}) Failure → Type 0
+abbrev pub IsScripted : Option (List ℕ) → ScriptState → ScriptState → Result (Unit {0}) Failure
+    → Type 0
 IsScripted known old new (Ok done) = (asked : List Line)
-    × IsScript old.house.core.entries known asked × CarriesOut asked old new
+    × IsScript old.house.core.entries known asked × DoesAll asked old new
 IsScripted known old new (Err (BadLine number stumble)) =
     IsBadScript old.house.core.entries known number × IsIdle old new
-IsScripted known old new (Err (InputOutput place.Input error)) = IsIdle old new
+IsScripted known old new (Err (InputOutput endpoint.Input error)) = IsIdle old new
 IsScripted known old new (Err failure) =
     EndsTelling failure old.written.failures new.written.failures × (IsIdle old new
     ⊎ ((asked : List Line) × IsScript old.house.core.entries known asked
@@ -153,7 +154,7 @@ abbrev pub usages_of : CoreState → List ℕ
 usages_of core = usages_up_to (length core.entries) core
 
 -- events were run, and what each tenant uses then was written, or a beginning of it
-pub record Reports (events : List Event) (old new : Progress) (r : Result (Unit {0}) Failure)
+pub record Reports (events : List Event) (old new : ScriptState) (r : Result (Unit {0}) Failure)
     : Type 0 where
   pub told : List Told
   pub marks : List Mark
@@ -161,7 +162,7 @@ pub record Reports (events : List Event) (old new : Progress) (r : Result (Unit 
   pub written : WritesAll r (usages_of new.house.core) old.written new.written
 
 -- .. or memory was refused, or the output failed
-abbrev pub IsReported : List Event → Progress → Progress → Result (Unit {0}) Failure → Type 0
+abbrev pub IsReported : List Event → ScriptState → ScriptState → Result (Unit {0}) Failure → Type 0
 IsReported events old new (Ok done) = Reports events old new (Ok done)
 IsReported events old new (Err failure) =
     EndsTelling failure old.written.failures new.written.failures
@@ -169,10 +170,11 @@ IsReported events old new (Err failure) =
 
 -- what a reader's script leads to, where its lines aren't told: nothing before the whole of it was
 -- read
-abbrev pub IsUsage : Option (List ℕ) → Progress → Progress → Result (Unit {0}) Failure → Type 0
+abbrev pub IsUsage : Option (List ℕ) → ScriptState → ScriptState → Result (Unit {0}) Failure
+    → Type 0
 IsUsage known old new (Err (BadLine number stumble)) =
     IsBadScript old.house.core.entries known number × IsIdle old new
-IsUsage known old new (Err (InputOutput place.Input error)) = IsIdle old new
+IsUsage known old new (Err (InputOutput endpoint.Input error)) = IsIdle old new
 IsUsage known old new r = ((r ≡ Err Memory) × IsIdle old new)
     ⊎ ((asked : List Line) × IsScript old.house.core.entries known asked
     × IsReported (events_in asked) old new r)

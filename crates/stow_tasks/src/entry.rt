@@ -10,7 +10,7 @@ use crate::script::{finish, read_all};
 use std::alloc::Global;
 use stow_login::new_tenant::NewTenant;
 use stow_login::spelling::entry_text;
-use stow_run::failure::{Failure, Place};
+use stow_run::failure::{Failure, Endpoint};
 use stow_run::salt_source::SaltSource;
 use stow_workers::sink::Sink;
 use stow_workers::source::Source;
@@ -54,7 +54,7 @@ fn salt_for<S: SaltSource>(
     match &tenant.salt {
         Some(salt) => Ok(Vec::from_slice(alloc, salt.as_slice())?),
         None => {
-            let salt = Place::Random.check(salts.salt())?;
+            let salt = Endpoint::Random.check(salts.salt())?;
             Ok(Vec::from_slice(alloc, &salt)?)
         }
     }

@@ -10,7 +10,7 @@ use std::alloc::Allocator;
 use std::io::{Read, Write};
 use stow_core::Core;
 use stow_login::tenants::Tenants;
-use stow_run::failure::{Failure, Place};
+use stow_run::failure::{Failure, Endpoint};
 use stow_workers::counted::Counted;
 use stow_workers::open_gate::OpenGate;
 use stow_workers::served::Served;
@@ -34,15 +34,15 @@ pub fn pipe<'a, A: Allocator + Copy, R: Read, W: Write>(
     ensures same_output { borrow_of output.new ≡ borrow_of output.old }
 {
     match serve_connection(alloc, input, output, tenants, core, &OpenGate) {
-        Served::Quit | Served::Ended | Served::Faulted(_) => Place::Output.check(output.flush()),
-        Served::ReadFailed => Err(failure(Place::Input, input)),
-        Served::WriteFailed => Err(failure(Place::Output, output)),
+        Served::Quit | Served::Ended | Served::Faulted(_) => Endpoint::Output.check(output.flush()),
+        Served::ReadFailed => Err(failure(Endpoint::Input, input)),
+        Served::WriteFailed => Err(failure(Endpoint::Output, output)),
         Served::NoMemory => Err(Failure::Memory),
     }
 }
 
 /// Why reading or writing failed there.
-fn failure<'a, T>(place: Place<'a>, end: &Counted<'_, T>) -> Failure<'a>
+fn failure<'a, T>(place: Endpoint<'a>, end: &Counted<'_, T>) -> Failure<'a>
     requires { 0 < failures_of end.now }
     ensures { (error : Error) × (result ≡ failure_at place.entry error) }
 {

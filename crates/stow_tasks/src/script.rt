@@ -8,7 +8,7 @@ ghost use Rattle.stow_tasks.specs.Ends.{InputFails, IsOfInput, IsOfOutput};
 ghost use Rattle.stow_tasks.specs.Lines.{WritesLine};
 ghost use Rattle.stow_tasks.specs.Read.{IsScriptRead};
 ghost use Rattle.stow_script.specs.Script.{line_of};
-ghost use Rattle.stow_tasks.specs.Told.{IsCarriedOut, IsDone, IsOfTenant, IsScripted, IsToldLine, progress_of, usage_of};
+ghost use Rattle.stow_tasks.specs.Told.{IsCarriedOut, IsLineDone, IsTenantThere, IsScripted, IsToldLine, progress_of, usage_of};
 ghost use Rattle.stow_house.specs.Steps.{state_of};
 ghost use Rattle.stow_house.specs.StepResult.{step_result_of, CanAnswer};
 
@@ -18,7 +18,7 @@ use stow_house::house::House;
 use stow_house::step_result::StepResult;
 use stow_login::tenants::Tenants;
 use stow_model::event::Event;
-use stow_run::failure::{Failure, Place};
+use stow_run::failure::{Failure, Endpoint};
 use stow_script::reading::{cut, read_line};
 use stow_script::script_line::ScriptLine;
 use stow_script::stumble::Stumble;
@@ -67,7 +67,7 @@ pub(crate) fn read_all<A: Allocator, R: Source>(
 {
     let mut piece = [0u8; PIECE];
     loop {
-        let count = Place::Input.check(input.read(&mut piece))?;
+        let count = Endpoint::Input.check(input.read(&mut piece))?;
         if count == 0 {
             return Ok(());
         }
@@ -82,7 +82,7 @@ fn carry_out<'a, A: Allocator + Copy, W: Sink>(
     lines: &[ScriptLine<A>],
     output: &mut W,
 ) -> Result<(), Failure<'a>>
-    requires { All (IsOfTenant (state_of house.old).core.entries) (map line_of lines.now) }
+    requires { All (IsTenantThere (state_of house.old).core.entries) (map line_of lines.now) }
     ensures carried_out { IsCarriedOut (map line_of lines.now)
         (progress_of house.old (W.contents output.old) (W.failures output.old))
         (progress_of house.new (W.contents output.new) (W.failures output.new)) result }
@@ -95,7 +95,7 @@ fn carry_out<'a, A: Allocator + Copy, W: Sink>(
             return Err(Failure::Memory);
         }
         if answers.len() >= ANSWERS {
-            Place::Output.check(write_all(output, answers.as_slice()))?;
+            Endpoint::Output.check(write_all(output, answers.as_slice()))?;
             answers.clear();
         }
     }
@@ -109,10 +109,10 @@ fn carry_out_line<A: Allocator + Copy>(
     line: &ScriptLine<A>,
     answers: &mut Vec<u8, A>,
 ) -> Result<(), AllocError>
-    requires { IsOfTenant (state_of house.old).core.entries (line_of line.now) }
+    requires { IsTenantThere (state_of house.old).core.entries (line_of line.now) }
     ensures ok { OnOk result (IsToldLine (line_of line.now) (state_of house.old)
         (state_of house.new) answers.old.items answers.new.items) }
-    ensures done { OnErr result (IsDone (line_of line.now) (state_of house.old)
+    ensures done { OnErr result (IsLineDone (line_of line.now) (state_of house.old)
         (state_of house.new)) }
     ensures err { OnErr result (answers.new.items ≡ answers.old.items) }
 {
@@ -170,8 +170,8 @@ pub fn finish<'a, W: Sink>(bytes: &[u8], output: &mut W) -> Result<(), Failure<'
     ensures err { IfErr result IsOfOutput }
     ensures same_output { W.borrow output.new ≡ W.borrow output.old }
 {
-    Place::Output.check(write_all(output, bytes))?;
-    Place::Output.check(output.flush())
+    Endpoint::Output.check(write_all(output, bytes))?;
+    Endpoint::Output.check(output.flush())
 }
 
 /// What a script's lines ask for of the house, or the number of its first bad line, counted from 1.
@@ -182,7 +182,7 @@ pub(crate) fn read_lines<A: Allocator + Copy>(
 ) -> Result<Vec<ScriptLine<A>, A>, Failure<'static>>
     ensures read { IsScriptRead (state_of house.now).core.entries text.now result }
     ensures tenants { IfOk result (λ lines. All
-        (IsOfTenant (state_of house.now).core.entries) (map line_of lines.items)) }
+        (IsTenantThere (state_of house.now).core.entries) (map line_of lines.items)) }
 {
     read_script(alloc, house.core().tenants(), text)
 }

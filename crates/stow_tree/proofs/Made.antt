@@ -8,7 +8,7 @@ use Rattle.stow_node.specs.Forgets.{Forgets}
 use Rattle.stow_node.specs.Subtree.{Subtree, messages_of, first_subtree}
 use Rattle.stow_node.specs.declared.shape.Shape.{Shape}
 use Rattle.stow_node.proofs.Over.{nothing_short}
-use Rattle.stow_flush.specs.Rooms.{HasRoom, Stands}
+use Rattle.stow_flush.specs.Rooms.{BytesFit, RootStands}
 use Rattle.stow_raw.specs.RawBuf.{RawLists, raw_lists}
 use Rattle.stow_tree_model.specs.Agreement.{TenantPins}
 use Rattle.stow_tree_model.specs.Messages.{ops_in, set_of}
@@ -47,7 +47,7 @@ unfolding tree_messages
 new_is_empty t shape e = ap (λ r. set_of (messages_of r)) e
 
 -- room was made
-pub room_kept : {A : Type 0} (old new : Inside A) (pins : TenantPins) → IsTree old → Stands pins old.root new.root → Forgets old.root.leaves new.root.leaves old.cache new.cache → new.spare.capacity ≡ old.spare.capacity → new.root.width ≤ new.root.shape.fan_out → IsTree new
+pub room_kept : {A : Type 0} (old new : Inside A) (pins : TenantPins) → IsTree old → RootStands pins old.root new.root → Forgets old.root.leaves new.root.leaves old.cache new.cache → new.spare.capacity ≡ old.spare.capacity → new.root.width ≤ new.root.shape.fan_out → IsTree new
 room_kept old new pins tree stands forgets spare few = record {
   sizes = subst AreInRange (sym stands.shape) tree.sizes;
   low = stands.low ∙ tree.low;
@@ -60,10 +60,10 @@ room_kept old new pins tree stands forgets spare few = record {
   held = forgets_held old.root.leaves new.root.leaves old.cache new.cache tree.held forgets;
 }
 
-pub room_reserved : {A T E : Type 0} (r : Result T E) (old : TreeState) (before after : Inside A) (pins : TenantPins) (bytes : ℕ) (ms : List TreeMessage) → state_of before ≡ old → CanReserve old ms → bytes ≡ bytes_of ms → Stands pins before.root after.root → OnOk r (HasRoom bytes after.root) → OnOk r (IsReserved (state_of after) ms)
+pub room_reserved : {A T E : Type 0} (r : Result T E) (old : TreeState) (before after : Inside A) (pins : TenantPins) (bytes : ℕ) (ms : List TreeMessage) → state_of before ≡ old → CanReserve old ms → bytes ≡ bytes_of ms → RootStands pins before.root after.root → OnOk r (BytesFit bytes after.root) → OnOk r (IsReserved (state_of after) ms)
 room_reserved (Ok x) old before after pins bytes ms is can total stands room =
-    reserved pins (state_of before) (state_of after) ms stands (subst (λ t. CanReserve t ms) (sym is) can) (subst (λ n. HasRoom n after.root) total room)
+    reserved pins (state_of before) (state_of after) ms stands (subst (λ t. CanReserve t ms) (sym is) can) (subst (λ n. BytesFit n after.root) total room)
 room_reserved (Err e) old before after pins bytes ms is can total stands room = room
 
-pub room_agrees : {A : Type 0} (old : TreeState) (before after : Inside A) (pins : TenantPins) → state_of before ≡ old → Stands pins before.root after.root → AgreeUnder pins (tree_messages old) (tree_messages (state_of after))
+pub room_agrees : {A : Type 0} (old : TreeState) (before after : Inside A) (pins : TenantPins) → state_of before ≡ old → RootStands pins before.root after.root → AgreeUnder pins (tree_messages old) (tree_messages (state_of after))
 room_agrees old before after pins is stands = subst (λ t. AgreeUnder pins (tree_messages t) (tree_messages (state_of after))) is (agree_under pins (state_of before) (state_of after) stands)

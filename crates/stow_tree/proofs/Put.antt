@@ -21,7 +21,7 @@ use Rattle.stow_leaf.specs.Replacements.{HasShortValues}
 use Rattle.stow_tree_model.specs.Messages.{Messages, ops_of, ops_in, with_all}
 use Rattle.stow_tree_model.specs.Op.{Op}
 use Rattle.stow_tree_model.specs.Operations.{Operations, latest, applied, outcome, value_in, or_else}
-use Rattle.stow_tree_model.specs.Order.{Place, place_cmp, place_of}
+use Rattle.stow_tree_model.specs.Order.{VersionPlace, place_cmp, place_of}
 use Rattle.stow_tree_model.specs.TreeMessage.{TreeMessage}
 use Rattle.stow_tree_model.specs.Value.{IsValue}
 use Rattle.stow_tree_model.proofs.Histories.{value_in-numbered, ops_in-at}
@@ -40,8 +40,8 @@ put m t = record { root = accepted (m ∷ []) t.root; cache = t.cache }
 -- the one message that is there
 only : {X : Type 0} (m : TreeMessage) (key : List ℕ) (n : ℕ) → (key ≡ m.key → n ≡ m.number → ops_in (m ∷ []) key n ≡ Some m.op → X) → (ops_in (m ∷ []) key n ≡ None → X) → X
 only m key n f g = ⊎_elim
-    (λ (e : (◌≡◌ {A = Place} (key, n) (place_of m)) × (eq_by_cmp place_cmp (key, n) (place_of m) ≡ true)). f (ap (λ (p : Place). p.0) e.0) (ap (λ (p : Place). p.1) e.0) (cond-true _ _ _ e.1))
-    (λ (e : (◌≢◌ {A = Place} (key, n) (place_of m)) × (eq_by_cmp place_cmp (key, n) (place_of m) ≡ false)). g (cond-false _ _ _ e.1))
+    (λ (e : (◌≡◌ {A = VersionPlace} (key, n) (place_of m)) × (eq_by_cmp place_cmp (key, n) (place_of m) ≡ true)). f (ap (λ (p : VersionPlace). p.0) e.0) (ap (λ (p : VersionPlace). p.1) e.0) (cond-true _ _ _ e.1))
+    (λ (e : (◌≢◌ {A = VersionPlace} (key, n) (place_of m)) × (eq_by_cmp place_cmp (key, n) (place_of m) ≡ false)). g (cond-false _ _ _ e.1))
     (place_cases (key, n) (place_of m))
 
 -- nothing of a key from a number on
@@ -125,9 +125,9 @@ reserved_after t m ms reserved = record {
     each (o ∷ os) a c = (can_add_other t m o reserved.can.each.0 a.0 c.0, each os a.1 c.1)
 
 -- messages of other keys don't stand at the place
-elsewhere : (m : TreeMessage) (ms : List TreeMessage) → AllByRecursion (λ o. o.key ≢ m.key) ms → AllByRecursion (λ o. ◌≢◌ {A = Place} (m.key, m.number) (place_of o)) ms
+elsewhere : (m : TreeMessage) (ms : List TreeMessage) → AllByRecursion (λ o. o.key ≢ m.key) ms → AllByRecursion (λ o. ◌≢◌ {A = VersionPlace} (m.key, m.number) (place_of o)) ms
 elsewhere m [] a = tt
-elsewhere m (o ∷ os) a = (λ e. a.0 (ap (λ (p : Place). p.0) (sym e)), elsewhere m os a.1)
+elsewhere m (o ∷ os) a = (λ e. a.0 (ap (λ (p : VersionPlace). p.0) (sym e)), elsewhere m os a.1)
 
 -- a message and then others of other keys are all of them
 pub one_then : (held : Messages) (m : TreeMessage) (ms : List TreeMessage) → AllByRecursion (λ o. o.key ≢ m.key) ms → with_all (with_all held (m ∷ [])) ms ≡ with_all held (m ∷ ms)

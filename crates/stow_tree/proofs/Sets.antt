@@ -5,7 +5,7 @@ use Rattle.stow_leaf.proofs.Found.{ops-set_of}
 use Rattle.stow_node.specs.Flushes.{MeanTheSame}
 use Rattle.stow_node.specs.Subtree.{messages_of}
 use Rattle.stow_node.proofs.Over.{same_nothing}
-use Rattle.stow_flush.specs.Rooms.{HasRoom, Stands}
+use Rattle.stow_flush.specs.Rooms.{BytesFit, RootStands}
 use Rattle.stow_tree_model.specs.Agreement.{TenantPins, AgreeAt}
 use Rattle.stow_tree_model.specs.Keys.{tenant_of}
 use Rattle.stow_tree_model.specs.Messages.{ops_of, ops_in, set_of, value}
@@ -28,7 +28,7 @@ pub same_messages : (s t : TreeState) → t.root ≡ s.root → tree_messages t 
 unfolding tree_messages
 same_messages s t e = ap (λ r. set_of (messages_of r)) e
 
-pub agree_under : (pins : TenantPins) (s t : TreeState) → Stands pins s.root t.root → AgreeUnder pins (tree_messages s) (tree_messages t)
+pub agree_under : (pins : TenantPins) (s t : TreeState) → RootStands pins s.root t.root → AgreeUnder pins (tree_messages s) (tree_messages t)
 agree_under pins s t stands bound has key =
     same_agreement (sym (ops_messages s key)) (sym (ops_messages t key)) refl
     ((stands.means key).way (bound (tenant_of key)) (subst (NoneAbove (bound (tenant_of key))) (ops_messages s key) (has key)))
@@ -52,7 +52,7 @@ still_none pins f g (suc b) means none = record {
     agreed = means.way b (λ n l. none n (omega (arith, l)))
 
 -- a message can be added to what means the same
-pub can_add_under : (pins : TenantPins) (s t : TreeState) (m : TreeMessage) → Stands pins s.root t.root → CanAdd (tree_messages s) m → CanAdd (tree_messages t) m
+pub can_add_under : (pins : TenantPins) (s t : TreeState) (m : TreeMessage) → RootStands pins s.root t.root → CanAdd (tree_messages s) m → CanAdd (tree_messages t) m
 can_add_under pins s t m stands can = record {
   newest = λ n l. (λ i. ops_messages t m.key i n) ∙ still.none n l;
   short = subst (λ v. IsValue (outcome m.op (value_in v))) same can.short;
@@ -64,12 +64,12 @@ can_add_under pins s t m stands can = record {
     same : value (tree_messages s) m.key m.number ≡ value (tree_messages t) m.key m.number
     same = ap (λ (f : Operations). latest f m.number) (ops_messages s m.key) ∙ sym still.same ∙ ap (λ (f : Operations). latest f m.number) (sym (ops_messages t m.key))
 
-all_under : (pins : TenantPins) (s t : TreeState) (ms : List TreeMessage) → Stands pins s.root t.root → AllByRecursion (CanAdd (tree_messages s)) ms → AllByRecursion (CanAdd (tree_messages t)) ms
+all_under : (pins : TenantPins) (s t : TreeState) (ms : List TreeMessage) → RootStands pins s.root t.root → AllByRecursion (CanAdd (tree_messages s)) ms → AllByRecursion (CanAdd (tree_messages t)) ms
 all_under pins s t [] stands all = tt
 all_under pins s t (m ∷ ms) stands all = (can_add_under pins s t m stands all.0, all_under pins s t ms stands all.1)
 
 -- what could be put before room was made can be put where there is room
-pub reserved : (pins : TenantPins) (s t : TreeState) (ms : List TreeMessage) → Stands pins s.root t.root → CanReserve s ms → HasRoom (bytes_of ms) t.root → IsReserved t ms
+pub reserved : (pins : TenantPins) (s t : TreeState) (ms : List TreeMessage) → RootStands pins s.root t.root → CanReserve s ms → BytesFit (bytes_of ms) t.root → IsReserved t ms
 reserved pins s t ms stands can room = record {
   can = record { apart = can.can.apart; each = all_under pins s t ms stands can.can.each };
   room = room;

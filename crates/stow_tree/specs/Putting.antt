@@ -1,7 +1,7 @@
 -- Messages that come to the tree.
 use Rattle.std.specs.Prelude.{◌≡◌, ◌≢◌, ℕ, ◌+◌, ◌≤◌, List, [], ◌∷◌, ◌++◌, length, None}
 use Rattle.std.specs.List.{AllByRecursion, sum_by}
-use Rattle.stow_flush.specs.Rooms.{HasRoom}
+use Rattle.stow_flush.specs.Rooms.{BytesFit}
 use Rattle.stow_message.specs.Packed.{message_size}
 use Rattle.stow_node.specs.Subtree.{buffered}
 use Rattle.stow_tree_model.specs.Messages.{Messages, ops_of, value, with_all}
@@ -38,7 +38,7 @@ pub record CanReserve (tree : TreeState) (ms : List TreeMessage) : Type 0 where
 -- the messages can be put, and there is room for them beside the root's own
 pub record IsReserved (tree : TreeState) (ms : List TreeMessage) : Type 0 where
   pub can : CanPut (tree_messages tree) ms
-  pub room : HasRoom (bytes_of ms) tree.root
+  pub room : BytesFit (bytes_of ms) tree.root
 
 -- the tree has exactly these messages more, in its buffers, and nothing else changed: what else
 -- there was room for can still be put

@@ -1,5 +1,6 @@
 -- How large the parts of a tree may grow.
 use Rattle.std.specs.Prelude.{◌≤◌}
+use Rattle.stow_bytes.specs.Limits.{cache_limit}
 use Rattle.stow_node.specs.declared.shape.Shape.{Shape}
 use Rattle.stow_tree.specs.declared.tree_shape.TreeShape.{TreeShape}
 
@@ -16,4 +17,4 @@ nodes_of shape = record { buffer = shape.buffer; leaf = shape.leaf; fan_out = sh
 -- each size is within its limits
 pub record IsInRange (shape : TreeShape) : Type 0 where
   pub nodes : AreInRange (nodes_of shape)
-  pub cache : shape.cache ≤ 65536
+  pub cache : shape.cache ≤ cache_limit

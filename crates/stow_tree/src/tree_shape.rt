@@ -2,6 +2,8 @@
 ghost use Rattle.std.specs.Prelude.{◌≡◌, ◌↔◌, IsTrue};
 ghost use Rattle.stow_tree.specs.Shapes.{IsInRange, nodes_of};
 
+use stow_bytes::limits::CACHE_LIMIT;
+use stow_merge::flush_target::{GREATEST_LEAF_TARGET, LEAST_LEAF_TARGET};
 use stow_node::shape::Shape;
 
 /// The fewest bytes of a node's buffer.
@@ -9,15 +11,15 @@ pub const LEAST_BUFFER: u32 = 131_072;
 /// The most bytes of a node's buffer.
 pub const MOST_BUFFER: u32 = 4_194_304;
 /// The fewest bytes of a page that a leaf is cut by.
-pub const LEAST_LEAF: u32 = 4_096;
+pub const LEAST_LEAF: u32 = LEAST_LEAF_TARGET;
 /// The most bytes of a page that a leaf is cut by.
-pub const MOST_LEAF: u32 = 1_048_576;
+pub const MOST_LEAF: u32 = GREATEST_LEAF_TARGET;
 /// The fewest children that a node may be let have.
 pub const LEAST_FAN_OUT: u32 = 4;
 /// The most children that a node may be let have.
 pub const MOST_FAN_OUT: u32 = 256;
 /// The most leaves that may be held unpacked.
-pub const MOST_CACHE: u32 = 65_536;
+pub const MOST_CACHE: u32 = CACHE_LIMIT;
 
 /// How large the parts of a tree may grow, and its cache.
 #[derive(Clone, Copy)]

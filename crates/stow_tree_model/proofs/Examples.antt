@@ -11,7 +11,7 @@ use Rattle.stow_tree_model.specs.Keys.{packed, tenant_of}
 use Rattle.stow_tree_model.specs.Op.{Op, Put, Gone, Append}
 use Rattle.stow_tree_model.specs.TreeMessage.{TreeMessage}
 use Rattle.stow_tree_model.specs.Version.{Version}
-use Rattle.stow_tree_model.specs.Order.{Place, place_cmp, place_of, MessagesRise}
+use Rattle.stow_tree_model.specs.Order.{VersionPlace, place_cmp, place_of, MessagesRise}
 use Rattle.stow_tree_model.specs.Operations.{Operations, value_in, latest, or_else, NoneAbove}
 use Rattle.stow_tree_model.specs.Messages.{ops_of, value, set_of, ops_in}
 use Rattle.stow_tree_model.specs.Agreement.{TenantPins, AgreeAt}
@@ -73,14 +73,14 @@ of_values = record {
 
 -- ---- agreement
 
-other_places : (ms : List TreeMessage) (key : List ℕ) (n : ℕ) → AllByRecursion (λ m. ◌≢◌ {A = Place} (key, n) (place_of m)) ms → ops_of (set_of ms) key n ≡ None
+other_places : (ms : List TreeMessage) (key : List ℕ) (n : ℕ) → AllByRecursion (λ m. ◌≢◌ {A = VersionPlace} (key, n) (place_of m)) ms → ops_of (set_of ms) key n ≡ None
 other_places ms key n h = ops-set_of ms key n ∙ ops_in-other_place ms key n h
 
-apart_keys : (key : List ℕ) (n : ℕ) (m : TreeMessage) → key ≢ m.key → ◌≢◌ {A = Place} (key, n) (place_of m)
-apart_keys key n m ne e = ne (ap (λ (p : Place). p.0) e)
+apart_keys : (key : List ℕ) (n : ℕ) (m : TreeMessage) → key ≢ m.key → ◌≢◌ {A = VersionPlace} (key, n) (place_of m)
+apart_keys key n m ne e = ne (ap (λ (p : VersionPlace). p.0) e)
 
-apart_numbers : (key : List ℕ) (n : ℕ) (m : TreeMessage) → n ≢ m.number → ◌≢◌ {A = Place} (key, n) (place_of m)
-apart_numbers key n m ne e = ne (ap (λ (p : Place). p.1) e)
+apart_numbers : (key : List ℕ) (n : ℕ) (m : TreeMessage) → n ≢ m.number → ◌≢◌ {A = VersionPlace} (key, n) (place_of m)
+apart_numbers key n m ne e = ne (ap (λ (p : VersionPlace). p.1) e)
 
 at_key : AgreeAt (ops_of two_writes a_key) (ops_of last_write a_key) [] 2
 unfolding latest tenant_of

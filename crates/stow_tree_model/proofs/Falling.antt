@@ -4,12 +4,12 @@ use Rattle.std.specs.List.{AllByRecursion}
 use Rattle.std.specs.declared.cmp.Ordering.TheVariants.{Less}
 use Rattle.stow_tree_model.specs.TreeMessage.{TreeMessage}
 use Rattle.stow_tree_model.specs.Version.{Version}
-use Rattle.stow_tree_model.specs.Order.{Place, place_cmp, place_of}
+use Rattle.stow_tree_model.specs.Order.{VersionPlace, place_cmp, place_of}
 use Rattle.stow_tree_model.specs.Operations.{NumberedValue, numbered}
 use Rattle.stow_tree_model.specs.Merged.{same_key, value_of}
 
 -- each is below those before it
-abbrev pub Falls : List Place → Type 0
+abbrev pub Falls : List VersionPlace → Type 0
 Falls [] = Unit {0}
 Falls (p ∷ older) = AllByRecursion (λ q. place_cmp q p ≡ Less) older × Falls older
 

@@ -9,7 +9,7 @@ use Rattle.std.specs.List.Sorted.{IsStrictlySortedBy}
 use Rattle.std.specs.List.{list_any}
 use Rattle.stow_tree_model.specs.TreeMessage.{TreeMessage}
 use Rattle.stow_tree_model.specs.Version.{Version}
-use Rattle.stow_tree_model.specs.Order.{Place, place_cmp, place_of, version_place}
+use Rattle.stow_tree_model.specs.Order.{VersionPlace, place_cmp, place_of, version_place}
 use Rattle.stow_tree_model.specs.Operations.{outcome}
 use Rattle.stow_tree_model.specs.Messages.{value}
 use Rattle.stow_tree_model.specs.Agreement.{TenantPins}
@@ -97,7 +97,7 @@ fold_none pins newer = record { value_is = refl; has_older_is = refl; versions_a
 
 -- ---- in a slice
 
-all_take : (P : Place → Type 0) (ms : List TreeMessage) (i : ℕ) → AllByRecursion P (map place_of ms) → AllByRecursion P (map place_of (take i ms))
+all_take : (P : VersionPlace → Type 0) (ms : List TreeMessage) (i : ℕ) → AllByRecursion P (map place_of ms) → AllByRecursion P (map place_of (take i ms))
 all_take P ms zero h = tt
 all_take P [] (suc i) h = h
 all_take P (m ∷ ms) (suc i) h = (h.0, all_take P ms i h.1)

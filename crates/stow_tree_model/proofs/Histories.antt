@@ -15,7 +15,7 @@ use Rattle.stow_bytes.specs.Bytes.{bytes_cmp}
 use Rattle.stow_tree_model.specs.Keys.{tenant_of}
 use Rattle.stow_tree_model.specs.TreeMessage.{TreeMessage}
 use Rattle.stow_tree_model.specs.Version.{Version}
-use Rattle.stow_tree_model.specs.Order.{Place, place_cmp, place_of, version_place}
+use Rattle.stow_tree_model.specs.Order.{VersionPlace, place_cmp, place_of, version_place}
 use Rattle.stow_tree_model.specs.Operations.{Operations, value_in, numbered, outcome, applied, latest}
 use Rattle.stow_tree_model.specs.Messages.{ops_in}
 use Rattle.stow_tree_model.specs.Agreement.{TenantPins}
@@ -38,7 +38,7 @@ by_first Less s e ne = refl
 by_first Equal s e ne = absurd (ne refl)
 by_first Greater s e ne = cc
 
-pub falls_key : (p q : Place) → place_cmp p q ≡ Less → (q.0 ≢ p.0) → bytes_cmp p.0 q.0 ≡ Less
+pub falls_key : (p q : VersionPlace) → place_cmp p q ≡ Less → (q.0 ≢ p.0) → bytes_cmp p.0 q.0 ≡ Less
 falls_key p q e ne = by_first (bytes_cmp p.0 q.0) (nat_cmp p.1 q.1) e (λ z. ne (sym (exact_bytes p.0 q.0 z)))
 
 not_back : (k b : List ℕ) (m n : ℕ) → bytes_cmp b k ≡ Less → place_cmp (k, m) (b, n) ≡ Less → ⊥
@@ -47,14 +47,14 @@ not_back k b m n l e =
     let z : Greater ≡ Less = ap (λ o. ordering_then o (nat_cmp m n)) (sym g) ∙ e in
     cc
 
-abbrev pub OtherKey : List ℕ → List Place → Type 0
+abbrev pub OtherKey : List ℕ → List VersionPlace → Type 0
 OtherKey key ps = AllByRecursion (λ q. key ≢ q.0) ps
 
 -- once the key has ended it does not come back
-pub no_more : (key : List ℕ) (n : ℕ) (q : Place) (ps : List Place) → place_cmp q (key, n) ≡ Less → key ≢ q.0 → AllByRecursion (λ r. place_cmp r q ≡ Less) ps → OtherKey key (q ∷ ps)
+pub no_more : (key : List ℕ) (n : ℕ) (q : VersionPlace) (ps : List VersionPlace) → place_cmp q (key, n) ≡ Less → key ≢ q.0 → AllByRecursion (λ r. place_cmp r q ≡ Less) ps → OtherKey key (q ∷ ps)
 no_more key n q ps less ne below = (ne, rest ps below)
   where
-    rest : (rs : List Place) → AllByRecursion (λ r. place_cmp r q ≡ Less) rs → OtherKey key rs
+    rest : (rs : List VersionPlace) → AllByRecursion (λ r. place_cmp r q ≡ Less) rs → OtherKey key rs
     rest [] h = h
     rest (r ∷ rs) h = (λ e. not_back key q.0 r.1 q.1 (falls_key q (key, n) less ne) (subst (λ k. place_cmp (k, r.1) q ≡ Less) (sym e) h.0), rest rs h.1)
 
@@ -116,23 +116,23 @@ top_step f g (suc n) none same = λ i. applied (suc n) (f (suc n)) ((latest_same
 
 pub ops_in-at : (m : TreeMessage) (older : List TreeMessage) → ops_in (m ∷ older) m.key m.number ≡ Some m.op
 ops_in-at m older = ⊎_elim
-    (λ (h : (◌≡◌ {A = Place} (m.key, m.number) (place_of m)) × (eq_by_cmp place_cmp (m.key, m.number) (place_of m) ≡ true)). cond-true _ _ _ h.1)
-    (λ (h : (◌≢◌ {A = Place} (m.key, m.number) (place_of m)) × (eq_by_cmp place_cmp (m.key, m.number) (place_of m) ≡ false)). absurd (h.0 refl))
+    (λ (h : (◌≡◌ {A = VersionPlace} (m.key, m.number) (place_of m)) × (eq_by_cmp place_cmp (m.key, m.number) (place_of m) ≡ true)). cond-true _ _ _ h.1)
+    (λ (h : (◌≢◌ {A = VersionPlace} (m.key, m.number) (place_of m)) × (eq_by_cmp place_cmp (m.key, m.number) (place_of m) ≡ false)). absurd (h.0 refl))
     (place_cases (m.key, m.number) (place_of m))
 
-pub ops_in-skip : (m : TreeMessage) (older : List TreeMessage) (key : List ℕ) (n : ℕ) → (◌≢◌ {A = Place} (key, n) (place_of m)) → ops_in (m ∷ older) key n ≡ ops_in older key n
+pub ops_in-skip : (m : TreeMessage) (older : List TreeMessage) (key : List ℕ) (n : ℕ) → (◌≢◌ {A = VersionPlace} (key, n) (place_of m)) → ops_in (m ∷ older) key n ≡ ops_in older key n
 ops_in-skip m older key n ne = ⊎_elim
-    (λ (h : (◌≡◌ {A = Place} (key, n) (place_of m)) × (eq_by_cmp place_cmp (key, n) (place_of m) ≡ true)). absurd (ne h.0))
-    (λ (h : (◌≢◌ {A = Place} (key, n) (place_of m)) × (eq_by_cmp place_cmp (key, n) (place_of m) ≡ false)). cond-false _ _ _ h.1)
+    (λ (h : (◌≡◌ {A = VersionPlace} (key, n) (place_of m)) × (eq_by_cmp place_cmp (key, n) (place_of m) ≡ true)). absurd (ne h.0))
+    (λ (h : (◌≢◌ {A = VersionPlace} (key, n) (place_of m)) × (eq_by_cmp place_cmp (key, n) (place_of m) ≡ false)). cond-false _ _ _ h.1)
     (place_cases (key, n) (place_of m))
 
 -- nothing of the key from the place on
-pub ops_in-above : (m : Place) (older : List TreeMessage) (n : ℕ) → m.1 ≤ n → AllByRecursion (λ q. place_cmp q m ≡ Less) (map place_of older) → ops_in older m.0 n ≡ None
+pub ops_in-above : (m : VersionPlace) (older : List TreeMessage) (n : ℕ) → m.1 ≤ n → AllByRecursion (λ q. place_cmp q m ≡ Less) (map place_of older) → ops_in older m.0 n ≡ None
 ops_in-above m [] n l h = refl
 ops_in-above m (x ∷ older) n l h =
-    ops_in-skip x older m.0 n (λ e. let k : m.0 ≡ x.key = ap (λ (p : Place). p.0) e in
+    ops_in-skip x older m.0 n (λ e. let k : m.0 ≡ x.key = ap (λ (p : VersionPlace). p.0) e in
     let b : x.number < m.1 = falls_number m.0 x.number m.1 (subst (λ y. place_cmp (y, x.number) (m.0, m.1) ≡ Less) (sym k) h.0) in
-    let q : n ≡ x.number = ap (λ (p : Place). p.1) e in omega arith)
+    let q : n ≡ x.number = ap (λ (p : VersionPlace). p.1) e in omega arith)
     ∙ ops_in-above m older n l h.1
 
 pub value_in-numbered : (n : ℕ) (v : Option (List ℕ)) → value_in (numbered n v) ≡ v
@@ -164,8 +164,8 @@ own_shows m older n h l shows =
     ∙ ap (λ o. applied m.number o (latest (ops_in older m.key) m.number)) (sym (ops_in-at m older))
     ∙ sym (top_step (ops_in (m ∷ older) m.key) (ops_in older m.key) m.number
     (ops_in-above (place_of m) older m.number (omega arith) h.0)
-    (λ k b. ops_in-skip m older m.key k (λ e. let q : k ≡ m.number = ap (λ (p : Place). p.1) e in omega arith)))
-    ∙ sym (latest_stays (ops_in (m ∷ older) m.key) m.number n l (λ k b c. ops_in-skip m older m.key k (λ e. let q : k ≡ m.number = ap (λ (p : Place). p.1) e in omega arith) ∙ ops_in-above (place_of m) older k (omega arith) h.0))
+    (λ k b. ops_in-skip m older m.key k (λ e. let q : k ≡ m.number = ap (λ (p : VersionPlace). p.1) e in omega arith)))
+    ∙ sym (latest_stays (ops_in (m ∷ older) m.key) m.number n l (λ k b c. ops_in-skip m older m.key k (λ e. let q : k ≡ m.number = ap (λ (p : VersionPlace). p.1) e in omega arith) ∙ ops_in-above (place_of m) older k (omega arith) h.0))
 
 pub history_shows_law : (history : List TreeMessage) (key : List ℕ) (n : ℕ) → IsHistory history → value_by history key n ≡ latest (ops_in history key) n
 unfolding value_by
@@ -178,11 +178,11 @@ history_shows_law (m ∷ older) key n h = ⊎_elim
     (λ (s : (key ≡ m.key) × (n < m.number) × ((same_key key m.key && nat_le m.number n) ≡ false)).
     value_by-later m older key n s.2
     ∙ history_shows_law older key n h.1
-    ∙ latest_same (ops_in older key) (ops_in (m ∷ older) key) n (λ k l. sym (ops_in-skip m older key k (λ e. let q : k ≡ m.number = ap (λ (p : Place). p.1) e in let b = s.1 in omega arith))))
+    ∙ latest_same (ops_in older key) (ops_in (m ∷ older) key) n (λ k l. sym (ops_in-skip m older key k (λ e. let q : k ≡ m.number = ap (λ (p : VersionPlace). p.1) e in let b = s.1 in omega arith))))
     (λ (s : (key ≢ m.key) × ((same_key key m.key && nat_le m.number n) ≡ false)).
     value_by-later m older key n s.1
     ∙ history_shows_law older key n h.1
-    ∙ latest_same (ops_in older key) (ops_in (m ∷ older) key) n (λ k l. sym (ops_in-skip m older key k (λ e. s.0 (ap (λ (p : Place). p.0) e)))))
+    ∙ latest_same (ops_in older key) (ops_in (m ∷ older) key) n (λ k l. sym (ops_in-skip m older key k (λ e. s.0 (ap (λ (p : VersionPlace). p.0) e)))))
     r)
     (shown_cases key m.key m.number n)
 
@@ -242,7 +242,7 @@ kept_shows pins newer (m ∷ older) key n top most shown above = ⊎_elim
     (shown_cases key m.key m.number n)
 
 -- the versions kept fall as the history does
-pub kept_all : (P : Place → Type 0) (pins : TenantPins) (newer : Option TreeMessage) (history : List TreeMessage) → AllByRecursion P (map place_of history) → AllByRecursion P (map version_place (kept pins newer history))
+pub kept_all : (P : VersionPlace → Type 0) (pins : TenantPins) (newer : Option TreeMessage) (history : List TreeMessage) → AllByRecursion P (map place_of history) → AllByRecursion P (map version_place (kept pins newer history))
 unfolding kept
 kept_all P pins newer [] h = h
 kept_all P pins newer (m ∷ older) h =

@@ -14,7 +14,7 @@ use Rattle.stow_tree_model.specs.Keys.{tenant_of}
 use Rattle.stow_tree_model.specs.Op.{Op}
 use Rattle.stow_tree_model.specs.TreeMessage.{TreeMessage}
 use Rattle.stow_tree_model.specs.Version.{Version}
-use Rattle.stow_tree_model.specs.Order.{Place, place_cmp, place_of, version_place}
+use Rattle.stow_tree_model.specs.Order.{VersionPlace, place_cmp, place_of, version_place}
 use Rattle.stow_tree_model.specs.Operations.{numbered, outcome, latest, or_else, NoneAbove}
 use Rattle.stow_tree_model.specs.Messages.{Messages, ops_of, ops_in, in_order}
 use Rattle.stow_tree_model.specs.Agreement.{TenantPins}
@@ -32,10 +32,10 @@ abbrev Lone : List TreeMessage → Type 0
 Lone [] = Unit {0}
 Lone (m ∷ ms) = (ops_in ms m.key m.number ≡ None) × Lone ms
 
-apart : (p : Place) (ms : List TreeMessage) → AllByRecursion (λ q. place_cmp q p ≡ Less) (map place_of ms) → ops_in ms p.0 p.1 ≡ None
+apart : (p : VersionPlace) (ms : List TreeMessage) → AllByRecursion (λ q. place_cmp q p ≡ Less) (map place_of ms) → ops_in ms p.0 p.1 ≡ None
 apart p ms h = ops_in-other_place ms p.0 p.1 (each ms h)
   where
-    each : (xs : List TreeMessage) → AllByRecursion (λ q. place_cmp q p ≡ Less) (map place_of xs) → AllByRecursion (λ m. ◌≢◌ {A = Place} (p.0, p.1) (place_of m)) xs
+    each : (xs : List TreeMessage) → AllByRecursion (λ q. place_cmp q p ≡ Less) (map place_of xs) → AllByRecursion (λ m. ◌≢◌ {A = VersionPlace} (p.0, p.1) (place_of m)) xs
     each [] g = tt
     each (m ∷ xs) g = ((λ e. let z : Equal ≡ Less = sym (tied_itself place_total p) ∙ (subst (λ q. place_cmp q p ≡ Less) (sym e) g.0) in cc), each xs g.1)
 
@@ -59,7 +59,7 @@ last_first : (t : Bool) (p : Op) (o : Option Op) → (t ≡ true → o ≡ None)
 last_first true p o h = ap (λ x. or_else x (Some p)) (h refl)
 last_first false p o h = or_none o
 
-test_true : (p q : Place) → eq_by_cmp place_cmp p q ≡ true → p ≡ q
+test_true : (p q : VersionPlace) → eq_by_cmp place_cmp p q ≡ true → p ≡ q
 test_true p q e = ⊎_elim (λ (h : (p ≡ q) × (eq_by_cmp place_cmp p q ≡ true)). h.0) (λ (h : (p ≢ q) × (eq_by_cmp place_cmp p q ≡ false)). let z : true ≡ false = sym e ∙ h.1 in cc) (place_cases p q)
 
 pub ops_in-reverse : (ms : List TreeMessage) → Lone ms → (key : List ℕ) (n : ℕ) → ops_in (reverse ms) key n ≡ ops_in ms key n
@@ -68,11 +68,11 @@ ops_in-reverse (m ∷ ms) h key n =
     ap (λ xs. ops_in xs key n) (reverse-append (m ∷ []) ms)
     ∙ ops_in-append (reverse ms) (m ∷ []) key n
     ∙ ap (λ o. or_else o (ops_in (m ∷ []) key n)) (ops_in-reverse ms h.1 key n)
-    ∙ last_first (eq_by_cmp place_cmp (key, n) (place_of m)) m.op (ops_in ms key n) (λ t. ap (λ (q : Place). ops_in ms q.0 q.1) (test_true (key, n) (place_of m) t) ∙ h.0)
+    ∙ last_first (eq_by_cmp place_cmp (key, n) (place_of m)) m.op (ops_in ms key n) (λ t. ap (λ (q : VersionPlace). ops_in ms q.0 q.1) (test_true (key, n) (place_of m) t) ∙ h.0)
 
 -- ---- versions as messages
 
-trimmed_all : (P : Place → Type 0) (vs : List Version) → AllByRecursion P (map version_place vs) → AllByRecursion P (map version_place (trimmed vs))
+trimmed_all : (P : VersionPlace → Type 0) (vs : List Version) → AllByRecursion P (map version_place vs) → AllByRecursion P (map version_place (trimmed vs))
 unfolding trimmed
 trimmed_all P [] h = h
 trimmed_all P (v ∷ vs) h =
@@ -126,9 +126,9 @@ most_places (m ∷ ms) key top h = (h.0, most_places ms key top h.1)
 none_above : (vs : List Version) (key : List ℕ) (top : ℕ) → AllByRecursion (λ q. key ≡ q.0 → q.1 ≤ top) (map version_place vs) → NoneAbove top (ops_in (map row_message vs) key)
 none_above vs key top h n l = ops_in-other_place (map row_message vs) key n (each vs h)
   where
-    each : (xs : List Version) → AllByRecursion (λ q. key ≡ q.0 → q.1 ≤ top) (map version_place xs) → AllByRecursion (λ m. ◌≢◌ {A = Place} (key, n) (place_of m)) (map row_message xs)
+    each : (xs : List Version) → AllByRecursion (λ q. key ≡ q.0 → q.1 ≤ top) (map version_place xs) → AllByRecursion (λ m. ◌≢◌ {A = VersionPlace} (key, n) (place_of m)) (map row_message xs)
     each [] g = tt
-    each (v ∷ xs) g = ((λ e. let a = g.0 (ap (λ (p : Place). p.0) e) in let b : n ≡ v.number = ap (λ (p : Place). p.1) e in absurd (omega arith)), each xs g.1)
+    each (v ∷ xs) g = ((λ e. let a = g.0 (ap (λ (p : VersionPlace). p.0) e) in let b : n ≡ v.number = ap (λ (p : VersionPlace). p.1) e in absurd (omega arith)), each xs g.1)
 
 -- ---- the merge of a set
 
@@ -191,20 +191,20 @@ merge_agrees_law pins m n newer leaf bound is_newer over_m over_n key =
 
 -- ---- the merged rows rise
 
-all_push : (P : Place → Type 0) (ps : List Place) (p : Place) → AllByRecursion P ps → P p → AllByRecursion P (ps ++ p ∷ [])
+all_push : (P : VersionPlace → Type 0) (ps : List VersionPlace) (p : VersionPlace) → AllByRecursion P ps → P p → AllByRecursion P (ps ++ p ∷ [])
 all_push P [] p h l = (l, tt)
 all_push P (r ∷ rs) p h l = (h.0, all_push P rs p h.1 l)
 
-all_reverse : (P : Place → Type 0) (ps : List Place) → AllByRecursion P ps → AllByRecursion P (reverse ps)
+all_reverse : (P : VersionPlace → Type 0) (ps : List VersionPlace) → AllByRecursion P ps → AllByRecursion P (reverse ps)
 all_reverse P [] h = h
 all_reverse P (p ∷ ps) h = subst (AllByRecursion P) (sym (reverse-append (p ∷ []) ps)) (all_push P (reverse ps) p (all_reverse P ps h.1) h.0)
 
-rises_push : (ps : List Place) (p : Place) → IsStrictlySortedBy place_cmp ps → AllByRecursion (λ q. place_cmp q p ≡ Less) ps → IsStrictlySortedBy place_cmp (ps ++ p ∷ [])
+rises_push : (ps : List VersionPlace) (p : VersionPlace) → IsStrictlySortedBy place_cmp ps → AllByRecursion (λ q. place_cmp q p ≡ Less) ps → IsStrictlySortedBy place_cmp (ps ++ p ∷ [])
 unfolding IsStrictlySortedBy
 rises_push [] p f a = (tt, tt)
 rises_push (q ∷ ps) p f a = (all_push (λ r. place_cmp q r ≡ Less) ps p f.0 a.0, rises_push ps p f.1 a.1)
 
-pub rises_reverse : (ps : List Place) → Falls ps → IsStrictlySortedBy place_cmp (reverse ps)
+pub rises_reverse : (ps : List VersionPlace) → Falls ps → IsStrictlySortedBy place_cmp (reverse ps)
 unfolding IsStrictlySortedBy
 rises_reverse [] h = h
 rises_reverse (p ∷ ps) h = subst (IsStrictlySortedBy place_cmp) (sym (reverse-append (p ∷ []) ps)) (rises_push (reverse ps) p (rises_reverse ps h.1) (all_reverse (λ q. place_cmp q p ≡ Less) ps h.0))

@@ -11,15 +11,15 @@ use Rattle.std.proofs.lemmas.List.{reverse-append}
 use Rattle.std.specs.List.Sorted.{IsStrictlySortedBy}
 use Rattle.stow_tree_model.specs.Op.{Op}
 use Rattle.stow_tree_model.specs.TreeMessage.{TreeMessage}
-use Rattle.stow_tree_model.specs.Order.{Place, place_cmp, place_of}
+use Rattle.stow_tree_model.specs.Order.{VersionPlace, place_cmp, place_of}
 use Rattle.stow_tree_model.specs.Messages.{Messages, ops_of, ops_in, message_at, in_order, InOrderOnce}
 use Rattle.stow_tree_model.proofs.Falling.{Falls, IsHistory}
 use Rattle.stow_tree_model.proofs.SetLemmas.{set_by_ops_law}
 
-abbrev entry : TreeMessage → Place × Op
+abbrev entry : TreeMessage → VersionPlace × Op
 entry m = (place_of m, m.op)
 
-find-entries : (ms : List TreeMessage) (q : Place) → find place_cmp q (map entry ms) ≡ ops_in ms q.0 q.1
+find-entries : (ms : List TreeMessage) (q : VersionPlace) → find place_cmp q (map entry ms) ≡ ops_in ms q.0 q.1
 find-entries [] q = refl
 find-entries (m ∷ ms) q = ap (cond (eq_by_cmp place_cmp q (place_of m)) (Some m.op)) (find-entries ms q)
 
@@ -27,7 +27,7 @@ both : (a b : Bool) → T a → T b → T (a && b)
 both true b p q = q
 both false b p q = p
 
-below : (p : Place) (ms : List TreeMessage) → AllByRecursion (λ q. place_cmp p q ≡ Less) (map place_of ms) → T (finite.Entries.below_all place_cmp p (map entry ms))
+below : (p : VersionPlace) (ms : List TreeMessage) → AllByRecursion (λ q. place_cmp p q ≡ Less) (map place_of ms) → T (finite.Entries.below_all place_cmp p (map entry ms))
 below p [] h = tt
 below p (m ∷ ms) h = both _ _ (subst (λ r. T (is_lt r)) (sym h.0) tt) (below p ms h.1)
 
@@ -48,23 +48,23 @@ in_order_once_law ms messages rises same =
 
 -- ---- the other way round
 
-falls_push : (ps : List Place) (p : Place) → Falls ps → AllByRecursion (λ q. place_cmp p q ≡ Less) ps → Falls (ps ++ p ∷ [])
+falls_push : (ps : List VersionPlace) (p : VersionPlace) → Falls ps → AllByRecursion (λ q. place_cmp p q ≡ Less) ps → Falls (ps ++ p ∷ [])
 falls_push [] p f a = (tt, tt)
 falls_push (q ∷ ps) p f a = (push_all ps f.0 a.0, falls_push ps p f.1 a.1)
   where
-    push_all : (rs : List Place) → AllByRecursion (λ r. place_cmp r q ≡ Less) rs → place_cmp p q ≡ Less → AllByRecursion (λ r. place_cmp r q ≡ Less) (rs ++ p ∷ [])
+    push_all : (rs : List VersionPlace) → AllByRecursion (λ r. place_cmp r q ≡ Less) rs → place_cmp p q ≡ Less → AllByRecursion (λ r. place_cmp r q ≡ Less) (rs ++ p ∷ [])
     push_all [] h l = (l, tt)
     push_all (r ∷ rs) h l = (h.0, push_all rs h.1 l)
 
-all_push : (P : Place → Type 0) (ps : List Place) (p : Place) → AllByRecursion P ps → P p → AllByRecursion P (ps ++ p ∷ [])
+all_push : (P : VersionPlace → Type 0) (ps : List VersionPlace) (p : VersionPlace) → AllByRecursion P ps → P p → AllByRecursion P (ps ++ p ∷ [])
 all_push P [] p h l = (l, tt)
 all_push P (r ∷ rs) p h l = (h.0, all_push P rs p h.1 l)
 
-all_reverse : (P : Place → Type 0) (ps : List Place) → AllByRecursion P ps → AllByRecursion P (reverse ps)
+all_reverse : (P : VersionPlace → Type 0) (ps : List VersionPlace) → AllByRecursion P ps → AllByRecursion P (reverse ps)
 all_reverse P [] h = h
 all_reverse P (p ∷ ps) h = subst (AllByRecursion P) (sym (reverse-append (p ∷ []) ps)) (all_push P (reverse ps) p (all_reverse P ps h.1) h.0)
 
-pub falls_reverse : (ps : List Place) → IsStrictlySortedBy place_cmp ps → Falls (reverse ps)
+pub falls_reverse : (ps : List VersionPlace) → IsStrictlySortedBy place_cmp ps → Falls (reverse ps)
 unfolding IsStrictlySortedBy
 falls_reverse [] h = h
 falls_reverse (p ∷ ps) h = subst Falls (sym (reverse-append (p ∷ []) ps)) (falls_push (reverse ps) p (falls_reverse ps h.1) (all_reverse (λ q. place_cmp p q ≡ Less) ps h.0))
@@ -95,16 +95,16 @@ less Less p = refl
 less Equal p = absurd p
 less Greater p = absurd p
 
-above : (p : Place) (es : List (Place × Op)) → T (finite.Entries.below_all place_cmp p es) → AllByRecursion (λ q. place_cmp p q ≡ Less) (map place_of (map message_at es))
+above : (p : VersionPlace) (es : List (VersionPlace × Op)) → T (finite.Entries.below_all place_cmp p es) → AllByRecursion (λ q. place_cmp p q ≡ Less) (map place_of (map message_at es))
 above p [] h = tt
 above p (e ∷ es) h = (less (place_cmp p e.0) (first _ _ h), above p es (second (is_lt (place_cmp p e.0)) _ h))
 
-rising : (es : List (Place × Op)) → T (is_sorted place_cmp es) → IsStrictlySortedBy place_cmp (map place_of (map message_at es))
+rising : (es : List (VersionPlace × Op)) → T (is_sorted place_cmp es) → IsStrictlySortedBy place_cmp (map place_of (map message_at es))
 unfolding IsStrictlySortedBy
 rising [] h = tt
 rising (e ∷ es) h = (above e.0 es (first _ _ h), rising es (second (finite.Entries.below_all place_cmp e.0 es) _ h))
 
-ops_in-entries : (es : List (Place × Op)) (key : List ℕ) (n : ℕ) → ops_in (map message_at es) key n ≡ find place_cmp (key, n) es
+ops_in-entries : (es : List (VersionPlace × Op)) (key : List ℕ) (n : ℕ) → ops_in (map message_at es) key n ≡ find place_cmp (key, n) es
 ops_in-entries [] key n = refl
 ops_in-entries (e ∷ es) key n = ap (cond (eq_by_cmp place_cmp (key, n) e.0) (Some e.1)) (ops_in-entries es key n)
 

@@ -8,13 +8,13 @@ use Rattle.std.specs.Cmp.Lexicographic.{nat_list_cmp_total}
 use Rattle.std.proofs.lemmas.Map.Lookups.{exact_pairs, exact_bytes, exact_unsigned}
 use Rattle.std.proofs.lemmas.Bool.Decides.{nat_tests}
 use Rattle.stow_bytes.specs.Bytes.{bytes_cmp}
-use Rattle.stow_tree_model.specs.Order.{Place, place_cmp}
+use Rattle.stow_tree_model.specs.Order.{VersionPlace, place_cmp}
 use Rattle.stow_tree_model.specs.Merged.{same_key}
 
 pub place_total : IsTotalOrder place_cmp
-place_total = then_total (on_total (λ (p : Place). p.0) nat_list_cmp_total) (on_total (λ (p : Place). p.1) nat_cmp_total)
+place_total = then_total (on_total (λ (p : VersionPlace). p.0) nat_list_cmp_total) (on_total (λ (p : VersionPlace). p.1) nat_cmp_total)
 
-pub exact_places : (a b : Place) → place_cmp a b ≡ Equal → a ≡ b
+pub exact_places : (a b : VersionPlace) → place_cmp a b ≡ Equal → a ≡ b
 exact_places a b e = exact_pairs bytes_cmp nat_cmp exact_bytes exact_unsigned a b e
 
 -- ---- tests
@@ -30,7 +30,7 @@ key_cases a b = ⊎_elim
     (λ (h : (bytes_cmp a b ≢ Equal) × (is_eq (bytes_cmp a b) ≡ false)). inr (λ e. h.0 (subst (λ c. bytes_cmp a c ≡ Equal) e (tied_itself nat_list_cmp_total a)), h.1))
     (by_order (bytes_cmp a b))
 
-pub place_cases : (a b : Place) → ((a ≡ b) × (eq_by_cmp place_cmp a b ≡ true)) ⊎ ((a ≢ b) × (eq_by_cmp place_cmp a b ≡ false))
+pub place_cases : (a b : VersionPlace) → ((a ≡ b) × (eq_by_cmp place_cmp a b ≡ true)) ⊎ ((a ≢ b) × (eq_by_cmp place_cmp a b ≡ false))
 place_cases a b = ⊎_elim
     (λ (h : (place_cmp a b ≡ Equal) × (is_eq (place_cmp a b) ≡ true)). inl (exact_places a b h.0, h.1))
     (λ (h : (place_cmp a b ≢ Equal) × (is_eq (place_cmp a b) ≡ false)). inr (λ e. h.0 (subst (λ c. place_cmp a c ≡ Equal) e (tied_itself place_total a)), h.1))

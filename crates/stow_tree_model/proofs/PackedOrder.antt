@@ -10,7 +10,7 @@ use Rattle.std.proofs.lemmas.Nat.{be_bytes_4}
 use Rattle.stow_bytes.specs.Bytes.{bytes_cmp}
 use Rattle.stow_bytes.specs.Limits.{tenant_limit}
 use Rattle.stow_tree_model.specs.Keys.{packed, tenant_of, own_key, IsTenantKey}
-use Rattle.stow_tree_model.specs.Intervals.{IsWithin, AreBytes, PackedInOrder, TenantInterval}
+use Rattle.stow_tree_model.specs.Intervals.{IsWithin, AreKeyBytes, PackedInOrder, TenantInterval}
 use Rattle.stow_tree_model.proofs.Orders.{less_than, same_number, more_than}
 
 then_assoc : (a b c : Ordering) → ordering_then (ordering_then a b) c ≡ ordering_then a (ordering_then b c)
@@ -76,7 +76,7 @@ packed_in_order_law t u a b lt lu =
 
 -- ---- a tenant's interval
 
-small : (key : List ℕ) (n : ℕ) → AreBytes key → (i : ℕ) → get_or (take n key) i 0 < 256
+small : (key : List ℕ) (n : ℕ) → AreKeyBytes key → (i : ℕ) → get_or (take n key) i 0 < 256
 small [] zero h i = omega arith
 small [] (suc n) h i = omega arith
 small (b ∷ key) zero h i = omega arith
@@ -84,7 +84,7 @@ small (b ∷ key) (suc n) h zero = h.0
 small (b ∷ key) (suc n) h (suc i) = small key n h.1 i
 
 -- a key is its tenant's index and the key that the tenant names
-pub packed-parts : (key : List ℕ) → IsTenantKey key → AreBytes key → packed (tenant_of key) (own_key key) ≡ key
+pub packed-parts : (key : List ℕ) → IsTenantKey key → AreKeyBytes key → packed (tenant_of key) (own_key key) ≡ key
 unfolding tenant_of
 packed-parts key is bytes =
     let has = is.has_index in

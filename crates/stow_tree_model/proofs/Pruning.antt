@@ -13,7 +13,7 @@ use Rattle.stow_tree_model.specs.Keys.{tenant_of}
 use Rattle.stow_tree_model.specs.Op.{Op}
 use Rattle.stow_tree_model.specs.TreeMessage.{TreeMessage}
 use Rattle.stow_tree_model.specs.Version.{Version}
-use Rattle.stow_tree_model.specs.Order.{Place, place_cmp, place_of, version_place, VersionsRise}
+use Rattle.stow_tree_model.specs.Order.{VersionPlace, place_cmp, place_of, version_place, VersionsRise}
 use Rattle.stow_tree_model.specs.Operations.{value_in, NoneAbove}
 use Rattle.stow_tree_model.specs.Messages.{Messages, ops_of, value, ops_in}
 use Rattle.stow_tree_model.specs.Agreement.{TenantPins}
@@ -49,14 +49,14 @@ reverse-contains : {X : Type 0} (xs : List X) (x : X) → Contains xs x → Cont
 reverse-contains xs x c = contains-reverse (reverse xs) x (subst (λ zs. Contains zs x) (sym (reverse-reverse xs)) c)
 
 -- what holds of each place holds of a member's
-place_of_member : (P : Place → Type 0) (vs : List Version) (w : Version) → AllByRecursion P (map version_place vs) → Contains vs w → P (version_place w)
+place_of_member : (P : VersionPlace → Type 0) (vs : List Version) (w : Version) → AllByRecursion P (map version_place vs) → Contains vs w → P (version_place w)
 place_of_member P [] w h c = absurd (none_in_nothing w c)
 place_of_member P (v ∷ vs) w h c = ⊎_elim
     (λ (e : v ≡ w). subst (λ x. P (version_place x)) e h.0)
     (λ (t : Contains vs w). place_of_member P vs w h.1 t)
     (contains_cases v w vs c)
 
-not_below_itself : (p : Place) → place_cmp p p ≡ Less → ⊥
+not_below_itself : (p : VersionPlace) → place_cmp p p ≡ Less → ⊥
 not_below_itself p e = let z : Equal ≡ Less = sym (tied_itself place_total p) ∙ e in cc
 
 is_there : (o : Option Op) (p : Op) → o ≡ Some p → IsSome o
@@ -89,7 +89,7 @@ next_below messages newer m older below after = (
 
 none_above : (m : TreeMessage) (older : List TreeMessage) (n : ℕ) → IsHistory (m ∷ older) → m.number < n → ops_in (m ∷ older) m.key n ≡ None
 none_above m older n h l =
-    ops_in-skip m older m.key n (λ e. let q : n ≡ m.number = ap (λ (p : Place). p.1) e in omega arith)
+    ops_in-skip m older m.key n (λ e. let q : n ≡ m.number = ap (λ (p : VersionPlace). p.1) e in omega arith)
     ∙ ops_in-above (place_of m) older n (omega arith) h.0
 
 pin_found : (pins : List ℕ) (from to : ℕ) → is_pin_within pins from to ≡ true → (p : ℕ) × Contains pins p × (from ≤ p) × (p < to)
@@ -198,11 +198,11 @@ stays_kept : (messages : Messages) (pins : TenantPins) (newer : Option TreeMessa
     → (key : List ℕ) (n : ℕ) → IsKept pins messages key n → IsSome (ops_in ms key n) → Contains (kept pins newer ms) (set_version messages key n)
 stays_kept messages pins newer [] h below after key n k s = let z : false ≡ true = s in absurd (cc)
 stays_kept messages pins newer (m ∷ older) h below after key n k s = ⊎_elim
-    (λ (e : (◌≡◌ {A = Place} (key, n) (place_of m)) × (eq_by_cmp place_cmp (key, n) (place_of m) ≡ true)).
-    subst (λ (q : Place). IsKept pins messages q.0 q.1 → Contains (kept pins newer (m ∷ older)) (set_version messages q.0 q.1)) (sym e.0)
+    (λ (e : (◌≡◌ {A = VersionPlace} (key, n) (place_of m)) × (eq_by_cmp place_cmp (key, n) (place_of m) ≡ true)).
+    subst (λ (q : VersionPlace). IsKept pins messages q.0 q.1 → Contains (kept pins newer (m ∷ older)) (set_version messages q.0 q.1)) (sym e.0)
     (λ k. subst (λ x. Contains (kept pins newer (m ∷ older)) (version_at m x)) (value_there messages newer m older h below after)
     (kept_head pins newer m older (is_kept_there messages pins newer m older below after k))) k)
-    (λ (e : (◌≢◌ {A = Place} (key, n) (place_of m)) × (eq_by_cmp place_cmp (key, n) (place_of m) ≡ false)).
+    (λ (e : (◌≢◌ {A = VersionPlace} (key, n) (place_of m)) × (eq_by_cmp place_cmp (key, n) (place_of m) ≡ false)).
     kept_more pins newer m older (set_version messages key n)
     (stays_kept messages pins (Some m) older h.1 (next_below messages newer m older below after) h.0 key n k (subst (λ o. IsSome o) (ops_in-skip m older key n e.0) s)))
     (place_cases (key, n) (place_of m))

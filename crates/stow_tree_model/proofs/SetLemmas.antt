@@ -7,9 +7,9 @@ use Rattle.std.proofs.lemmas.Bool.{cases_eq, eq-eqb, ne_eqb, cond-true, cond-fal
 use Rattle.stow_tree_model.specs.Keys.{tenant_of}
 use Rattle.stow_tree_model.specs.Op.{Op}
 use Rattle.stow_tree_model.specs.TreeMessage.{TreeMessage}
-use Rattle.stow_tree_model.specs.Order.{Place, place_cmp, place_of}
+use Rattle.stow_tree_model.specs.Order.{VersionPlace, place_cmp, place_of}
 use Rattle.stow_tree_model.specs.Operations.{Operations, or_else, over}
-use Rattle.stow_tree_model.specs.Messages.{Messages, ops_of, with_all, ops_in, IsCall, SetByOps, OthersStay}
+use Rattle.stow_tree_model.specs.Messages.{Messages, ops_of, with_all, ops_in, IsCall, SetByOps, CallsLeaveOthers}
 use Rattle.stow_tree_model.specs.Agreement.{AgreeAt, with_bound, with_pins, AgreementChains, CallAgrees, PinAgrees, FewerPinsAgree, HigherBoundsAgree}
 use Rattle.stow_tree_model.proofs.Orders.{place_total, exact_places, place_cases}
 use Rattle.stow_tree_model.proofs.Latest.{merges_lem, new_pin_lem, fewer_pins_lem, higher_bound_lem}
@@ -29,11 +29,11 @@ ops-with_all m (x ∷ ms) key n =
     ∙ ap (cond (eq_by_cmp place_cmp (key, n) (place_of x)) (Some x.op)) (ops-with_all m ms key n)
     ∙ by_test _ (ops_in ms key n) x.op (ops_of m key n)
 
-pub ops_in-other_place : (ms : List TreeMessage) (key : List ℕ) (n : ℕ) → AllByRecursion (λ m. ◌≢◌ {A = Place} (key, n) (place_of m)) ms → ops_in ms key n ≡ None
+pub ops_in-other_place : (ms : List TreeMessage) (key : List ℕ) (n : ℕ) → AllByRecursion (λ m. ◌≢◌ {A = VersionPlace} (key, n) (place_of m)) ms → ops_in ms key n ≡ None
 ops_in-other_place [] key n h = refl
 ops_in-other_place (m ∷ ms) key n h = ⊎_elim
-    (λ (e : (◌≡◌ {A = Place} (key, n) (place_of m)) × (eq_by_cmp place_cmp (key, n) (place_of m) ≡ true)). absurd (h.0 e.0))
-    (λ (e : (◌≢◌ {A = Place} (key, n) (place_of m)) × (eq_by_cmp place_cmp (key, n) (place_of m) ≡ false)). cond-false _ _ _ e.1 ∙ ops_in-other_place ms key n h.1)
+    (λ (e : (◌≡◌ {A = VersionPlace} (key, n) (place_of m)) × (eq_by_cmp place_cmp (key, n) (place_of m) ≡ true)). absurd (h.0 e.0))
+    (λ (e : (◌≢◌ {A = VersionPlace} (key, n) (place_of m)) × (eq_by_cmp place_cmp (key, n) (place_of m) ≡ false)). cond-false _ _ _ e.1 ∙ ops_in-other_place ms key n h.1)
     (place_cases (key, n) (place_of m))
 
 weaker : {P Q : TreeMessage → Type 0} → ((m : TreeMessage) → P m → Q m) → (ms : List TreeMessage) → AllByRecursion P ms → AllByRecursion Q ms
@@ -41,12 +41,12 @@ weaker f [] h = h
 weaker f (m ∷ ms) h = (f m h.0, weaker f ms h.1)
 
 call_elsewhere : (tenant number : ℕ) (ms : List TreeMessage) (key : List ℕ) (n : ℕ) → IsCall tenant number ms → n ≢ number → ops_in ms key n ≡ None
-call_elsewhere tenant number ms key n h ne = ops_in-other_place ms key n (weaker (λ m p e. ne (ap (λ (x : Place). x.1) e ∙ p.1)) ms h)
+call_elsewhere tenant number ms key n h ne = ops_in-other_place ms key n (weaker (λ m p e. ne (ap (λ (x : VersionPlace). x.1) e ∙ p.1)) ms h)
 
 call_others : (tenant number : ℕ) (ms : List TreeMessage) (key : List ℕ) (n : ℕ) → IsCall tenant number ms → (tenant_of key) ≢ tenant → ops_in ms key n ≡ None
-call_others tenant number ms key n h ne = ops_in-other_place ms key n (weaker (λ m p e. ne (ap (λ (x : Place). tenant_of x.0) e ∙ p.0)) ms h)
+call_others tenant number ms key n h ne = ops_in-other_place ms key n (weaker (λ m p e. ne (ap (λ (x : VersionPlace). tenant_of x.0) e ∙ p.0)) ms h)
 
-pub others_stay_law : OthersStay
+pub others_stay_law : CallsLeaveOthers
 others_stay_law m tenant number ms key h ne i n = (ops-with_all m ms key n ∙ ap (λ o. or_else o (ops_of m key n)) (call_others tenant number ms key n h ne)) i
 
 own_bound : (bound : ℕ → ℕ) (tenant n t : ℕ) → t ≡ tenant → with_bound bound tenant n t ≡ n

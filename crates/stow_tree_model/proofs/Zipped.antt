@@ -10,7 +10,7 @@ use Rattle.std.specs.List.{AllByRecursion}
 use Rattle.std.specs.List.Sorted.{IsStrictlySortedBy}
 use Rattle.stow_tree_model.specs.Op.{Op}
 use Rattle.stow_tree_model.specs.TreeMessage.{TreeMessage}
-use Rattle.stow_tree_model.specs.Order.{Place, place_cmp, place_of}
+use Rattle.stow_tree_model.specs.Order.{VersionPlace, place_cmp, place_of}
 use Rattle.stow_tree_model.specs.Operations.{or_else}
 use Rattle.stow_tree_model.specs.Messages.{Messages, with_all, set_of, ops_in, in_order}
 use Rattle.stow_tree_model.specs.Zipped.{zip_head, zipped}
@@ -18,16 +18,16 @@ use Rattle.stow_tree_model.proofs.Orders.{place_total, exact_places, place_cases
 use Rattle.stow_tree_model.proofs.SetLemmas.{set_by_ops_law, ops_in-other_place, ops-with_all}
 use Rattle.stow_tree_model.proofs.Ordered.{in_order_rises, ops_in-in_order, in_order_once_law}
 
-abbrev Above : Place → List TreeMessage → Type 0
+abbrev Above : VersionPlace → List TreeMessage → Type 0
 Above p ms = AllByRecursion (λ q. place_cmp p q ≡ Less) (map place_of ms)
 
-above_trans : (p q : Place) (ms : List TreeMessage) → place_cmp p q ≡ Less → Above q ms → Above p ms
+above_trans : (p q : VersionPlace) (ms : List TreeMessage) → place_cmp p q ≡ Less → Above q ms → Above p ms
 above_trans p q [] l h = h
 above_trans p q (m ∷ ms) l h = (place_total.trans p q (place_of m) l h.0, above_trans p q ms l h.1)
 
 -- ---- rising
 
-all_head : (P : Place → Type 0) (a : TreeMessage) (rest : List TreeMessage → List TreeMessage) (bs : List TreeMessage)
+all_head : (P : VersionPlace → Type 0) (a : TreeMessage) (rest : List TreeMessage → List TreeMessage) (bs : List TreeMessage)
     → ((cs : List TreeMessage) → AllByRecursion P (map place_of cs) → AllByRecursion P (map place_of (rest cs))) → P (place_of a) → AllByRecursion P (map place_of bs)
     → AllByRecursion P (map place_of (zip_head a rest bs))
 all_head P a rest [] f p h = (p, f [] tt)
@@ -38,7 +38,7 @@ all_head P a rest (b ∷ bs) f p h =
       | Greater ↦ (h.0, all_head P a rest bs f p h.1)
     ]
 
-all_zipped : (P : Place → Type 0) (rows bs : List TreeMessage) → AllByRecursion P (map place_of rows) → AllByRecursion P (map place_of bs) → AllByRecursion P (map place_of (zipped rows bs))
+all_zipped : (P : VersionPlace → Type 0) (rows bs : List TreeMessage) → AllByRecursion P (map place_of rows) → AllByRecursion P (map place_of bs) → AllByRecursion P (map place_of (zipped rows bs))
 all_zipped P [] bs f h = h
 all_zipped P (a ∷ rows) bs f h = all_head P a (zipped rows) bs (λ cs g. all_zipped P rows cs f.1 g) f.0 h
 
@@ -63,10 +63,10 @@ zipped_rises (a ∷ rows) bs f h = rises_head a rows bs (λ cs g. zipped_rises r
 
 -- ---- look-ups
 
-not_above : (p : Place) (ms : List TreeMessage) → Above p ms → ops_in ms p.0 p.1 ≡ None
+not_above : (p : VersionPlace) (ms : List TreeMessage) → Above p ms → ops_in ms p.0 p.1 ≡ None
 not_above p ms h = ops_in-other_place ms p.0 p.1 (apart ms h)
   where
-    apart : (xs : List TreeMessage) → Above p xs → AllByRecursion (λ m. ◌≢◌ {A = Place} (p.0, p.1) (place_of m)) xs
+    apart : (xs : List TreeMessage) → Above p xs → AllByRecursion (λ m. ◌≢◌ {A = VersionPlace} (p.0, p.1) (place_of m)) xs
     apart [] h = tt
     apart (m ∷ xs) h = ((λ e. let z : Equal ≡ Less = sym (tied_itself place_total p) ∙ (subst (λ q. place_cmp p q ≡ Less) (sym e) h.0) in cc), apart xs h.1)
 
@@ -87,7 +87,7 @@ cond_both true s p q o x e = refl
 cond_both false true p q o x e = cc
 cond_both false false p q o x e = refl
 
-test_true : (p q : Place) → eq_by_cmp place_cmp p q ≡ true → p ≡ q
+test_true : (p q : VersionPlace) → eq_by_cmp place_cmp p q ≡ true → p ≡ q
 test_true p q e = ⊎_elim (λ (h : (p ≡ q) × (eq_by_cmp place_cmp p q ≡ true)). h.0) (λ (h : (p ≢ q) × (eq_by_cmp place_cmp p q ≡ false)). let z : true ≡ false = sym e ∙ h.1 in cc) (place_cases p q)
 
 ops_head : (a : TreeMessage) (rows bs : List TreeMessage) (key : List ℕ) (n : ℕ) → ((cs : List TreeMessage) → IsStrictlySortedBy place_cmp (map place_of cs) → ops_in (zipped rows cs) key n ≡ or_else (ops_in cs key n) (ops_in rows key n)) → IsStrictlySortedBy place_cmp (map place_of bs)
@@ -100,7 +100,7 @@ ops_head a rows (b ∷ bs) key n f h =
           ap (cond (eq_by_cmp place_cmp (key, n) (place_of a)) (Some a.op)) (f (b ∷ bs) h)
           ∙ cond_under (eq_by_cmp place_cmp (key, n) (place_of a)) a.op (ops_in (b ∷ bs) key n) (ops_in rows key n) (λ t.
           let p = test_true (key, n) (place_of a) t in
-          ap (λ (q : Place). ops_in (b ∷ bs) q.0 q.1) p ∙ not_above (place_of a) (b ∷ bs) (e, above_trans (place_of a) (place_of b) bs e h.0))
+          ap (λ (q : VersionPlace). ops_in (b ∷ bs) q.0 q.1) p ∙ not_above (place_of a) (b ∷ bs) (e, above_trans (place_of a) (place_of b) bs e h.0))
       | Equal ↦ λ e.
           ap (cond (eq_by_cmp place_cmp (key, n) (place_of b)) (Some b.op)) (f bs h.1)
           ∙ cond_both (eq_by_cmp place_cmp (key, n) (place_of b)) (eq_by_cmp place_cmp (key, n) (place_of a)) b.op a.op (ops_in bs key n) (ops_in rows key n) (ap (eq_by_cmp place_cmp (key, n)) (sym (exact_places (place_of a) (place_of b) e)))

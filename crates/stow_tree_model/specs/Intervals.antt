@@ -11,8 +11,8 @@ use Rattle.stow_tree_model.specs.Keys.{packed, tenant_of, IsTenantKey}
 abbrev pub IsWithin : List ℕ → List ℕ → List ℕ → Type 0
 IsWithin from to key = (bytes_cmp key from ≡ Less → ⊥) × (bytes_cmp key to ≡ Less)
 
-abbrev pub AreBytes : List ℕ → Type 0
-AreBytes key = AllByRecursion (λ b. b < 256) key
+abbrev pub AreKeyBytes : List ℕ → Type 0
+AreKeyBytes key = AllByRecursion (λ b. b < 256) key
 
 -- ---- the laws
 
@@ -25,5 +25,5 @@ PackedInOrder = (t u : ℕ) (a b : List ℕ) → t < 2 ^ 32 → u < 2 ^ 32
 -- them
 abbrev pub TenantInterval : Type 0
 TenantInterval = (tenant : ℕ) (key : List ℕ) → tenant ≤ tenant_limit → IsTenantKey key
-    → AreBytes key
+    → AreKeyBytes key
     → (tenant_of key ≡ tenant) ↔ IsWithin (packed tenant []) (packed (tenant + 1) []) key

@@ -6,7 +6,7 @@ use Rattle.std.specs.List.{AllByRecursion}
 use Rattle.stow_tree_model.specs.Keys.{tenant_of}
 use Rattle.stow_tree_model.specs.Op.{Op}
 use Rattle.stow_tree_model.specs.TreeMessage.{TreeMessage}
-use Rattle.stow_tree_model.specs.Order.{Place, place_cmp, place_of, MessagesRise}
+use Rattle.stow_tree_model.specs.Order.{VersionPlace, place_cmp, place_of, MessagesRise}
 use Rattle.stow_tree_model.specs.Operations.{NumberedValue, Operations, latest}
 
 -- a set of messages, no two with the same key and number
@@ -36,7 +36,7 @@ ops_in [] key number = None
 ops_in (m ∷ more) key number =
     if eq_by_cmp place_cmp (key, number) (place_of m) then Some m.op else ops_in more key number
 
-abbrev pub message_at : Place × Op → TreeMessage
+abbrev pub message_at : VersionPlace × Op → TreeMessage
 message_at e = record { key = e.0.0; number = e.0.1; op = e.1 }
 
 -- the messages of a set by key, then number
@@ -60,6 +60,6 @@ InOrderOnce = (ms : List TreeMessage) (messages : Messages) → MessagesRise ms
     → ((key : List ℕ) (n : ℕ) → ops_in ms key n ≡ ops_of messages key n) → ms ≡ in_order messages
 
 -- a call's messages leave what the keys of others have
-abbrev pub OthersStay : Type 0
-OthersStay = (m : Messages) (tenant number : ℕ) (ms : List TreeMessage) (key : List ℕ)
+abbrev pub CallsLeaveOthers : Type 0
+CallsLeaveOthers = (m : Messages) (tenant number : ℕ) (ms : List TreeMessage) (key : List ℕ)
     → IsCall tenant number ms → tenant_of key ≢ tenant → ops_of (with_all m ms) key ≡ ops_of m key

@@ -8,16 +8,16 @@ use Rattle.stow_tree_model.specs.TreeMessage.{TreeMessage}
 use Rattle.stow_tree_model.specs.Version.{Version}
 
 -- a key and a number
-abbrev pub Place : Type 0
-Place = List ℕ × ℕ
+abbrev pub VersionPlace : Type 0
+VersionPlace = List ℕ × ℕ
 
-abbrev pub place_cmp : Place → Place → Ordering
+abbrev pub place_cmp : VersionPlace → VersionPlace → Ordering
 place_cmp a b = ordering_then (bytes_cmp a.0 b.0) (nat_cmp a.1 b.1)
 
-abbrev pub place_of : TreeMessage → Place
+abbrev pub place_of : TreeMessage → VersionPlace
 place_of m = (m.key, m.number)
 
-abbrev pub version_place : Version → Place
+abbrev pub version_place : Version → VersionPlace
 version_place v = (v.key, v.number)
 
 -- each message stands above those before it, so none has the key and number of another

@@ -3,7 +3,7 @@ ghost use Rattle.stow_tree_model.specs.Agreement.{AgreementChains, CallAgrees, P
 ghost use Rattle.stow_tree_model.specs.Examples.{Examples};
 ghost use Rattle.stow_tree_model.specs.Intervals.{PackedInOrder, TenantInterval};
 ghost use Rattle.stow_tree_model.specs.Merged.{PrunedExactly, PrunedAgrees, MergeAgrees};
-ghost use Rattle.stow_tree_model.specs.Messages.{SetByOps, InOrderOnce, OthersStay};
+ghost use Rattle.stow_tree_model.specs.Messages.{SetByOps, InOrderOnce, CallsLeaveOthers};
 ghost use Rattle.stow_tree_model.specs.Operations.{OwnOperationsOnly};
 
 /// What a key has at a number depends on its own operations up to the number.
@@ -23,7 +23,7 @@ pub fn in_order_once()
 
 /// A call's messages leave what the keys of other tenants have.
 pub fn others_stay()
-    ensures { OthersStay }
+    ensures { CallsLeaveOthers }
 {}
 
 /// Agreement chains.

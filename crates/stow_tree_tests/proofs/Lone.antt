@@ -12,22 +12,22 @@ use Rattle.stow_tree_model.specs.Value.{IsValue}
 use Rattle.stow_node.specs.Flushes.{AreShort}
 use Rattle.stow_message.specs.Packed.{message_size}
 use Rattle.stow_tree_model.specs.Messages.{ops_in}
-use Rattle.stow_tree_model.specs.Order.{Place, place_cmp, place_of}
+use Rattle.stow_tree_model.specs.Order.{VersionPlace, place_cmp, place_of}
 use Rattle.stow_tree_model.specs.TreeMessage.{TreeMessage}
 use Rattle.stow_tree_model.proofs.Orders.{place_cases}
 use Rattle.stow_node.specs.Subtree.{Subtree, buffered, messages_of}
-use Rattle.stow_leaf.specs.Intervals.{top_key, spans, AreWithin}
+use Rattle.stow_leaf.specs.Intervals.{top_key, spans, NoneOutside}
 use Rattle.stow_node.specs.Moves.{accepted, CanAccept}
 use Rattle.stow_leaf.proofs.Found.{none_some}
 
 -- a message is of its own key and number alone
 pub at_own : {X : Type 0} (m : TreeMessage) (key : List ℕ) (n : ℕ) → (key ≡ m.key → n ≡ m.number → X) → (ops_in (m ∷ []) key n ≡ None → X) → X
 at_own m key n f g = ⊎_elim
-    (λ (e : (◌≡◌ {A = Place} (key, n) (place_of m)) × (eq_by_cmp place_cmp (key, n) (place_of m) ≡ true)). f (ap (λ (p : Place). p.0) e.0) (ap (λ (p : Place). p.1) e.0))
-    (λ (e : (◌≢◌ {A = Place} (key, n) (place_of m)) × (eq_by_cmp place_cmp (key, n) (place_of m) ≡ false)). g (cond-false _ _ _ e.1))
+    (λ (e : (◌≡◌ {A = VersionPlace} (key, n) (place_of m)) × (eq_by_cmp place_cmp (key, n) (place_of m) ≡ true)). f (ap (λ (p : VersionPlace). p.0) e.0) (ap (λ (p : VersionPlace). p.1) e.0))
+    (λ (e : (◌≢◌ {A = VersionPlace} (key, n) (place_of m)) × (eq_by_cmp place_cmp (key, n) (place_of m) ≡ false)). g (cond-false _ _ _ e.1))
     (place_cases (key, n) (place_of m))
 
-pub within_alone : (low : List ℕ) (m : TreeMessage) → spans low top_key m.key ≡ true → AreWithin low top_key (m ∷ [])
+pub within_alone : (low : List ℕ) (m : TreeMessage) → spans low top_key m.key ≡ true → NoneOutside low top_key (m ∷ [])
 within_alone low m own = record { outside = λ key n o. at_own m key n (λ k e. absurd (apart (ap (spans low top_key) k ∙ own) o)) (λ none. none) } where
   apart : {b : Bool} → b ≡ true → b ≡ false → ⊥
   apart e f = cc

@@ -15,7 +15,7 @@ use Rattle.stow_node.specs.Subtree.{Subtree, messages_of}
 use Rattle.stow_tree_model.specs.Agreement.{TenantPins}
 use Rattle.stow_tree_model.specs.Messages.{ops_in}
 use Rattle.stow_tree_model.specs.Op.{Op}
-use Rattle.stow_tree_model.specs.Order.{Place, place_cmp, place_of}
+use Rattle.stow_tree_model.specs.Order.{VersionPlace, place_cmp, place_of}
 use Rattle.stow_tree_model.specs.TreeMessage.{TreeMessage}
 use Rattle.stow_tree_model.proofs.Histories.{ops_in-skip}
 use Rattle.stow_tree_model.proofs.Orders.{place_cases}
@@ -25,8 +25,8 @@ use Rattle.stow_read.proofs.Walked.{ops_over}
 -- an operation of messages is the first one's or another's
 first_some : {X : Type 0} (m : TreeMessage) (ms : List TreeMessage) (key : List ℕ) (n : ℕ) → IsSome (ops_in (m ∷ ms) key n) → (key ≡ m.key → n ≡ m.number → X) → (IsSome (ops_in ms key n) → X) → X
 first_some m ms key n s f g = ⊎_elim
-    (λ (e : (◌≡◌ {A = Place} (key, n) (place_of m)) × (eq_by_cmp place_cmp (key, n) (place_of m) ≡ true)). f (ap (λ (p : Place). p.0) e.0) (ap (λ (p : Place). p.1) e.0))
-    (λ (e : (◌≡◌ {A = Place} (key, n) (place_of m) → ⊥) × (eq_by_cmp place_cmp (key, n) (place_of m) ≡ false)). g (subst IsSome (ops_in-skip m ms key n e.0) s))
+    (λ (e : (◌≡◌ {A = VersionPlace} (key, n) (place_of m)) × (eq_by_cmp place_cmp (key, n) (place_of m) ≡ true)). f (ap (λ (p : VersionPlace). p.0) e.0) (ap (λ (p : VersionPlace). p.1) e.0))
+    (λ (e : (◌≡◌ {A = VersionPlace} (key, n) (place_of m) → ⊥) × (eq_by_cmp place_cmp (key, n) (place_of m) ≡ false)). g (subst IsSome (ops_in-skip m ms key n e.0) s))
     (place_cases (key, n) (place_of m))
 
 placed_some : (P : ℕ → Type 0) (m : TreeMessage) (ms : List TreeMessage) (key : List ℕ) (n : ℕ) → P m.number → (IsSome (ops_in ms key n) → P n) → IsSome (ops_in (placed m ms) key n) → P n
@@ -42,8 +42,8 @@ placed_some P m (x ∷ xs) key n at g s = step (is_below (place_of m) x) s (plac
   there ys t h = first_some x ys key n t (λ k e. g (here k e)) h where
     here : key ≡ x.key → n ≡ x.number → IsSome (ops_in (x ∷ xs) key n)
     here k e = ⊎_elim
-        (λ (p : (◌≡◌ {A = Place} (key, n) (place_of x)) × (eq_by_cmp place_cmp (key, n) (place_of x) ≡ true)). subst (λ b. IsSome (cond b (Some x.op) (ops_in xs key n))) (sym p.1) refl)
-        (λ (p : (◌≡◌ {A = Place} (key, n) (place_of x) → ⊥) × (eq_by_cmp place_cmp (key, n) (place_of x) ≡ false)). absurd (p.0 (λ i. (k i, e i))))
+        (λ (p : (◌≡◌ {A = VersionPlace} (key, n) (place_of x)) × (eq_by_cmp place_cmp (key, n) (place_of x) ≡ true)). subst (λ b. IsSome (cond b (Some x.op) (ops_in xs key n))) (sym p.1) refl)
+        (λ (p : (◌≡◌ {A = VersionPlace} (key, n) (place_of x) → ⊥) × (eq_by_cmp place_cmp (key, n) (place_of x) ≡ false)). absurd (p.0 (λ i. (k i, e i))))
         (place_cases (key, n) (place_of x))
 
   step : (b : Bool) → IsSome (ops_in (cond b (x ∷ placed m xs) (m ∷ x ∷ xs)) key n) → (IsSome (ops_in (placed m xs) key n) → P n) → P n

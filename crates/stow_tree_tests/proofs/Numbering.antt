@@ -10,7 +10,7 @@ use Rattle.stow_tree_model.specs.Merged.{same_key}
 use Rattle.stow_tree_model.specs.Messages.{Messages, ops_of, value}
 use Rattle.stow_tree_model.specs.Op.{Op, Gone, bytes_in}
 use Rattle.stow_tree_model.specs.Operations.{or_else, outcome, value_in}
-use Rattle.stow_tree_model.specs.Order.{Place, place_cmp, place_of}
+use Rattle.stow_tree_model.specs.Order.{VersionPlace, place_cmp, place_of}
 use Rattle.stow_tree_model.specs.TreeMessage.{TreeMessage}
 use Rattle.stow_tree_model.specs.Value.{IsValue}
 use Rattle.stow_tree_model.proofs.Orders.{key_cases}
@@ -24,9 +24,9 @@ pub bound_under : (pins : TenantPins) (old new : Messages) (last : ℕ) → Agre
 bound_under pins old new last agree has key = (agree (λ t. last) has key).right_below
 
 -- messages of one number have none above it
-numbered_alike : (number : ℕ) (ms : List TreeMessage) (key : List ℕ) (n : ℕ) → AllByRecursion (λ m. m.number ≡ number) ms → number < n → AllByRecursion (λ m. ◌≢◌ {A = Place} (key, n) (place_of m)) ms
+numbered_alike : (number : ℕ) (ms : List TreeMessage) (key : List ℕ) (n : ℕ) → AllByRecursion (λ m. m.number ≡ number) ms → number < n → AllByRecursion (λ m. ◌≢◌ {A = VersionPlace} (key, n) (place_of m)) ms
 numbered_alike number [] key n all above = tt
-numbered_alike number (m ∷ ms) key n all above = (λ e. higher (ap (λ (p : Place). p.1) e), numbered_alike number ms key n all.1 above)
+numbered_alike number (m ∷ ms) key n all above = (λ e. higher (ap (λ (p : VersionPlace). p.1) e), numbered_alike number ms key n all.1 above)
   where
     higher : n ≡ m.number → ⊥
     higher e = let is = all.0 in omega (arith, e, is, above)

@@ -21,10 +21,10 @@ use Rattle.stow_tree_model.specs.Order.{MessagesRise}
 use Rattle.stow_tree_model.specs.TreeMessage.{TreeMessage}
 use Rattle.stow_tree_model.specs.Value.{IsValue}
 use Rattle.stow_tree_model.proofs.Latest.{latest_same}
-use Rattle.stow_flush.specs.Rooms.{Stands}
+use Rattle.stow_flush.specs.Rooms.{RootStands}
 use Rattle.stow_flush.proofs.Making.{flushes_stands, stays_stands}
 use Rattle.stow_node.specs.Flushes.{Flushes}
-use Rattle.stow_node.specs.Moves.{accepted, CanAccept, Stays}
+use Rattle.stow_node.specs.Moves.{accepted, CanAccept, StaysInMeaning}
 use Rattle.stow_tree_tests.specs.Ready.{IsReadyAbove}
 use Rattle.stow_node.specs.Subtree.{Subtree, buffered, messages_of, first_subtree}
 use Rattle.stow_node.specs.declared.shape.Shape.{Shape}
@@ -41,12 +41,12 @@ first_ready shape t e = subst (IsReadyAbove 0) (sym e) (record {
 })
 
 -- the node means the same, whatever its step answered
-pub stood : {T E : Type 0} (pins : TenantPins) (old new : Subtree) (r : Result T E) → OnOk r (Flushes pins old new) → OnErr r (Stays old new) → Stands pins old new
+pub stood : {T E : Type 0} (pins : TenantPins) (old new : Subtree) (r : Result T E) → OnOk r (Flushes pins old new) → OnErr r (StaysInMeaning old new) → RootStands pins old new
 stood pins old new (Ok x) f s = flushes_stands pins old new f
 stood pins old new (Err e) f s = stays_stands pins old new s
 
 -- what means the same takes the same messages
-pub kept_ready : (pins : TenantPins) (old new : Subtree) (last : ℕ) → Stands pins old new → IsReadyAbove last old → IsReadyAbove last new
+pub kept_ready : (pins : TenantPins) (old new : Subtree) (last : ℕ) → RootStands pins old new → IsReadyAbove last old → IsReadyAbove last new
 kept_ready pins old new last k r = record {
   low = k.low ∙ r.low;
   numbers = λ key. ((k.means key).way last (r.numbers key)).right_below;

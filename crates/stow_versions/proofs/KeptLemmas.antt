@@ -1,13 +1,13 @@
 -- What the type keeps of its lists, and what that means of the versions.
 use Rattle.std.proofs.Common.{◌≡◌, ℕ, ◌≤◌, ◌<◌, ◌+◌, List, [], ◌∷◌, ◌++◌, length, refl, ap, ◌∙◌, sym, subst, arith}
 use Rattle.std.specs.Prelude.{All, Result, Ok, Err, IfErr, OnOk, min}
-use Rattle.stow_bytes.specs.Limits.{number_limit}
+use Rattle.stow_bytes.specs.Limits.{number_limit, snapshot_limit}
 use Rattle.std.specs.Ordering.{nat_cmp}
 use Rattle.stow_versions.specs.declared.snapshot_fault.SnapshotFault.{SnapshotFault}
 use Rattle.stow_versions.specs.declared.snapshot_fault.SnapshotFault.TheVariants.{TooMany, OutOfMemory}
 use Rattle.std.specs.List.{AllPairs}
 use Rattle.std.specs.FinMap as map
-use Rattle.stow_versions.specs.VersionsState.{VersionsState, AreVersions, IsReady, snapshot_limit}
+use Rattle.stow_versions.specs.VersionsState.{VersionsState, IsVersionsState, IsReady}
 use Rattle.stow_versions.specs.VersionLists.{snapshots_of, ArePins, AreVersionLists}
 use Rattle.stow_versions.proofs.SnapshotLemmas.{keys_of, values_of, len_of, get_of, find_here, find_absent, place_is, rise_push, rise_remove, insert_push, remove_at}
 use Rattle.std.specs.Prelude.{◌==◌, Option, Some, None, IsSome, is_some, T}
@@ -19,7 +19,7 @@ use Rattle.std.proofs.lemmas.List.Edits.{length-remove, get_or-remove_below, get
 use Rattle.std.proofs.lemmas.List.Elements.{All-push}
 use Rattle.std.proofs.lemmas.List.Quantifiers.{all_pairs_push, all_pairs_remove}
 
-pub are_versions : (last next room : ℕ) (ids numbers pins : List ℕ) → AreVersionLists last next ids numbers pins → AreVersions (record { last = last; snapshots = snapshots_of ids numbers; next = next; room = room })
+pub are_versions : (last next room : ℕ) (ids numbers pins : List ℕ) → AreVersionLists last next ids numbers pins → IsVersionsState (record { last = last; snapshots = snapshots_of ids numbers; next = next; room = room })
 are_versions last next room ids numbers pins are = record {
   few = subst (λ n. n ≤ snapshot_limit) (sym (len_of ids numbers are.each are.ids_rise)) are.few;
   ids_below = subst (λ ks. All (λ id. id < next) ks) (sym (keys_of ids numbers are.each are.ids_rise)) are.ids_below;

@@ -7,8 +7,7 @@ use Rattle.std.specs.FinMap.{FinMap, is_sorted}
 use Rattle.std.specs.FinMap as map
 use Rattle.std.specs.Vec.{vec_capacity}
 use Rattle.std.specs.declared.vec.Vec.{Vec}
-use Rattle.stow_bytes.specs.Limits.{number_limit}
-use Rattle.stow_versions.specs.VersionsState.{snapshot_limit}
+use Rattle.stow_bytes.specs.Limits.{number_limit, snapshot_limit}
 
 -- each id with its number
 abbrev pub snapshots_of : List ℕ → List ℕ → FinMap nat_cmp ℕ

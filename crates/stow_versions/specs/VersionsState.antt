@@ -5,11 +5,7 @@ use Rattle.std.specs.Ordering.{nat_cmp}
 use Rattle.std.specs.Coded.{Coded, code_by, coded×, coded_ℕ}
 use Rattle.std.specs.FinMap.{FinMap}
 use Rattle.std.specs.FinMap as map
-use Rattle.stow_bytes.specs.Limits.{number_limit}
-
--- live snapshots of a tenant, at most
-abbrev pub snapshot_limit : ℕ
-snapshot_limit = 64
+use Rattle.stow_bytes.specs.Limits.{number_limit, snapshot_limit}
 
 pub record VersionsState : Type 0 where
   -- the number of the last write
@@ -38,7 +34,7 @@ abbrev pub is_among : ℕ → List ℕ → Bool
 is_among n numbers = list_any (λ m. m == n) numbers
 
 -- what holds of every tenant's versions
-pub record AreVersions (v : VersionsState) : Type 0 where
+pub record IsVersionsState (v : VersionsState) : Type 0 where
   pub few : map.len v.snapshots ≤ snapshot_limit
   pub ids_below : All (λ id. id < v.next) (map.keys v.snapshots)
   pub ids_within : v.next ≤ number_limit + 1

@@ -5,8 +5,8 @@ ghost use Rattle.std.specs.List.Sorted.{IsStrictlyIncreasing};
 ghost use Rattle.std.specs.Vec.{vec_capacity};
 ghost use Rattle.std.specs.Result.{result_ok};
 ghost use Rattle.std.specs.FinMap as map;
-ghost use Rattle.stow_bytes.specs.Limits.{number_limit};
-ghost use Rattle.stow_versions.specs.VersionsState.{snapshot_limit, new_versions, is_among, AreVersions, IsReady};
+ghost use Rattle.stow_bytes.specs.Limits.{number_limit, snapshot_limit};
+ghost use Rattle.stow_versions.specs.VersionsState.{new_versions, is_among, IsVersionsState, IsReady};
 ghost use Rattle.stow_versions.specs.VersionLists.{room_of, ArePins};
 ghost use Rattle.stow_versions.specs.declared.snapshot_fault.SnapshotFault.TheVariants.{TooMany, IdsUsedUp, OutOfMemory};
 
@@ -14,10 +14,7 @@ use crate::no_such_snapshot::NoSuchSnapshot;
 use crate::snapshot_fault::SnapshotFault;
 use std::alloc::{AllocError, Allocator, Global};
 use std::marker::Model;
-use stow_bytes::limits::NUMBER_LIMIT;
-
-/// Live snapshots of a tenant, at most.
-pub const SNAPSHOT_LIMIT: usize = 64;
+use stow_bytes::limits::{NUMBER_LIMIT, SNAPSHOT_LIMIT};
 
 /// The number of a tenant's last write, its live snapshots, and the numbers at which they show its rows.
 #[derive(Drop)]
@@ -65,7 +62,7 @@ impl<A: Allocator + Copy> Versions<A> {
     /// The number of the last write, 0 where there was none.
     pub fn last(&self) -> u64
         ensures value { result ≡ self.now.last }
-        ensures kept { AreVersions self.now }
+        ensures kept { IsVersionsState self.now }
     {
         self.last
     }

@@ -10,7 +10,7 @@ use Rattle.stow_model.specs.Reply.{Reply}
 use Rattle.stow_model.specs.Store.{Asked, store_after, empty_store, answer_with, with_reply, is_out_of_memory}
 use Rattle.stow_model.specs.History.{At, ConnectionStep, Plain, Service, part_of, request_as, request_of, kind_reply, served_as, with_service, service_of, line_of, told_by, told_at, reply_in_line, Telling, telling_of, with_telling, tellings, is_tenant, answers_to, Follows, IsStep, IsHistory}
 use Rattle.stow_core.specs.State.{CoreState, store_of, IsNewCore, Calls}
-use Rattle.stow_house.specs.Seen.{IsServed}
+use Rattle.stow_house.specs.Seen.{IsServedTenant}
 use Rattle.stow_house.specs.Connections.{moved, reply_in_core}
 use Rattle.stow_house.proofs.Tenants.{served_tenant}
 use Rattle.stow_house.proofs.Here.{answered_by, moves_own}
@@ -81,7 +81,7 @@ one_replied t tenant c words r calls told same = by_test (tenant == t)
     by_test true = ap (λ replies. r ∷ replies) same
     by_test false = same
 
-kind_done : (entries : List Entry) (kind : Kind) (words : List (List ℕ)) (who : Option ℕ) (r : Reply) (old new : CoreState) → IsServed old.entries who → IsCall (request_as kind words (is_out_of_memory r) who) r old new
+kind_done : (entries : List Entry) (kind : Kind) (words : List (List ℕ)) (who : Option ℕ) (r : Reply) (old new : CoreState) → IsServedTenant old.entries who → IsCall (request_as kind words (is_out_of_memory r) who) r old new
     → Done (request_as kind words (is_out_of_memory r) who) (Some (kind_reply entries kind who (λ tenant. r))) (Some (kind_reply entries kind who (reply_in_core old (is_out_of_memory r) words))) r old new
 kind_done entries (Login name password) words who r old new is called = nothing_done _ r old new called
 kind_done entries Quit words who r old new is called = nothing_done _ r old new called
@@ -98,7 +98,7 @@ kind_done entries ForStore words (Some tenant) r old new is called =
       replies = λ t c calls tellings same. one_replied t tenant c words r calls tellings same;
     }
 
-step_done : (entries : List Entry) (x : Exchange) (who : Option ℕ) (old new : CoreState) → IsServed old.entries who → IsCall (request_of (step_of x) who) (reply_in x) old new
+step_done : (entries : List Entry) (x : Exchange) (who : Option ℕ) (old new : CoreState) → IsServedTenant old.entries who → IsCall (request_of (step_of x) who) (reply_in x) old new
     → Done (request_of (step_of x) who) (told_by entries (step_of x) who (λ is_refused words tenant. reply_in x)) (told_by entries (step_of x) who (reply_in_core old)) (reply_in x) old new
 step_done entries (Read bytes) who old new is called = nothing_done None _ old new called
 step_done entries (Served (message.Words words) r) who old new is called = kind_done entries (kind_of words) words who r old new is called
@@ -146,7 +146,7 @@ goes c entries old is_new same (x ∷ xs) new follow leads =
     let mid = before Calls request r calls old new leads in
     let ih = goes c entries old is_new same xs mid follow.1 (leads_before request r calls old new leads) in
     let is_part : part_of c h ≡ steps_of xs = part c (steps_of xs) in
-    let served : IsServed mid.entries who = subst (λ es. IsServed es who) (sym ih.1) (served_tenant entries (steps_of xs)) in
+    let served : IsServedTenant mid.entries who = subst (λ es. IsServedTenant es who) (sym ih.1) (served_tenant entries (steps_of xs)) in
     let d = step_done entries x who mid new served (is_call request r calls old new leads) in
     let asked : service_of entries (At c (step_of x)) h ≡ request = ap (λ p. request_of (step_of x) (served_as entries p)) is_part in
     let said : told_by entries (step_of x) who (λ is_refused words tenant. r) ≡ told_at entries c (step_of x) h =

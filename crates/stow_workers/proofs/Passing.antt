@@ -13,11 +13,11 @@ use Rattle.stow_model.specs.History.{Status, IsOpen, Closed, Service, status_aft
 use Rattle.stow_house.specs.Seen.{status_by}
 use Rattle.stow_house.specs.Sessions.{Whole, Told, taking, taking_words, Finishes}
 use Rattle.stow_workers.specs.Exchanges.{Call, with_call, LeadTo}
-use Rattle.stow_workers.specs.Talks.{Answers}
+use Rattle.stow_workers.specs.Talks.{DoorCall}
 
 -- The status afterwards, the request to a store by whether memory was refused to it, and what is told, by the
 -- door's reply: there is one with which the door was led to where it is, if it was asked.
-pub record Passing {D : Type 0} (answers : Answers D) (status : Status) (request : Bool → Option Service) (said : Reply → Option Reply) (old new : D) (told : Option Reply) (ends : Bool) : Type 0 where
+pub record Passing {D : Type 0} (answers : DoorCall D) (status : Status) (request : Bool → Option Service) (said : Reply → Option Reply) (old new : D) (told : Option Reply) (ends : Bool) : Type 0 where
   pub reply : Reply
   pub after : status_by (not ends) ≡ status
   pub may : is_out_of_memory reply ≡ true → IsSome (request (is_out_of_memory reply))
@@ -25,7 +25,7 @@ pub record Passing {D : Type 0} (answers : Answers D) (status : Status) (request
   pub leads : (first : D) (earlier : List Call) → LeadTo answers first earlier old → LeadTo answers first (with_call (request (is_out_of_memory reply)) reply earlier) new
 
 -- the connection answers by itself
-by_itself : {D : Type 0} (answers : Answers D) (status : Status) (r : Option Reply) (ended : Bool) (old new : D) (told : Option Reply) (ends : Bool) → status_by (not ended) ≡ status
+by_itself : {D : Type 0} (answers : DoorCall D) (status : Status) (r : Option Reply) (ended : Bool) (old new : D) (told : Option Reply) (ends : Bool) → status_by (not ended) ≡ status
     → Finishes answers (Told r ended) old told ends new → Passing answers status (λ b. None) (λ _. r) old new told ends
 by_itself answers status r ended old new told ends is f = record {
   reply = reply.Null;
@@ -35,7 +35,7 @@ by_itself answers status r ended old new told ends is f = record {
   leads = λ first earlier l. subst (LeadTo answers first earlier) (sym f.2) l;
 }
 
-of_kind : {D : Type 0} (answers : Answers D) (entries : List Entry) (kind : Kind) (words : List (List ℕ)) (before : Option ℕ) (old new : D) (told : Option Reply) (ends : Bool)
+of_kind : {D : Type 0} (answers : DoorCall D) (entries : List Entry) (kind : Kind) (words : List (List ℕ)) (before : Option ℕ) (old new : D) (told : Option Reply) (ends : Bool)
     → Finishes answers (taking_words entries kind words before) old told ends new
     → Passing answers (status_after_kind kind IsOpen) (λ b. request_as kind words b before) (λ r. Some (kind_reply entries kind before (λ tenant. r))) old new told ends
 unfolding LeadTo
@@ -51,7 +51,7 @@ of_kind answers entries ForStore words (Some tenant) old new told ends (r, calle
   leads = λ first earlier l. (old, l, called);
 }
 
-pub of_message : {D : Type 0} (answers : Answers D) (entries : List Entry) (m : Message) (before : Option ℕ) (old new : D) (told : Option Reply) (ends : Bool)
+pub of_message : {D : Type 0} (answers : DoorCall D) (entries : List Entry) (m : Message) (before : Option ℕ) (old new : D) (told : Option Reply) (ends : Bool)
     → Finishes answers (taking entries (Whole m) before) old told ends new
     → Passing answers (status_after_message m IsOpen) (λ b. request_of_message m b before) (λ r. message_reply entries m before (λ words tenant. r)) old new told ends
 of_message answers entries (message.Words words) before old new told ends f = of_kind answers entries (kind_of words) words before old new told ends f

@@ -14,12 +14,12 @@ use Rattle.stow_workers.specs.declared.served.Served.TheVariants as served
 use Rattle.stow_workers.specs.declared.stop.Stop.{Stop}
 use Rattle.stow_workers.specs.declared.stop.Stop.TheVariants as stopped
 use Rattle.stow_workers.specs.Exchanges.{Read, steps_of, AllFollow, calls_in, LeadTo, told_in, spelled}
-use Rattle.stow_workers.specs.Sent.{Begins, Written, Sent, IsLeft, HasFailedIf, HasSent, StaysSent, IsWritten}
-use Rattle.stow_workers.specs.Talks.{Answers, State, IsUnderWay, IsWaiting, HasServedAll, ReaderFails, MeetsEnd, IsTold, ServesTo, PieceTo, CanEndPiece, outcome_of, bytes_told}
+use Rattle.stow_workers.specs.Sent.{Begins, Written, Sent, IsLeft, HasFailedIf, HasSent, StaysSent, NoneWaits}
+use Rattle.stow_workers.specs.Talks.{DoorCall, State, IsUnderWay, IsWaiting, HasServedAll, ReaderFails, MeetsEnd, IsTold, ServesTo, PieceTo, CanEndPiece, outcome_of, bytes_told}
 
 -- ---- what was read
 
-pub piece_read : {D : Type 0} (answers : Answers D) (entries : List Entry) (first door : D) (start : Written) (read bytes : List ℕ) (tenant : Option ℕ) (unread unread' : List ℕ) (sent : Sent) → unread' ≡ unread ++ bytes
+pub piece_read : {D : Type 0} (answers : DoorCall D) (entries : List Entry) (first door : D) (start : Written) (read bytes : List ℕ) (tenant : Option ℕ) (unread unread' : List ℕ) (sent : Sent) → unread' ≡ unread ++ bytes
     → IsUnderWay answers entries first start read (record { door = door; tenant = tenant; unread = unread; sent = sent })
     → IsUnderWay answers entries first start (read ++ bytes) (record { door = door; tenant = tenant; unread = unread'; sent = sent })
 unfolding steps_of AllFollow calls_in told_in stream_of
@@ -70,14 +70,14 @@ told_at_refusal start sent front all s begins = told_part start sent.writer sent
 told_at_failure : (start writer : Written) (waiting all : List ℕ) → HasSent start (record { writer = writer; has_failed = true; waiting = waiting }) all → IsTold served.WriteFailed start writer all
 told_at_failure start writer waiting all s = record { written = s.written; appends = s.appends; whole = s.left; failures = s.failures }
 
-pub has_served_all : {D : Type 0} (answers : Answers D) (entries : List Entry) (first : D) (start : Written) (read : List ℕ) (state : State D) (w : IsWaiting answers entries first start read state) → HasServedAll (steps_of w.under_way.exchanges)
+pub has_served_all : {D : Type 0} (answers : DoorCall D) (entries : List Entry) (first : D) (start : Written) (read : List ℕ) (state : State D) (w : IsWaiting answers entries first start read state) → HasServedAll (steps_of w.under_way.exchanges)
 has_served_all answers entries first start read state w =
     let at = w.under_way.at in
     (sym at.status, (at.front, state.unread, at.taken, w.begun, at.stream))
 
 -- what was to be written was written, or a write has failed
-pub piece_written : {D : Type 0} (answers : Answers D) (entries : List Entry) (first : D) (start : Written) (read : List ℕ) (old : State D) (writer : Written) (waiting : List ℕ) (stop : Option Stop) (has_failed : Bool)
-    → ServesTo answers entries first start read stop old → StaysSent old.sent (record { writer = writer; has_failed = has_failed; waiting = waiting }) → IsWritten has_failed waiting
+pub piece_written : {D : Type 0} (answers : DoorCall D) (entries : List Entry) (first : D) (start : Written) (read : List ℕ) (old : State D) (writer : Written) (waiting : List ℕ) (stop : Option Stop) (has_failed : Bool)
+    → ServesTo answers entries first start read stop old → StaysSent old.sent (record { writer = writer; has_failed = has_failed; waiting = waiting }) → NoneWaits has_failed waiting
     → PieceTo answers entries first start read (outcome_of stop has_failed) (record { door = old.door; tenant = old.tenant; unread = old.unread; sent = record { writer = writer; has_failed = has_failed; waiting = waiting } })
 piece_written answers entries first start read old writer waiting (Some stopped.NoMemory) has_failed e stays written =
     record { exchanges = e.exchanges; course = e.course; stops = tt; told = told_part start writer has_failed waiting e.sent.0 (bytes_told entries e.exchanges) (stays start e.sent.0 e.sent.2) e.sent.1 }
@@ -99,8 +99,8 @@ piece_written answers entries first start read old writer waiting (Some (stopped
     record { exchanges = e.exchanges; course = e.course; stops = e.stops; told = record { written = s.written; appends = s.appends; whole = all_written start writer waiting _ s written; failures = s.failures } }
 
 -- the same, of what the piece ended with
-pub piece_ended : {D : Type 0} (answers : Answers D) (entries : List Entry) (first : D) (start : Written) (read : List ℕ) (old : State D) (writer : Written) (waiting : List ℕ) (stop : Option Stop) (result : Option Served) (has_failed was : Bool)
-    → result ≡ outcome_of stop was → was ≡ has_failed → ServesTo answers entries first start read stop old → StaysSent old.sent (record { writer = writer; has_failed = has_failed; waiting = waiting }) → IsWritten has_failed waiting
+pub piece_ended : {D : Type 0} (answers : DoorCall D) (entries : List Entry) (first : D) (start : Written) (read : List ℕ) (old : State D) (writer : Written) (waiting : List ℕ) (stop : Option Stop) (result : Option Served) (has_failed was : Bool)
+    → result ≡ outcome_of stop was → was ≡ has_failed → ServesTo answers entries first start read stop old → StaysSent old.sent (record { writer = writer; has_failed = has_failed; waiting = waiting }) → NoneWaits has_failed waiting
     → PieceTo answers entries first start read result (record { door = old.door; tenant = old.tenant; unread = old.unread; sent = record { writer = writer; has_failed = has_failed; waiting = waiting } })
 piece_ended answers entries first start read old writer waiting stop result has_failed was is same e stays written =
     let new : State _ = record { door = old.door; tenant = old.tenant; unread = old.unread; sent = record { writer = writer; has_failed = has_failed; waiting = waiting } } in
@@ -136,7 +136,7 @@ meets_no_end served.NoMemory left read can = tt
 -- ---- a whole connection
 
 -- nothing has come yet
-pub begins : {D : Type 0} (answers : Answers D) (entries : List Entry) (door : D) (start : Written) (tenant : Option ℕ) (unread waiting : List ℕ) (has_failed : Bool) → tenant ≡ None → unread ≡ [] → waiting ≡ [] → has_failed ≡ false
+pub begins : {D : Type 0} (answers : DoorCall D) (entries : List Entry) (door : D) (start : Written) (tenant : Option ℕ) (unread waiting : List ℕ) (has_failed : Bool) → tenant ≡ None → unread ≡ [] → waiting ≡ [] → has_failed ≡ false
     → IsWaiting answers entries door start [] (record { door = door; tenant = tenant; unread = unread; sent = record { writer = start; has_failed = has_failed; waiting = waiting } })
 unfolding steps_of AllFollow calls_in told_in spelled LeadTo Follows status_of served_as taken_by stream_of
 begins answers entries door start tenant unread waiting has_failed nobody none empty right = record {

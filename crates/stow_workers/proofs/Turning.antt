@@ -20,19 +20,19 @@ use Rattle.stow_workers.specs.declared.turn.Turn.TheVariants.{GoesOn, Waits, End
 use Rattle.stow_workers.specs.Exchanges.{Exchange, Served as Took_and_answered, Faulted, step_of, steps_of, AllFollow, with_call, calls_in, LeadTo, told_in, spelled}
 use Rattle.stow_workers.specs.Sent.{Begins, Written, Sent, HasSent, SendsReply}
 use Rattle.stow_workers.specs.Answered.{turn_after, IsAdded}
-use Rattle.stow_workers.specs.Talks.{Answers, Course, State, IsUnderWay, TurnsTo, Shortens, bytes_told}
+use Rattle.stow_workers.specs.Talks.{DoorCall, Course, State, IsUnderWay, TurnsTo, Shortens, bytes_told}
 use Rattle.stow_workers.proofs.Passing.{of_message}
 
 abbrev seen_with : {D : Type 0} → Status → State D → Seen
 seen_with status state = record { status = status; tenant = state.tenant; unread = state.unread }
 
 -- one more exchange behind those of a connection under way
-record OneMore {D : Type 0} (answers : Answers D) (entries : List Entry) (first : D) (read : List ℕ) (exchanges : List Exchange) (x : Exchange) (status : Status) (new : State D) (told : Option Reply) : Type 0 where
+record OneMore {D : Type 0} (answers : DoorCall D) (entries : List Entry) (first : D) (read : List ℕ) (exchanges : List Exchange) (x : Exchange) (status : Status) (new : State D) (told : Option Reply) : Type 0 where
   pub course : Course answers entries first new.door read (x ∷ exchanges)
   pub at : StandsAt entries (seen_with status new) (step_of x ∷ steps_of exchanges)
   pub says : told_in entries (x ∷ exchanges) ≡ with_reply told (told_in entries exchanges)
 
-one_message : {D : Type 0} (answers : Answers D) (entries : List Entry) (first : D) (start : Written) (read : List ℕ) (m : Message) (old new : State D) (told : Option Reply) (ends : Bool)
+one_message : {D : Type 0} (answers : DoorCall D) (entries : List Entry) (first : D) (start : Written) (read : List ℕ) (m : Message) (old new : State D) (told : Option Reply) (ends : Bool)
     → (u : IsUnderWay answers entries first start read old) → IsTaken m old.unread new.unread → Serves answers entries old.tenant new.tenant old.door (Whole m) told ends new.door
     → (r : Reply) × OneMore answers entries first read u.exchanges (Took_and_answered m r) (status_by (not ends)) new told
 unfolding steps_of AllFollow calls_in told_in stream_of
@@ -53,7 +53,7 @@ one_message answers entries first start read m old new told ends u taken s =
       },
     )
 
-one_fault : {D : Type 0} (answers : Answers D) (entries : List Entry) (first : D) (start : Written) (read : List ℕ) (fault : StreamFault) (old new : State D) (told : Option Reply) (ends : Bool)
+one_fault : {D : Type 0} (answers : DoorCall D) (entries : List Entry) (first : D) (start : Written) (read : List ℕ) (fault : StreamFault) (old new : State D) (told : Option Reply) (ends : Bool)
     → (u : IsUnderWay answers entries first start read old) → IsFaulty old.unread fault × (new.unread ≡ old.unread) → Serves answers entries old.tenant new.tenant old.door (Faulty fault) told ends new.door
     → OneMore answers entries first read u.exchanges (Faulted fault) Closed new told
 unfolding steps_of AllFollow calls_in told_in stream_of
@@ -101,7 +101,7 @@ ended end turn ends old new is added =
       | inr (r, e) ↦ subst (λ t. Shortens t old new) (sym e) tt
     ]
 
-went_on : {D : Type 0} (answers : Answers D) (entries : List Entry) (first : D) (start : Written) (read : List ℕ) (m : Message) (old new : State D) (told : Option Reply) (ends : Bool)
+went_on : {D : Type 0} (answers : DoorCall D) (entries : List Entry) (first : D) (start : Written) (read : List ℕ) (m : Message) (old new : State D) (told : Option Reply) (ends : Bool)
     → (u : IsUnderWay answers entries first start read old) → IsTaken m old.unread new.unread → SendsReply told old.sent new.sent → (r : Reply)
     → OneMore answers entries first read u.exchanges (Took_and_answered m r) (status_by (not ends)) new told
     → TurnsTo answers entries first start read (turn_after ends stopped.Quit) new
@@ -119,7 +119,7 @@ went_on answers entries first start read m old new told true u taken sends r mor
   sent = subst (λ replies. HasSent start new.sent (spelled replies)) (sym more.says) (sent_reply start old.sent new.sent told (told_in entries u.exchanges) sends u.sent);
 }
 
-pub whole : {D : Type 0} (answers : Answers D) (entries : List Entry) (first : D) (start : Written) (read : List ℕ) (m : Message) (turn : Turn) (old new : State D) (told : Option Reply) (ends : Bool)
+pub whole : {D : Type 0} (answers : DoorCall D) (entries : List Entry) (first : D) (start : Written) (read : List ℕ) (m : Message) (turn : Turn) (old new : State D) (told : Option Reply) (ends : Bool)
     → IsUnderWay answers entries first start read old → IsTaken m old.unread new.unread → Serves answers entries old.tenant new.tenant old.door (Whole m) told ends new.door
     → IsAdded told ends stopped.Quit turn old.sent new.sent → TurnsTo answers entries first start read turn new
 unfolding steps_of
@@ -135,7 +135,7 @@ whole answers entries first start read m turn old new told ends u taken s added 
       })
     ]
 
-pub faulty : {D : Type 0} (answers : Answers D) (entries : List Entry) (first : D) (start : Written) (read : List ℕ) (fault : StreamFault) (turn : Turn) (old new : State D) (told : Option Reply) (ends : Bool)
+pub faulty : {D : Type 0} (answers : DoorCall D) (entries : List Entry) (first : D) (start : Written) (read : List ℕ) (fault : StreamFault) (turn : Turn) (old new : State D) (told : Option Reply) (ends : Bool)
     → IsUnderWay answers entries first start read old → IsFaulty old.unread fault × (new.unread ≡ old.unread) → Serves answers entries old.tenant new.tenant old.door (Faulty fault) told ends new.door
     → IsAdded told ends (stopped.Faulted fault) turn old.sent new.sent → TurnsTo answers entries first start read turn new
 unfolding steps_of
@@ -157,6 +157,6 @@ faulty answers entries first start read fault turn old new told ends u is_faulty
     ]
 
 -- the same, of what came
-pub serves_as : {D : Type 0} {answers : Answers D} {entries : List Entry} {before after : Option ℕ} {old new : D} {arrival : Arrival} {told : Option Reply} {ends : Bool} (m : Message) → arrival ≡ Whole m
+pub serves_as : {D : Type 0} {answers : DoorCall D} {entries : List Entry} {before after : Option ℕ} {old new : D} {arrival : Arrival} {told : Option Reply} {ends : Bool} (m : Message) → arrival ≡ Whole m
     → Serves answers entries before after old arrival told ends new → Serves answers entries before after old (Whole m) told ends new
 serves_as {answers = answers} {entries = entries} {before = before} {after = after} {old = old} {new = new} {told = told} {ends = ends} m is s = subst (λ a. Serves answers entries before after old a told ends new) is s

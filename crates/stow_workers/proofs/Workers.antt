@@ -7,12 +7,12 @@ use Rattle.stow_shared.specs.Seats.{SeatState, SeatCalls}
 use Rattle.stow_workers.specs.Exchanges.{Call, LeadTo}
 use Rattle.stow_workers.specs.Pools.{HasCalled, AreEach, IsIdleOf}
 use Rattle.stow_workers.specs.declared.worker.Worker.{Worker}
-use Rattle.stow_workers.specs.Talks.{Answers}
+use Rattle.stow_workers.specs.Talks.{DoorCall}
 
 -- ---- calls
 
 -- calls after calls lead on
-leads_on : {D : Type 0} (answers : Answers D) (old mid : D) (earlier : List Call) → LeadTo answers old earlier mid → (calls : List Call) (new : D) → LeadTo answers mid calls new → LeadTo answers old (calls ++ earlier) new
+leads_on : {D : Type 0} (answers : DoorCall D) (old mid : D) (earlier : List Call) → LeadTo answers old earlier mid → (calls : List Call) (new : D) → LeadTo answers mid calls new → LeadTo answers old (calls ++ earlier) new
 unfolding LeadTo
 leads_on answers old mid earlier led [] new on = subst (λ d. LeadTo answers old earlier d) (sym on) led
 leads_on answers old mid earlier led (call ∷ calls) new on = (on.0, leads_on answers old mid earlier led calls on.0 on.1, on.2)

@@ -9,7 +9,7 @@ use Rattle.stow_workers.specs.declared.stop.Stop.TheVariants as stopped
 use Rattle.stow_workers.specs.declared.turn.Turn.{Turn}
 use Rattle.stow_workers.specs.declared.turn.Turn.TheVariants.{GoesOn, Ends}
 use Rattle.stow_workers.specs.Sent.{Sent, StaysSent, SendsReply}
-use Rattle.stow_workers.specs.Talks.{Answers, State}
+use Rattle.stow_workers.specs.Talks.{DoorCall, State}
 
 -- the turn after an answer
 abbrev pub turn_after : Bool → Stop → Turn
@@ -22,7 +22,7 @@ IsAdded told ends stop turn old new = (SendsReply told old new × (turn ≡ turn
     ⊎ (StaysSent old new × (turn ≡ Ends stopped.NoMemory))
 
 -- what came was served through the door, and what is told was added
-pub record IsAnswered {D A : Type 0} (answers : Answers D) (entries : List Entry) (next : Next A)
+pub record IsAnswered {D A : Type 0} (answers : DoorCall D) (entries : List Entry) (next : Next A)
     (stop : Stop) (turn : Turn) (old new : State D) : Type 0 where
   pub told : Option Reply
   pub ends : Bool

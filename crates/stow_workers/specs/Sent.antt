@@ -60,9 +60,9 @@ SendsReply None old new = StaysSent old new
 SendsReply (Some reply) old new = Sends old new (encoding reply)
 
 -- no byte waits, or the writer has failed
-abbrev pub IsWritten : Bool → List ℕ → Type 0
-IsWritten false waiting = waiting ≡ []
-IsWritten true waiting = Unit {0}
+abbrev pub NoneWaits : Bool → List ℕ → Type 0
+NoneWaits false waiting = waiting ≡ []
+NoneWaits true waiting = Unit {0}
 
 -- all bytes were written, or a write failed after a beginning of them
 pub record WritesPart (bytes : List ℕ) (old new : Written) : Type 0 where

@@ -20,8 +20,8 @@ use Rattle.stow_workers.specs.Sent.{Begins, Written, Sent, sent_of, HasSent}
 
 -- a door's relation: the door before a call, the tenant and its words, the reply, and the door
 -- after
-abbrev pub Answers : Type 0 → Type 1
-Answers D = D → ℕ → List (List ℕ) → Reply → D → Type 0
+abbrev pub DoorCall : Type 0 → Type 1
+DoorCall D = D → ℕ → List (List ℕ) → Reply → D → Type 0
 
 -- ---- how a connection's service ends
 
@@ -50,10 +50,10 @@ StopsAt served.WriteFailed steps = HasServedAll steps ⊎ HasQuit steps
 StopsAt served.NoMemory steps = Unit {0}
 
 -- all bytes were written, or a beginning of them
-abbrev pub IsWhole : Served → List ℕ → List ℕ → Type 0
-IsWhole served.WriteFailed written all = Begins written all
-IsWhole served.NoMemory written all = Begins written all
-IsWhole _ written all = written ≡ all
+abbrev pub IsWrittenWhole : Served → List ℕ → List ℕ → Type 0
+IsWrittenWhole served.WriteFailed written all = Begins written all
+IsWrittenWhole served.NoMemory written all = Begins written all
+IsWrittenWhole _ written all = written ≡ all
 
 -- the reader failed where it is told so, and nowhere else
 abbrev pub ReaderFails : Served → ℕ → ℕ → Type 0
@@ -80,7 +80,7 @@ bytes_told entries exchanges = spelled (told_in entries exchanges)
 
 -- What went on: each step follows from those before it, their stream is what was read, and the
 -- requests among them led the door from one state to the other.
-pub record Course {D : Type 0} (answers : Answers D) (entries : List Entry) (old new : D)
+pub record Course {D : Type 0} (answers : DoorCall D) (entries : List Entry) (old new : D)
     (read : List ℕ) (exchanges : List Exchange) : Type 0 where
   pub follow : AllFollow entries (steps_of exchanges)
   pub stream : stream_of (steps_of exchanges) ≡ read
@@ -90,11 +90,11 @@ pub record Course {D : Type 0} (answers : Answers D) (entries : List Entry) (old
 pub record IsTold (result : Served) (old new : Written) (all : List ℕ) : Type 0 where
   pub written : List ℕ
   pub appends : Appends old.contents new.contents written
-  pub whole : IsWhole result written all
+  pub whole : IsWrittenWhole result written all
   pub failures : WriterFails result old.failures new.failures
 
 -- These bytes were read, served through the door, and answered to the writer, until it ended so.
-pub record IsServed {D : Type 0} (answers : Answers D) (entries : List Entry) (old new : D)
+pub record IsServed {D : Type 0} (answers : DoorCall D) (entries : List Entry) (old new : D)
     (read : List ℕ) (before after : Written) (result : Served) : Type 0 where
   pub exchanges : List Exchange
   pub course : Course answers entries old new read exchanges
@@ -103,7 +103,7 @@ pub record IsServed {D : Type 0} (answers : Answers D) (entries : List Entry) (o
 
 -- What was read is the front of what there was to read, and it was served and answered until the
 -- connection ended so; at the end of input nothing is left.
-pub record ServesConnection {D : Type 0} (answers : Answers D) (entries : List Entry)
+pub record ServesConnection {D : Type 0} (answers : DoorCall D) (entries : List Entry)
     (result : Served) (unread left : Option (List ℕ)) (old new : D)
     (before after : Written) : Type 0 where
   pub read : List ℕ
@@ -130,7 +130,7 @@ state_of door contents failures client =
     }
 
 -- the connection is open, and stands after what went on
-pub record IsUnderWay {D : Type 0} (answers : Answers D) (entries : List Entry) (first : D)
+pub record IsUnderWay {D : Type 0} (answers : DoorCall D) (entries : List Entry) (first : D)
     (start : Written) (read : List ℕ) (state : State D) : Type 0 where
   pub exchanges : List Exchange
   pub course : Course answers entries first state.door read exchanges
@@ -140,7 +140,7 @@ pub record IsUnderWay {D : Type 0} (answers : Answers D) (entries : List Entry) 
   pub sent : HasSent start state.sent (bytes_told entries exchanges)
 
 -- the connection is under way, and its next message isn't whole yet
-pub record IsWaiting {D : Type 0} (answers : Answers D) (entries : List Entry) (first : D)
+pub record IsWaiting {D : Type 0} (answers : DoorCall D) (entries : List Entry) (first : D)
     (start : Written) (read : List ℕ) (state : State D) : Type 0 where
   pub under_way : IsUnderWay answers entries first start read state
   pub begun : IsBegun state.unread
@@ -157,7 +157,7 @@ HasSpelled stopped.NoMemory start sent all = (front : List ℕ) × Begins front 
 HasSpelled _ start sent all = HasSent start sent all
 
 -- the messages are served no further, and the last replies may wait
-pub record HasEnded {D : Type 0} (answers : Answers D) (entries : List Entry) (first : D)
+pub record HasEnded {D : Type 0} (answers : DoorCall D) (entries : List Entry) (first : D)
     (start : Written) (read : List ℕ) (stop : Stop) (state : State D) : Type 0 where
   pub exchanges : List Exchange
   pub course : Course answers entries first state.door read exchanges
@@ -165,7 +165,7 @@ pub record HasEnded {D : Type 0} (answers : Answers D) (entries : List Entry) (f
   pub sent : HasSpelled stop start state.sent (bytes_told entries exchanges)
 
 -- a turn of a connection under way
-abbrev pub TurnsTo : {D : Type 0} → Answers D → List Entry → D → Written → List ℕ → Turn → State D
+abbrev pub TurnsTo : {D : Type 0} → DoorCall D → List Entry → D → Written → List ℕ → Turn → State D
     → Type 0
 TurnsTo answers entries first start read GoesOn new =
     IsUnderWay answers entries first start read new
@@ -174,7 +174,7 @@ TurnsTo answers entries first start read WaitsForMore new =
 TurnsTo answers entries first start read (Ends stop) new =
     HasEnded answers entries first start read stop new
 
-abbrev pub Turns : {D : Type 0} → Answers D → List Entry → Turn → State D → State D → Type 0
+abbrev pub Turns : {D : Type 0} → DoorCall D → List Entry → Turn → State D → State D → Type 0
 Turns answers entries turn old new = (first : _) (start : Written) (read : List ℕ)
     → IsUnderWay answers entries first start read old
     → TurnsTo answers entries first start read turn new
@@ -186,14 +186,14 @@ Shortens WaitsForMore old new = Unit {0}
 Shortens (Ends stop) old new = Unit {0}
 
 -- all whole messages were served
-abbrev pub ServesTo : {D : Type 0} → Answers D → List Entry → D → Written → List ℕ → Option Stop
+abbrev pub ServesTo : {D : Type 0} → DoorCall D → List Entry → D → Written → List ℕ → Option Stop
     → State D → Type 0
 ServesTo answers entries first start read None new =
     IsWaiting answers entries first start read new
 ServesTo answers entries first start read (Some stop) new =
     HasEnded answers entries first start read stop new
 
-abbrev pub ServesAll : {D : Type 0} → Answers D → List Entry → Option Stop → State D → State D
+abbrev pub ServesAll : {D : Type 0} → DoorCall D → List Entry → Option Stop → State D → State D
     → Type 0
 ServesAll answers entries stop old new = (first : _) (start : Written) (read : List ℕ)
     → IsUnderWay answers entries first start read old
@@ -218,14 +218,14 @@ CanEndPiece served.ReadFailed = ⊥
 CanEndPiece _ = Unit {0}
 
 -- a piece was served and answered
-abbrev pub PieceTo : {D : Type 0} → Answers D → List Entry → D → Written → List ℕ → Option Served
+abbrev pub PieceTo : {D : Type 0} → DoorCall D → List Entry → D → Written → List ℕ → Option Served
     → State D → Type 0
 PieceTo answers entries first start read None new =
     IsWaiting answers entries first start read new × IsEven new.sent
 PieceTo answers entries first start read (Some result) new =
     IsServed answers entries first new.door read start new.sent.writer result
 
-abbrev pub ServesPiece : {D : Type 0} → Answers D → List Entry → List ℕ → Option Served → State D
+abbrev pub ServesPiece : {D : Type 0} → DoorCall D → List Entry → List ℕ → Option Served → State D
     → State D → Type 0
 ServesPiece answers entries bytes result old new = (first : _) (start : Written) (read : List ℕ)
     → IsUnderWay answers entries first start read old → IsEven old.sent

@@ -1,7 +1,7 @@
 //! Replies on their way to a writer.
 ghost use Rattle.std.specs.Prelude.{◌≡◌, false, [], OnOk, OnErr, option_map};
 ghost use Rattle.stow_model.specs.Reply.{reply_of};
-ghost use Rattle.stow_workers.specs.Sent.{SendsReply, StaysSent, IsWritten, sent_of};
+ghost use Rattle.stow_workers.specs.Sent.{SendsReply, StaysSent, NoneWaits, sent_of};
 
 use crate::sink::Sink;
 use crate::writing::write_all;
@@ -75,7 +75,7 @@ impl<A: Allocator + Copy> Replies<A> {
     pub fn flush<W: Sink>(&mut self, writer: &mut W)
         ensures sent { StaysSent (sent_of (W.contents writer.old) (W.failures writer.old) self.old)
             (sent_of (W.contents writer.new) (W.failures writer.new) self.new) }
-        ensures written { IsWritten self.new.has_failed self.new.bytes.items }
+        ensures written { NoneWaits self.new.has_failed self.new.bytes.items }
         ensures same_borrow { W.borrow writer.new ≡ W.borrow writer.old }
     {
         if self.has_failed {

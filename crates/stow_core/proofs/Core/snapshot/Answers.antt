@@ -1,6 +1,7 @@
 use Rattle.std.proofs.Common.{ap, sym, ◌∙◌, subst, w64}
 use Rattle.std.proofs.lemmas.Int.{to_z-of_z}
-use Rattle.stow_core.specs.State.{IsSnapshotOf, number_in}
+use Rattle.stow_model.specs.Store.{number_in}
+use Rattle.stow_core.specs.State.{IsSnapshotOf}
 use Rattle.stow_core.proofs.Live.{absent, live}
 use Rattle.stow_core.proofs.Core.snapshot.Goals as goal
 

@@ -7,7 +7,7 @@ use Rattle.stow_tree_model.specs.Merged.{trimmed, kept, begins_with, is_kept, ve
 use Rattle.stow_tree_model.specs.Operations.{outcome}
 use Rattle.stow_tree_model.specs.TreeMessage.{TreeMessage, message_of}
 use Rattle.stow_tree_model.proofs.Folds.{Folded, fold_none, loop_step, slice_past}
-use Rattle.stow_merge.specs.Kept.{value_between, kept_version}
+use Rattle.stow_merge.specs.KeptVersion.{value_between, kept_version}
 use Rattle.stow_merge.specs.Pins.{pins_in}
 use Rattle.stow_merge.proofs.Pieces.{IsBehind, behind_none, behind_after, behind_if, value_if, value_more, is_some-value, map_if}
 use Rattle.stow_merge.proofs.keeping.keep.Goals as goal

@@ -2,7 +2,7 @@ use Rattle.std.proofs.Common.{take, map, reverse}
 use Rattle.std.specs.Prelude.{slice_get}
 use Rattle.stow_tree_model.specs.TreeMessage.{message_of}
 use Rattle.stow_tree_model.proofs.Folds.{Folded}
-use Rattle.stow_merge.specs.Kept.{value_between, kept_version}
+use Rattle.stow_merge.specs.KeptVersion.{value_between, kept_version}
 use Rattle.stow_merge.specs.Pins.{pins_in}
 use Rattle.stow_merge.proofs.Pieces.{IsBehind}
 use Rattle.stow_merge.proofs.keeping.keep.Given as goal

@@ -2,7 +2,7 @@ use Rattle.std.proofs.Common.{◌≡◌, ◌≤◌, ◌∙◌, length, map, ap, 
 use Rattle.std.specs.List.{AllByRecursion}
 use Rattle.stow_merge.specs.Cuts.{size_between, ArePages}
 use Rattle.stow_merge.specs.Pages.{ArePagesOf}
-use Rattle.stow_merge.specs.Writing.{versions_in, keys_in, AreRuns, AreSizes, IsShortKey, CanPack, pages_at, at_least_one_page}
+use Rattle.stow_merge.specs.Writing.{versions_in, keys_in, AreRuns, AreSizes, AreFewAndShort, CanPack, pages_at, at_least_one_page}
 use Rattle.stow_merge.proofs.PageLemmas.{AreWritten}
 use Rattle.stow_merge.proofs.PagedLemmas.{AreKeys, are_keys, are_short, are_written, can_write, one_page_of, pages_of, if_ok}
 use Rattle.stow_merge.proofs.merging.paged.Goals as goal
@@ -12,7 +12,7 @@ sizes_of-requires g c =
     let survey = c.args.survey.now in
     let keys : AreKeys (versions_in survey survey.kept.items) (keys_in survey c.in_ok-keys.keys.items) =
     are_keys survey survey.kept.items c.in_ok-keys.keys.items c.requires.rise (subst (λ ks. AreRuns ks (map (λ key. key.now) c.in_ok-keys.keys.items)) c.as_slice.ensures.value c.in_ok-keys.ensures) in
-    subst (λ ks. AllByRecursion IsShortKey (keys_in survey ks)) (sym c.as_slice-2.ensures.value) (are_short _ _ c.requires keys)
+    subst (λ ks. AllByRecursion AreFewAndShort (keys_in survey ks)) (sym c.as_slice-2.ensures.value) (are_short _ _ c.requires keys)
 
 pub write_pages-requires : goal.write_pages-requires
 write_pages-requires g c =

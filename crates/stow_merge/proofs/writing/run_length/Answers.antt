@@ -1,7 +1,7 @@
 use Rattle.std.proofs.lemmas.Grind.{common_steps}
 use Rattle.std.proofs.Common.{◌≡◌, ◌∷◌, [], true, false, sym, subst, rules, arith}
 use Rattle.std.specs.List.{AllByRecursion}
-use Rattle.stow_merge.specs.declared.kept.Kept as coded
+use Rattle.stow_merge.specs.declared.kept_version.KeptVersion as coded
 use Rattle.stow_tree_model.specs.Merged.{same_key}
 use Rattle.stow_tree_model.proofs.Readings.{drop_one_less}
 use Rattle.stow_merge.proofs.Lists.{all_join}
@@ -15,13 +15,13 @@ returns-then-not-is_same-clause-run c =
       are_of_key = c.loop-i.invariant;
       ends = λ k later e.
           let first : c.index-kept-i.result ≡ k = let d = drop_one_less c.args.kept.now c.loop-i.i c.index-kept-i.result c.loop-i-test.true c.index-kept-i.is in cc in
-          subst (λ (x : coded.Kept). c.args.key.bytes.now ≡ x.key.bytes.now → ⊥) first (other_from c.args.key.bytes.now c.index-kept-i.result.key.bytes.now other);
+          subst (λ (x : coded.KeptVersion). c.args.key.bytes.now ≡ x.key.bytes.now → ⊥) first (other_from c.args.key.bytes.now c.index-kept-i.result.key.bytes.now other);
     }
 
 pub loop-i-preserved : goal.loop-i-preserved
 loop-i-preserved c =
     let same : same_key c.args.key.bytes.now c.index-kept-i.result.key.bytes.now ≡ true = search rules in
-    subst (AllByRecursion (λ (k : coded.Kept). k.key.bytes.now ≡ c.args.key.bytes.now)) (sym (one_more c.args.kept.now c.loop-i.i c.index-kept-i.result c.loop-i-test.true c.index-kept-i.is))
+    subst (AllByRecursion (λ (k : coded.KeptVersion). k.key.bytes.now ≡ c.args.key.bytes.now)) (sym (one_more c.args.kept.now c.loop-i.i c.index-kept-i.result c.loop-i-test.true c.index-kept-i.is))
     (all_join _ _ (c.index-kept-i.result ∷ []) c.loop-i.invariant (sym (same_from c.args.key.bytes.now c.index-kept-i.result.key.bytes.now same), tt))
 
 pub returns-clause-run : goal.returns-clause-run

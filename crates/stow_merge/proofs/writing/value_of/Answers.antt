@@ -1,6 +1,6 @@
 use Rattle.std.proofs.Common.{◌≡◌, ◌∙◌, ap, sym, map, length, drop, take, Some}
 use Rattle.stow_tree_model.specs.TreeMessage.{message_of}
-use Rattle.stow_merge.specs.Kept.{value_between}
+use Rattle.stow_merge.specs.KeptVersion.{value_between}
 use Rattle.stow_merge.proofs.WritingLemmas.{between_bytes}
 use Rattle.stow_merge.proofs.writing.value_of.Goals as goal
 

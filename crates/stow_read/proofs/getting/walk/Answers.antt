@@ -12,7 +12,7 @@ loop-base-init g c = walking_first c.args.node.now c.args.key.bytes.now c.args.a
 
 pub returns-in-Base-clause-value : goal.returns-in-Base-clause-value
 returns-in-Base-clause-value g c =
-    looked_here c.args.node.now c.loop-base.here.now c.children-children.result.now c.args.key.bytes.now c.args.at (suffixes_of c.args.suffixes.now) (suffixes_of c.loop-base.suffixes) (suffixes_of c.look.new.self) c.in_ok-base.field-0 c.loop-base.invariant c.children-children.ensures
+    looked_here c.args.node.now c.loop-base.here.now c.children-known.result.now c.args.key.bytes.now c.args.at (suffixes_of c.args.suffixes.now) (suffixes_of c.loop-base.suffixes) (suffixes_of c.look.new.self) c.in_ok-base.field-0 c.loop-base.invariant c.children-known.ensures
     (subst (λ (b : MessageList). Carries (ops_in b.messages c.args.key.bytes.now) c.args.at (suffixes_of c.loop-base.suffixes) (suffixes_of c.look.new.self) c.in_ok-base.field-0) c.buffer.ensures c.in_ok-base.ensures)
     ∙ ap (λ look. looked look (suffixes_of c.look.new.self) (latest (ops_in (c.loop-base.here.now.deeper ++ row_messages c.loop-base.here.now.leaves) c.args.key.bytes.now) c.args.at)) c.in-Base.is
 
@@ -21,7 +21,7 @@ below-requires g c = c.loop-base.invariant.spanned
 
 pub returns-in-Leaf-clause-value : goal.returns-in-Leaf-clause-value
 returns-in-Leaf-clause-value g c =
-    walked c.args.node.now c.loop-base.here.now c.in-Leaf.leaf c.children-children.result.now c.below.result.now c.args.key.bytes.now c.args.at (suffixes_of c.args.suffixes.now) (suffixes_of c.loop-base.suffixes) (suffixes_of c.look.new.self) c.in_ok-base.field-0 c.value_in_rows.result c.loop-base.invariant c.children-children.ensures
+    walked c.args.node.now c.loop-base.here.now c.in-Leaf.leaf c.children-known.result.now c.below.result.now c.args.key.bytes.now c.args.at (suffixes_of c.args.suffixes.now) (suffixes_of c.loop-base.suffixes) (suffixes_of c.look.new.self) c.in_ok-base.field-0 c.value_in_rows.result c.loop-base.invariant c.children-known.ensures
     (subst (λ (b : MessageList). Carries (ops_in b.messages c.args.key.bytes.now) c.args.at (suffixes_of c.loop-base.suffixes) (suffixes_of c.look.new.self) c.in_ok-base.field-0) c.buffer.ensures c.in_ok-base.ensures)
     c.in_default.is c.below.ensures c.in-Leaf.is c.value_in_rows.ensures
 
@@ -31,6 +31,6 @@ returns-in-Leaf-clause-leaf g c =
 
 pub loop-base-preserved : goal.loop-base-preserved
 loop-base-preserved g c =
-    walking_on c.args.node.now c.loop-base.here.now c.in-Node.lower c.children-children.result.now c.below.result.now c.args.key.bytes.now c.args.at (suffixes_of c.args.suffixes.now) (suffixes_of c.loop-base.suffixes) (suffixes_of c.look.new.self) c.in_ok-base.field-0 c.loop-base.invariant c.children-children.ensures
+    walking_on c.args.node.now c.loop-base.here.now c.in-Node.lower c.children-known.result.now c.below.result.now c.args.key.bytes.now c.args.at (suffixes_of c.args.suffixes.now) (suffixes_of c.loop-base.suffixes) (suffixes_of c.look.new.self) c.in_ok-base.field-0 c.loop-base.invariant c.children-known.ensures
     (subst (λ (b : MessageList). Carries (ops_in b.messages c.args.key.bytes.now) c.args.at (suffixes_of c.loop-base.suffixes) (suffixes_of c.look.new.self) c.in_ok-base.field-0) c.buffer.ensures c.in_ok-base.ensures)
     c.in_default.is c.below.ensures c.in-Node.is

@@ -14,12 +14,12 @@ pub returns-in-Leaf : goal.returns-in-Leaf
 returns-in-Leaf g c =
     subst (λ ms. IsPath c.args.node.now c.args.key.bytes.now ms c.in-Leaf.leaf.rows)
     (sym (c.in_ok-add_older.ensures ∙ ap (λ (b : MessageList). map message_of c.loop-messages.messages.items ++ newest_of c.args.key.bytes.now b.messages) c.buffer-in-loop-messages.ensures))
-    (is_path c.args.node.now c.loop-messages.here.now c.in-Leaf.leaf c.children-children.result.now c.below.result.now c.args.key.bytes.now (map message_of c.loop-messages.messages.items) c.loop-messages.invariant c.children-children.ensures
-    (subst (λ (b : MessageList). MessagesRise b.messages) c.buffer.ensures c.len-len.ensures.rising) c.below.ensures c.in-Leaf.is)
+    (is_path c.args.node.now c.loop-messages.here.now c.in-Leaf.leaf c.children-known.result.now c.below.result.now c.args.key.bytes.now (map message_of c.loop-messages.messages.items) c.loop-messages.invariant c.children-known.ensures
+    (subst (λ (b : MessageList). MessagesRise b.messages) c.buffer.ensures c.len-known.ensures.rising) c.below.ensures c.in-Leaf.is)
 
 pub loop-messages-preserved : goal.loop-messages-preserved
 loop-messages-preserved g c =
     subst (λ ms. IsGathering c.args.node.now c.in-Node.lower c.args.key.bytes.now ms)
     (sym (c.in_ok-add_older.ensures ∙ ap (λ (b : MessageList). map message_of c.loop-messages.messages.items ++ newest_of c.args.key.bytes.now b.messages) c.buffer-in-loop-messages.ensures))
-    (gathering_on c.args.node.now c.loop-messages.here.now c.in-Node.lower c.children-children.result.now c.below.result.now c.args.key.bytes.now (map message_of c.loop-messages.messages.items) c.loop-messages.invariant c.children-children.ensures
-    (subst (λ (b : MessageList). MessagesRise b.messages) c.buffer.ensures c.len-len.ensures.rising) c.below.ensures c.in-Node.is)
+    (gathering_on c.args.node.now c.loop-messages.here.now c.in-Node.lower c.children-known.result.now c.below.result.now c.args.key.bytes.now (map message_of c.loop-messages.messages.items) c.loop-messages.invariant c.children-known.ensures
+    (subst (λ (b : MessageList). MessagesRise b.messages) c.buffer.ensures c.len-known.ensures.rising) c.below.ensures c.in-Node.is)

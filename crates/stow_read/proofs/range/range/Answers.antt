@@ -29,7 +29,7 @@ pub to-requires : goal.to-requires
 to-requires g c =
     let low : IsNextKey (ops_in (messages_of c.args.node.now)) c.args.from.bytes.now false c.args.to.bytes.now (Some c.in-Some.first.bytes.now) =
     subst (λ (next : Option TenantKey). IsNextKey (ops_in (messages_of c.args.node.now)) c.args.from.bytes.now false c.args.to.bytes.now (option_map (λ (k : TenantKey). k.bytes.now) next)) c.in-Some.is c.first_key.ensures in
-    held_inside c.args.node.now c.children-children.result.now c.in-Some.first.bytes.now c.children-children.ensures (record { number = low.number; there = low.there })
+    held_inside c.args.node.now c.children-known.result.now c.in-Some.first.bytes.now c.children-known.ensures (record { number = low.number; there = low.there })
 
 pub loop-next-init : goal.loop-next-init
 loop-next-init g c = record {
@@ -55,7 +55,7 @@ value-requires g c =
 
 pub step-requires-clause-inside : goal.step-requires-clause-inside
 step-requires-clause-inside g c =
-    held_inside c.args.node.now c.children-children.result.now c.in-Some-next.key.bytes.now c.children-children.ensures
+    held_inside c.args.node.now c.children-known.result.now c.in-Some-next.key.bytes.now c.children-known.ensures
     (let now : IsRangeSoFar (ops_in (messages_of c.args.node.now)) c.args.from.bytes.now c.args.to.bytes.now c.args.at c.args.count (map key_value c.loop-next.rows.items) (Some c.in-Some-next.key.bytes.now) =
     subst (λ (next : Option TenantKey). IsRangeSoFar (ops_in (messages_of c.args.node.now)) c.args.from.bytes.now c.args.to.bytes.now c.args.at c.args.count (map key_value c.loop-next.rows.items) (option_map (λ (k : TenantKey). k.bytes.now) next)) c.in-Some-next.is c.loop-next.invariant.rows in
     now.keys.held)

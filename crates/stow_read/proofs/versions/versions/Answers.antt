@@ -13,13 +13,13 @@ pub returns-then-not-may_hold : goal.returns-then-not-may_hold
 returns-then-not-may_hold g c =
     subst (λ items. AreVersionsOf (ops_in (messages_of c.args.node.now) c.args.key.bytes.now) c.args.key.bytes.now (map version_of_buf items)) (sym c.new.ensures.items)
     (no_versions (ops_in (messages_of c.args.node.now) c.args.key.bytes.now) c.args.key.bytes.now
-    (λ n. none_outside c.args.node.now c.children-children.result.now c.args.key.bytes.now n c.children-children.ensures (sym c.may_hold.ensures ∙ c.if-not-may_hold.true)))
+    (λ n. none_outside c.args.node.now c.children-known.result.now c.args.key.bytes.now n c.children-known.ensures (sym c.may_hold.ensures ∙ c.if-not-may_hold.true)))
 
 pub loop-i-init : goal.loop-i-init
 loop-i-init g c =
     first_versions c.args.key.bytes.now (map message_of c.in_ok-path.path.messages.items) c.in_ok-path.path.leaf.now.rows (map version_of_buf c.in_ok-versions.versions.items) c.len-count.result
     (let o = c.in_ok-path.path.messages.ok.0 in let n = c.len-count.ensures in omega (arith, o, n, length-map c.in_ok-path.path.messages.items message_of))
-    c.len-len.ensures.rise c.in_ok-versions.ensures
+    c.len-known.ensures.rise c.in_ok-versions.ensures
 
 pub loop-i-preserved : goal.loop-i-preserved
 loop-i-preserved g c =

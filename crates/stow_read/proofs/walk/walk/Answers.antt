@@ -27,7 +27,7 @@ pub to-requires : goal.to-requires
 to-requires g c =
     let low : IsNextKey (ops_in (messages_of c.args.node.now)) c.args.from.key.bytes.now c.args.from.after c.args.to.bytes.now (Some c.in-Some.first.bytes.now) =
     subst (λ (next : Option TenantKey). IsNextKey (ops_in (messages_of c.args.node.now)) c.args.from.key.bytes.now c.args.from.after c.args.to.bytes.now (key_in next)) c.in-Some.is c.first_key.ensures in
-    held_inside c.args.node.now c.children-children.result.now c.in-Some.first.bytes.now c.children-children.ensures (record { number = low.number; there = low.there })
+    held_inside c.args.node.now c.children-known.result.now c.in-Some.first.bytes.now c.children-known.ensures (record { number = low.number; there = low.there })
 
 pub loop-next-init : goal.loop-next-init
 loop-next-init g c = record {
@@ -60,7 +60,7 @@ head-requires-clause-short g c =
 
 pub step-requires-clause-inside : goal.step-requires-clause-inside
 step-requires-clause-inside g c =
-    held_inside c.args.node.now c.children-children.result.now c.in-Some-next.key.bytes.now c.children-children.ensures
+    held_inside c.args.node.now c.children-known.result.now c.in-Some-next.key.bytes.now c.children-known.ensures
     (let now : IsWalkSoFar (ops_in (messages_of c.args.node.now)) c.args.from.key.bytes.now c.args.from.after c.args.to.bytes.now c.args.at c.args.count c.loop-next.rows.items (Some c.in-Some-next.key.bytes.now) =
     subst (λ (next : Option TenantKey). IsWalkSoFar (ops_in (messages_of c.args.node.now)) c.args.from.key.bytes.now c.args.from.after c.args.to.bytes.now c.args.at c.args.count c.loop-next.rows.items (key_in next)) c.in-Some-next.is c.loop-next.invariant.rows in
     now.keys.held)

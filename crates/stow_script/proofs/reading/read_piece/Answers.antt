@@ -1,6 +1,6 @@
 use Rattle.std.proofs.Common.{Some, subst}
 use Rattle.std.specs.Prelude.{codes}
-use Rattle.stow_script.specs.Read.{IsCut, IsNoEvent, IsNoNumber, StandsForNone}
+use Rattle.stow_script.specs.Read.{IsCut, IsNoEvent, IsNoNumberText, StandsForNone}
 use Rattle.stow_script.proofs.Lines.{no_text, bad_connection, bad_text, event_fault, fault_so, number_fault}
 use Rattle.stow_script.proofs.reading.read_piece.Goals as goal
 
@@ -16,7 +16,7 @@ returns-in_err-connection g c = λ entries.
     let fault = c.in_err-connection.field-0.0 in
     let cut : IsCut 32 rest first (Some c.in-Some.text) = subst (IsCut 32 rest first) c.in-Some.is c.cut.ensures in
     event_fault entries (codes "piece") rest c.from_residual.result fault c.from_residual.ensures.1
-    (fault_so (IsNoNumber 1 65535 first) (IsNoEvent entries (codes "piece") rest) fault
+    (fault_so (IsNoNumberText 1 65535 first) (IsNoEvent entries (codes "piece") rest) fault
     (bad_connection entries rest first c.in-Some.text cut)
     (number_fault 1 65535 first fault c.in_err-connection.ensures))
 

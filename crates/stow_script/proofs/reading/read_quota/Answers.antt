@@ -2,7 +2,7 @@ use Rattle.std.proofs.Common.{◌≡◌, None, Some, subst}
 use Rattle.std.specs.Prelude.{codes}
 use Rattle.stow_bytes.specs.Limits.{number_limit}
 use Rattle.stow_login.specs.Entries.{index_named}
-use Rattle.stow_script.specs.Read.{IsCut, IsNoEvent, IsNoNumber}
+use Rattle.stow_script.specs.Read.{IsCut, IsNoEvent, IsNoNumberText}
 use Rattle.stow_script.proofs.Lines.{bad_name, bad_quota, event_fault, fault_so, index_fault, no_number_text, number_fault}
 use Rattle.stow_script.proofs.reading.read_quota.Goals as goal
 
@@ -31,6 +31,6 @@ returns-in_err-quota g c =
     let fault = c.in_err-quota.field-0.0 in
     let cut : IsCut 32 rest first (Some c.in-Some.number_text) = subst (IsCut 32 rest first) c.in-Some.is c.cut.ensures in
     event_fault entries (codes "quota") rest c.from_residual-in_err-quota.result fault c.from_residual-in_err-quota.ensures.1
-    (fault_so (IsNoNumber 0 number_limit c.in-Some.number_text.now) (IsNoEvent entries (codes "quota") rest) fault
+    (fault_so (IsNoNumberText 0 number_limit c.in-Some.number_text.now) (IsNoEvent entries (codes "quota") rest) fault
     (bad_quota entries rest first c.in-Some.number_text cut)
     (number_fault 0 number_limit c.in-Some.number_text.now fault c.in_err-quota.ensures))

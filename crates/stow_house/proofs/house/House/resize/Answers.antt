@@ -4,8 +4,8 @@ use Rattle.stow_house.specs.StepResult.{Done, Refused, NoMemory}
 use Rattle.stow_house.proofs.Stood.{flushed, idle}
 use Rattle.stow_house.proofs.house.House.resize.Goals as goal
 
-pub returns-then-leaves-gt-CACHE_LIMIT-clause-steps : goal.returns-then-leaves-gt-CACHE_LIMIT-clause-steps
-returns-then-leaves-gt-CACHE_LIMIT-clause-steps g c =
+pub returns-then-leaves-gt-MOST_LEAVES-clause-steps : goal.returns-then-leaves-gt-MOST_LEAVES-clause-steps
+returns-then-leaves-gt-MOST_LEAVES-clause-steps g c =
     flushed _ _ (event.Resize c.args.leaves) Refused (inr (omega arith, refl)) (λ d. refl) refl (λ t. refl) (idle _) refl
 
 pub returns-in-Ok-clause-steps : goal.returns-in-Ok-clause-steps

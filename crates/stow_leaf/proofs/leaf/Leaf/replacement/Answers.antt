@@ -15,7 +15,7 @@ use Rattle.stow_leaf.proofs.leaf.Leaf.replacement.Goals as goal
 pub merge_into_pages-requires-clause-batch : goal.merge_into_pages-requires-clause-batch
 merge_into_pages-requires-clause-batch g c =
     let are = lent_are c.as_slice.result.now c.in_ok-lent.lent.items c.in_range.result c.args.buffer.now.messages c.as_key-low.result.bytes.now c.args.self.now.low c.args.high.bytes.now c.as_slice.ensures.value c.in_ok-lent.ensures c.in_range.ensures.messages c.as_key-low.ensures in
-    rw are (filter_rises (is_between c.args.self.now.low c.args.high.bytes.now) c.args.buffer.now.messages c.len-len.ensures.rising)
+    rw are (filter_rises (is_between c.args.self.now.low c.args.high.bytes.now) c.args.buffer.now.messages c.len-known.ensures.rising)
 
 pub merge_into_pages-requires-clause-values : goal.merge_into_pages-requires-clause-values
 merge_into_pages-requires-clause-values g c =

@@ -4,7 +4,7 @@ use Rattle.std.proofs.lemmas.List.{take-map, drop-map}
 use Rattle.stow_tree_model.specs.Op.{bytes_in}
 use Rattle.stow_tree_model.specs.Operations.{bytes_or_none}
 use Rattle.stow_tree_model.specs.TreeMessage.{TreeMessage, message_of}
-use Rattle.stow_merge.specs.Kept.{value_between}
+use Rattle.stow_merge.specs.KeptVersion.{value_between}
 use Rattle.stow_merge.proofs.survey.Survey.append_value.Goals as goal
 
 pub returns-in-Some : goal.returns-in-Some

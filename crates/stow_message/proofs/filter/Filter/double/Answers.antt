@@ -1,6 +1,6 @@
 use Rattle.std.proofs.Common.{◌≡◌, ◌++◌, length, ap, sym, subst, ◌∙◌, arith}
 use Rattle.std.proofs.lemmas.List.{take_all}
-use Rattle.stow_message.specs.Filter.{Keeps, IsWordCount}
+use Rattle.stow_message.specs.Filter.{KeepsMarks, IsWordCount}
 use Rattle.stow_message.proofs.Marked.{twice_keeps, twice_count}
 use Rattle.stow_message.proofs.filter.Filter.double.Goals as goal
 
@@ -13,4 +13,4 @@ pub returns-clause-stay : goal.returns-clause-stay
 returns-clause-stay g c = let old = c.args.self.now in
     let whole : c.loop-i.self-inside.words.items ≡ old ++ old = c.loop-i.invariant.words
     ∙ ap (λ l. old ++ l) (take_all c.loop-i.i old (omega (arith, c.loop-i-test.false, c.len-count.ensures, ap length c.self.view_is, c.self.inside.words.ok.0))) in
-    subst (Keeps old) (sym whole) (twice_keeps old (subst (λ l. IsWordCount (length l)) c.self.view_is c.self.invariant))
+    subst (KeepsMarks old) (sym whole) (twice_keeps old (subst (λ l. IsWordCount (length l)) c.self.view_is c.self.invariant))

@@ -2,7 +2,7 @@ use Rattle.std.proofs.Common.{◌≡◌, ◌+◌, ◌-◌, ◌*◌, ◌≤◌, l
 use Rattle.std.specs.List.{remove_range}
 use Rattle.stow_raw.specs.RawBuf.{RawLists, raw_used}
 use Rattle.stow_message.specs.Filter.{Covers}
-use Rattle.stow_message.specs.MessageBuf.{MessageList, message_list, messages_in, IsFilled}
+use Rattle.stow_message.specs.MessageBuf.{MessageList, message_list, messages_in, IsPackedBuffer}
 use Rattle.stow_message.proofs.Covered.{covers_rest}
 use Rattle.stow_message.proofs.Pushed.{slots_of_messages}
 use Rattle.stow_message.proofs.Removed.{removed, removed_messages, removed_used, removed_filled}
@@ -17,7 +17,7 @@ invariant_of-self g c =
     let le : i + k ≤ length raw.slots = omega (arith, c.requires, slots_of_messages raw, ap (λ (w : MessageList). length w.messages) c.self.view_is) in
     let marks = c.self.inside.filter in
     record {
-      filled = subst IsFilled (sym c.remove_slots.ensures) (removed_filled raw h i k le);
+      filled = subst IsPackedBuffer (sym c.remove_slots.ensures) (removed_filled raw h i k le);
       covers = subst (λ (r : RawLists). Covers marks (messages_in r)) (sym c.remove_slots.ensures)
           (subst (Covers marks) (sym (removed_messages raw h i k le)) (covers_rest marks (messages_in raw) i (i + k) c.self.invariant.covers));
     }

@@ -4,7 +4,7 @@ use Rattle.stow_raw.specs.RawBuf.{RawLists, raw_used}
 use Rattle.stow_tree_model.specs.TreeMessage.{TreeMessage, message_of}
 use Rattle.stow_tree_model.specs.Order.{MessagesRise}
 use Rattle.stow_message.specs.Filter.{Covers}
-use Rattle.stow_message.specs.MessageBuf.{MessageList, message_list, messages_in, IsFilled}
+use Rattle.stow_message.specs.MessageBuf.{MessageList, message_list, messages_in, IsPackedBuffer}
 use Rattle.stow_message.specs.Rising.{without}
 use Rattle.stow_message.proofs.Covered.{covers_without}
 use Rattle.stow_message.proofs.RisingLists.{all_by}
@@ -46,7 +46,7 @@ loop-place-preserved g c =
 
 -- the walk finds the whole batch
 module _ (ms bs : List TreeMessage) (held : All (Contains ms) bs) (rise : MessagesRise bs) where
-  none_left : (raw : RawLists) → IsFilled raw → messages_in raw ≡ ms → unfound bs (messages_in raw) ≡ []
+  none_left : (raw : RawLists) → IsPackedBuffer raw → messages_in raw ≡ ms → unfound bs (messages_in raw) ≡ []
   none_left raw h are = held_found bs (messages_in raw) rise h.rising (all_by (Contains (messages_in raw)) bs (subst (λ l. All (Contains l) bs) (sym are) held))
 
 pub remove_slots-requires : goal.remove_slots-requires
@@ -66,7 +66,7 @@ invariant_of-self g c =
     let is = taken_is raw h bs l.self-inside.raw l.kept l.gone l.place l.invariant.halfway past le all c.remove_slots.new.self c.len.result c.len.ensures.len c.remove_slots.ensures in
     let marks = c.self.inside.filter in
     record {
-      filled = subst IsFilled (sym is) (taken_filled raw h bs all);
+      filled = subst IsPackedBuffer (sym is) (taken_filled raw h bs all);
       covers = subst (λ (bits : List ℕ). Covers bits (messages_in c.remove_slots.new.self)) (sym l.invariant.marks) (subst (λ (r : RawLists). Covers marks (messages_in r)) (sym is)
           (subst (Covers marks) (sym (taken_messages raw h bs all)) (covers_without marks bs (messages_in raw) c.self.invariant.covers)));
     }

@@ -1,12 +1,12 @@
 use Rattle.std.proofs.Common.{sym, subst}
 use Rattle.stow_raw.specs.RawBuf.{RawLists}
 use Rattle.stow_message.specs.Filter.{Covers}
-use Rattle.stow_message.specs.MessageBuf.{messages_in, IsFilled}
+use Rattle.stow_message.specs.MessageBuf.{messages_in, IsPackedBuffer}
 use Rattle.stow_message.proofs.Pushed.{empty_filled}
 use Rattle.stow_message.proofs.message_buf.MessageBuf.reset.Goals as goal
 
 pub invariant_of-self : goal.invariant_of-self
 invariant_of-self g c = record {
-  filled = subst IsFilled (sym c.reset.ensures) (empty_filled c.self.inside.raw.capacity c.self.invariant.filled.within.1);
+  filled = subst IsPackedBuffer (sym c.reset.ensures) (empty_filled c.self.inside.raw.capacity c.self.invariant.filled.within.1);
   covers = subst (λ (r : RawLists). Covers c.clear.new.self (messages_in r)) (sym c.reset.ensures) tt;
 }

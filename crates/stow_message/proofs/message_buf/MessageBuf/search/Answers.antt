@@ -1,5 +1,5 @@
 use Rattle.std.proofs.Common.{◌∙◌, arith}
-use Rattle.stow_tree_model.specs.Order.{Place}
+use Rattle.stow_tree_model.specs.Order.{VersionPlace}
 use Rattle.stow_message.proofs.RisingLists.{below_within}
 use Rattle.stow_message.proofs.Searched.{all_filled, below_in, slots_seen}
 use Rattle.stow_message.proofs.message_buf.MessageBuf.search.Goals as goal
@@ -11,7 +11,7 @@ pub search_between-requires-clause-filled : goal.search_between-requires-clause-
 search_between-requires-clause-filled g c = all_filled c.self.inside.raw c.self.invariant.filled
 
 pub search_between-requires-clause-end : goal.search_between-requires-clause-end
-search_between-requires-clause-end g c = let p : Place = (c.args.key.now, c.args.number) in
+search_between-requires-clause-end g c = let p : VersionPlace = (c.args.key.now, c.args.number) in
     omega (arith, c.len.ensures.len, below_in c.self.inside.raw c.self.invariant.filled c.args.self.now c.self.view_is p, below_within p c.args.self.now.messages)
 
 pub returns-clause-count : goal.returns-clause-count

@@ -1,12 +1,12 @@
 use Rattle.std.proofs.Common.{sym, subst}
 use Rattle.stow_raw.specs.RawBuf.{RawLists}
 use Rattle.stow_message.specs.Filter.{Covers}
-use Rattle.stow_message.specs.MessageBuf.{messages_in, IsFilled}
+use Rattle.stow_message.specs.MessageBuf.{messages_in, IsPackedBuffer}
 use Rattle.stow_message.proofs.Pushed.{empty_filled}
 use Rattle.stow_message.proofs.message_buf.MessageBuf.with_capacity.Goals as goal
 
 pub invariant_of-result : goal.invariant_of-result
 invariant_of-result g c = record {
-  filled = subst IsFilled (sym c.in_ok-raw.ensures) (empty_filled c.args.capacity c.requires);
+  filled = subst IsPackedBuffer (sym c.in_ok-raw.ensures) (empty_filled c.args.capacity c.requires);
   covers = subst (λ (r : RawLists). Covers c.in_ok-filter.filter (messages_in r)) (sym c.in_ok-raw.ensures) tt;
 }

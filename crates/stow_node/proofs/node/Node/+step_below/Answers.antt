@@ -12,7 +12,7 @@ use Rattle.stow_node.specs.Moves.{IsHeaviest, HandsDown}
 use Rattle.stow_node.specs.declared.shape.Shape.{Shape}
 use Rattle.stow_node.specs.Nodes.{part_of, parts_of, IsBelow, subtree_of}
 use Rattle.stow_node.specs.Parts.{leaves_in}
-use Rattle.stow_node.specs.Regroups.{Steps}
+use Rattle.stow_node.specs.Regroups.{StepsAsOne}
 use Rattle.stow_node.specs.Rooms.{AreShells, AreLists, HasRoom, groups}
 use Rattle.stow_node.specs.Subtree.{Subtree, messages_of}
 use Rattle.stow_node.specs.Ways.{Goes}
@@ -33,7 +33,7 @@ use Rattle.stow_node.proofs.node.Node.+step_below.Goals.{In-Node, In_ok-room-in-
 is_next : (g : given.Over) (t : ℕ) (c : In-Node g t) → IsNext c.self.inside c.heaviest-index.result c.bytes_for-bytes.result c.in-Node.node
 is_next g t c =
     next_is c.self.inside c.heaviest-index.result c.bytes_for-bytes.result c.in-Node.node c.index_mut.result.now c.as_slice-2.result.now c.as_slice-3.result.now c.self.invariant (λ e. c.if-self-eq1.false e) (subst (λ (s : Subtree). 0 < length s.buffer.messages) (sym c.self.view_is) c.requires.some)
-    c.as_slice-2.ensures.value c.heaviest-index.ensures c.index_mut.ensures.value c.in-Node.is c.as_slice-3.ensures.value c.bytes_for-bytes.ensures (let u = c.used-used.ensures.live in let w = c.used-used.ensures.within in omega arith)
+    c.as_slice-2.ensures.value c.heaviest-index.ensures c.index_mut.ensures.value c.in-Node.is c.as_slice-3.ensures.value c.bytes_for-bytes.ensures (let u = c.used-known.ensures.live in let w = c.used-known.ensures.within in omega arith)
 
 is_heavy : (g : given.Over) (t : ℕ) (c : In-Node g t) → IsHeaviest (parts_of c.self.inside.children.items) c.self.inside.buffer c.heaviest-index.result
 is_heavy g t c = subst (λ (l : List (Child g.row.A.Denot)). IsHeaviest (parts_of l) c.self.inside.buffer c.heaviest-index.result) c.as_slice-2.ensures.value c.heaviest-index.ensures
@@ -80,7 +80,7 @@ is_down g t c =
 
 is_went : (g : given.Over) (t : ℕ) (c : After-hand_down g t) → IsNext c.self.inside c.heaviest-index.result c.bytes_for-bytes.result c.in-Node.node → MadeRoom c.self.inside c.heaviest-index.result c.in-Node.node c.makes_room.new.self → WentInto c.self.inside (with_items (with_item c.self.inside.children c.heaviest-index.result (in_child.Node c.makes_room.new.self)) c.hand_down.new.children) c.hand_down.new.buffer
 is_went g t c n m =
-    went_into c.self.inside c.heaviest-index.result c.in-Node.node c.makes_room.new.self (with_items (with_item c.self.inside.children c.heaviest-index.result (in_child.Node c.makes_room.new.self)) c.hand_down.new.children) c.hand_down.new.buffer c.self.invariant c.len-len.ensures.rising m (let some = n.some in let b = n.bytes_are in omega arith) (is_down g t c)
+    went_into c.self.inside c.heaviest-index.result c.in-Node.node c.makes_room.new.self (with_items (with_item c.self.inside.children c.heaviest-index.result (in_child.Node c.makes_room.new.self)) c.hand_down.new.children) c.hand_down.new.buffer c.self.invariant c.len-known.ensures.rising m (let some = n.some in let b = n.bytes_are in omega arith) (is_down g t c)
 
 pub same-self : goal.same-self
 same-self g t c = refl
@@ -245,7 +245,7 @@ returns-then-not-makes_room-clause-ok g t c =
     let some = are_some g t (goal.at.returns-then-not-makes_room-clause-ok g t c).In-Node in
     let wide = are_wide g t (goal.at.returns-then-not-makes_room-clause-ok g t c).After-take_in next in
     let st = is_stepped g t (goal.at.returns-then-not-makes_room-clause-ok g t c).After-take_in next in
-    subst (λ (s : Subtree). Steps (pins_in c.args.pins.now) s c.settle.new.self c.settle.new.room.came.items) c.self.view_is
+    subst (λ (s : Subtree). StepsAsOne (pins_in c.args.pins.now) s c.settle.new.self c.settle.new.room.came.items) c.self.view_is
     (steps (pins_in c.args.pins.now) (subtree_of c.self.inside) _ c.settle.new.self c.settle.new.room.came.items st.keeps st.lighter (c.settle.ensures.settles (pins_in c.args.pins.now))
     (let k = c.settle.ensures.count in
     let e = ap (groups c.self.inside.shape.fan_out) wide in
@@ -303,7 +303,7 @@ returns-clause-ok g t c =
     let next = is_next g t (goal.at.returns-clause-ok g t c).In-Node in
     let made = is_made g t (goal.at.returns-clause-ok g t c).After-deref_mut next in
     let went = is_went g t (goal.at.returns-clause-ok g t c).After-hand_down next made in
-    subst (λ (s : Subtree). Steps (pins_in c.args.pins.now) s (subtree_of (record c.self.inside { children = (with_items (with_item c.self.inside.children c.heaviest-index.result (in_child.Node c.makes_room.new.self)) c.hand_down.new.children); buffer = c.hand_down.new.buffer })) c.none.result.came.items) c.self.view_is
+    subst (λ (s : Subtree). StepsAsOne (pins_in c.args.pins.now) s (subtree_of (record c.self.inside { children = (with_items (with_item c.self.inside.children c.heaviest-index.result (in_child.Node c.makes_room.new.self)) c.hand_down.new.children); buffer = c.hand_down.new.buffer })) c.none.result.came.items) c.self.view_is
     (steps_alone (pins_in c.args.pins.now) (subtree_of c.self.inside) (subtree_of (record c.self.inside { children = (with_items (with_item c.self.inside.children c.heaviest-index.result (in_child.Node c.makes_room.new.self)) c.hand_down.new.children); buffer = c.hand_down.new.buffer })) c.none.result.came.items went.stays went.is_node.sizes went.weight
     (subst (λ (s : Subtree). s.width ≤ s.shape.fan_out) (sym c.self.view_is) c.requires.few) c.none.ensures.came)
 

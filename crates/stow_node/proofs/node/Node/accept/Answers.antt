@@ -18,7 +18,7 @@ done : (g : given.Over) (c : goal.After-move_range g) → Took c.self.inside (in
 done g c =
     let can = subst (λ (t : Subtree). CanAccept (in_range t.low c.args.to.bytes.now c.args.from.now.messages) t) (sym c.self.view_is) c.requires in
     let ms = in_range c.self.inside.low c.args.to.bytes.now c.args.from.now.messages in
-    let rise = rests_rise c.self.inside.low c.args.to.bytes.now [] c.args.from.now.messages c.len-count.ensures.rising in
+    let rise = rests_rise c.self.inside.low c.args.to.bytes.now [] c.args.from.now.messages c.len-known.ensures.rising in
     rw (c.move_range.ensures.moved, c.as_key.ensures) (took c.self.inside ms c.self.invariant can rise.0)
 
 pub invariant_of-self : goal.invariant_of-self

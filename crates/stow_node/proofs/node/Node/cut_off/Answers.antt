@@ -38,8 +38,8 @@ pub move_range-requires-clause-room : goal.move_range-requires-clause-room
 move_range-requires-clause-room g c =
     let own : c.args.shell.buffer ≡ c.self.inside.shape.buffer = ap (λ (s : Shape). s.buffer) c.requires.shape ∙ sym (ap (λ (s : Subtree). s.shape.buffer) c.self.view_is) in
     rw c.into_parts-list.ensures.buffer (let s = some_bytes (is_between c.as_key.result.bytes.now c.top_key.result.bytes.now) c.self.inside.buffer.messages in
-    let l = c.used-used.ensures.live in
-    let w = c.used-used.ensures.within in
+    let l = c.used-known.ensures.live in
+    let w = c.used-known.ensures.within in
     let f = c.self.invariant.fits in
     omega (arith, s, l, w, f, own))
 
@@ -52,7 +52,7 @@ invariant_of-self g c =
     (let r = c.requires.inside.1 in let v = ap (λ (s : Subtree). s.width) c.self.view_is in omega (arith, r, v))
     c.moved_from-children.ensures.left c.moved_from-children.ensures.moved
     (c.copied-low.ensures ∙ c.low.ensures ∙ ap (λ (x : Child g.row.A.Denot). (part_of x).low) c.index.ensures)
-    c.len-len.ensures.rising in
+    c.len-known.ensures.rising in
     rw (c.move_range.ensures.rest, c.as_key.ensures, c.top_key.ensures) done.lower
 
 pub invariant_of-result : goal.invariant_of-result
@@ -62,7 +62,7 @@ invariant_of-result g c =
     (let r = c.requires.inside.1 in let v = ap (λ (s : Subtree). s.width) c.self.view_is in omega (arith, r, v))
     c.moved_from-children.ensures.left c.moved_from-children.ensures.moved
     (c.copied-low.ensures ∙ c.low.ensures ∙ ap (λ (x : Child g.row.A.Denot). (part_of x).low) c.index.ensures)
-    c.len-len.ensures.rising in
+    c.len-known.ensures.rising in
     rw (c.move_range.ensures.moved, c.into_parts-list.ensures.buffer, c.as_key.ensures, c.top_key.ensures, own) done.upper
 
 pub returns-clause-halves : goal.returns-clause-halves
@@ -72,7 +72,7 @@ returns-clause-halves g c =
     (let r = c.requires.inside.1 in let v = ap (λ (s : Subtree). s.width) c.self.view_is in omega (arith, r, v))
     c.moved_from-children.ensures.left c.moved_from-children.ensures.moved
     (c.copied-low.ensures ∙ c.low.ensures ∙ ap (λ (x : Child g.row.A.Denot). (part_of x).low) c.index.ensures)
-    c.len-len.ensures.rising in
+    c.len-known.ensures.rising in
     rw (← c.self.view_is) (rw (c.move_range.ensures.rest, c.move_range.ensures.moved, c.into_parts-list.ensures.buffer, c.as_key.ensures, c.top_key.ensures, own) done.halves)
 
 pub returns-clause-width : goal.returns-clause-width

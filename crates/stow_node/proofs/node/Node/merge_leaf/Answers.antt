@@ -8,7 +8,7 @@ use Rattle.stow_node.specs.Joins.{leaves_of}
 use Rattle.stow_node.specs.Moves.{IsHeaviest}
 use Rattle.stow_node.specs.Nodes.{part_of, parts_of, subtree_of}
 use Rattle.stow_node.specs.Parts.{high_of}
-use Rattle.stow_node.specs.Regroups.{Steps}
+use Rattle.stow_node.specs.Regroups.{StepsAsOne}
 use Rattle.stow_node.specs.Rooms.{AreShells, HasRoom, groups, nodes_needed}
 use Rattle.stow_node.specs.Ways.{MergesHeaviest, Goes}
 use Rattle.stow_node.specs.Subtree.{Subtree, messages_of}
@@ -117,7 +117,7 @@ settle-requires-clause-shells g c =
 pub returns-clause-ok : goal.returns-clause-ok
 returns-clause-ok g c =
     let leaf = done g ((goal.at.returns-clause-ok g c).After-drop_range) in
-    subst (λ (s : Subtree). Steps (pins_in c.args.pins.now) s c.settle.new.self c.settle.new.room.came.items) c.self.view_is
+    subst (λ (s : Subtree). StepsAsOne (pins_in c.args.pins.now) s c.settle.new.self c.settle.new.room.came.items) c.self.view_is
     (steps (pins_in c.args.pins.now) (subtree_of c.self.inside) _ c.settle.new.self c.settle.new.room.came.items
     (rw c.drop_range.ensures leaf.keeps) (rw c.drop_range.ensures leaf.lighter) (c.settle.ensures.settles (pins_in c.args.pins.now))
     (let k = c.settle.ensures.count in let few = c.in_ok-room.ensures.counted in let e = ap (groups c.self.inside.shape.fan_out) (count g ((goal.at.returns-clause-ok g c).After-len)) in omega (arith, k, few, e)))

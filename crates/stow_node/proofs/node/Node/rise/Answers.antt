@@ -8,7 +8,7 @@ use Rattle.stow_node.specs.declared.child.Child.TheVariants as in_child
 use Rattle.stow_node.specs.declared.shape.Shape.{Shape}
 use Rattle.stow_node.specs.Joins.{leaves_of}
 use Rattle.stow_node.specs.Nodes.{subtree_of}
-use Rattle.stow_node.specs.Regroups.{Grows, Stands, AreBehind}
+use Rattle.stow_node.specs.Regroups.{Grows, StandAsOne, AreBehind}
 use Rattle.stow_node.specs.Rooms.{AreLists, AreShells, groups}
 use Rattle.stow_node.specs.Subtree.{Subtree}
 use Rattle.stow_node.proofs.Groups.{groups_halve}
@@ -141,8 +141,8 @@ returns-clause-rises g c = λ pins x s.
     let done = is_rooted g (goal.at.returns-clause-rises g c).After-take_in in
     let low = same_low g (goal.at.returns-clause-rises g c).After-take_in in
     let block = empty_block g (goal.at.returns-clause-rises g c).After-take_in in
-    let stands : (pins : TenantPins) (x z : Subtree) (came' : List (Child g.row.A.Denot)) → Stands pins x (subtree_of c.self.inside) c.args.room.now.came.items → Grows pins (subtree_of (record { low = c.replace.new.dest; height = c.self.inside.height + 1; shape = c.self.inside.shape; buffer = c.replace-2.new.dest; children = c.take_in.new.children })) z came' → Stands pins x z came' = rw (low, block) done.stands in
-    stands pins x c.settle.new.self c.settle.new.room.came.items (subst (λ (t : Subtree). Stands pins x t c.args.room.now.came.items) (sym c.self.view_is) s) (c.settle.ensures.settles pins)
+    let stands : (pins : TenantPins) (x z : Subtree) (came' : List (Child g.row.A.Denot)) → StandAsOne pins x (subtree_of c.self.inside) c.args.room.now.came.items → Grows pins (subtree_of (record { low = c.replace.new.dest; height = c.self.inside.height + 1; shape = c.self.inside.shape; buffer = c.replace-2.new.dest; children = c.take_in.new.children })) z came' → StandAsOne pins x z came' = rw (low, block) done.stands in
+    stands pins x c.settle.new.self c.settle.new.room.came.items (subst (λ (t : Subtree). StandAsOne pins x t c.args.room.now.came.items) (sym c.self.view_is) s) (c.settle.ensures.settles pins)
 
 pub returns-clause-leaves : goal.returns-clause-leaves
 returns-clause-leaves g c =

@@ -7,7 +7,7 @@ use Rattle.stow_node.proofs.node.Node.step.Goals as goal
 
 pub loop-self-init : goal.loop-self-init
 loop-self-init g c =
-    rising_begins (pins_in c.args.pins.now) c.args.self.now c.step_below.new.self c.in_ok-room.room c.args.cache.now c.step_below.new.cache c.shape-shape.ensures.tile
+    rising_begins (pins_in c.args.pins.now) c.args.self.now c.step_below.new.self c.in_ok-room.room c.args.cache.now c.step_below.new.cache c.shape-known.ensures.tile
     (let t = c.if-height-gt-MOST_HEIGHT.false in let h = c.height.ensures in omega (arith, t, h)) c.in_ok-room.ensures.ok c.in_ok-room.ensures.goes
     (subst (λ ws. HasRoom c.args.self.now.shape ws c.in_ok-room.room) c.new-above.ensures.items c.in_ok-room.ensures.room) c.in_ok-room.ensures.cache
 

@@ -1,5 +1,5 @@
 use Rattle.std.proofs.Common.{◌≡◌, ◌∙◌, Some, rules}
-use Rattle.stow_plain.specs.Contents.{number_in}
+use Rattle.stow_model.specs.Store.{number_in}
 use Rattle.stow_plain.proofs.Kept.{get_seen, rows_some}
 use Rattle.stow_plain.proofs.plain_contents.PlainContents.snapshot.Goals as goal
 

@@ -4,7 +4,7 @@ use Rattle.stow_shared.specs.Entries.{Entry, call_entry, entries_of}
 use Rattle.stow_shared.specs.Copies.{copied}
 use Rattle.stow_shared.specs.Journals.{with_entry}
 use Rattle.stow_shared.specs.Seats.{with_refusal}
-use Rattle.stow_shared.specs.Books.{IsBook, Serves}
+use Rattle.stow_shared.specs.Books.{IsBook, ServesCall}
 use Rattle.stow_shared.proofs.Legal.{book_same, book_call}
 use Rattle.stow_shared.proofs.Steps.{alike, entry_is, serves_back}
 use Rattle.stow_shared.proofs.book.Book.call.Given.{Over}
@@ -49,7 +49,7 @@ returns-in-Err-keep_call g c =
 told_is : (g : Over) (c : goal.After-commit g) → reply_of c.commit.result ≡ reply_of c.in-Ok.prepared.reply
 told_is g c = ap reply_of (c.commit.ensures.reply ∙ ap (λ p. p.reply) c.in-Ok-keep_call.ensures.same)
 
-serves : (g : Over) (c : goal.After-commit g) → Serves c.self.inside.core c.args.tenant c.args.words.now (reply_of c.commit.result) c.commit.new.self
+serves : (g : Over) (c : goal.After-commit g) → ServesCall c.self.inside.core c.args.tenant c.args.words.now (reply_of c.commit.result) c.commit.new.self
 serves g c =
     serves_back c.self.inside.core c.prepare.new.self c.commit.new.self c.args.tenant c.args.words.now c.in-Ok.prepared c.in-Ok-keep_call.prepared c.commit.result c.in-Ok-keep_call.ensures.same
     c.prepare.ensures.keeps c.in-Ok.ensures.tenant c.in-Ok.ensures.own c.in-Ok.ensures.stranger

@@ -1,5 +1,6 @@
 use Rattle.std.proofs.Common.{◌≡◌, ◌<◌, ◌+◌, ℕ, List, [], ◌∷◌, ◌++◌, length, ap, sym, ◌∙◌, arith}
-use Rattle.stow_versions.specs.VersionsState.{VersionsState, snapshot_limit}
+use Rattle.stow_bytes.specs.Limits.{snapshot_limit}
+use Rattle.stow_versions.specs.VersionsState.{VersionsState}
 use Rattle.stow_versions.specs.VersionLists.{ArePins}
 use Rattle.stow_versions.proofs.PinLemmas.{pins_within, pins_push, any_push}
 use Rattle.stow_versions.proofs.KeptLemmas.{lists_push, len_seen, push_seen, same_lists, same_seen}

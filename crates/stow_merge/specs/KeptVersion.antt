@@ -4,7 +4,7 @@ use Rattle.std.specs.List.{flat_map}
 use Rattle.stow_tree_model.specs.Op.{Op, Put, Gone, Append, bytes_in}
 use Rattle.stow_tree_model.specs.TreeMessage.{TreeMessage}
 use Rattle.stow_tree_model.specs.Version.{Version}
-use Rattle.stow_merge.specs.declared.kept.Kept as coded
+use Rattle.stow_merge.specs.declared.kept_version.KeptVersion as coded
 
 -- the bytes that messages carry, from one of them to before another
 abbrev pub bytes_between : List TreeMessage → ℕ → ℕ → List ℕ
@@ -16,7 +16,7 @@ value_between messages None to = None
 value_between messages (Some from) to = Some (bytes_between messages from to)
 
 -- what the code's type stands for
-abbrev pub kept_version : List TreeMessage → coded.Kept → Version
+abbrev pub kept_version : List TreeMessage → coded.KeptVersion → Version
 kept_version messages k =
     record { key = k.key.bytes.now; number = k.number; value = value_between messages k.from k.to }
 

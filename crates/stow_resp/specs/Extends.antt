@@ -2,5 +2,5 @@
 use Rattle.std.specs.Prelude.{◌≡◌, ℕ, List, ◌++◌}
 
 -- what was written stays, and more may follow it
-abbrev pub Keeps : List ℕ → List ℕ → Type 0
-Keeps old new = (more : List ℕ) × (new ≡ old ++ more)
+abbrev pub Extends : List ℕ → List ℕ → Type 0
+Extends old new = (more : List ℕ) × (new ≡ old ++ more)

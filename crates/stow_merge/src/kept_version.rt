@@ -8,7 +8,7 @@ use stow_tree_model::tenant_key::TenantKey;
 /// A version that a merge keeps, told by where its bytes stand among the joined messages, so that an append is
 /// written after what stands below it without a copy of either.
 #[derive(Clone, Copy)]
-pub struct Kept<'a> {
+pub struct KeptVersion<'a> {
     pub key: TenantKey<'a>,
     pub number: u64,
     /// The first message whose bytes the value has. `None` where the key has no value.
