@@ -10,12 +10,12 @@ use Rattle.stow_tree_model.specs.Keys.{tenant_of}
 use Rattle.stow_tree_model.specs.Messages.{ops_in}
 use Rattle.stow_tree_model.specs.Operations.{or_else}
 use Rattle.stow_node.specs.Flushes.{Flushes}
-use Rattle.stow_node.specs.Forgets.{Forgets}
+use Rattle.stow_leaves.specs.Forgets.{Forgets}
 use Rattle.stow_node.specs.Moves.{IsSqueezed, LacksRoom, StaysInMeaning}
 use Rattle.stow_node.specs.Subtree.{Subtree, messages_of}
 use Rattle.stow_node.specs.Ways.{StepsDown}
 use Rattle.stow_node.specs.declared.shape.Shape.{Shape}
-use Rattle.stow_node.proofs.Over.{same_itself, same_pointwise, same_then}
+use Rattle.stow_leaf.proofs.Over.{same_itself, same_pointwise, same_then}
 use Rattle.stow_node.proofs.Standing.{parts_ops}
 use Rattle.stow_flush.specs.Rooms.{RootStands, FlushesTimes, MakesRoom}
 

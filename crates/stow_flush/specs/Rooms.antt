@@ -3,7 +3,7 @@ use Rattle.std.specs.Prelude.{◌≡◌, ℕ, zero, suc, ◌+◌, ◌≤◌, Lis
 use Rattle.std.specs.List.{sum_by}
 use Rattle.stow_leaf_cache.specs.Cache.{Cache}
 use Rattle.stow_message.specs.Packed.{message_size}
-use Rattle.stow_node.specs.Flushes.{MeanTheSame}
+use Rattle.stow_leaf.specs.Replacements.{MeanTheSame}
 use Rattle.stow_node.specs.Moves.{IsSqueezed, LacksRoom}
 use Rattle.stow_node.specs.Subtree.{Subtree, messages_of}
 use Rattle.stow_node.specs.Ways.{StepsDown}

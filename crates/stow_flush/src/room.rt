@@ -2,7 +2,7 @@
 ghost use Rattle.std.specs.Prelude.{◌≡◌, ◌+◌, ◌≤◌, OnOk, OnErr};
 ghost use Rattle.stow_merge.specs.Pins.{pins_in};
 ghost use Rattle.stow_node.specs.Flushes.{AreShort};
-ghost use Rattle.stow_node.specs.Forgets.{Forgets};
+ghost use Rattle.stow_leaves.specs.Forgets.{Forgets};
 ghost use Rattle.stow_node.specs.Moves.{IsSqueezed};
 ghost use Rattle.stow_node.specs.Subtree.{messages_of};
 ghost use Rattle.stow_flush.specs.Rooms.{RootStands, BytesFit, FitsSqueezed, MakesRoom};

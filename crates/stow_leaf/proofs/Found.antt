@@ -1,5 +1,5 @@
 -- Rows by key, and what a merge has of one.
-use Rattle.std.proofs.Common.{◌≡◌, ◌≢◌, ℕ, zero, suc, ◌<◌, ◌≤◌, Bool, true, false, List, [], ◌∷◌, take, drop, map, Option, Some, None, refl, ap, ◌∙◌, sym, subst, arith, ⊎_elim, inl, inr, ◌⊎◌}
+use Rattle.std.proofs.Common.{◌≡◌, ◌≢◌, ℕ, zero, suc, ◌<◌, ◌≤◌, Bool, true, false, List, [], ◌∷◌, take, drop, map, Option, Some, None, refl, ap, ◌∙◌, sym, subst, arith, ⊎_elim}
 use Rattle.std.specs.Prelude.{Contains, IsSome, is_some, if◌then◌else◌, slice_get}
 use Rattle.std.specs.FinMap as finite
 use Rattle.std.specs.List.{AllByRecursion}
@@ -13,10 +13,10 @@ use Rattle.stow_bytes.specs.Bytes.{bytes_cmp}
 use Rattle.stow_tree_model.specs.Op.{Op}
 use Rattle.stow_tree_model.specs.Agreement.{TenantPins}
 use Rattle.stow_tree_model.specs.Keys.{tenant_of}
-use Rattle.stow_tree_model.specs.Merged.{op_of_value, row_message, rows_set, merged, Stays}
-use Rattle.stow_tree_model.specs.Messages.{Messages, ops_of, ops_in, with_all, set_of}
+use Rattle.stow_tree_model.specs.Merged.{op_of_value, row_message, rows_set, merged}
+use Rattle.stow_tree_model.specs.Messages.{ops_of, ops_in, with_all, set_of}
 use Rattle.stow_tree_model.specs.Operations.{Operations, NumberedValue, applied, latest, or_else, value_in, numbered, outcome, NoneAbove}
-use Rattle.stow_tree_model.specs.Order.{VersionPlace, place_cmp, place_of, version_place, MessagesRise, VersionsRise}
+use Rattle.stow_tree_model.specs.Order.{VersionPlace, place_cmp, place_of, version_place, VersionsRise}
 use Rattle.stow_tree_model.specs.TreeMessage.{TreeMessage}
 use Rattle.stow_tree_model.specs.Value.{IsValue}
 use Rattle.stow_tree_model.specs.Version.{Version}
@@ -127,14 +127,6 @@ from_first v vs w r c = ⊎_elim
     (λ (t : Contains vs w). place_le (version_place v) (version_place w) (all_mapped_member (λ q. place_cmp (version_place v) q ≡ Less) version_place vs w r.0 t))
     (contains_cases v w vs c)
 
--- nor is a later message's
-pub from_first_message : (m : TreeMessage) (ms : List TreeMessage) (w : TreeMessage) → MessagesRise (m ∷ ms) → Contains (m ∷ ms) w → lt w.key m.key ≡ false
-unfolding IsStrictlySortedBy
-from_first_message m ms w r c = ⊎_elim
-    (λ (e : m ≡ w). ap (λ (u : TreeMessage). lt u.key m.key) (sym e) ∙ lt_self m.key)
-    (λ (t : Contains ms w). place_le (place_of m) (place_of w) (all_mapped_member (λ q. place_cmp (place_of m) q ≡ Less) place_of ms w r.0 t))
-    (contains_cases m w ms c)
-
 -- ---- merges
 
 pub ops-set_of : (ms : List TreeMessage) (key : List ℕ) (n : ℕ) → ops_of (set_of ms) key n ≡ ops_in ms key n
@@ -188,25 +180,6 @@ pub short_rows : (vs : List Version) (key : List ℕ) → HaveShortValues vs →
 unfolding latest
 short_rows vs key h zero = short_applied vs key zero None h (record { is_short = λ bytes e. absurd cc })
 short_rows vs key h (suc n) = short_applied vs key (suc n) (latest (ops_in (map row_message vs) key) n) h (short_rows vs key h n)
-
--- what a merge keeps depends on a key's operations alone
-abbrev KeptBy : List ℕ → Operations → ℕ → Type 0
-KeptBy pins f number = IsSome (f number) × (NoneAbove number f ⊎ ((pin : ℕ) × Contains pins pin × ((number ≤ pin) × ((n : ℕ) → number < n → n ≤ pin → f n ≡ None))))
-
-stays_by_ops : (pins : TenantPins) (m n : Messages) (v : Version) → ops_of m v.key ≡ ops_of n v.key → Stays pins m v → Stays pins n v
-stays_by_ops pins m n v e s = record {
-  is_kept = subst (λ f. KeptBy (pins (tenant_of v.key)) f v.number) e s.is_kept;
-  is_value = s.is_value ∙ ap (λ f. value_in (latest f v.number)) e;
-  is_wanted = ⊎_elim (λ w. inl w) (λ w. inr (w.0, w.1, subst (λ f. KeptBy (pins (tenant_of v.key)) f w.0) e w.2)) s.is_wanted;
-}
-
--- rows of which a key has the same operations keep the same versions of it
-pub merged_same : (rows others : List Version) (batch : List TreeMessage) (pins : TenantPins) (v : Version) → ((n : ℕ) → ops_with batch rows v.key n ≡ ops_with batch others v.key n) → Contains (merged rows batch pins) v → Contains (merged others batch pins) v
-merged_same rows others batch pins v e c =
-    (pruning pins (with_all (rows_set others) batch)).all_these v
-    (stays_by_ops pins (with_all (rows_set rows) batch) (with_all (rows_set others) batch) v
-    (λ i n. (merged_ops rows batch v.key n ∙ e n ∙ sym (merged_ops others batch v.key n)) i)
-    ((pruning pins (with_all (rows_set rows) batch)).only_these v c))
 
 -- a merge's values are values that its rows and messages have
 pub merged_short : (rows : List Version) (batch : List TreeMessage) (pins : TenantPins) → ((key : List ℕ) (n : ℕ) → IsSome (ops_with batch rows key n) → IsValue (value_in (latest (ops_with batch rows key) n))) → HaveShortValues (merged rows batch pins)

@@ -4,3 +4,4 @@ pub mod Found
 pub mod Tiles
 pub mod Fronts
 pub mod Steps
+pub mod Over

@@ -1,5 +1,5 @@
 -- What the code makes, step by step.
-use Rattle.std.proofs.Common.{◌≡◌, ◌≢◌, ℕ, zero, suc, ◌+◌, ◌<◌, List, [], ◌∷◌, ◌++◌, take, length, map, get_or, Option, Some, refl, ap, ◌∙◌, sym, arith}
+use Rattle.std.proofs.Common.{◌≡◌, ◌≢◌, ℕ, zero, suc, ◌+◌, ◌<◌, List, [], ◌∷◌, ◌++◌, take, length, map, get_or, Some, refl, ap, ◌∙◌, sym, arith}
 use Rattle.std.specs.Prelude.{slice_get, Result, Ok, Err, IfOk}
 use Rattle.std.proofs.lemmas.List.{map-append, take_more, length-take-le}
 use Rattle.stow_tree_model.specs.TreeMessage.{TreeMessage, message_of}
@@ -50,16 +50,6 @@ next_leaf leaves low fence pages i p so l e z f =
 pub is_filled_at : (pages : List (List Version)) (i : ℕ) (p : List Version) → AreFilled pages → 0 < i → i < length pages → p ≡ get_or pages i p → p ≢ []
 is_filled_at pages zero p filled z l e = absurd (omega arith)
 is_filled_at pages (suc i) p filled z l e = λ none. filled i p l (sym e ∙ none)
-
-pub has_some : (p : List Version) → p ≢ [] → 0 < length p
-has_some [] ne = absurd (ne refl)
-has_some (v ∷ p) ne = omega arith
-
-pub first_key-at : (p : List Version) (v : Version) → slice_get p 0 ≡ Some v → v.key ≡ first_key p
-first_key-at [] v e = absurd cc
-first_key-at (w ∷ p) v e = same w v e where
-  same : (a b : Version) → ◌≡◌ {A = Option Version} (Some a) (Some b) → b.key ≡ a.key
-  same a b e = cc
 
 -- what follows for a value, if there is one
 pub if_ok : {T E : Type 0} (r : Result T E) (P Q : T → Type 0) → ((x : T) → P x → Q x) → IfOk r P → IfOk r Q

@@ -31,6 +31,12 @@ AreThere f = (n : ℕ) × IsSome (f n)
 abbrev pub HasShortValues : Operations → Type 0
 HasShortValues f = (n : ℕ) → IsValue (value_in (latest f n))
 
+-- operations on a key mean the same as others under the pins, and bring no longer values
+pub record MeanTheSame (pins : List ℕ) (f g : Operations) : Type 0 where
+  pub way : GiveWay pins f g
+  pub short : HasShortValues f → HasShortValues g
+  pub there : AreThere g → AreThere f
+
 -- what messages and a leaf's rows below them have of a key
 abbrev pub ops_with : List TreeMessage → List Version → List ℕ → Operations
 ops_with ms rows key = over (ops_in ms key) (ops_in (map row_message rows) key)

@@ -10,5 +10,6 @@
 //! they don't, stands in no contract: the same test shows it.
 #![tactic(auto)]
 
+pub mod ends;
 pub mod leaf;
 pub mod making;

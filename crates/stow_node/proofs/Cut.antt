@@ -1,7 +1,7 @@
 -- A node cut in two between its children.
 use Rattle.std.proofs.Common.{zero, suc, ◌≡◌, ℕ, ◌+◌, ◌*◌, ◌<◌, Bool, true, false, cond, List, [], ◌∷◌, ◌++◌, length, take, drop, get_or, Option, Some, None, refl, sym, ap, ◌∙◌, subst, arith, length-append, length-drop}
 use Rattle.std.specs.Prelude.{IsSome, not}
-use Rattle.std.specs.List.{flat_map, AllByRecursion}
+use Rattle.std.specs.List.{AllByRecursion}
 use Rattle.std.specs.Ordering.{is_lt}
 use Rattle.std.specs.declared.vec.Vec.{Vec}
 use Rattle.std.proofs.lemmas.Grind.{flat_map-append}
@@ -22,6 +22,7 @@ use Rattle.stow_leaf.specs.Intervals.{top_key, spans}
 use Rattle.stow_leaf.specs.LeafRows.{LeafRows, row_messages, first_fence}
 use Rattle.stow_leaf.proofs.Intervals.{lt, lt_le, lt_self, by_test, under, beyond, spanned, span_low, span_high, not_spanned}
 use Rattle.stow_leaf.proofs.Ops.{ops-append, ops-in_range, ops-out_of_range, ops-all_placed}
+use Rattle.stow_merge.proofs.Lists.{all_split}
 use Rattle.stow_node.specs.declared.child.Child.{Child}
 use Rattle.stow_node.specs.declared.node.Node.TheInside.{Inside}
 use Rattle.stow_node.specs.Parts.{Part, low_or, IsTile, TiledTo, messages_in, leaves_in, weight_in}
@@ -33,7 +34,7 @@ use Rattle.std.proofs.lemmas.List.Filters.{length-filter_both}
 use Rattle.stow_node.proofs.Lowered.{rows_by_part, row_messages-append}
 use Rattle.stow_node.proofs.Raised.{wider, row_fences, first_of_row, whole_tile}
 use Rattle.stow_leaf.proofs.Found.{both_none, or_none, some_left, some_right}
-use Rattle.stow_node.proofs.Row.{Taken, Apart, message_taken, row_taken, messages_apart, rows_apart, none_before, none_from, low_at_most}
+use Rattle.stow_node.proofs.Row.{message_taken, row_taken, messages_apart, rows_apart, none_before, none_from, row_out, low_at_most}
 
 -- ---- a row in two parts
 
@@ -82,16 +83,6 @@ below_end high [] t h = absurd (omega arith)
 below_end high (p ∷ ps) t h =
     let apart = messages_apart high (p ∷ ps) t in
     lt_le p.low (low_or high ps) high apart.0.0 (low_at_most message_taken high ps apart.1)
-
-pub all_cut : {X : Type 0} (P : X → Type 0) (xs ys : List X) → AllByRecursion P (xs ++ ys) → AllByRecursion P xs × AllByRecursion P ys
-all_cut P [] ys h = (tt, h)
-all_cut P (x ∷ xs) ys h = let more = all_cut P xs ys h.1 in ((h.0, more.0), more.1)
-
--- nothing is taken of a row for a key outside its interval
-pub row_out : (f : Taken) (low high : List ℕ) (ps : List Part) (key : List ℕ) (n : ℕ) → Apart f high ps → low_or high ps ≡ low → spans low high key ≡ false → ops_in (flat_map f ps) key n ≡ None
-row_out f low high ps key n a first o = not_spanned low high key o
-    (λ l. none_before f high ps key n a (ap (lt key) first ∙ l))
-    (λ _ h. none_from f high ps key n a h)
 
 -- ---- operations of two parts
 
@@ -163,7 +154,7 @@ cut {A} a v w low node e some more is rise = record {
   lower = record {
     tiled = tiled-wider low top_key ps to_low left;
     first = first;
-    level = (all_cut (IsBelow a.height a.shape) v.items w.items level).0;
+    level = (all_split (IsBelow a.height a.shape) v.items w.items level).0;
     some = omega arith;
     fits = node.fits;
     from = record { outside = λ key n o. ops-out_of_range low top_key ms key n ∙ none_cond (not (spans low top_key key)) (ops_in ms key n) (node.from.outside key n o) };
@@ -246,7 +237,7 @@ cut {A} a v w low node e some more is rise = record {
     begins = ap (λ high. low_or high ps) is ∙ sym (low_or-append top_key ps qs) ∙ ap (low_or top_key) (sym parts) ∙ node.first
 
     leaf_sizes : AreLeafSizes a.shape.leaf (leaves_in ps) × AreLeafSizes a.shape.leaf (leaves_in qs)
-    leaf_sizes = all_cut (λ (l : LeafRows). IsLeafSize a.shape.leaf l.1) (leaves_in ps) (leaves_in qs) (subst (AreLeafSizes a.shape.leaf) (ap leaves_in parts ∙ flat_map-append (λ (p : Part). p.leaves) ps qs) node.sizes)
+    leaf_sizes = all_split (λ (l : LeafRows). IsLeafSize a.shape.leaf l.1) (leaves_in ps) (leaves_in qs) (subst (AreLeafSizes a.shape.leaf) (ap leaves_in parts ∙ flat_map-append (λ (p : Part). p.leaves) ps qs) node.sizes)
 
     to_low : lt top_key low ≡ false
     to_low = ap (lt top_key) is ∙ low_at_most message_taken top_key qs (messages_apart top_key qs right)
@@ -289,7 +280,7 @@ cut {A} a v w low node e some more is rise = record {
     upper_node = record {
       tiled = right;
       first = sym is;
-      level = (all_cut (IsBelow a.height a.shape) v.items w.items level).1;
+      level = (all_split (IsBelow a.height a.shape) v.items w.items level).1;
       some = omega arith;
       fits = refl;
       from = record { outside = λ key n o. upper_ops key n ∙ ap (λ t. cond t (ops_in ms key n) None) o };

@@ -1,5 +1,5 @@
 -- The child that gets messages next.
-use Rattle.std.proofs.Common.{◌≡◌, ◌≢◌, ℕ, ◌<◌, List, length, get_or, Some, sym, ap, ◌∙◌, subst, arith}
+use Rattle.std.proofs.Common.{zero, suc, ◌≡◌, ◌≢◌, ℕ, ◌<◌, List, [], ◌∷◌, length, refl, get_or, Some, sym, ap, ◌∙◌, subst, arith}
 use Rattle.std.specs.Prelude.{slice_get}
 use Rattle.std.proofs.lemmas.List.{length-map}
 use Rattle.std.proofs.lemmas.Option.{get_or_from_slice_get}
@@ -13,7 +13,6 @@ use Rattle.stow_node.specs.Moves.{bytes_for, IsHeaviest}
 use Rattle.stow_node.specs.Nodes.{part_of, node_part, parts_of, IsNode}
 use Rattle.stow_node.specs.Subtree.{Subtree}
 use Rattle.stow_node.proofs.Filled.{heaviest_has_bytes}
-use Rattle.stow_node.proofs.Flushed.{child_at}
 use Rattle.stow_node.proofs.Stayed.{level_at}
 
 pub not_leaf : {A : Type 0} (children : List (Child A)) (i : ℕ) (d : Child A) (x : Leaf A) (n : Subtree) → slice_get children i ≡ Some (in_child.Node n) → d ≡ get_or children i d → d ≡ in_child.Leaf x → ⊥
@@ -23,6 +22,11 @@ not_leaf children i d x n at here is = other x n (sym (get_or_from_slice_get chi
 
 pub inside_lent : {A : Type 0} (cs lent : List (Child A)) (b : MessageList) (i : ℕ) → lent ≡ cs → IsHeaviest (parts_of lent) b i → i < length cs
 inside_lent cs lent b i e h = let l = h.inside in let n = length-map lent part_of in let m = ap length e in omega (arith, l, n, m)
+
+child_at : {X : Type 0} (xs : List X) (i : ℕ) → i < length xs → (x : X) × (slice_get xs i ≡ Some x)
+child_at [] i l = absurd (omega arith)
+child_at (x ∷ xs) zero l = (x, refl)
+child_at (x ∷ xs) (suc i) l = child_at xs i (omega arith)
 
 pub record Entered {A : Type 0} (a : Inside A) (i : ℕ) : Type 0 where
   pub node : Subtree

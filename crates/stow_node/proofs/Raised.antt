@@ -1,6 +1,6 @@
 -- A node above another.
-use Rattle.std.proofs.Common.{◌≡◌, ℕ, ◌≤◌, true, false, List, [], ◌∷◌, ◌++◌, length, None, refl, sym, ap, ◌∙◌, subst, arith}
-use Rattle.std.specs.List.{AllByRecursion, flat_map}
+use Rattle.std.proofs.Common.{◌≡◌, ℕ, ◌≤◌, true, false, List, [], ◌∷◌, ◌++◌, length, refl, sym, ap, ◌∙◌, subst, arith}
+use Rattle.std.specs.List.{AllByRecursion}
 use Rattle.std.specs.Ordering.{is_lt}
 use Rattle.stow_bytes.specs.Bytes.{bytes_cmp}
 use Rattle.stow_message.proofs.RisingLists.{lt_is}
@@ -16,8 +16,8 @@ use Rattle.std.proofs.lemmas.List.{length-map}
 use Rattle.stow_node.proofs.Lowered.{rows_by_part}
 use Rattle.stow_leaf.proofs.Ops.{ops-append}
 use Rattle.stow_leaf.proofs.Found.{both_none}
-use Rattle.stow_node.proofs.Row.{Taken, Apart, message_taken, row_taken, messages_apart, rows_apart, none_before, none_from, low_at_most}
-use Rattle.stow_leaf.proofs.Intervals.{lt, lt_le, le_le, lt_not, lt_self, not_spanned, span_low, span_high, spanned}
+use Rattle.stow_node.proofs.Row.{message_taken, row_taken, messages_apart, rows_apart, row_out, low_at_most}
+use Rattle.stow_leaf.proofs.Intervals.{lt, lt_le, le_le, lt_not, lt_self, span_low, span_high, spanned}
 
 less_than_itself : (a b : List ℕ) → lt a b ≡ true → b ≡ a → ⊥
 less_than_itself a b l e = cc (lt_self a)
@@ -52,12 +52,6 @@ first_of_row high (p ∷ ps) t = by_leaves p.leaves refl (first_of_row high ps t
   by_leaves [] is on = absurd (less_than_itself p.low (low_or high ps) (ap is_lt t.0.ordered) (ap (first_fence (low_or high ps)) is ∙ t.0.first))
   by_leaves (leaf ∷ leaves) is on = ap (first_fence (low_or high ps)) is ∙ t.0.first
 
--- a whole row has nothing outside its interval
-row_within : (f : Taken) (ps : List Part) (key : List ℕ) (n : ℕ) → Apart f top_key ps → spans (low_or top_key ps) top_key key ≡ false → ops_in (flat_map f ps) key n ≡ None
-row_within f ps key n a o = not_spanned (low_or top_key ps) top_key key o
-    (λ l. none_before f top_key ps key n a l)
-    (λ _ h. none_from f top_key ps key n a h)
-
 -- a node is a tile of all keys from its low on
 pub whole_tile : {A : Type 0} (a : Inside A) → IsNode a → IsTile (node_part (subtree_of a)) top_key
 whole_tile a node = record {
@@ -67,11 +61,11 @@ whole_tile a node = record {
   messages = record {
     outside = λ key n o. ops-append a.buffer.messages (messages_in (parts_of a.children.items)) key n
         ∙ both_none (ops_in a.buffer.messages key n) (ops_in (messages_in (parts_of a.children.items)) key n) (node.from.outside key n o)
-        (row_within message_taken (parts_of a.children.items) key n (messages_apart top_key (parts_of a.children.items) node.tiled) (subst (λ low. spans low top_key key ≡ false) (sym node.first) o));
+        (row_out message_taken (low_or top_key (parts_of a.children.items)) top_key (parts_of a.children.items) key n (messages_apart top_key (parts_of a.children.items) node.tiled) refl (subst (λ low. spans low top_key key ≡ false) (sym node.first) o));
   };
   rows = record {
     outside = λ key n o. ap (λ l. ops_in l key n) (rows_by_part (parts_of a.children.items))
-        ∙ row_within row_taken (parts_of a.children.items) key n (rows_apart top_key (parts_of a.children.items) node.tiled) (subst (λ low. spans low top_key key ≡ false) (sym node.first) o);
+        ∙ row_out row_taken (low_or top_key (parts_of a.children.items)) top_key (parts_of a.children.items) key n (rows_apart top_key (parts_of a.children.items) node.tiled) refl (subst (λ low. spans low top_key key ≡ false) (sym node.first) o);
   };
 }
   where

@@ -19,21 +19,23 @@ use Rattle.stow_node.specs.declared.child.Child.TheVariants as in_child
 use Rattle.stow_node.specs.declared.node.Node.TheInside.{Inside}
 use Rattle.stow_node.specs.declared.room.Room.{Room}
 use Rattle.stow_node.specs.declared.shape.Shape.{Shape}
-use Rattle.stow_node.specs.Rooms.{AreShells, groups, IsLast}
+use Rattle.stow_groups.specs.Groups.{groups, IsLast}
+use Rattle.stow_node.specs.Rooms.{AreShells}
 use Rattle.std.specs.Vec.{vec_capacity}
-use Rattle.stow_node.specs.Flushes.{MeanTheSame, KeepsMeaning}
+use Rattle.stow_leaf.specs.Replacements.{MeanTheSame}
+use Rattle.stow_node.specs.Flushes.{KeepsMeaning}
 use Rattle.stow_node.specs.Halves.{IsLike, AreHalves}
-use Rattle.stow_node.specs.Joins.{leaves_of}
+use Rattle.stow_node.specs.Nodes.{leaves_of}
 use Rattle.stow_node.specs.Nodes.{node_part, parts_of, AreLeafSizes, IsBelow, subtree_of, IsNode}
 use Rattle.stow_node.specs.Parts.{Part, low_or, IsTile, TiledTo, messages_in, leaves_in, weight_in}
 use Rattle.stow_node.specs.Regroups.{nodes, run_parts, run_messages, TakePlace, AreFew, Grows, StandAsOne, StepsAsOne, AreBehind}
 use Rattle.stow_node.specs.Subtree.{Subtree, buffered, messages_of}
-use Rattle.stow_node.proofs.Cut.{row_out, below_end}
-use Rattle.stow_node.proofs.Groups.{groups_few, groups_hold}
+use Rattle.stow_node.proofs.Cut.{below_end}
+use Rattle.stow_groups.proofs.Counts.{groups_few, groups_hold}
 use Rattle.stow_node.proofs.Lowered.{rows_by_part}
-use Rattle.stow_node.proofs.Over.{same_pointwise, same_then}
+use Rattle.stow_leaf.proofs.Over.{same_pointwise, same_then}
 use Rattle.stow_node.proofs.Raised.{row_fences, first_of_row, above_leaves}
-use Rattle.stow_node.proofs.Row.{message_taken, row_taken, messages_apart, rows_apart}
+use Rattle.stow_node.proofs.Row.{message_taken, row_taken, messages_apart, rows_apart, row_out}
 use Rattle.stow_node.proofs.Spliced.{one_takes_place, halves_take_place, row_ops_are}
 
 -- ---- places taken one after another

@@ -10,10 +10,10 @@ use Rattle.stow_tree_model.specs.Messages.{ops_in}
 use Rattle.stow_node.specs.declared.child.Child.{Child}
 use Rattle.stow_node.specs.declared.room.Room.{Room}
 use Rattle.stow_node.specs.declared.shape.Shape.{Shape}
-use Rattle.stow_node.specs.Flushes.{MeanTheSame, Flushes}
-use Rattle.stow_node.specs.Forgets.{Forgets}
-use Rattle.stow_node.specs.Joins.{leaves_of}
-use Rattle.stow_node.specs.Moves.{StaysInMeaning}
+use Rattle.stow_leaf.specs.Replacements.{MeanTheSame}
+use Rattle.stow_node.specs.Flushes.{Flushes}
+use Rattle.stow_leaves.specs.Forgets.{Forgets}
+use Rattle.stow_node.specs.Nodes.{leaves_of}
 use Rattle.stow_node.specs.Nodes.{node_part}
 use Rattle.stow_node.specs.Parts.{Part, IsTile}
 use Rattle.stow_node.specs.Regroups.{nodes, run_parts, run_messages, StandAsOne, StepsAsOne, ForgetsCame}
@@ -106,6 +106,3 @@ rising_down {A} pins old now room cache cache' i none = record {
   height = let h = i.up.height in omega (arith, h, none);
   leaves = sym (append-nil now.leaves) ∙ ap (λ ls. now.leaves ++ ls) (sym (no_leaves room.came.items none)) ∙ i.up.leaves;
 }
-
-pub stays_itself : (x : Subtree) → StaysInMeaning x x
-stays_itself x = record { low = refl; height = refl; width = refl; shape = refl; capacity = refl; leaves = refl; messages = λ key n. refl; count = refl }

@@ -8,7 +8,7 @@ use Rattle.stow_tree_model.specs.TreeMessage.{TreeMessage}
 use Rattle.stow_leaf.specs.LeafRows.{row_messages}
 use Rattle.stow_node.specs.Parts.{Part, IsTile, TiledTo, low_or, end_of}
 use Rattle.stow_leaf.specs.Intervals.{spans, NoneOutside}
-use Rattle.stow_leaf.proofs.Intervals.{lt, lt_trans, lt_le, le_le, lt_not, lt_self, under, beyond, span_low, span_high}
+use Rattle.stow_leaf.proofs.Intervals.{lt, lt_trans, lt_le, le_le, lt_not, lt_self, under, beyond, not_spanned, span_low, span_high}
 use Rattle.stow_leaf.proofs.Found.{both_none, or_none, none_or}
 use Rattle.stow_leaf.proofs.Ops.{ops-append}
 
@@ -57,6 +57,12 @@ none_from f high (p ∷ ps) key n a l =
     ∙ both_none (ops_in (f p) key n) (ops_in (flat_map f ps) key n)
     (a.0.1.outside key n (beyond p.low (low_or high ps) key (le_le (low_or high ps) high key (low_at_most f high ps a.1) l)))
     (none_from f high ps key n a.1 l)
+
+-- nothing is taken of a row for a key outside its interval
+pub row_out : (f : Taken) (low high : List ℕ) (ps : List Part) (key : List ℕ) (n : ℕ) → Apart f high ps → low_or high ps ≡ low → spans low high key ≡ false → ops_in (flat_map f ps) key n ≡ None
+row_out f low high ps key n a first o = not_spanned low high key o
+    (λ l. none_before f high ps key n a (ap (lt key) first ∙ l))
+    (λ _ h. none_from f high ps key n a h)
 
 -- each part of a row stands at its first or above
 pub low_below : (f : Taken) (high : List ℕ) (p : Part) (ps : List Part) (i : ℕ) (d : Part) → Apart f high (p ∷ ps) → i < length (p ∷ ps) → lt (get_or (p ∷ ps) i d).low p.low ≡ false

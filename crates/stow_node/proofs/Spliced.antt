@@ -5,9 +5,9 @@ use Rattle.std.specs.List.{flat_map, AllByRecursion}
 use Rattle.std.specs.Ordering.{is_lt}
 use Rattle.std.specs.declared.vec.Vec.{Vec}
 use Rattle.std.proofs.lemmas.Grind.{flat_map-append}
-use Rattle.std.proofs.lemmas.List.{map-append, take-map, drop-map, drop_more, take-append-drop, length-take-le}
+use Rattle.std.proofs.lemmas.List.{length-map, map-append, take-map, drop-map, drop_more, take-append-drop, length-take-le}
 use Rattle.std.proofs.lemmas.List.Sums.{sum_by-append, sum_by-cons}
-use Rattle.stow_merge.proofs.Lists.{all_join}
+use Rattle.stow_merge.proofs.Lists.{all_split, all_join}
 use Rattle.stow_message.proofs.RisingLists.{no_path}
 use Rattle.stow_tree_model.specs.Agreement.{TenantPins}
 use Rattle.stow_tree_model.specs.Keys.{tenant_of}
@@ -16,30 +16,29 @@ use Rattle.stow_tree_model.specs.Op.{Op}
 use Rattle.stow_tree_model.specs.Operations.{Operations, or_else, over}
 use Rattle.stow_leaf.specs.Intervals.{top_key, spans}
 use Rattle.stow_leaf.specs.LeafRows.{LeafRows, row_messages, first_fence}
-use Rattle.stow_leaf.specs.Replacements.{IsLeafSize, HasShortValues}
+use Rattle.stow_leaf.specs.Replacements.{IsLeafSize, HasShortValues, MeanTheSame}
 use Rattle.stow_leaf.proofs.Found.{or_none, none_or}
-use Rattle.stow_leaf.proofs.Intervals.{lt, by_test, lt_self, beyond, span_low, span_high, not_spanned}
+use Rattle.stow_leaf.proofs.Intervals.{lt, by_test, lt_self, beyond, span_low, span_high}
 use Rattle.stow_leaf.proofs.Ops.{ops-append}
 use Rattle.stow_leaf.proofs.Steps.{inside_of}
 use Rattle.stow_node.specs.declared.child.Child.{Child}
 use Rattle.stow_node.specs.declared.child.Child.TheVariants as in_child
 use Rattle.stow_node.specs.declared.node.Node.TheInside.{Inside}
 use Rattle.stow_node.specs.declared.shape.Shape.{Shape}
-use Rattle.stow_node.specs.Flushes.{AreShort, MeanTheSame, KeepsMeaning}
+use Rattle.stow_node.specs.Flushes.{AreShort, KeepsMeaning}
 use Rattle.stow_node.specs.Halves.{IsLike, AreHalves}
 use Rattle.stow_node.specs.Regroups.{nodes, run_parts, run_messages, TakePlace, AreFew}
 use Rattle.stow_node.specs.Nodes.{part_of, node_part, parts_of, AreLeafSizes, IsBelow, subtree_of, IsNode}
 use Rattle.stow_node.specs.Parts.{Part, low_or, IsTile, TiledTo, messages_in, leaves_in, weight_in}
 use Rattle.stow_node.specs.Subtree.{Subtree, buffered, messages_of}
 use Rattle.stow_node.proofs.Accepted.{below_of, whole_ops}
-use Rattle.stow_node.proofs.Cut.{low_or-append, tiled-left, tiled-right, all_cut}
-use Rattle.stow_node.proofs.Flushed.{tiled-join, three, old_parts}
+use Rattle.stow_node.proofs.Cut.{low_or-append, tiled-left, tiled-right}
 use Rattle.stow_node.proofs.Lowered.{rows_by_part, row_messages-append}
-use Rattle.stow_node.proofs.Over.{Above, or_none_left, or_none_right, nothing_short, same_pointwise, above_same, over_same, short_under}
+use Rattle.stow_leaf.proofs.Over.{Above, or_none_left, or_none_right, nothing_short, same_pointwise, above_same, over_same, short_under}
 use Rattle.stow_node.proofs.Raised.{wider, row_fences, whole_tile}
-use Rattle.stow_node.proofs.Row.{Taken, Apart, message_taken, row_taken, messages_apart, rows_apart, none_before, none_from, low_at_most}
+use Rattle.stow_node.proofs.Row.{Taken, message_taken, row_taken, messages_apart, rows_apart, none_before, none_from, row_out, low_at_most}
 use Rattle.stow_node.proofs.Standing.{parts_ops, outside_tile, stands, narrowed}
-use Rattle.stow_node.proofs.Stayed.{level_at}
+use Rattle.stow_node.proofs.Stayed.{part_at, level_at}
 
 -- ---- nodes in a row
 
@@ -71,6 +70,22 @@ new_parts {A} cs i run =
     ∙ (λ j. sym (take-map part_of i cs) j ++ ((map-append part_of (nodes A run) (drop (i + 1) cs)) ∙ (λ k. parts_of_nodes A run k ++ sym (drop-map part_of (i + 1) cs) k)) j)
 
 -- ---- what stands beside and in the place
+
+tiled-join : (high : List ℕ) (xs ys : List Part) → TiledTo (low_or high ys) xs → TiledTo high ys → TiledTo high (xs ++ ys)
+tiled-join high [] ys t u = u
+tiled-join high (x ∷ xs) ys t u = (subst (IsTile x) (sym (low_or-append high xs ys)) t.0, tiled-join high xs ys t.1 u)
+
+-- what is taken of three pieces of a row
+three : (f : Taken) (xs zs ys : List Part) (key : List ℕ) (n : ℕ) → ops_in (flat_map f (xs ++ (zs ++ ys))) key n ≡ or_else (ops_in (flat_map f xs) key n) (or_else (ops_in (flat_map f zs) key n) (ops_in (flat_map f ys) key n))
+three f xs zs ys key n =
+    ap (λ l. ops_in l key n) (flat_map-append f xs (zs ++ ys)) ∙ ops-append (flat_map f xs) (flat_map f (zs ++ ys)) key n
+    ∙ ap (or_else (ops_in (flat_map f xs) key n)) (ap (λ l. ops_in l key n) (flat_map-append f zs ys) ∙ ops-append (flat_map f zs) (flat_map f ys) key n)
+
+pub old_parts : {A : Type 0} (a : Inside A) (i : ℕ) (c : Child A) → slice_get a.children.items i ≡ Some c → parts_of a.children.items ≡ take i (parts_of a.children.items) ++ (part_of c ∷ drop (i + 1) (parts_of a.children.items))
+old_parts a i c at =
+    let inside : i < length (parts_of a.children.items) = omega (arith, inside_of a.children.items i c at, length-map a.children.items part_of) in
+    sym (take-append-drop i (parts_of a.children.items))
+    ∙ ap (λ l. take i (parts_of a.children.items) ++ l) (drop_more (parts_of a.children.items) i (part_of c) inside ∙ ap (λ p. p ∷ drop (i + 1) (parts_of a.children.items)) (part_at a.children.items i c (part_of c) at))
 
 -- the parts below and above a child
 abbrev pub before_of : {A : Type 0} → Inside A → ℕ → List Part
@@ -137,12 +152,6 @@ only_middle low xs zs ys key n left right s = λ i. or_else (of_messages i) (of_
       (none_before row_taken top_key ys key n (rows_apart top_key ys right) (span_high low (low_or top_key ys) key s))
       ∙ ap (λ l. ops_in l key n) (sym (rows_by_part zs))
 
--- parts have nothing of a key outside their row
-none_outside : (f : Taken) (low high : List ℕ) (zs : List Part) (key : List ℕ) (n : ℕ) → Apart f high zs → low_or high zs ≡ low → spans low high key ≡ false → ops_in (flat_map f zs) key n ≡ None
-none_outside f low high zs key n a first o = not_spanned low high key o
-    (λ l. none_before f high zs key n a (ap (lt key) first ∙ l))
-    (λ _ h. none_from f high zs key n a h)
-
 -- a key outside the middle part is as it is with another in its place
 beside_middle : (low : List ℕ) (xs zs ws ys : List Part) (key : List ℕ) (n : ℕ) → TiledTo (low_or top_key ys) zs → low_or (low_or top_key ys) zs ≡ low → TiledTo (low_or top_key ys) ws → low_or (low_or top_key ys) ws ≡ low → spans low (low_or top_key ys) key ≡ false
     → row_ops (xs ++ (zs ++ ys)) key n ≡ row_ops (xs ++ (ws ++ ys)) key n
@@ -154,7 +163,7 @@ beside_middle low xs zs ws ys key n tz fz tw fw o = λ i. or_else (of_messages i
   of_messages =
       three message_taken xs zs ys key n
       ∙ ap (λ q. or_else (ops_in (messages_in xs) key n) (or_else q (ops_in (messages_in ys) key n)))
-      (none_outside message_taken low high zs key n (messages_apart high zs tz) fz o ∙ sym (none_outside message_taken low high ws key n (messages_apart high ws tw) fw o))
+      (row_out message_taken low high zs key n (messages_apart high zs tz) fz o ∙ sym (row_out message_taken low high ws key n (messages_apart high ws tw) fw o))
       ∙ sym (three message_taken xs ws ys key n)
 
   of_rows : ops_in (row_messages (leaves_in (xs ++ (zs ++ ys)))) key n ≡ ops_in (row_messages (leaves_in (xs ++ (ws ++ ys)))) key n
@@ -162,7 +171,7 @@ beside_middle low xs zs ws ys key n tz fz tw fw o = λ i. or_else (of_messages i
       ap (λ l. ops_in l key n) (rows_by_part (xs ++ (zs ++ ys)))
       ∙ three row_taken xs zs ys key n
       ∙ ap (λ q. or_else (ops_in (flat_map row_taken xs) key n) (or_else q (ops_in (flat_map row_taken ys) key n)))
-      (none_outside row_taken low high zs key n (rows_apart high zs tz) fz o ∙ sym (none_outside row_taken low high ws key n (rows_apart high ws tw) fw o))
+      (row_out row_taken low high zs key n (rows_apart high zs tz) fz o ∙ sym (row_out row_taken low high ws key n (rows_apart high ws tw) fw o))
       ∙ sym (three row_taken xs ws ys key n)
       ∙ ap (λ l. ops_in l key n) (sym (rows_by_part (xs ++ (ws ++ ys))))
 
@@ -238,7 +247,7 @@ spliced {A} a v i x run pins node at r like few filled items = record {
     level : AllByRecursion (IsBelow {A = A} a.height a.shape) (with_nodes a.children.items i run)
     level =
         let front = subst (AllByRecursion (IsBelow {A = A} a.height a.shape)) (sym (take-append-drop i a.children.items)) node.level in
-        let sides = all_cut (IsBelow {A = A} a.height a.shape) (take i a.children.items) (drop i a.children.items) front in
+        let sides = all_split (IsBelow {A = A} a.height a.shape) (take i a.children.items) (drop i a.children.items) front in
         let behind = subst (AllByRecursion (IsBelow {A = A} a.height a.shape)) (drop_more a.children.items i (in_child.Node x) inside) sides.1 in
         all_join (IsBelow {A = A} a.height a.shape) (take i a.children.items) (nodes A run ++ drop (i + 1) a.children.items) sides.0
         (all_join (IsBelow {A = A} a.height a.shape) (nodes A run) (drop (i + 1) a.children.items) (each run like few) behind.1)
@@ -262,8 +271,8 @@ spliced {A} a v i x run pins node at r like few filled items = record {
     sizes : AreLeafSizes a.shape.leaf (leaves_in (parts_of v.items))
     sizes =
         let P : LeafRows → Type 0 = λ l. IsLeafSize a.shape.leaf l.1 in
-        let all = all_cut P (leaves_in xs) (x.leaves ++ leaves_in ys) (subst (AllByRecursion P) leaves_were node.sizes) in
-        let rest = all_cut P x.leaves (leaves_in ys) all.1 in
+        let all = all_split P (leaves_in xs) (x.leaves ++ leaves_in ys) (subst (AllByRecursion P) leaves_were node.sizes) in
+        let rest = all_split P x.leaves (leaves_in ys) all.1 in
         let own : AllByRecursion P (leaves_in qs) = subst (λ (s : Shape). AreLeafSizes s.leaf (leaves_in qs)) p.below.same.0 r.sizes in
         subst (AllByRecursion P) (sym leaves_are) (all_join P (leaves_in xs) (leaves_in qs ++ leaves_in ys) all.0 (all_join P (leaves_in qs) (leaves_in ys) own rest.1))
 
@@ -302,8 +311,8 @@ spliced {A} a v i x run pins node at r like few filled items = record {
     fences : (h : List ℕ) → IsTile (node_part (subtree_of a)) h → AllByRecursion (λ (l : LeafRows). spans a.low h l.0 ≡ true) (leaves_in (parts_of v.items))
     fences h t =
         let P : LeafRows → Type 0 = λ l. spans a.low h l.0 ≡ true in
-        let all = all_cut P (leaves_in xs) (x.leaves ++ leaves_in ys) (subst (AllByRecursion P) leaves_were t.fences) in
-        let rest = all_cut P x.leaves (leaves_in ys) all.1 in
+        let all = all_split P (leaves_in xs) (x.leaves ++ leaves_in ys) (subst (AllByRecursion P) leaves_were t.fences) in
+        let rest = all_split P x.leaves (leaves_in ys) all.1 in
         let own : IsTile (node_part x) h = narrowed (node_part x) high h p.here (highs x.leaves rest.0)
         (λ key n l. no_messages key n (outside_tile (subtree_of a) h key n t (beyond a.low h key l)))
         (λ key n l. no_rows key n (outside_tile (subtree_of a) h key n t (beyond a.low h key l))) in
@@ -402,7 +411,7 @@ halves_take_place pins x lower upper sizes h = record {
 
     upper_tile : (high : List ℕ) → IsTile (node_part x) high → IsTile (node_part upper) high
     upper_tile high t = narrowed (node_part upper) top_key high h.above
-        (highs upper.leaves (all_cut (λ (l : LeafRows). spans x.low high l.0 ≡ true) lower.leaves upper.leaves (subst (AllByRecursion (λ (l : LeafRows). spans x.low high l.0 ≡ true)) h.leaves t.fences)).1)
+        (highs upper.leaves (all_split (λ (l : LeafRows). spans x.low high l.0 ≡ true) lower.leaves upper.leaves (subst (AllByRecursion (λ (l : LeafRows). spans x.low high l.0 ≡ true)) h.leaves t.fences)).1)
         (λ key n l. none_of (ops_in (buffered lower) key n) (ops_in (buffered upper) key n) (sym (h.messages key n) ∙ t.messages.outside key n (beyond x.low high key l)))
         (λ key n l. none_of (ops_in (row_messages lower.leaves) key n) (ops_in (row_messages upper.leaves) key n) (sym (rows_are key n) ∙ t.rows.outside key n (beyond x.low high key l)))
       where

@@ -20,9 +20,9 @@ use Rattle.stow_node.specs.declared.child.Child.TheVariants as in_child
 use Rattle.stow_node.specs.declared.node.Node.TheInside.{Inside}
 use Rattle.stow_node.specs.declared.shape.Shape.{Shape}
 use Rattle.stow_node.specs.Flushes.{AreShort, KeepsMeaning}
-use Rattle.stow_node.specs.Forgets.{Forgets}
+use Rattle.stow_leaves.specs.Forgets.{Forgets}
 use Rattle.stow_node.specs.Halves.{IsLike}
-use Rattle.stow_node.specs.Joins.{leaves_of}
+use Rattle.stow_node.specs.Nodes.{leaves_of}
 use Rattle.stow_node.specs.Moves.{IsSqueezed, StaysInMeaning, bytes_for, IsHeaviest}
 use Rattle.stow_node.specs.Nodes.{part_of, node_part, parts_of, AreLeafSizes, IsBelow, subtree_of, IsNode}
 use Rattle.stow_node.specs.Parts.{Part, high_of, leaves_in}
@@ -31,23 +31,12 @@ use Rattle.stow_node.specs.Subtree.{Subtree, messages_of}
 use Rattle.stow_node.proofs.Down.{IsNext, node_at, squeezed_same, full_has_messages}
 use Rattle.stow_node.proofs.Entered.{Entered, entered}
 use Rattle.stow_node.proofs.Filled.{some_bytes}
-use Rattle.stow_node.proofs.Flushed.{old_parts}
-use Rattle.stow_node.proofs.Forgotten.{forgets_within}
-use Rattle.stow_node.proofs.Over.{same_pointwise, same_then}
+use Rattle.stow_node.proofs.Spliced.{old_parts}
+use Rattle.stow_leaves.proofs.Forgotten.{forgets_within}
+use Rattle.stow_leaf.proofs.Over.{same_pointwise, same_then}
 use Rattle.stow_node.proofs.Spliced.{Spliced, spliced, one_takes_place, child_short, before_of, after_of}
 use Rattle.stow_node.proofs.Standing.{parts_ops}
 use Rattle.stow_node.proofs.Stayed.{same_tile, level_at}
-
-pub keeps_then : (pins : TenantPins) (s t u : Subtree) → KeepsMeaning pins s t → KeepsMeaning pins t u → KeepsMeaning pins s u
-keeps_then pins s t u a b = record {
-  low = b.low ∙ a.low;
-  height = b.height ∙ a.height;
-  shape = b.shape ∙ a.shape;
-  capacity = b.capacity ∙ a.capacity;
-  sizes = b.sizes;
-  tile = λ high h. b.tile high (a.tile high h);
-  means = λ key. same_then (pins (tenant_of key)) (ops_in (messages_of s) key) (ops_in (messages_of t) key) (ops_in (messages_of u) key) (a.means key) (b.means key);
-}
 
 -- a node whose messages only moved below it means the same
 pub stays_keeps : (pins : TenantPins) (x y : Subtree) → StaysInMeaning x y → AreLeafSizes y.shape.leaf y.leaves → KeepsMeaning pins x y
@@ -118,13 +107,6 @@ can_step {A} a i bytes ample x y node n q full most short = record {
     fan_out = ap (λ (t : Shape). t.fan_out) (squeezed.shape ∙ level.same.0)
 
 -- ---- the node with the child after its step, and what came behind it
-
-set_is_splice : {X : Type 0} (xs : List X) (i : ℕ) (x : X) → i < length xs → set xs i x ≡ take i xs ++ (x ∷ drop (i + 1) xs)
-set_is_splice [] i x h = absurd (omega arith)
-set_is_splice (y ∷ ys) zero x h = refl
-set_is_splice (y ∷ ys) (suc i) x h =
-    let e : suc i + 1 ≡ suc (i + 1) = omega arith in
-    ap (λ l. y ∷ l) (set_is_splice ys i x (omega arith)) ∙ ap (λ k. y ∷ (take i ys ++ (x ∷ drop k (y ∷ ys)))) (sym e)
 
 -- a place in a list where one element was set
 pub behind_set : {X : Type 0} (xs : List X) (i : ℕ) (x : X) (came : List X) → i < length xs → take (i + 1) (set xs i x) ++ (came ++ drop (i + 1) (set xs i x)) ≡ take i xs ++ ((x ∷ came) ++ drop (i + 1) xs)
@@ -222,10 +204,6 @@ stepped_forgets {A} a v i bytes x y z came pins cache cache' node n q s items f 
         ∙ ap (λ l. leaves_in (before_of a i) ++ l) (flat_map-append (λ (p : Part). p.leaves) (node_part z ∷ parts_of came) (after_of a i))
 
 -- ---- results
-
-pub on_ok : {T E : Type 0} (r : Result T E) {P : Type 0} → P → OnOk r P
-on_ok (Ok x) p = p
-on_ok (Err e) p = tt
 
 pub ok_then : {T E : Type 0} (r : Result T E) {P Q : Type 0} → (P → Q) → OnOk r P → OnOk r Q
 ok_then (Ok x) f p = f p

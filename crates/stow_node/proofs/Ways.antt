@@ -4,15 +4,15 @@ use Rattle.std.specs.List.{sum_by}
 use Rattle.std.specs.declared.vec.Vec.{Vec}
 use Rattle.stow_leaf_cache.specs.Cache.{Cache}
 use Rattle.stow_leaf.proofs.Steps.{inside_of}
+use Rattle.stow_leaves.specs.Absorbs.{Merges}
 use Rattle.stow_message.specs.MessageBuf.{MessageList, without_range}
 use Rattle.stow_message.specs.Packed.{message_size}
 use Rattle.stow_tree_model.specs.Agreement.{TenantPins}
 use Rattle.stow_node.specs.declared.child.Child.{Child}
 use Rattle.stow_node.specs.declared.child.Child.TheVariants as in_child
 use Rattle.stow_node.specs.declared.node.Node.TheInside.{Inside}
-use Rattle.stow_node.specs.Absorbs.{Merges}
 use Rattle.stow_node.specs.Moves.{LacksRoom, IsSqueezed, bytes_for, IsHeaviest, HandsDown}
-use Rattle.stow_node.specs.Nodes.{node_part, parts_of, IsBelow, subtree_of, IsNode, AreChildren}
+use Rattle.stow_node.specs.Nodes.{node_part, parts_of, leaves_of, AreLeaves, IsBelow, subtree_of, IsNode, AreChildren}
 use Rattle.stow_node.specs.Parts.{high_of}
 use Rattle.stow_node.specs.Regroups.{Grows}
 use Rattle.stow_node.specs.Subtree.{Subtree}
@@ -37,11 +37,12 @@ are_children a node = record {
 }
 
 pub merges_heaviest : {A : Type 0} (a : Inside A) (v : Vec (Child A) A) (i : ℕ) (low high : List ℕ) (pins : TenantPins) (new : Subtree) (came : List (Child A)) (cache cache' : Cache) → IsNode a → IsNode (record a { children = v; buffer = without_range low high a.buffer }) → IsHeaviest (parts_of a.children.items) a.buffer i
-    → (m : Merges a.children.items i a.buffer.messages pins a.shape.leaf v.items cache cache') → low ≡ m.replaced.leaf.low → high ≡ high_of (parts_of a.children.items) i → Grows pins (subtree_of (record a { children = v; buffer = without_range low high a.buffer })) new came
+    → AreLeaves v.items → (m : Merges (leaves_of a.children.items) i a.buffer.messages pins a.shape.leaf (leaves_of v.items) cache cache') → low ≡ m.leaf.0 → high ≡ high_of (parts_of a.children.items) i → Grows pins (subtree_of (record a { children = v; buffer = without_range low high a.buffer })) new came
     → MergesHeaviest pins (subtree_of a) new came cache cache'
-merges_heaviest a v i low high pins new came cache cache' node after heavy m l h grows = record {
+merges_heaviest a v i low high pins new came cache cache' node after heavy leaves m l h grows = record {
   to = record { children = a.children.items; stand = are_children a node; index = i; most = heavy };
   fresh = v.items;
+  are_leaves = leaves;
   merges = m;
   cut = record {
     whole = subtree_of (record a { children = v; buffer = without_range low high a.buffer });

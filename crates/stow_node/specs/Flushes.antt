@@ -1,10 +1,9 @@
 -- A node after messages moved below it, or were merged into its leaves.
 use Rattle.std.specs.Prelude.{◌≡◌, ℕ, ◌<◌, ◌≤◌, List}
-use Rattle.stow_leaf.specs.Replacements.{GiveWay, AreThere, HasShortValues}
+use Rattle.stow_leaf.specs.Replacements.{HasShortValues, MeanTheSame}
 use Rattle.stow_tree_model.specs.Agreement.{TenantPins}
 use Rattle.stow_tree_model.specs.Keys.{tenant_of}
 use Rattle.stow_tree_model.specs.Messages.{ops_in}
-use Rattle.stow_tree_model.specs.Operations.{Operations}
 use Rattle.stow_tree_model.specs.TreeMessage.{TreeMessage}
 use Rattle.stow_node.specs.Nodes.{node_part, AreLeafSizes}
 use Rattle.stow_node.specs.Parts.{IsTile}
@@ -13,12 +12,6 @@ use Rattle.stow_node.specs.Subtree.{Subtree, messages_of}
 -- no key has a value longer than values may be, at any number
 abbrev pub AreShort : List TreeMessage → Type 0
 AreShort ms = (key : List ℕ) → HasShortValues (ops_in ms key)
-
--- operations on a key mean the same as others under the pins, and bring no longer values
-pub record MeanTheSame (pins : List ℕ) (f g : Operations) : Type 0 where
-  pub way : GiveWay pins f g
-  pub short : HasShortValues f → HasShortValues g
-  pub there : AreThere g → AreThere f
 
 -- the node means the same under the pins, and stands where it stood
 pub record KeepsMeaning (pins : TenantPins) (old new : Subtree) : Type 0 where

@@ -4,10 +4,7 @@ pub mod Nodes
 pub mod Heights
 pub mod Moves
 pub mod Halves
-pub mod Absorbs
 pub mod Flushes
-pub mod Forgets
-pub mod Joins
 pub mod Regroups
 pub mod Rooms
 pub mod Ways

@@ -41,6 +41,14 @@ part_of (in_child.Node node) = node_part node
 abbrev pub parts_of : {A : Type 0} → List (Child A) → List Part
 parts_of children = map part_of children
 
+abbrev pub leaves_of : {A : Type 0} → List (Child A) → List LeafRows
+leaves_of children = leaves_in (parts_of children)
+
+-- the children are leaves
+pub record AreLeaves {A : Type 0} (children : List (Child A)) : Type 0 where
+  pub leaves : List (Leaf A)
+  pub are : children ≡ map in_child.Leaf leaves
+
 -- a child's messages in the buffers right above the leaves
 abbrev pub nearest_of : {A : Type 0} → Child A → List TreeMessage
 nearest_of (in_child.Leaf leaf) = []

@@ -4,17 +4,16 @@ use Rattle.std.specs.List.{AllByRecursion}
 use Rattle.stow_leaf.specs.Intervals.{top_key}
 use Rattle.stow_leaf.specs.LeafRows.{row_messages}
 use Rattle.stow_leaf_cache.specs.Cache.{Cache}
+use Rattle.stow_leaves.specs.Forgets.{Forgets}
 use Rattle.stow_tree_model.specs.Agreement.{TenantPins}
 use Rattle.stow_tree_model.specs.Keys.{tenant_of}
 use Rattle.stow_tree_model.specs.Messages.{ops_in}
 use Rattle.stow_tree_model.specs.TreeMessage.{TreeMessage}
 use Rattle.stow_node.specs.declared.child.Child.{Child}
 use Rattle.stow_node.specs.declared.child.Child.TheVariants as in_child
-use Rattle.stow_node.specs.Flushes.{MeanTheSame}
-use Rattle.stow_node.specs.Forgets.{Forgets}
+use Rattle.stow_leaf.specs.Replacements.{MeanTheSame}
 use Rattle.stow_node.specs.Halves.{IsLike}
-use Rattle.stow_node.specs.Joins.{leaves_of}
-use Rattle.stow_node.specs.Nodes.{node_part, AreLeafSizes}
+use Rattle.stow_node.specs.Nodes.{node_part, leaves_of, AreLeafSizes}
 use Rattle.stow_node.specs.Parts.{Part, low_or, IsTile, TiledTo, messages_in, leaves_in, weight_in}
 use Rattle.stow_node.specs.Subtree.{Subtree, messages_of}
 

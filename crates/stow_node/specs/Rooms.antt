@@ -1,8 +1,9 @@
 -- The memory that nodes take when children come.
-use Rattle.std.specs.Prelude.{◌≡◌, ℕ, zero, suc, ◌+◌, ◌-◌, ◌*◌, ◌/◌, ◌<◌, ◌≤◌, List, [], ◌∷◌, length}
+use Rattle.std.specs.Prelude.{◌≡◌, ℕ, zero, suc, ◌+◌, ◌-◌, ◌≤◌, List, [], ◌∷◌, length}
 use Rattle.std.specs.List.{AllByRecursion}
 use Rattle.std.specs.Vec.{vec_capacity}
 use Rattle.std.specs.declared.vec.Vec.{Vec}
+use Rattle.stow_groups.specs.Groups.{groups}
 use Rattle.stow_message.specs.MessageBuf.{message_list}
 use Rattle.stow_node.specs.declared.child.Child.{Child}
 use Rattle.stow_node.specs.declared.room.Room.{Room}
@@ -37,18 +38,6 @@ pub record IsRoom {A : Type 0} (shape : Shape) (nodes levels places : ℕ)
   pub shells : AreShells nodes shape room.shells.items
 
 -- ---- how much that is
-
--- how many nodes hold so many children, at least
-abbrev pub groups : ℕ → ℕ → ℕ
-groups fan_out children = (children - 1) / fan_out + 1
-
--- of the children of some nodes the last one gets so many, and the others can share out the rest
-pub record IsLast (fan_out children groups share : ℕ) : Type 0 where
-  pub some : 1 ≤ share
-  pub few : share ≤ fan_out
-  pub less : share < children
-  pub rest_some : groups - 1 ≤ children - share
-  pub rest_hold : children - share ≤ (groups - 1) * fan_out
 
 -- how many new nodes there are where so many come behind a child, with nodes of these widths above
 -- it

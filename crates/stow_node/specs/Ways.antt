@@ -1,14 +1,13 @@
 -- The way of a step's messages.
 use Rattle.std.specs.Prelude.{◌≡◌, ◌⊎◌, ℕ, zero, suc, ◌+◌, ◌≤◌, List, [], ◌∷◌, ◌++◌, length, take, drop, slice_get, slice_set, Some}
 use Rattle.stow_leaf_cache.specs.Cache.{Cache}
+use Rattle.stow_leaves.specs.Absorbs.{Merges}
 use Rattle.stow_message.specs.MessageBuf.{MessageList, without_range}
 use Rattle.stow_tree_model.specs.Agreement.{TenantPins}
 use Rattle.stow_node.specs.declared.child.Child.{Child}
 use Rattle.stow_node.specs.declared.child.Child.TheVariants as in_child
-use Rattle.stow_node.specs.Absorbs.{Merges}
-use Rattle.stow_node.specs.Joins.{leaves_of}
 use Rattle.stow_node.specs.Moves.{IsHeaviest, IsSqueezed, HandsDown, LacksRoom, bytes_for}
-use Rattle.stow_node.specs.Nodes.{node_part, parts_of, AreChildren}
+use Rattle.stow_node.specs.Nodes.{node_part, parts_of, leaves_of, AreLeaves, AreChildren}
 use Rattle.stow_node.specs.Parts.{high_of}
 use Rattle.stow_node.specs.Regroups.{Grows}
 use Rattle.stow_node.specs.Subtree.{Subtree}
@@ -33,9 +32,10 @@ pub record MergesHeaviest {A : Type 0} (pins : TenantPins) (old new : Subtree)
     (came : List (Child A)) (cache cache' : Cache) : Type 0 where
   pub to : Heaviest A old
   pub fresh : List (Child A)
-  pub merges : Merges to.children to.index old.buffer.messages pins old.shape.leaf fresh
-      cache cache'
-  pub cut : IsCutFrom pins fresh (without_range merges.replaced.leaf.low
+  pub are_leaves : AreLeaves fresh
+  pub merges : Merges (leaves_of to.children) to.index old.buffer.messages pins old.shape.leaf
+      (leaves_of fresh) cache cache'
+  pub cut : IsCutFrom pins fresh (without_range merges.leaf.0
       (high_of (parts_of to.children) to.index) old.buffer) new came
 
 -- the child takes all its messages out of the buffer above it

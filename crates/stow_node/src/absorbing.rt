@@ -1,79 +1,55 @@
-//! Messages that are merged into a leaf.
-ghost use Rattle.std.specs.Prelude.{◌≡◌, ◌+◌, ◌<◌, ◌≤◌, length, IfOk, OnErr};
+//! Messages that are merged into a leaf right below a node.
+ghost use Rattle.std.specs.Prelude.{◌≡◌, ◌≤◌, [], map, IfOk, OnErr};
 ghost use Rattle.std.specs.Vec.{vec_len, vec_capacity};
 ghost use Rattle.stow_merge.specs.Pins.{pins_in};
-ghost use Rattle.stow_node.specs.Absorbs.{CanAbsorb, IsReplacedBy, with_leaves, Merges};
-ghost use Rattle.stow_node.specs.Forgets.{Forgets};
-ghost use Rattle.stow_node.specs.Joins.{AreLeaves, leaves_of};
+ghost use Rattle.stow_leaves.specs.Absorbs.{CanAbsorb, Merges, StandsFor};
+ghost use Rattle.stow_leaves.specs.Forgets.{Forgets};
+ghost use Rattle.stow_node.specs.Nodes.{AreLeaves, leaves_of};
+ghost use Rattle.stow_node.specs.declared.child.Child.TheVariants as in_child;
 
-use crate::child::{Child, high_after};
-use crate::joining::join_small;
+use crate::child::Child;
 use std::alloc::{AllocError, Allocator};
 use stow_leaf::leaf::Leaf;
 use stow_leaf_cache::leaf_cache::LeafCache;
+use stow_leaves::absorbing;
 use stow_merge::pins::Pins;
 use stow_message::message_buf::MessageBuf;
 
-/// What comes in the place of the leaf at `index`, with the messages for it merged.
-fn replacement_at<A: Allocator + Copy>(
+/// The leaves once more: their fences copied, their rows shared.
+fn shared<A: Allocator + Copy>(
     alloc: A,
     children: &[Child<A>],
-    index: usize,
-    buffer: &MessageBuf<A>,
-    pins: &Pins<A>,
-    target: u32,
 ) -> Result<Vec<Leaf<A>, A>, AllocError>
-    requires { CanAbsorb children.now index buffer.now.messages (pins_in pins.now) target }
-    ensures { IfOk result (λ leaves. IsReplacedBy children.now index buffer.now.messages
-        (pins_in pins.now) target leaves.items) }
-{
-    let high = high_after(children, index);
-    match &children[index] {
-        Child::Leaf(leaf) => leaf.replacement(alloc, buffer, high, pins, target),
-        Child::Node(_) => unreachable!(),
-    }
-}
-
-/// The leaves once more, with room for some: their fences copied, their rows shared.
-fn copied<A: Allocator + Copy>(
-    alloc: A,
-    children: &[Child<A>],
-    more: usize,
-) -> Result<Vec<Child<A>, A>, AllocError>
     requires leaves { AreLeaves children.now }
-    ensures same { IfOk result (λ copies. copies.items ≡ children.now) }
-    ensures room { IfOk result (λ copies. vec_len copies + more ≤ vec_capacity copies) }
+    ensures { IfOk result (λ leaves. map in_child.Leaf leaves.items ≡ children.now) }
 {
-    let mut copies = Vec::new(alloc);
+    let mut leaves = Vec::new(alloc);
     for i in 0..children.len() {
         match &children[i] {
-            Child::Leaf(leaf) => copies.push(Child::Leaf(leaf.share(alloc)?))?,
+            Child::Leaf(leaf) => leaves.push(leaf.share(alloc)?)?,
             Child::Node(_) => unreachable!(),
         }
     }
-    copies.reserve(more)?;
-    Ok(copies)
+    Ok(leaves)
 }
 
-/// Puts leaves in the place of the child at `index`. There is room for them.
-fn put_leaves<A: Allocator>(
-    children: &mut Vec<Child<A>, A>,
-    index: usize,
-    mut leaves: Vec<Leaf<A>, A>,
-)
-    requires inside { index < length children.old.items }
-    requires room { vec_len children.old + vec_len leaves ≤ vec_capacity children.old }
-    ensures { children.new.items ≡ with_leaves children.old.items index leaves.items }
+/// The leaves as children, in an empty list that has the places.
+fn as_children<A: Allocator>(
+    leaves: Vec<Leaf<A>, A>,
+    mut into: Vec<Child<A>, A>,
+) -> Vec<Child<A>, A>
+    requires empty { into.items ≡ [] }
+    requires places { vec_len leaves ≤ vec_capacity into }
+    ensures { result.items ≡ map in_child.Leaf leaves.items }
 {
-    let _replaced = children.remove(index);
-    while let Some(leaf) = leaves.pop() {
-        children.insert(index, Child::Leaf(leaf)).unwrap();
+    for leaf in leaves {
+        into.push(Child::Leaf(leaf)).unwrap();
     }
+    into
 }
 
-/// The leaves with all messages of the buffer for the one at `index` merged into it, under pins: it gives way to leaves that
-/// are cut by the target, and then small leaves are joined with a neighbour. The cache forgets what is replaced, and
-/// nothing else. The leaves themselves stay as they are.
+/// The leaves with all messages of the buffer for the one at `index` merged into it, under pins, and small leaves
+/// joined (`stow_leaves::absorbing::merged`). The leaves themselves stay as they are.
 pub(crate) fn merged<A: Allocator + Copy>(
     alloc: A,
     children: &[Child<A>],
@@ -83,19 +59,21 @@ pub(crate) fn merged<A: Allocator + Copy>(
     target: u32,
     cache: &mut LeafCache<A>,
 ) -> Result<Vec<Child<A>, A>, AllocError>
-    requires can { CanAbsorb children.now index buffer.now.messages (pins_in pins.now) target }
+    requires can { CanAbsorb (leaves_of children.now) index buffer.now.messages target }
     requires leaves { AreLeaves children.now }
-    ensures merged { IfOk result (λ fresh. Merges children.now index buffer.now.messages
-        (pins_in pins.now) target fresh.items cache.old cache.new) }
+    ensures leaves { IfOk result (λ fresh. AreLeaves fresh.items) }
+    ensures merged { IfOk result (λ fresh. Merges (leaves_of children.now) index
+        buffer.now.messages (pins_in pins.now) target (leaves_of fresh.items)
+        cache.old cache.new) }
+    ensures stands { IfOk result (λ fresh. StandsFor (leaves_of children.now) index
+        buffer.now.messages (pins_in pins.now) target (leaves_of fresh.items)) }
     ensures cache { IfOk result (λ fresh. Forgets (leaves_of children.now) (leaves_of fresh.items)
         cache.old cache.new) }
     ensures err { OnErr result (Forgets (leaves_of children.now) (leaves_of children.now)
         cache.old cache.new) }
 {
-    let leaves = replacement_at(alloc, children, index, buffer, pins, target)?;
-    let mut fresh = copied(alloc, children, leaves.len())?;
-    put_leaves(&mut fresh, index, leaves);
-    cache.forget(children[index].low().bytes);
-    join_small(alloc, &mut fresh, target, cache)?;
-    Ok(fresh)
+    let leaves = shared(alloc, children)?;
+    let fresh = absorbing::merged(alloc, leaves, index, buffer, pins, target, cache)?;
+    let into = Vec::with_capacity(alloc, fresh.len())?;
+    Ok(as_children(fresh, into))
 }

@@ -11,6 +11,7 @@ use std::alloc::Allocator;
 use std::cmp::Ordering;
 use stow_bytes::compare::compare;
 use stow_leaf::leaf::Leaf;
+use stow_leaf::ends::top_key;
 use stow_tree_model::tenant_key::TenantKey;
 
 /// What stands below a node: a leaf, or a node one level lower.
@@ -31,13 +32,6 @@ impl<A: Allocator> Child<A> {
             Child::Node(node) => node.low(),
         }
     }
-}
-
-/// The upper end of all tenants' keys.
-pub fn top_key() -> TenantKey<'static>
-    ensures { result.bytes.now ≡ top_key }
-{
-    TenantKey::from_packed(&[0, 1, 0, 0])
 }
 
 /// Whether the key stands below a fence.

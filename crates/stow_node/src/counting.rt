@@ -1,34 +1,12 @@
 //! How much room nodes take when children come.
-ghost use Rattle.std.specs.Prelude.{◌≡◌, ◌+◌, ◌-◌, ◌*◌, ◌<◌, ◌≤◌, ◌^◌, IsTrue, [], IfOk, OnOk};
-ghost use Rattle.stow_node.specs.Rooms.{IsRoom, groups, IsLast, nodes_needed, levels_needed, places_needed};
+ghost use Rattle.std.specs.Prelude.{◌≡◌, ◌+◌, ◌-◌, ◌≤◌, ◌^◌, [], IfOk, OnOk};
+ghost use Rattle.stow_groups.specs.Groups.{groups};
+ghost use Rattle.stow_node.specs.Rooms.{IsRoom, nodes_needed, levels_needed, places_needed};
 
 use crate::room::Room;
 use crate::shape::Shape;
 use std::alloc::{AllocError, Allocator};
-
-/// How many nodes hold so many children, at least.
-pub(crate) fn groups(fan_out: usize, children: usize) -> usize
-    requires some { 1 ≤ children }
-    requires fan_out { 1 ≤ fan_out }
-    ensures { result ≡ groups fan_out children }
-{
-    (children - 1) / fan_out + 1
-}
-
-/// How many of so many children the last of some nodes gets: as many as the others, or, where the others are to be full, what
-/// they leave, one at least.
-pub(crate) fn share_of_last(fan_out: usize, children: usize, groups: usize, full: bool) -> usize
-    requires many { (2 ≤ groups) × (groups ≤ children) }
-    requires hold { children ≤ groups * fan_out }
-    ensures last { IsLast fan_out children groups result }
-    ensures full { IsTrue full → 1 < result → children ≡ (groups - 1) * fan_out + result }
-{
-    if !full {
-        return children / groups;
-    }
-    let rest = (groups - 1).saturating_mul(fan_out);
-    if rest < children { children - rest } else { 1 }
-}
+use stow_groups::sharing::groups;
 
 /// Both together. More than memory holds is refused.
 fn sum(a: usize, b: usize) -> Result<usize, AllocError>

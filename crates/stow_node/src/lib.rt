@@ -6,20 +6,21 @@
 //! message of a key is newer than those below it, and that a leaf above the leaf target has one key.
 //!
 //! `step` moves messages one edge towards the leaves, or merges all messages for a leaf into it, which gives way to any
-//! number of leaves; neighbours of which one page is below a quarter of the leaf target become one leaf, where both fit it.
-//! Then nodes regroup, level by level up to new roots: a node that has too many children is cut into as few as hold them
-//! (`settle`), evenly, or full ones first where the new children stand at its upper end; and a root with others behind it gets
-//! one above it (`rise`). All memory is got first (`room_for`); then nothing can fail. So where memory is refused no message
-//! has moved. The root means the same under the pins, its messages are fewer or nearer to the leaves (`Flushes`), and no node
-//! is too wide. `buffer` and `children` lend what reads go by.
+//! number of leaves; neighbours of which one page is below a quarter of the leaf target become one leaf, where both fit
+//! it (`stow_leaves`). Then nodes regroup, level by level up to new roots: a node that has too many children is cut
+//! into as few as hold them (`settle`), evenly, or full ones first where the new children stand at its upper end; and a
+//! root with others behind it gets one above it (`rise`). All memory is got first (`room_for`); then nothing can fail.
+//! So where memory is refused no message has moved. The root means the same under the pins, its messages are fewer or
+//! nearer to the leaves (`Flushes`), and no node is too wide. `buffer` and `children` lend what reads go by.
 //!
-//! Which way a step goes stands in `specs/Ways.antt`, and `step` promises it (`StepsDown`): to the child for which most bytes
-//! are buffered, the leftmost of equals. A node gets all its messages, or, where it lacks room, the step is its own. A leaf has
-//! all its messages merged, no two neighbours are left under its node that are to become one, and the cache loses this leaf and
-//! those that were joined, and no other. A root gets others above it only where nodes come behind it, at most one for each.
-//! A merged leaf within the leaf target is one leaf. Leaves under two nodes stay apart. How evenly children are shared out stands
-//! in the contract of `share_of_last` alone. After an `Err` the cache may have lost more. A body of `first` or `step` that always answers `AllocError` meets its
-//! contract: tests call each with ample memory and with each request refused. `step` answers `AllocError` too where there are
+//! Which way a step goes stands in `specs/Ways.antt`, and `step` promises it (`StepsDown`): to the child for which most
+//! bytes are buffered, the leftmost of equals. A node gets all its messages, or, where it lacks room, the step is its
+//! own. A leaf has all its messages merged, no two neighbours are left under its node that are to become one, and the
+//! cache loses this leaf and those that were joined, and no other. A root gets others above it only where nodes come
+//! behind it, at most one for each. A merged leaf within the leaf target is one leaf. Leaves under two nodes stay
+//! apart. How evenly children are shared out stands in the contract of `share_of_last` of `stow_groups` alone. After an
+//! `Err` the cache may have lost more. A body of `first` or `step` that always answers `AllocError` meets its contract:
+//! tests call each with ample memory and with each request refused. `step` answers `AllocError` too where there are
 //! more than 2^63 levels, or where more than 2^32 nodes would come: no memory holds them.
 #![tactic(auto)]
 
@@ -28,7 +29,6 @@ pub mod child;
 mod coming;
 mod counting;
 mod fence;
-mod joining;
 mod moving;
 pub mod node;
 mod room;

@@ -6,7 +6,8 @@ ghost use Rattle.stow_leaf.specs.Intervals.{top_key, spans};
 ghost use Rattle.stow_read.specs.Descent.{LeadsDown, LeadsAllTo};
 
 use std::alloc::Allocator;
-use stow_node::child::{Child, child_for, high_after, top_key};
+use stow_leaf::ends::top_key;
+use stow_node::child::{Child, child_for, high_after};
 use stow_node::node::Node;
 use stow_tree_model::tenant_key::TenantKey;
 

@@ -4,10 +4,10 @@ use Rattle.std.specs.Prelude.{Contains}
 use Rattle.std.specs.FinMap as finite
 use Rattle.stow_leaf.specs.Replacements.{HasShortValues}
 use Rattle.stow_leaf_cache.specs.Cache.{Cache}
-use Rattle.stow_node.specs.Forgets.{Forgets}
+use Rattle.stow_leaves.specs.Forgets.{Forgets}
 use Rattle.stow_node.specs.Subtree.{Subtree, messages_of, first_subtree}
 use Rattle.stow_node.specs.declared.shape.Shape.{Shape}
-use Rattle.stow_node.proofs.Over.{nothing_short}
+use Rattle.stow_leaf.proofs.Over.{nothing_short}
 use Rattle.stow_flush.specs.Rooms.{BytesFit, RootStands}
 use Rattle.stow_raw.specs.RawBuf.{RawLists, raw_lists}
 use Rattle.stow_tree_model.specs.Agreement.{TenantPins}

@@ -30,7 +30,7 @@ use Rattle.stow_node.specs.Subtree.{Subtree, buffered, messages_of, first_subtre
 use Rattle.stow_node.specs.declared.shape.Shape.{Shape}
 use Rattle.stow_tree_tests.proofs.Lone.{at_own, within_alone, IsShortPut, applied_short, one_op}
 use Rattle.stow_node.proofs.Newer.{all_new_to, newer_than_part}
-use Rattle.stow_node.proofs.Over.{nothing_short}
+use Rattle.stow_leaf.proofs.Over.{nothing_short}
 use Rattle.stow_node.proofs.Standing.{parts_ops}
 
 pub first_ready : (shape : Shape) (t : Subtree) → t ≡ first_subtree shape → IsReadyAbove 0 t

@@ -1,7 +1,7 @@
 use Rattle.std.proofs.Common.{◌<◌, ap, ◌∙◌, arith}
 use Rattle.std.proofs.lemmas.Bool.Decides.{nat_tests}
-use Rattle.stow_node.specs.Rooms.{groups}
-use Rattle.stow_node.proofs.Groups.{needed_next}
+use Rattle.stow_groups.specs.Groups.{groups}
+use Rattle.stow_node.proofs.Rooms.{needed_next}
 use Rattle.stow_node.proofs.counting.nodes_needed.Goals as goal
 
 pub loop-i-preserved : goal.loop-i-preserved

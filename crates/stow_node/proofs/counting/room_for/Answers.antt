@@ -1,8 +1,9 @@
 use Rattle.std.proofs.Common.{◌≡◌, ◌+◌, ◌-◌, ◌<◌, ap, ◌∙◌, subst, arith}
 use Rattle.std.proofs.lemmas.Bool.Decides.{nat_tests}
 use Rattle.stow_leaf.proofs.Steps.{if_ok}
-use Rattle.stow_node.specs.Rooms.{IsRoom, groups, nodes_needed, levels_needed, places_needed}
-use Rattle.stow_node.proofs.Groups.{room_is}
+use Rattle.stow_groups.specs.Groups.{groups}
+use Rattle.stow_node.specs.Rooms.{IsRoom, nodes_needed, levels_needed, places_needed}
+use Rattle.stow_node.proofs.Rooms.{room_is}
 use Rattle.stow_node.proofs.counting.room_for.Goals as goal
 
 pub returns-clause-room : goal.returns-clause-room

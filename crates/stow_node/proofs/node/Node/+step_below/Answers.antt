@@ -6,22 +6,22 @@ use Rattle.stow_merge.specs.Pins.{pins_in}
 use Rattle.stow_node.specs.declared.child.Child.TheVariants as in_child
 use Rattle.stow_node.specs.declared.child.Child.{Child}
 use Rattle.stow_node.specs.Flushes.{AreShort}
-use Rattle.stow_node.specs.Forgets.{Forgets}
-use Rattle.stow_node.specs.Joins.{leaves_of}
+use Rattle.stow_leaves.specs.Forgets.{Forgets}
+use Rattle.stow_node.specs.Nodes.{leaves_of}
 use Rattle.stow_node.specs.Moves.{IsHeaviest, HandsDown}
 use Rattle.stow_node.specs.declared.shape.Shape.{Shape}
 use Rattle.stow_node.specs.Nodes.{part_of, parts_of, IsBelow, subtree_of}
 use Rattle.stow_node.specs.Parts.{leaves_in}
 use Rattle.stow_node.specs.Regroups.{StepsAsOne}
-use Rattle.stow_node.specs.Rooms.{AreShells, AreLists, HasRoom, groups}
+use Rattle.stow_groups.specs.Groups.{groups}
+use Rattle.stow_node.specs.Rooms.{AreShells, AreLists, HasRoom}
 use Rattle.stow_node.specs.Subtree.{Subtree, messages_of}
 use Rattle.stow_node.specs.Ways.{Goes}
 use Rattle.stow_node.proofs.Down.{IsNext, squeezed_same, stays_then, MadeRoom, made_room, WentInto, went_into, new_items}
 use Rattle.stow_node.proofs.Entered.{Entered, entered, not_leaf}
-use Rattle.stow_node.proofs.Flushed.{on_err}
-use Rattle.stow_node.proofs.Forgotten.{forgets_nothing}
-use Rattle.stow_node.proofs.Groups.{groups_stay}
-use Rattle.stow_node.proofs.Merging.{LevelReady, level_ready, level_left, none_needed}
+use Rattle.stow_leaves.proofs.Forgotten.{on_err}
+use Rattle.stow_leaves.proofs.Forgotten.{forgets_nothing}
+use Rattle.stow_node.proofs.Rooms.{LevelReady, level_ready, level_left, none_needed, groups_stay}
 use Rattle.stow_node.proofs.Regrouped.{steps, grown_leaves}
 use Rattle.stow_node.proofs.Stayed.{ChildStays, child_stays, level_at}
 use Rattle.stow_node.proofs.Stepping.{next_is, CanStep, can_step, Stepped, stepped, stepped_forgets, behind_length, steps_alone}

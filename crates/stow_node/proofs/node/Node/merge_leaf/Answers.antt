@@ -1,52 +1,54 @@
 use Rattle.std.proofs.Common.{◌≡◌, ◌+◌, ◌-◌, ◌<◌, ◌≤◌, List, length, refl, sym, ap, ◌∙◌, subst, arith}
 use Rattle.std.proofs.lemmas.List.{length-map}
 use Rattle.stow_merge.specs.Pins.{pins_in}
-use Rattle.stow_node.specs.Absorbs.{Merges}
+use Rattle.stow_leaves.specs.Absorbs.{CanAbsorb, Merges, StandsFor}
 use Rattle.stow_node.specs.Flushes.{AreShort}
-use Rattle.stow_node.specs.Forgets.{Forgets}
-use Rattle.stow_node.specs.Joins.{leaves_of}
+use Rattle.stow_leaves.specs.Forgets.{Forgets}
 use Rattle.stow_node.specs.Moves.{IsHeaviest}
-use Rattle.stow_node.specs.Nodes.{part_of, parts_of, subtree_of}
+use Rattle.stow_node.specs.Nodes.{part_of, parts_of, leaves_of, subtree_of}
 use Rattle.stow_node.specs.Parts.{high_of}
 use Rattle.stow_node.specs.Regroups.{StepsAsOne}
-use Rattle.stow_node.specs.Rooms.{AreShells, HasRoom, groups, nodes_needed}
+use Rattle.stow_groups.specs.Groups.{groups}
+use Rattle.stow_node.specs.Rooms.{AreShells, HasRoom, nodes_needed}
 use Rattle.stow_node.specs.Ways.{MergesHeaviest, Goes}
 use Rattle.stow_node.specs.Subtree.{Subtree, messages_of}
 use Rattle.stow_node.specs.declared.child.Child.{Child}
-use Rattle.stow_node.proofs.Absorbed.{low_of_leaf}
-use Rattle.stow_node.proofs.Fewer.{children_are_leaves}
-use Rattle.stow_node.proofs.Flushed.{can_absorb}
-use Rattle.stow_node.proofs.Merging.{MergedLeaf, merged_leaf, some_left, enough_places, fewer_shells, room_left}
+use Rattle.stow_node.proofs.Leaves.{MergedLeaf, merged_leaf, children_are_leaves, fence_low, can_absorb, leaf_count}
+use Rattle.stow_node.proofs.Rooms.{enough_places, fewer_shells, room_left}
+use Rattle.stow_node.proofs.Places.{low_at}
 use Rattle.stow_node.proofs.Regrouped.{steps, grown_leaves}
 use Rattle.stow_node.proofs.node.Node.merge_leaf.Given as given
 use Rattle.stow_node.proofs.node.Node.merge_leaf.Goals as goal
-use Rattle.stow_node.proofs.node.Node.merge_leaf.Goals.{After-len, After-drop_range}
+use Rattle.stow_node.proofs.node.Node.merge_leaf.Goals.{After-as_slice-2, After-len, After-drop_range}
 
 count : (g : given.Over) (c : After-len g) → c.len.result ≡ length c.in_ok-fresh.fresh.items
 count g c = let e = c.len.ensures in let o = c.in_ok-fresh.fresh.ok.0 in omega (arith, e, o)
 
--- the node with the fresh leaves, before it is cut
-done : (g : given.Over) (c : After-drop_range g) → MergedLeaf c.self.inside c.in_ok-fresh.fresh c.low.result.bytes.now c.high_after-high.result.bytes.now (pins_in c.args.pins.now) c.args.cache.now c.merged.new.cache
-done g c =
-    let m : Merges c.self.inside.children.items c.heaviest-index.result c.self.inside.buffer.messages (pins_in c.args.pins.now) c.self.inside.shape.leaf c.in_ok-fresh.fresh.items c.args.cache.now c.merged.new.cache =
-    subst (λ (l : List (Child g.row.A.Denot)). Merges l c.heaviest-index.result c.self.inside.buffer.messages (pins_in c.args.pins.now) c.self.inside.shape.leaf c.in_ok-fresh.fresh.items c.args.cache.now c.merged.new.cache) c.as_slice-2.ensures.value c.in_ok-fresh.ensures.merged in
-    merged_leaf c.self.inside c.in_ok-fresh.fresh c.heaviest-index.result c.low.result.bytes.now c.high_after-high.result.bytes.now (pins_in c.args.pins.now) c.args.cache.now c.merged.new.cache c.self.invariant
-    (ap (λ (s : Subtree). s.height) c.self.view_is ∙ c.requires.level)
+can : (g : given.Over) (c : After-as_slice-2 g) → CanAbsorb (leaves_of c.self.inside.children.items) c.heaviest-index.result c.self.inside.buffer.messages c.self.inside.shape.leaf
+can g c = can_absorb c.self.inside c.heaviest-index.result c.self.invariant (ap (λ (s : Subtree). s.height) c.self.view_is ∙ c.requires.level)
     (subst (λ children. IsHeaviest (parts_of children) c.self.inside.buffer c.heaviest-index.result) c.as_slice.ensures.value c.heaviest-index.ensures)
     (subst (λ (s : Subtree). 0 < length s.buffer.messages) (sym c.self.view_is) c.requires.some)
     (subst (λ (s : Subtree). AreShort (messages_of s)) (sym c.self.view_is) c.requires.short)
-    m
-    (c.low.ensures ∙ low_of_leaf c.self.inside.children.items c.heaviest-index.result c.index.result.now m.replaced.leaf m.replaced.at c.index.ensures)
+
+-- the node with the fresh leaves, before it is cut
+done : (g : given.Over) (c : After-drop_range g) → CanAbsorb (leaves_of c.self.inside.children.items) c.heaviest-index.result c.self.inside.buffer.messages c.self.inside.shape.leaf
+    → MergedLeaf c.self.inside c.in_ok-fresh.fresh c.low.result.bytes.now c.high_after-high.result.bytes.now (pins_in c.args.pins.now) c.args.cache.now c.merged.new.cache
+done g c can =
+    let one = ap (λ (s : Subtree). s.height) c.self.view_is ∙ c.requires.level in
+    let inside : c.heaviest-index.result < length c.self.inside.children.items = (let l = c.heaviest-index.ensures.inside in omega (arith, l, length-map c.as_slice.result.now part_of, ap length c.as_slice.ensures.value)) in
+    merged_leaf c.self.inside c.in_ok-fresh.fresh c.heaviest-index.result c.low.result.bytes.now c.high_after-high.result.bytes.now (pins_in c.args.pins.now) c.args.cache.now c.merged.new.cache c.self.invariant one
+    (subst (λ children. IsHeaviest (parts_of children) c.self.inside.buffer c.heaviest-index.result) c.as_slice.ensures.value c.heaviest-index.ensures)
+    can c.in_ok-fresh.ensures.leaves
+    (subst (λ (l : List (Child g.row.A.Denot)). Merges (leaves_of l) c.heaviest-index.result c.self.inside.buffer.messages (pins_in c.args.pins.now) c.self.inside.shape.leaf (leaves_of c.in_ok-fresh.fresh.items) c.args.cache.now c.merged.new.cache) c.as_slice-2.ensures.value c.in_ok-fresh.ensures.merged)
+    (subst (λ (l : List (Child g.row.A.Denot)). StandsFor (leaves_of l) c.heaviest-index.result c.self.inside.buffer.messages (pins_in c.args.pins.now) c.self.inside.shape.leaf (leaves_of c.in_ok-fresh.fresh.items)) c.as_slice-2.ensures.value c.in_ok-fresh.ensures.stands)
+    (c.low.ensures ∙ sym (low_at c.self.inside.children.items c.heaviest-index.result c.index.result.now inside c.index.ensures (part_of c.index.result.now)) ∙ fence_low c.self.inside c.heaviest-index.result (part_of c.index.result.now) c.self.invariant one inside)
     (c.high_after-high.ensures ∙ ap (λ (l : List (Child g.row.A.Denot)). high_of (parts_of l) c.heaviest-index.result) c.as_slice-3.ensures.value)
 
 pub heaviest-index-requires : goal.heaviest-index-requires
 heaviest-index-requires g c = let s = c.self.invariant.some in let n = ap length c.as_slice.ensures.value in omega (arith, s, n)
 
 pub merged-requires-clause-can : goal.merged-requires-clause-can
-merged-requires-clause-can g c = rw c.as_slice-2.ensures.value (can_absorb c.self.inside c.heaviest-index.result (pins_in c.args.pins.now) c.self.invariant (ap (λ (s : Subtree). s.height) c.self.view_is ∙ c.requires.level)
-    (subst (λ children. IsHeaviest (parts_of children) c.self.inside.buffer c.heaviest-index.result) c.as_slice.ensures.value c.heaviest-index.ensures)
-    (subst (λ (s : Subtree). 0 < length s.buffer.messages) (sym c.self.view_is) c.requires.some)
-    (subst (λ (s : Subtree). AreShort (messages_of s)) (sym c.self.view_is) c.requires.short))
+merged-requires-clause-can g c = rw c.as_slice-2.ensures.value (can g (goal.at.merged-requires-clause-can g c).After-as_slice-2)
 
 pub merged-requires-clause-leaves : goal.merged-requires-clause-leaves
 merged-requires-clause-leaves g c = rw c.as_slice-2.ensures.value (children_are_leaves c.self.inside c.self.invariant (ap (λ (s : Subtree). s.height) c.self.view_is ∙ c.requires.level))
@@ -57,8 +59,9 @@ same-self g c = refl
 pub room_for-requires-clause-some : goal.room_for-requires-clause-some
 room_for-requires-clause-some g c =
     let n = count g ((goal.at.room_for-requires-clause-some g c).After-len) in
-    let s = some_left c.self.inside.children.items c.heaviest-index.result c.self.inside.buffer.messages (pins_in c.args.pins.now) c.self.inside.shape.leaf c.in_ok-fresh.fresh.items c.args.cache.now c.merged.new.cache (children_are_leaves c.self.inside c.self.invariant (ap (λ (s : Subtree). s.height) c.self.view_is ∙ c.requires.level)) (subst (λ (l : List (Child g.row.A.Denot)). Merges l c.heaviest-index.result c.self.inside.buffer.messages (pins_in c.args.pins.now) c.self.inside.shape.leaf c.in_ok-fresh.fresh.items c.args.cache.now c.merged.new.cache) c.as_slice-2.ensures.value c.in_ok-fresh.ensures.merged) in
-    omega (arith, n, s)
+    let s = c.in_ok-fresh.ensures.stands.some in
+    let m = leaf_count c.in_ok-fresh.fresh.items c.in_ok-fresh.ensures.leaves in
+    omega (arith, n, s, m)
 
 pub room_for-requires-clause-fan_out : goal.room_for-requires-clause-fan_out
 room_for-requires-clause-fan_out g c = subst (λ (s : Subtree). 1 ≤ s.shape.fan_out) (sym c.self.view_is) c.requires.fan_out
@@ -92,7 +95,7 @@ index-requires g c =
     omega (arith, i, m, a, o)
 
 pub invariant_of-self : goal.invariant_of-self
-invariant_of-self g c = rw c.drop_range.ensures (done g ((goal.at.invariant_of-self g c).After-drop_range)).is_node
+invariant_of-self g c = rw c.drop_range.ensures (done g (goal.at.invariant_of-self g c).After-drop_range (can g (goal.at.invariant_of-self g c).After-as_slice-2)).is_node
 
 pub settle-requires-clause-fan_out : goal.settle-requires-clause-fan_out
 settle-requires-clause-fan_out g c = subst (λ (s : Subtree). 1 ≤ s.shape.fan_out) (sym c.self.view_is) c.requires.fan_out
@@ -116,7 +119,7 @@ settle-requires-clause-shells g c =
 
 pub returns-clause-ok : goal.returns-clause-ok
 returns-clause-ok g c =
-    let leaf = done g ((goal.at.returns-clause-ok g c).After-drop_range) in
+    let leaf = done g (goal.at.returns-clause-ok g c).After-drop_range (can g (goal.at.returns-clause-ok g c).After-as_slice-2) in
     subst (λ (s : Subtree). StepsAsOne (pins_in c.args.pins.now) s c.settle.new.self c.settle.new.room.came.items) c.self.view_is
     (steps (pins_in c.args.pins.now) (subtree_of c.self.inside) _ c.settle.new.self c.settle.new.room.came.items
     (rw c.drop_range.ensures leaf.keeps) (rw c.drop_range.ensures leaf.lighter) (c.settle.ensures.settles (pins_in c.args.pins.now))
@@ -126,7 +129,7 @@ pub returns-clause-goes : goal.returns-clause-goes
 returns-clause-goes g c =
     subst (λ h. Goes h (pins_in c.args.pins.now) c.args.self.now c.settle.new.self c.settle.new.room.came.items c.args.cache.now c.merged.new.cache) (sym c.requires.level)
     (subst (λ (s : Subtree). MergesHeaviest (pins_in c.args.pins.now) s c.settle.new.self c.settle.new.room.came.items c.args.cache.now c.merged.new.cache) c.self.view_is
-    ((done g ((goal.at.returns-clause-goes g c).After-drop_range)).goes c.drop_range.new.self c.settle.new.self c.settle.new.room.came.items c.drop_range.ensures (c.settle.ensures.settles (pins_in c.args.pins.now))))
+    ((done g (goal.at.returns-clause-goes g c).After-drop_range (can g (goal.at.returns-clause-goes g c).After-as_slice-2)).goes c.drop_range.new.self c.settle.new.self c.settle.new.room.came.items c.drop_range.ensures (c.settle.ensures.settles (pins_in c.args.pins.now))))
 
 pub returns-clause-room : goal.returns-clause-room
 returns-clause-room g c =

@@ -6,13 +6,14 @@ use Rattle.stow_tree_model.specs.Agreement.{TenantPins}
 use Rattle.stow_node.specs.declared.child.Child.{Child}
 use Rattle.stow_node.specs.declared.child.Child.TheVariants as in_child
 use Rattle.stow_node.specs.declared.shape.Shape.{Shape}
-use Rattle.stow_node.specs.Joins.{leaves_of}
+use Rattle.stow_node.specs.Nodes.{leaves_of}
 use Rattle.stow_node.specs.Nodes.{subtree_of}
 use Rattle.stow_node.specs.Regroups.{Grows, StandAsOne, AreBehind}
-use Rattle.stow_node.specs.Rooms.{AreLists, AreShells, groups}
+use Rattle.stow_groups.specs.Groups.{groups}
+use Rattle.stow_node.specs.Rooms.{AreLists, AreShells}
 use Rattle.stow_node.specs.Subtree.{Subtree}
-use Rattle.stow_node.proofs.Groups.{groups_halve}
-use Rattle.stow_node.proofs.Merging.{fewer_lists, fewer_shells, RootRoom, root_room, root_left}
+use Rattle.stow_groups.proofs.Counts.{groups_halve}
+use Rattle.stow_node.proofs.Rooms.{fewer_lists, fewer_shells, RootRoom, root_room, root_left}
 use Rattle.stow_node.proofs.Regrouped.{Rooted, rooted, grown_leaves}
 use Rattle.stow_node.proofs.node.Node.rise.Given as given
 use Rattle.stow_node.proofs.node.Node.rise.Goals as goal

@@ -1,6 +1,7 @@
 use Rattle.std.proofs.Common.{◌≡◌, ◌∷◌, ◌+◌, ◌-◌, ◌≤◌, sym, ap, ◌∙◌, subst, arith}
 use Rattle.stow_node.specs.declared.shape.Shape.{Shape}
-use Rattle.stow_node.specs.Rooms.{AreShells, groups}
+use Rattle.stow_groups.specs.Groups.{groups}
+use Rattle.stow_node.specs.Rooms.{AreShells}
 use Rattle.stow_node.specs.declared.child.Child.TheVariants as in_child
 use Rattle.stow_node.proofs.Regrouped.{settling_begins, shells_now, no_rest, settling_cut, settling_ends}
 use Rattle.stow_node.proofs.node.Node.settle.Goals as goal

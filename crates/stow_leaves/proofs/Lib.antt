@@ -1,0 +1,5 @@
+pub mod Forgotten
+pub mod Joined
+pub mod Pairs
+pub mod Fences
+pub mod Replaced

@@ -1,0 +1,3 @@
+pub mod Absorbs
+pub mod Forgets
+pub mod Joins

@@ -1,5 +1,0 @@
-use Rattle.stow_node.proofs.Groups.{last_group}
-use Rattle.stow_node.proofs.counting.share_of_last.Goals as goal
-
-pub returns-then-not-full-clause-last : goal.returns-then-not-full-clause-last
-returns-then-not-full-clause-last c = last_group c.args.fan_out c.args.children c.args.groups c.requires.many.0 c.requires.many.1 c.requires.hold

@@ -1,5 +1,0 @@
-use Rattle.stow_node.proofs.Joined.{rise_both}
-use Rattle.stow_node.proofs.joining.joined_rows.Goals as goal
-
-pub joined-requires-clause-rise : goal.joined-requires-clause-rise
-joined-requires-clause-rise g c = rise_both c.args.lower.now c.args.upper.now c.len-lower.ensures.rise c.len-upper.ensures.rise c.requires
