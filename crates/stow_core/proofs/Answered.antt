@@ -1,18 +1,18 @@
 -- What a prepared answer is, as the tenant's own step says it.
-use Rattle.std.proofs.Common.{◌≡◌, ◌≢◌, ◌⊎◌, ⊎_elim, inl, inr, ℕ, zero, suc, ◌<◌, ◌≤◌, ◌^◌, length, arith, Bool, true, false, cond, nat_lt, List, [], ◌++◌, Option, Some, None, map, refl, eqb, ap, sym, ◌∙◌, subst, pos, to_z, w64}
+use Rattle.std.proofs.Common.{◌≡◌, ◌≢◌, ◌⊎◌, ⊎_elim, inl, inr, ℕ, zero, suc, ◌<◌, ◌≤◌, ◌^◌, length, arith, true, false, nat_lt, List, [], ◌∷◌, ◌+◌, Option, Some, None, map, refl, eqb, ap, sym, ◌∙◌, subst, pos, to_z, w64}
 use Rattle.std.proofs.Math.Bool.{◌&&◌, false≢true}
 use Rattle.std.specs.declared.alloc.AllocError.{AllocError}
 use Rattle.std.specs.Result.{IsErr}
-use Rattle.std.specs.Prelude.{◌-◌, Result, Ok, Err, IfOk, IfSome, IsTrue}
+use Rattle.std.specs.Prelude.{◌-◌, Result, Ok, Err, IfOk, IfSome, IsSomeAnd, IsTrue}
 use Rattle.std.specs.FinMap as rows
 use Rattle.std.proofs.lemmas.Bool.{cases_lt, cond-true, cond-false, eq-eqb, ne_eqb}
 use Rattle.std.proofs.lemmas.Int.{to_z_pos}
-use Rattle.std.specs.Option.{unwrap_or}
 use Rattle.stow_bytes.specs.Limits.{number_limit}
 use Rattle.stow_commands.specs.Commands.{command_of}
 use Rattle.stow_commands.specs.declared.command.Command as asked
-use Rattle.stow_commands.specs.Outcomes.{IsAppendReply, IsOutcome}
-use Rattle.stow_commands.specs.declared.outcome.Outcome as found
+use Rattle.stow_core.specs.Writes.{IsRowAnswer}
+use Rattle.stow_core.specs.declared.row_answer.RowAnswer as found
+use Rattle.stow_core.proofs.Written.{given_gone}
 use Rattle.stow_commands.specs.declared.outcome_fault.OutcomeFault.{OutcomeFault}
 use Rattle.stow_commands.specs.declared.outcome_fault.OutcomeFault.TheVariants as in_fault
 use Rattle.stow_model.specs.declared.refusal.Refusal.{Refusal}
@@ -20,28 +20,29 @@ use Rattle.stow_model.specs.declared.refusal.Refusal.TheVariants as refusal
 use Rattle.stow_model.specs.declared.reply.Reply as coded
 use Rattle.stow_model.specs.Reply.{Reply, reply_of}
 use Rattle.stow_model.specs.Reply as reply
-use Rattle.stow_model.specs.Command.{Command, Change, Update, Append, Understood, Refused, reading}
+use Rattle.stow_model.specs.Command.{Command, Change, Update, Understood, Refused, reading}
 use Rattle.stow_model.specs.Login.{Entry, IsTenant}
 use Rattle.stow_model.specs.declared.reply.Reply.TheVariants as in_reply
-use Rattle.stow_model.specs.Store.{Store, Answer, Outcome, Request, Asked, counted, served, answer, answer_to, answer_with, can_take, take_answer, del_answer, change_answer, append_outcome, written, refused, exceeds_quota, Written, Unchanged, Failed, outcome, value_in, rows_without}
+use Rattle.stow_model.specs.Store.{Store, Answer, Outcome, Request, Asked, counted, served, answer, answer_to, answer_with, can_take, take_answer, del_answer, change_answer, written, exceeds_quota, Written, Unchanged, Failed, outcome, value_in, rows_without}
 use Rattle.stow_ledger.specs.Accounts.{IsGivenBy, is_allowed}
-use Rattle.stow_ledger.specs.Shown.{charge_of, with_row}
+use Rattle.stow_ledger.specs.Shown.{charge_of}
 use Rattle.stow_core.specs.Tenancies.{TenancyState, tenancy_at}
 use Rattle.stow_ledger.specs.declared.charge.Charge.{Charge}
 use Rattle.stow_core.specs.declared.change.Change.TheVariants as in_change
-use Rattle.stow_core.specs.declared.content.Content.{Content}
 use Rattle.stow_core.specs.declared.prepared.Prepared.{Prepared}
 use Rattle.stow_core.proofs.Changed.{same_charge}
 use Rattle.stow_core.proofs.Kept.{keeps_itself}
 use Rattle.stow_state.specs.Rows.{IsIndex}
 use Rattle.stow_state.specs.State.{IsSound, view}
-use Rattle.stow_core.specs.declared.content.Content.TheVariants as content
-use Rattle.stow_core.specs.Prepared.{effect, prepared_answer, after_write, after_content, after_remove, after_refusal, after_take, whole_value, next_version, store_without, writes_row, serves, IsPriced, IsCharged, IsPrepared, OnlyCounts}
+use Rattle.stow_core.specs.Prepared.{effect, prepared_answer, after_given, after_refusal, after_take, gives, serves, IsPriced, IsCharged, IsPrepared, OnlyCounts}
 use Rattle.stow_core.specs.State.{CoreState, store_of, shared_of, Answers, Calls, Keeps, Moves}
 use Rattle.stow_state.specs.Steps.{Maintenance}
 use Rattle.stow_state.proofs.Steps.{call_of_nothing, step_sound, steps_after_maintenance_law}
 use Rattle.stow_tree_model.specs.Keys.{packed, own_key}
-use Rattle.stow_tree_model.specs.Operations.{bytes_or_none}
+use Rattle.stow_tree_model.specs.Op.{Op, Gone}
+use Rattle.stow_tree_model.specs.Operations.{numbered}
+use Rattle.stow_tree_model.specs.Operations.{outcome as operated}
+use Rattle.stow_state.specs.Rows.{version_of, with_row}
 use Rattle.stow_tree_model.proofs.Packed.{own_key-packed}
 
 pub if_ok : {X E : Type 0} (r : Result X E) (P Q : X → Type 0) → ((x : X) → P x → Q x) → IfOk r P → IfOk r Q
@@ -58,31 +59,25 @@ if_all_ok (Err e) P Q R S f p q s = p
 exceeds_same : (s a b : Store) → a.rows ≡ b.rows → a.snapshots ≡ b.snapshots → exceeds_quota (counted s) a ≡ exceeds_quota s b
 exceeds_same s a b rows snapshots = λ i. nat_lt s.quota (same_charge b a rows snapshots i) && nat_lt (same_charge s (counted s) refl refl i) (same_charge b a rows snapshots i)
 
--- what a row's price says of a request that gives it the content
-module _ {A : Type 0} (core : CoreState) (t : ℕ) (key : List ℕ) (c : Content A) where
-  abbrev store : Store
-  store = store_of core t
+-- what a write is answered: it is done, or the quota refuses it, or no number is left
+module _ (store : Store) (keys : List (List ℕ)) (op : Op) (r : Reply) where
+  pub write_done : nat_lt store.last number_limit ≡ true → exceeds_quota store (after_given keys op store) ≡ false → ◌≡◌ {A = Answer} (after_given keys op store, r) (gives keys op r store)
+  write_done can within = sym (cond-true (nat_lt store.last number_limit) _ _ can
+      ∙ cond-false (exceeds_quota (counted store) (after_given keys op store)) _ _ (exceeds_same store (after_given keys op store) (after_given keys op store) refl refl ∙ within))
 
-  abbrev row : Store
-  row = with_row store (own_key key) (Some (next_version core t (whole_value c key store)))
+  pub write_exceeds : nat_lt store.last number_limit ≡ true → exceeds_quota store (after_given keys op store) ≡ true → ◌≡◌ {A = Answer} (after_refusal store, reply.Error refusal.QuotaExceeded) (gives keys op r store)
+  write_exceeds can above = sym (cond-true (nat_lt store.last number_limit) _ _ can
+      ∙ cond-true (exceeds_quota (counted store) (after_given keys op store)) _ _ (exceeds_same store (after_given keys op store) (after_given keys op store) refl refl ∙ above))
 
-  pub priced_put : (ch : Charge) → IsPriced core t (Some ch) row → IsCharged core t ch (after_content key c store)
-  priced_put ch priced = record {
-    is = priced.0.is ∙ (λ i. record { charge = same_charge (after_content key c store) row refl refl i; rows = rows.len (after_content key c store).rows });
-    given = priced.0.given;
-    allowed = priced.0.allowed;
-  }
+  pub write_full : nat_lt store.last number_limit ≡ false → ◌≡◌ {A = Answer} (counted store, reply.Error refusal.WriteNumbersUsedUp) (gives keys op r store)
+  write_full full = sym (cond-false (nat_lt store.last number_limit) _ _ full)
 
-  pub put_done : (ch : Charge) (r : Reply) → nat_lt store.last number_limit ≡ true → IsPriced core t (Some ch) row → ◌≡◌ {A = Answer} (after_content key c store, r) (writes_row key c r store)
-  put_done ch r can priced = sym (cond-true (nat_lt store.last number_limit) _ _ can
-      ∙ cond-false (exceeds_quota (counted store) (after_content key c store)) _ _ (exceeds_same store (after_content key c store) row refl refl ∙ priced.1))
-
-  pub put_exceeds : (r : Reply) → nat_lt store.last number_limit ≡ true → IsPriced core t None row → ◌≡◌ {A = Answer} (after_refusal store, reply.Error refusal.QuotaExceeded) (writes_row key c r store)
-  put_exceeds r can priced = sym (cond-true (nat_lt store.last number_limit) _ _ can
-      ∙ cond-true (exceeds_quota (counted store) (after_content key c store)) _ _ (exceeds_same store (after_content key c store) row refl refl ∙ priced))
-
-  pub put_full : (r : Reply) → nat_lt store.last number_limit ≡ false → ◌≡◌ {A = Answer} (counted store, reply.Error refusal.WriteNumbersUsedUp) (writes_row key c r store)
-  put_full r full = sym (cond-false (nat_lt store.last number_limit) _ _ full)
+-- a price is that of each store with the same rows and copies
+pub priced_as : (core : CoreState) (t : ℕ) (c : Charge) (s s' : Store) → s'.rows ≡ s.rows → s'.snapshots ≡ s.snapshots → IsPriced core t c s → IsPriced core t c s'
+priced_as core t c s s2 same snapshots priced = record {
+  is = priced.is ∙ (λ i. record { charge = sym (same_charge s s2 same snapshots) i; rows = rows.len (sym same i) });
+  given = priced.given;
+}
 
 -- ---- deletions
 
@@ -93,34 +88,12 @@ fewer store keys = rows.len store.rows - rows.len (rows_without keys store.rows)
 pub del_none : (store : Store) (keys : List (List ℕ)) (n : ℕ) → n ≡ fewer store keys → n ≡ 0 → ◌≡◌ {A = Answer} (counted store, reply.Integer (pos 0)) (del_answer (counted store) keys)
 del_none store keys n e none = sym (cond-true (eqb (fewer store keys) 0) _ _ (eq-eqb (fewer store keys) 0 (sym e ∙ none)))
 
-pub del_full : (store : Store) (keys : List (List ℕ)) (n : ℕ) → n ≡ fewer store keys → n ≢ 0 → nat_lt store.last number_limit ≡ false
-    → ◌≡◌ {A = Answer} (counted store, reply.Error refusal.WriteNumbersUsedUp) (del_answer (counted store) keys)
-del_full store keys n e some full =
-    sym (cond-false (eqb (fewer store keys) 0) _ _ (ne_eqb (fewer store keys) 0 (λ z. some (e ∙ z))) ∙ cond-false (nat_lt store.last number_limit) _ _ full)
-
--- rows are removed, within the quota or above it
-module _ (store : Store) (taken keys : List (List ℕ)) (n : ℕ) (left : rows_without (map own_key taken) store.rows ≡ rows_without keys store.rows) (e : n ≡ fewer store keys) (some : n ≢ 0) (can : nat_lt store.last number_limit ≡ true) where
-  exceeds : Bool
-  exceeds = exceeds_quota store (store_without (map own_key taken) store)
-
-  is_write : (r : Reply) → written (counted store) (rows_without keys store.rows) r ≡ cond (exceeds_quota (counted store) (after_write (counted store) (rows_without keys store.rows))) (refused (after_refusal store) refusal.QuotaExceeded) (after_write (counted store) (rows_without keys store.rows), r)
-  is_write r = cond-true (nat_lt store.last number_limit) _ _ can
-
-  exceeds_is : exceeds_quota (counted store) (after_write (counted store) (rows_without keys store.rows)) ≡ exceeds
-  unfolding exceeds
-  exceeds_is = exceeds_same store (after_write (counted store) (rows_without keys store.rows)) (store_without (map own_key taken) store) (sym left) refl
-
-  pub del_done : n < 2 ^ 63 → exceeds_quota store (store_without (map own_key taken) store) ≡ false → ◌≡◌ {A = Answer} (after_remove taken store, reply.Integer (to_z w64 n)) (del_answer (counted store) keys)
-  unfolding exceeds
-  del_done fits within =
-      let done : ◌≡◌ {A = Answer} (after_remove taken store, reply.Integer (to_z w64 n)) (after_write (counted store) (rows_without keys store.rows), reply.Integer (pos (fewer store keys))) =
-      λ i. (after_write (counted store) (left i), reply.Integer ((to_z_pos w64 n fits ∙ ap pos e) i)) in
-      done ∙ sym (cond-false (eqb (fewer store keys) 0) _ _ (ne_eqb (fewer store keys) 0 (λ z. some (e ∙ z))) ∙ is_write (reply.Integer (pos (fewer store keys))) ∙ cond-false _ _ _ (exceeds_is ∙ within))
-
-  pub del_exceeds : exceeds_quota store (store_without (map own_key taken) store) ≡ true → ◌≡◌ {A = Answer} (after_refusal store, reply.Error refusal.QuotaExceeded) (del_answer (counted store) keys)
-  unfolding exceeds
-  del_exceeds above =
-      sym (cond-false (eqb (fewer store keys) 0) _ _ (ne_eqb (fewer store keys) 0 (λ z. some (e ∙ z))) ∙ is_write (reply.Integer (pos (fewer store keys))) ∙ cond-true _ _ _ (exceeds_is ∙ above))
+-- what takes the rows of the keys away is what a deletion of them is answered by
+pub del_given : (store : Store) (taken keys : List (List ℕ)) (n : ℕ) → rows_without (map own_key taken) store.rows ≡ rows_without keys store.rows → n ≡ fewer store keys → n ≢ 0 → n < 2 ^ 63
+    → gives taken Gone (reply.Integer (to_z w64 n)) store ≡ del_answer (counted store) keys
+del_given store taken keys n left e some fits =
+    (λ i. written (counted store) ((given_gone (store.last + 1) (map own_key taken) store.rows ∙ left) i) (reply.Integer ((to_z_pos w64 n fits ∙ ap pos e) i)))
+    ∙ sym (cond-false (eqb (fewer store keys) 0) _ _ (ne_eqb (fewer store keys) 0 (λ z. some (e ∙ z))))
 
 -- ---- snapshots
 
@@ -188,45 +161,32 @@ pub refused_words : (store : Store) (words : List (List ℕ)) (r : Refusal) → 
 unfolding answer
 refused_words store words r e = ap (answer_to (counted store)) e
 
--- ---- appends
-
-bytes_are : (value : Option (List ℕ)) → bytes_or_none value ≡ unwrap_or value []
-bytes_are None = refl
-bytes_are (Some value) = refl
-
--- an APPEND's answer, where its suffix follows the row's value
-pub appended : {A : Type 0} (store : Store) (t : ℕ) (packed_key key suffix content_bytes : List ℕ) (r : coded.Reply A) → packed_key ≡ packed t key → content_bytes ≡ suffix → IsAppendReply (Ok r) suffix (value_in (rows.get store.rows key))
-    → writes_row {A = A} packed_key (content.Suffix content_bytes) (reply_of r) store ≡ serves (Change key (Append suffix)) store
-unfolding outcome
-appended store t packed_key key suffix content_bytes r is same told =
-    (λ i. change_answer (counted store) (own i) (Written (bytes_or_none (value_in (rows.get store.rows (own i))) ++ same i) (reply_of r)))
-    ∙ ap (λ value. change_answer (counted store) key (Written (value ++ suffix) (reply_of r))) (bytes_are (value_in (rows.get store.rows key)))
-    ∙ ap (change_answer (counted store) key) (sym told)
-  where
-    own : own_key packed_key ≡ key
-    own = ap own_key is ∙ own_key-packed t key
+-- ---- changes of a row
 
 -- the outcome that the code told as a refusal
-pub told_refused : {A : Type 0} (result : Result (found.Outcome A) OutcomeFault) (why : OutcomeFault) (r : Refusal) (o : Outcome) → result ≡ Err why → why ≡ in_fault.Refused r → IsOutcome result o → o ≡ Failed r
-told_refused {A = A} result why r o is because told = subst (λ w. IsOutcome {A = A} (Err w) o) because (subst (λ x. IsOutcome {A = A} x o) is told)
+pub told_refused : {A : Type 0} (result : Result (found.RowAnswer A) OutcomeFault) (why : OutcomeFault) (r : Refusal) (present : Option (List ℕ)) (o : Outcome) → result ≡ Err why → why ≡ in_fault.Refused r → IsRowAnswer result present o → o ≡ Failed r
+told_refused {A = A} result why r present o is because told = subst (λ w. IsRowAnswer {A = A} (Err w) present o) because (subst (λ x. IsRowAnswer {A = A} x present o) is told)
 
--- the answer to a change that writes a whole value
-pub changed_whole : {A : Type 0} (store : Store) (t : ℕ) (packed_key key value : List ℕ) (update : Update) (r : coded.Reply A) → packed_key ≡ packed t key → outcome update (value_in (rows.get store.rows key)) ≡ Written value (reply_of r)
-    → writes_row {A = A} packed_key (content.Whole value) (reply_of r) store ≡ serves (Change key update) store
-changed_whole store t packed_key key value update r is told =
-    (λ i. change_answer (counted store) ((ap own_key is ∙ own_key-packed t key) i) (Written value (reply_of r)))
-    ∙ ap (change_answer (counted store) key) (sym told)
+-- the answer to a write that makes this of a key's row
+abbrev gives_value : Store → Reply → List ℕ → Option (List ℕ) → Answer
+gives_value store r key value = written (counted store) (with_row key (version_of (numbered (store.last + 1) value)) store.rows) r
+
+-- the answer to a change that gives the row's key a value
+pub changed_row : (store : Store) (t : ℕ) (packed_key key : List ℕ) (op : Op) (update : Update) (r : Reply) → packed_key ≡ packed t key → IsSomeAnd (operated op (value_in (rows.get store.rows key))) (λ value. outcome update (value_in (rows.get store.rows key)) ≡ Written value r)
+    → gives (packed_key ∷ []) op r store ≡ serves (Change key update) store
+changed_row store t packed_key key op update r is told =
+    ap (λ k. gives_value store r k (operated op (value_in (rows.get store.rows k)))) (ap own_key is ∙ own_key-packed t key)
+    ∙ one (operated op (value_in (rows.get store.rows key))) told
+  where
+    one : (o : Option (List ℕ)) → IsSomeAnd o (λ value. outcome update (value_in (rows.get store.rows key)) ≡ Written value r) → gives_value store r key o ≡ serves (Change key update) store
+    one None told = absurd told
+    one (Some value) told = ap (change_answer (counted store) key) (sym told)
 
 pub changed_nothing : {A : Type 0} (store : Store) (key : List ℕ) (update : Update) (r : coded.Reply A) → outcome update (value_in (rows.get store.rows key)) ≡ Unchanged (reply_of r) → ◌≡◌ {A = Answer} (counted store, reply_of r) (serves (Change key update) store)
 changed_nothing store key update r told = ap (change_answer (counted store) key) (sym told)
 
 pub change_refused : (store : Store) (key : List ℕ) (update : Update) (r : Refusal) → outcome update (value_in (rows.get store.rows key)) ≡ Failed r → ◌≡◌ {A = Answer} (counted store, reply.Error r) (serves (Change key update) store)
 change_refused store key update r told = ap (change_answer (counted store) key) (sym told)
-
-pub append_refused : (store : Store) (key suffix : List ℕ) (r : Refusal) → append_outcome suffix (value_in (rows.get store.rows key)) ≡ Failed r
-    → ◌≡◌ {A = Answer} (counted store, reply.Error r) (serves (Change key (Append suffix)) store)
-unfolding outcome
-append_refused store key suffix r told = ap (change_answer (counted store) key) (sym told)
 
 -- a prepared answer was carried out
 pub answered : (old mid new : CoreState) (t : ℕ) (words : List (List ℕ)) (store : Store) (told : Reply) → Keeps old mid → Moves mid t store new

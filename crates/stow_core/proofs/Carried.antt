@@ -1,20 +1,18 @@
 -- The core once one tenant's part, its pins and the tree are others: what each way of carrying an answer out leads to.
-use Rattle.std.proofs.Common.{◌≡◌, ◌≢◌, ℕ, ◌+◌, ◌-◌, ◌<◌, ◌≤◌, List, [], ◌∷◌, length, map, get_or, set, Option, Some, None, refl, ap, sym, ◌∙◌, subst, arith, ⊎_elim}
+use Rattle.std.proofs.Common.{◌≡◌, ◌≢◌, ℕ, ◌+◌, ◌-◌, ◌<◌, ◌≤◌, List, length, map, get_or, set, Option, Some, None, refl, ap, sym, ◌∙◌, subst, arith, ⊎_elim}
 use Rattle.std.specs.Prelude.{Contains, IfSome, IsSome}
 use Rattle.std.specs.FinMap as finite
-use Rattle.std.specs.List.{AllByRecursion}
 use Rattle.std.proofs.lemmas.Bool.{cases_eq}
 use Rattle.std.proofs.lemmas.List.{length-map, length-set, map-set}
 use Rattle.stow_core.specs.Keys.{AreKeysOf}
-use Rattle.stow_core.specs.declared.content.Content.{Content}
 use Rattle.stow_core.specs.declared.tenancy.Tenancy.{Tenancy}
-use Rattle.stow_core.specs.Prepared.{after_content, after_remove, after_refusal, after_take, after_drop, IsCharged}
+use Rattle.stow_core.specs.Prepared.{after_given, after_refusal, after_take, after_drop, IsCharged}
 use Rattle.stow_core.specs.State.{CoreState, shared_of, store_at, store_of, IsCore, Keeps, Moves}
 use Rattle.stow_core.proofs.Kept.{idle}
 use Rattle.stow_core.proofs.Tenancies.{set_own, set_other}
 use Rattle.stow_core.specs.Tenancies.{TenancyState, tenancy_with, tenancy_of, tenancy_at, own_state, versions_of, is_among, counted_account, refused_account, charged_account}
-use Rattle.stow_core.specs.Writes.{content_op, write_of, removals_of}
-use Rattle.stow_core.proofs.Changed.{account_counted, account_refused, account_charged, account_given, account_taken, before_is, held_same, leads_counted, leads_refused, leads_given, leads_taken, leads_dropped, leads_put, leads_removed, next_is_free, pins_own, pins_before, pins_other}
+use Rattle.stow_core.specs.Writes.{writes_of}
+use Rattle.stow_core.proofs.Changed.{account_counted, account_refused, account_charged, account_given, account_taken, before_is, held_same, leads_counted, leads_refused, leads_given, leads_taken, leads_dropped, leads_written, next_is_free, pins_own, pins_before, pins_other}
 use Rattle.stow_core.proofs.Moved.{with_own, moves, core_moved}
 use Rattle.stow_core.proofs.Stores.{found_high, found_own, found_account}
 use Rattle.stow_ledger.specs.Accounts.{AccountState, IsAccountOf}
@@ -34,7 +32,8 @@ use Rattle.stow_state.proofs.Snapshots.{get-copies_of}
 use Rattle.stow_state.specs.State.{SharedState, IsSound, copies, store_in, pins_in}
 use Rattle.stow_state.specs.Steps.{SharedStep, LeadsTo, Maintenance}
 use Rattle.stow_tree.specs.TreeState.{TreeState, tree_messages}
-use Rattle.stow_tree_model.specs.Keys.{own_key}
+use Rattle.stow_tree.specs.Putting.{AreApart}
+use Rattle.stow_tree_model.specs.Op.{Op}
 use Rattle.stow_tree_model.specs.Messages.{with_all}
 use Rattle.stow_versions.specs.VersionsState.{VersionsState, IsVersionsState, IsReady}
 use Rattle.stow_versions.proofs.PinLemmas.{same_contains}
@@ -106,19 +105,11 @@ module _ {A : Type 0} (entries : List Entry) (items : List (Tenancy A)) (pin_roo
   charged_in : (ch : Charge) (f : Store → Store) → IsCharged core t ch (f (store_of core t)) → ch ≡ charge_of (f (store_of old t))
   charged_in ch f charged = charged.is ∙ ap (λ c. charge_of (f (store_of c t))) (sym seen)
 
-  pub put : {B : Type 0} (tree' : TreeState) (key : List ℕ) (c : Content B) (ch : Charge) → AreKeysOf t (key ∷ []) → IsCharged core t ch (after_content key c (store_of core t)) → x'.versions ≡ record x.versions { last = x.versions.last + 1 } → x'.account ≡ charged_account ch x.account
-      → tree_messages tree' ≡ with_all (tree_messages tree) (write_of (x.versions.last + 1) key (content_op c) ∷ []) → tree'.root.shape ≡ tree.root.shape → IsCarried core (new_core pin_room tree') t pins (after_content key c)
-  put tree' key c ch own charged versions account puts shape = carried (after_content key c) pin_room tree' pins
-      (leads_put old pins is_core t x.versions x'.versions x.account x'.account is.0 high own_at pin_room tree' key c ch versions account own puts)
-      (account_charged (store_of old t) (after_content key c (store_of old t)) x.account x'.account ch account (charged_in ch (after_content key c) charged) (refl, refl, refl) account_at)
-      (held_still tree' (ap (λ (v : VersionsState). v.snapshots) versions)) is_core.pin_room shape
-
-  pub remove : (tree' : TreeState) (keys : List (List ℕ)) (ch : Charge) → AreKeysOf t keys → AllByRecursion (λ key. IsSome (finite.get (store_of core t).rows (own_key key))) keys → IsCharged core t ch (after_remove keys (store_of core t)) → x'.versions ≡ record x.versions { last = x.versions.last + 1 } → x'.account ≡ charged_account ch x.account
-      → tree_messages tree' ≡ with_all (tree_messages tree) (removals_of (x.versions.last + 1) keys) → tree'.root.shape ≡ tree.root.shape → IsCarried core (new_core pin_room tree') t pins (after_remove keys)
-  remove tree' keys ch own there charged versions account puts shape = carried (after_remove keys) pin_room tree' pins
-      (leads_removed old pins is_core t x.versions x'.versions x.account x'.account is.0 high own_at pin_room tree' keys ch versions account own
-      (subst (λ c. AllByRecursion (λ key. IsSome (finite.get (store_of c t).rows (own_key key))) keys) (sym seen) there) puts)
-      (account_charged (store_of old t) (after_remove keys (store_of old t)) x.account x'.account ch account (charged_in ch (after_remove keys) charged) (refl, refl, refl) account_at)
+  pub put : (tree' : TreeState) (keys : List (List ℕ)) (op : Op) (ch : Charge) → AreKeysOf t keys → AreApart (writes_of (x.versions.last + 1) op keys) → IsCharged core t ch (after_given keys op (store_of core t)) → x'.versions ≡ record x.versions { last = x.versions.last + 1 } → x'.account ≡ charged_account ch x.account
+      → tree_messages tree' ≡ with_all (tree_messages tree) (writes_of (x.versions.last + 1) op keys) → tree'.root.shape ≡ tree.root.shape → IsCarried core (new_core pin_room tree') t pins (after_given keys op)
+  put tree' keys op ch own apart charged versions account puts shape = carried (after_given keys op) pin_room tree' pins
+      (leads_written old pins is_core t x.versions x'.versions x.account x'.account is.0 high own_at pin_room tree' keys op ch versions account own apart puts)
+      (account_charged (store_of old t) (after_given keys op (store_of old t)) x.account x'.account ch account (charged_in ch (after_given keys op) charged) (refl, refl, refl) account_at)
       (held_still tree' (ap (λ (v : VersionsState). v.snapshots) versions)) is_core.pin_room shape
 
   -- the pins, where the tenant's are now the numbers of its snapshots, and the others' stay

@@ -1,21 +1,18 @@
 -- What each change makes of its tenant's store, part and account.
-use Rattle.std.proofs.Common.{◌≡◌, ◌≢◌, ℕ, suc, ◌+◌, ◌-◌, ◌≤◌, List, [], ◌∷◌, length, map, set, cond, eqb, Bool, true, false, Option, Some, None, inl, inr, refl, ap, sym, ◌∙◌, subst, arith, ⊎_elim}
-use Rattle.std.specs.Prelude.{Contains, IsSome}
+use Rattle.std.proofs.Common.{◌≡◌, ◌≢◌, ℕ, suc, ◌+◌, ◌-◌, ◌≤◌, List, length, map, set, cond, eqb, Bool, true, false, Option, Some, None, inl, inr, refl, ap, sym, ◌∙◌, subst, arith, ⊎_elim}
+use Rattle.std.specs.Prelude.{Contains}
 use Rattle.std.specs.FinMap.{FinMap}
 use Rattle.std.specs.FinMap as finite
-use Rattle.std.specs.List.{AllByRecursion}
 use Rattle.std.specs.Ordering.{nat_cmp, eq_by_cmp}
 use Rattle.std.proofs.lemmas.Bool.{cases_eq, cond-true, cond-false, eq-eqb, ne_eqb}
 use Rattle.stow_core.specs.Keys.{AreKeysOf}
-use Rattle.stow_core.specs.declared.content.Content.{Content}
-use Rattle.stow_core.specs.Prepared.{after_content, after_put, after_remove, after_refusal, after_take, after_drop}
+use Rattle.stow_core.specs.Prepared.{after_given, after_refusal, after_take, after_drop}
 use Rattle.stow_core.specs.State.{CoreState, shared_of, store_of, IsCore}
 use Rattle.stow_core.specs.Tenancies.{tenancy_with, own_state, tenancy_at, is_among, counted_account, refused_account, charged_account}
-use Rattle.stow_core.specs.Writes.{content_op, write_of, put_of, removal_of, removals_of}
-use Rattle.stow_core.proofs.Appended.{write_agrees}
-use Rattle.stow_core.proofs.Keyed.{first_key, first_own, later_own}
+use Rattle.stow_core.specs.Writes.{rows_given, writes_of}
+use Rattle.stow_core.proofs.Written.{given_are_written, write_agrees}
 use Rattle.stow_core.proofs.Moved.{with_own, leads_exactly, leads_agreed}
-use Rattle.stow_core.proofs.Stores.{stored, row_value, makes_whole}
+use Rattle.stow_core.proofs.Stores.{stored}
 use Rattle.stow_core.proofs.Tenancies.{own_with, own_of_parts, set_own, set_other}
 use Rattle.stow_ledger.specs.Accounts.{AccountState, IsAccountOf}
 use Rattle.stow_ledger.specs.Shown.{charge_of}
@@ -24,20 +21,20 @@ use Rattle.stow_ledger.specs.declared.charge.Charge.{Charge}
 use Rattle.stow_ledger.proofs.KeptLemmas.{take_is_free_law}
 use Rattle.stow_merge.specs.declared.pins.Pins.{Pins}
 use Rattle.stow_merge.specs.Pins as held
-use Rattle.stow_model.specs.Store.{Store, Rows, Version, charge, counted, one_more, rows_without, without_snapshot}
-use Rattle.stow_model.specs.Store as stored_value
-use Rattle.stow_state.specs.Changes.{AreWritten, changes, gone_message}
+use Rattle.stow_model.specs.Store.{Store, Rows, charge, counted, one_more}
+use Rattle.stow_state.specs.Changes.{AreWritten, changes}
 use Rattle.stow_state.specs.Rows.{IsIndex}
 use Rattle.stow_state.specs.State.{TenantState, IdsBelow, store_in, pins_in, lasts_in}
 use Rattle.stow_state.specs.Steps.{LeadsTo, WritesOnce, WritesRows, SnapshotMoves, numbers_of, moved_tenant}
-use Rattle.stow_state.proofs.Changes.{rows_are_below_law, writes_are_written_law, writes_by_messages_law}
+use Rattle.stow_state.proofs.Changes.{writes_by_messages_law}
 use Rattle.stow_state.proofs.Snapshots.{copies_below, id_cases, numbers_stay, numbers_move_law}
 use Rattle.std.specs.Cmp.{nat_cmp_total}
 use Rattle.stow_tree.specs.TreeState.{TreeState, tree_messages, HasBound}
 use Rattle.stow_tree_model.specs.Agreement.{Agree, with_bound}
 use Rattle.stow_tree_model.specs.Keys.{own_key}
-use Rattle.stow_tree_model.specs.Messages.{Messages, value, with_all}
-use Rattle.stow_tree_model.specs.Operations.{outcome, value_in, bytes_or_none}
+use Rattle.stow_tree_model.specs.Messages.{Messages, with_all}
+use Rattle.stow_tree_model.specs.Op.{Op}
+use Rattle.stow_tree.specs.Putting.{AreApart}
 use Rattle.stow_versions.specs.VersionsState.{VersionsState}
 
 -- ---- ids
@@ -107,16 +104,6 @@ account_taken s a a' is new of =
       commands = ap one_more of.commands;
       refusals = of.refusals;
     })
-
--- ---- removals
-
-own_removals : (t number : ℕ) (keys : List (List ℕ)) → AreKeysOf t keys → removals_of number keys ≡ map (gone_message t number) (map own_key keys)
-own_removals t number [] own = refl
-own_removals t number (key ∷ keys) own = λ i. removal_of number (sym (first_own t key keys own) i) ∷ own_removals t number keys (later_own t key keys own) i
-
-all_own : (rows : Rows) (keys : List (List ℕ)) → AllByRecursion (λ key. IsSome (finite.get rows (own_key key))) keys → AllByRecursion (λ key. IsSome (finite.get rows key)) (map own_key keys)
-all_own rows [] all = tt
-all_own rows (key ∷ keys) all = (all.0, all_own rows keys all.1)
 
 -- ---- a tenant's part
 
@@ -275,14 +262,6 @@ module _ {A : Type 0} (core : CoreState) (pins : Pins A) (is_core : IsCore core 
     ids_below = (λ id l. ap (λ (c : FinMap nat_cmp Rows). finite.get c id) snapshots ∙ store_ids_below id (let n = next in omega (arith, n, l)));
   }
 
-  put_rows : (key whole : List ℕ) → Rows
-  put_rows key whole = finite.insert before.rows (own_key key) (record { number = v.last + 1; value = whole })
-
-  put_once : (key whole : List ℕ) → WritesOnce before (after_put key whole before)
-  put_once key whole = written (after_put key whole before) refl
-      (sym next_is, subst (λ n. AreWritten n before.rows (finite.insert before.rows (own_key key) (record { number = v.last + 1; value = whole }))) (sym next_is) (writes_are_written_law.of_one before.rows (own_key key) whole (v.last + 1)))
-      refl refl
-
   last_is : lasts_in (shared_of core) t ≡ v.last
   unfolding shared_of
   last_is = ap (λ o. (own_state o).last) at
@@ -326,45 +305,21 @@ module _ {A : Type 0} (core : CoreState) (pins : Pins A) (is_core : IsCore core 
   unfolding shared_of
   pins_other u ne = sym (ap (λ o. finite.values (own_state o).snapshots) (set_other t u core.tenancies (tenancy_with v' a') low ne))
 
-  -- a row gets a value
-  pub leads_put : {B : Type 0} (key : List ℕ) (c : Content B) (ch : Charge) → v' ≡ record v { last = v.last + 1 } → a' ≡ charged_account ch a → AreKeysOf t (key ∷ [])
-      → tree_messages tree' ≡ with_all m (write_of (v.last + 1) key (content_op c) ∷ []) → LeadsTo (shared_of core) t (after_content key c (store_of core t)) (shared_of after)
-  leads_put key c ch versions account own puts = leads_agreed core pins is_core t (tenancy_with v a) (tenancy_with v' a') low high at pin_room' tree' (after_content key c (store_of core t))
-      (subst (λ s. WritesOnce s (after_content key c s)) (sym before_is) (put_once key whole))
-      (by_parts (after_content key c) ((λ i. own_with (versions i) (account i)) ∙ sym (moved_same (after_put key whole before) refl)))
-      (subst (λ s. Agree (with_all m (changes t (suc v.last) s.rows (after_content key c s).rows)) (tree_messages tree') (pins_in (shared_of after)) (lasts_in (shared_of after))) (sym before_is)
-      (subst (λ (x : Messages). Agree x (tree_messages tree') (pins_in (shared_of after)) (lasts_in (shared_of after))) same
-      (subst (λ (x : Messages). Agree (with_all m (put_of (v.last + 1) key whole ∷ [])) x (pins_in (shared_of after)) (lasts_in (shared_of after))) (sym puts)
-      (subst (λ (ps : ℕ → List ℕ). Agree (with_all m (put_of (v.last + 1) key whole ∷ [])) (with_all m (write_of (v.last + 1) key (content_op c) ∷ [])) ps (lasts_in (shared_of after))) (λ i u. pins_after (ap (λ (w : VersionsState). w.snapshots) versions) u i)
-      (subst (λ (b : ℕ → ℕ). Agree (with_all m (put_of (v.last + 1) key whole ∷ [])) (with_all m (write_of (v.last + 1) key (content_op c) ∷ [])) (pins_in (shared_of core)) b) (λ i u. lasts_after (ap (λ (w : VersionsState). w.last) versions) u i)
-      (write_agrees m (pins_in (shared_of core)) (lasts_in (shared_of core)) t v.last (v.last + 1) key whole (content_op c) index next_is last_is shared_below is_core.sound.pins_below own makes))))))
-    where
-      present : Option (List ℕ)
-      present = stored_value.value_in (finite.get before.rows (own_key key))
-
-      whole : List ℕ
-      whole = bytes_or_none (outcome (content_op c) present)
-
-      makes : outcome (content_op c) (value_in (value m key v.last)) ≡ Some whole
-      makes = ap (outcome (content_op c)) (sym (row_value m t v.last key own)) ∙ makes_whole c present
-
-      same : with_all m (put_of (v.last + 1) key whole ∷ []) ≡ with_all m (changes t (suc v.last) before.rows (after_put key whole before).rows)
-      same =
-          (λ i. with_all m (put_of (sym next_is i) (sym (first_key t key own) i) whole ∷ []))
-          ∙ writes_by_messages_law.of_one m t (suc v.last) before.rows (own_key key) whole (rows_are_below_law m t v.last)
-          ∙ ap (λ n. with_all m (changes t (suc v.last) before.rows (finite.insert before.rows (own_key key) (record { number = n; value = whole })))) next_is
-
-  -- rows go
-  pub leads_removed : (keys : List (List ℕ)) (ch : Charge) → v' ≡ record v { last = v.last + 1 } → a' ≡ charged_account ch a → AreKeysOf t keys → AllByRecursion (λ key. IsSome (finite.get (store_of core t).rows (own_key key))) keys
-      → tree_messages tree' ≡ with_all m (removals_of (v.last + 1) keys) → LeadsTo (shared_of core) t (after_remove keys (store_of core t)) (shared_of after)
-  leads_removed keys ch versions account own there puts = leads_exactly core pins is_core t (tenancy_with v a) (tenancy_with v' a') low high at pin_room' tree' (after_remove keys (store_of core t))
-      (subst (λ s. WritesOnce s (after_remove keys s)) (sym before_is)
-      (written (after_remove keys before) refl
-      (sym next_is, subst (λ n. AreWritten n before.rows (rows_without (map own_key keys) before.rows)) (sym next_is) (writes_are_written_law.of_some before.rows (map own_key keys) (v.last + 1)))
+  -- rows are written, or go
+  pub leads_written : (keys : List (List ℕ)) (op : Op) (ch : Charge) → v' ≡ record v { last = v.last + 1 } → a' ≡ charged_account ch a → AreKeysOf t keys → AreApart (writes_of (v.last + 1) op keys)
+      → tree_messages tree' ≡ with_all m (writes_of (v.last + 1) op keys) → LeadsTo (shared_of core) t (after_given keys op (store_of core t)) (shared_of after)
+  leads_written keys op ch versions account own apart puts = leads_agreed core pins is_core t (tenancy_with v a) (tenancy_with v' a') low high at pin_room' tree' (after_given keys op (store_of core t))
+      (subst (λ s. WritesOnce s (after_given keys op s)) (sym before_is)
+      (written (after_given keys op before) refl
+      (sym next_is, subst (λ n. AreWritten n before.rows (rows_given (v.last + 1) op (map own_key keys) before.rows)) (sym next_is) (given_are_written (v.last + 1) op (map own_key keys) before.rows))
       refl refl))
-      (by_parts (after_remove keys) ((λ i. own_with (versions i) (account i)) ∙ sym (moved_same (after_remove keys before) refl)))
-      (puts
-      ∙ ap (λ n. with_all m (removals_of n keys)) (sym next_is)
-      ∙ ap (with_all m) (own_removals t (suc v.last) keys own)
-      ∙ writes_by_messages_law.of_some m t (suc v.last) before.rows (map own_key keys) (all_own before.rows keys (subst (λ (s : Store). AllByRecursion (λ key. IsSome (finite.get s.rows (own_key key))) keys) before_is there))
-      ∙ (λ i. with_all m (changes t (suc v.last) (sym before_is i).rows (after_remove keys (sym before_is i)).rows)))
+      (by_parts (after_given keys op) ((λ i. own_with (versions i) (account i)) ∙ sym (moved_same (after_given keys op before) refl)))
+      (subst (λ s. Agree (with_all m (changes t (suc v.last) s.rows (after_given keys op s).rows)) (tree_messages tree') (pins_in (shared_of after)) (lasts_in (shared_of after))) (sym before_is)
+      (subst (λ (x : Messages). Agree (with_all m (changes t (suc v.last) before.rows (rows_at_number (v.last + 1)))) x (pins_in (shared_of after)) (lasts_in (shared_of after))) (sym puts)
+      (subst (λ (ps : ℕ → List ℕ). Agree (with_all m (changes t (suc v.last) before.rows (rows_at_number (v.last + 1)))) (with_all m (writes_of (v.last + 1) op keys)) ps (lasts_in (shared_of after))) (λ i u. pins_after (ap (λ (w : VersionsState). w.snapshots) versions) u i)
+      (subst (λ (b : ℕ → ℕ). Agree (with_all m (changes t (suc v.last) before.rows (rows_at_number (v.last + 1)))) (with_all m (writes_of (v.last + 1) op keys)) (pins_in (shared_of core)) b) (λ i u. lasts_after (ap (λ (w : VersionsState). w.last) versions) u i)
+      (subst (λ n. Agree (with_all m (changes t (suc v.last) before.rows (rows_at_number n))) (with_all m (writes_of n op keys)) (pins_in (shared_of core)) (with_bound (lasts_in (shared_of core)) t n)) next_is
+      (write_agrees m (pins_in (shared_of core)) (lasts_in (shared_of core)) t v.last op keys index last_is shared_below is_core.sound.pins_below own (subst (λ n. AreApart (writes_of n op keys)) (sym next_is) apart)))))))
+    where
+      rows_at_number : ℕ → Rows
+      rows_at_number n = rows_given n op (map own_key keys) before.rows

@@ -5,13 +5,13 @@ use Rattle.std.specs.List.{list_any}
 use Rattle.std.specs.Str.{bytes_eq}
 use Rattle.stow_bytes.specs.Limits.{number_limit}
 use Rattle.stow_core.specs.Keys.{AreKeysOf}
-use Rattle.stow_core.specs.Prepared.{IsCharged, IsChargedWithout, IsRowWithout, IsChargeWithin, after_remove, store_without}
+use Rattle.stow_core.specs.Prepared.{IsPriced, IsChargedWithout, IsRowWithout, IsChargeWithin, after_given, next_number, store_without}
 use Rattle.stow_core.specs.State.{CoreState, shared_of, store_of}
 use Rattle.stow_core.specs.Taken.{AreTaken}
 use Rattle.stow_core.specs.Tenancies.{tenancy_of, tenancy_at}
 use Rattle.stow_core.specs.declared.tenancy.Tenancy.{Tenancy}
-use Rattle.stow_core.proofs.Answered.{fewer}
-use Rattle.stow_core.proofs.Changed.{same_charge}
+use Rattle.stow_core.proofs.Answered.{fewer, priced_as}
+use Rattle.stow_core.proofs.Written.{given_gone}
 use Rattle.stow_core.proofs.Charges.{present_within}
 use Rattle.stow_core.proofs.Taking.{map-push, still_there}
 use Rattle.stow_ledger.specs.Accounts.{IsAccountOf, IsGivenBy, present_charge}
@@ -19,9 +19,10 @@ use Rattle.stow_ledger.specs.Shown.{charge_of, sized_option}
 use Rattle.stow_ledger.specs.declared.charge.Charge.{Charge}
 use Rattle.stow_ledger.specs.declared.sized_version.SizedVersion.{SizedVersion}
 use Rattle.stow_ledger.proofs.KeptLemmas.{present_is_charged_law}
-use Rattle.stow_model.specs.Store.{Store, Version, rows_without}
+use Rattle.stow_model.specs.Store.{Store, Version}
 use Rattle.stow_state.specs.State.{IsSound}
 use Rattle.stow_tree_model.specs.Keys.{packed, own_key}
+use Rattle.stow_tree_model.specs.Op.{Gone}
 
 -- whether a row is there, by its size
 pub sized_some : (row : Option Version) (version : SizedVersion) → sized_option row ≡ Some version → is_some row ≡ true
@@ -59,12 +60,6 @@ pub fewer_is : (t : ℕ) (store : Store) (keys taken : List (List ℕ)) → AreT
 fewer_is t store keys taken is = let counts = is.counted in omega (arith, counts)
 
 -- what is charged without the rows is charged once a write has taken them out
-pub priced_remove : (core : CoreState) (t : ℕ) (taken : List (List ℕ)) (ch : Charge) → IsCharged core t ch (store_without (map own_key taken) (store_of core t)) → IsCharged core t ch (after_remove taken (store_of core t))
-priced_remove core t taken ch priced = record {
-  is = priced.is ∙ (λ i. record {
-    charge = same_charge (after_remove taken (store_of core t)) (store_without (map own_key taken) (store_of core t)) refl refl i;
-    rows = finite.len (rows_without (map own_key taken) (store_of core t).rows);
-  });
-  given = priced.given;
-  allowed = priced.allowed;
-}
+pub priced_removal : (core : CoreState) (t : ℕ) (taken : List (List ℕ)) (ch : Charge) → IsChargedWithout core t taken ch → IsPriced core t ch (after_given taken Gone (store_of core t))
+priced_removal core t taken ch charged = priced_as core t ch (store_without (map own_key taken) (store_of core t)) (after_given taken Gone (store_of core t))
+    (given_gone (next_number core t) (map own_key taken) (store_of core t).rows) refl (record { is = charged.is; given = charged.within.given })

@@ -1,10 +1,7 @@
 -- Which keys are whose.
-use Rattle.std.proofs.Common.{◌≡◌, ℕ, ◌<◌, ◌^◌, List, [], ◌∷◌, ◌++◌, map, refl, ap, sym, ◌∙◌, subst}
+use Rattle.std.proofs.Common.{◌≡◌, ℕ, ◌<◌, ◌^◌, List, [], ◌∷◌, ◌++◌, map, refl, ap, sym, ◌∙◌}
 use Rattle.stow_core.specs.Keys.{AreKeysOf}
-use Rattle.stow_core.specs.Writes.{write_of, removals_of}
 use Rattle.stow_tree_model.specs.Keys.{packed, own_key, tenant_of}
-use Rattle.stow_tree_model.specs.Messages.{IsCall}
-use Rattle.stow_tree_model.specs.Op.{Op}
 use Rattle.stow_tree_model.proofs.Packed.{tenant_of-packed}
 
 pub own_keys : (t : ℕ) (ks : List (List ℕ)) → map own_key (map (packed t) ks) ≡ ks
@@ -31,13 +28,6 @@ pub later_own : (t : ℕ) (k : List ℕ) (ks : List (List ℕ)) → AreKeysOf t 
 unfolding tail_of
 later_own t k ks own = ap tail_of own
 
--- one key of these
-pub first_key : (t : ℕ) (key : List ℕ) → AreKeysOf t (key ∷ []) → packed t (own_key key) ≡ key
-first_key t key own = first_own t key [] own
-
-pub one_packed : (t : ℕ) (k key : List ℕ) → key ≡ packed t k → AreKeysOf t (key ∷ [])
-one_packed t k key e = subst (λ x. AreKeysOf t (x ∷ [])) (sym e) (packed_AreKeysOf t (k ∷ []))
-
 -- one key of the tenant's more
 pub one_more_own : (t : ℕ) (keys : List (List ℕ)) (k : List ℕ) → AreKeysOf t keys → packed t (own_key k) ≡ k → AreKeysOf t (keys ++ k ∷ [])
 one_more_own t [] k own is = ap (λ x. x ∷ []) is
@@ -46,10 +36,3 @@ one_more_own t (key ∷ keys) k own is = λ i. first_own t key keys own i ∷ on
 -- whose key it is
 pub tenant_of_own : (t : ℕ) (key : List ℕ) → t < 2 ^ 32 → packed t (own_key key) ≡ key → tenant_of key ≡ t
 tenant_of_own t key low is = ap tenant_of (sym is) ∙ tenant_of-packed t (own_key key) low
-
-pub put_is_call : (t number : ℕ) (key : List ℕ) (op : Op) → t < 2 ^ 32 → AreKeysOf t (key ∷ []) → IsCall t number (write_of number key op ∷ [])
-put_is_call t number key op low own = ((tenant_of_own t key low (first_key t key own), refl), tt)
-
-pub removals_are_call : (t number : ℕ) (keys : List (List ℕ)) → t < 2 ^ 32 → AreKeysOf t keys → IsCall t number (removals_of number keys)
-removals_are_call t number [] low own = tt
-removals_are_call t number (key ∷ keys) low own = ((tenant_of_own t key low (first_own t key keys own), refl), removals_are_call t number keys low (later_own t key keys own))

@@ -15,12 +15,11 @@ use Rattle.stow_model.specs.declared.simple_string.SimpleString.TheVariants as s
 use Rattle.std.specs.Option.{unwrap_or}
 use Rattle.stow_model.specs.Command.{Command, Echo, Get, GetMany, Exists, Length, Range, Del, TakeSnapshot, ListSnapshots, GetInSnapshot, RangeInSnapshot, ReportUsage, Change, Update, Set, Append, Add, Condition, Always, Reading, Understood, Refused, CommandEntry, reading, reading_among, commands, with_keys, is_long_key, is_named, of_text, of_key, of_keys, reading_ping, reading_range, reading_range_count, reading_set, reading_set_if, condition_named, reading_append, reading_add, reading_add_number, reading_del, of_nothing, reading_drop_id, reading_drop, reading_get_in_id, reading_get_in, reading_range_in_numbers, reading_range_in, reading_snapshot, snapshot_commands}
 use Rattle.stow_model.specs.Store.{Outcome, Written, Unchanged, Failed, outcome, if_fits, allows, sum_outcome, stored_number}
-use Rattle.std.specs.Prelude.{Ok}
-use Rattle.stow_commands.specs.Outcomes.{IsOutcome, IsAppendReply}
-use Rattle.stow_commands.specs.declared.outcome.Outcome as coded
-use Rattle.stow_commands.specs.declared.outcome.Outcome.TheVariants as in_outcome
-use Rattle.stow_model.specs.declared.reply.Reply as told
-use Rattle.stow_model.specs.Reply.{reply_of}
+use Rattle.std.specs.Prelude.{IsSomeAnd}
+use Rattle.stow_core.specs.Writes.{StaysShort}
+use Rattle.stow_tree_model.specs.Op.{Op}
+use Rattle.stow_tree_model.specs.Operations.{bytes_or_none}
+use Rattle.stow_tree_model.specs.Operations.{outcome as operated}
 use Rattle.stow_core.specs.Legal.{HasLegalKeys, IsShortKey, AreShortKeys}
 
 -- ---- commands
@@ -278,11 +277,9 @@ pub written_short : (update : Update) (present : Option (List ℕ)) (value : Lis
 unfolding IsShortOutcome
 written_short update present value r e = subst IsShortOutcome e (short_outcome update present)
 
--- the same of what the code found
-pub found_short : {A : Type 0} (update : Update) (present : Option (List ℕ)) (found : coded.Outcome A) (value : List ℕ) (r : told.Reply A) → found ≡ in_outcome.Written value r → IsOutcome (Ok found) (outcome update present) → length value ≤ value_limit
-found_short update present found value r is h = written_short update present value (reply_of r) (subst (λ o. IsOutcome (Ok o) (outcome update present)) is h)
-
--- and what an APPEND makes of the row
-pub appended_short : {A : Type 0} (suffix : List ℕ) (present : Option (List ℕ)) (r : told.Reply A) → IsAppendReply (Ok r) suffix present → length (unwrap_or present [] ++ suffix) ≤ value_limit
-unfolding outcome
-appended_short suffix present r e = written_short (Append suffix) present (unwrap_or present [] ++ suffix) (reply_of r) e
+-- and so does what it gives the row's key
+pub given_short : (update : Update) (present : Option (List ℕ)) (op : Op) (r : reply.Reply) → IsSomeAnd (operated op present) (λ value. outcome update present ≡ Written value r) → StaysShort op present
+given_short update present op r told = one (operated op present) told where
+  one : (o : Option (List ℕ)) → IsSomeAnd o (λ value. outcome update present ≡ Written value r) → length (bytes_or_none o) ≤ value_limit
+  one None told = absurd told
+  one (Some value) told = written_short update present value r told

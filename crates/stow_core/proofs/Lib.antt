@@ -4,7 +4,7 @@ pub mod Tenancies
 pub mod Stores
 pub mod Kept
 pub mod Moved
-pub mod Appended
+pub mod Written
 pub mod Changed
 pub mod Carried
 pub mod Made

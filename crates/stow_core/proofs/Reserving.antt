@@ -1,29 +1,27 @@
 -- What the tree is asked for a tenant's next write.
-use Rattle.std.proofs.Common.{◌≡◌, ℕ, ◌<◌, ◌≤◌, List, [], ◌∷◌, length, Some, ap, sym, ◌∙◌, subst, arith}
+use Rattle.std.proofs.Common.{◌≡◌, ℕ, ◌<◌, ◌≤◌, List, [], ◌∷◌, Some, ap, sym, ◌∙◌, subst, arith}
+use Rattle.std.specs.FinMap as map
 use Rattle.std.specs.List.{AllByRecursion}
-use Rattle.stow_bytes.specs.Limits.{value_limit, number_limit}
+use Rattle.stow_bytes.specs.Limits.{number_limit}
 use Rattle.stow_core.specs.Keys.{AreKeysOf}
-use Rattle.stow_core.specs.declared.content.Content.{Content}
-use Rattle.stow_core.specs.Prepared.{CanWrite, next_number, whole_value}
-use Rattle.stow_core.specs.State.{CoreState, shared_of, store_of, IsCore}
-use Rattle.stow_core.specs.Taken.{AreDistinct}
+use Rattle.stow_core.specs.Prepared.{CanGive, CanWrite, next_number}
+use Rattle.stow_core.specs.State.{CoreState, row_at, shared_of, store_of, IsCore}
 use Rattle.stow_core.specs.Tenancies.{TenancyState, own_state, tenancy_at}
-use Rattle.stow_core.specs.Writes.{content_op, write_of, removals_of, AreMessages}
-use Rattle.stow_core.proofs.Keyed.{first_key}
-use Rattle.stow_core.proofs.Room.{put_IsMessage, removals_are_messages, can_put_row, can_remove_rows}
-use Rattle.stow_core.proofs.Stores.{own_there, within, stored, whole_by_key}
+use Rattle.stow_core.specs.Writes.{writes_of, AreMessages, StaysShort}
+use Rattle.stow_core.proofs.Keyed.{first_own, later_own}
+use Rattle.stow_core.proofs.Room.{can_write_rows, writes_are_messages}
+use Rattle.stow_core.proofs.Stores.{own_there, within, stored, row_value}
 use Rattle.stow_merge.specs.declared.pins.Pins.{Pins}
-use Rattle.stow_message.specs.Packed.{IsMessage}
 use Rattle.stow_model.specs.Login.{IsTenant}
 use Rattle.stow_model.specs.Store.{Store}
 use Rattle.stow_model.specs.Store as stored_value
-use Rattle.std.specs.FinMap as finite
 use Rattle.stow_state.specs.State.{lasts_in}
 use Rattle.stow_tree.specs.Putting.{CanReserve}
 use Rattle.stow_tree.specs.TreeState.{tree_messages, HasBound}
-use Rattle.stow_tree_model.specs.Keys.{own_key, IsTenantKey}
+use Rattle.stow_tree_model.specs.Keys.{packed, own_key}
 use Rattle.stow_tree_model.specs.Messages.{value}
-use Rattle.stow_tree_model.specs.Operations.{outcome, bytes_or_none, value_in}
+use Rattle.stow_tree_model.specs.Op.{Op}
+use Rattle.stow_tree_model.specs.Operations.{value_in}
 
 module _ {A : Type 0} (core : CoreState) (pins : Pins A) (is_core : IsCore core pins) (t : ℕ) (is : IsTenant core.entries t) (can : CanWrite core t) where
   own : TenancyState
@@ -50,27 +48,26 @@ module _ {A : Type 0} (core : CoreState) (pins : Pins A) (is_core : IsCore core 
   above : lasts_in (shared_of core) t < next_number core t
   above = omega (arith, bound_is, last_is)
 
-  low : 1 ≤ t
-  low = is.0
-
   number_low : 1 ≤ next_number core t
   number_low = omega arith
 
   number_high : next_number core t ≤ number_limit
   number_high = omega (arith, can)
 
-  pub can_put : {B : Type 0} (key : List ℕ) (c : Content B) → AreKeysOf t (key ∷ []) → IsTenantKey key → length (whole_value c key (store_of core t)) ≤ value_limit → CanReserve core.tree (write_of (next_number core t) key (content_op c) ∷ [])
-  can_put key c own_key is_key short = can_put_row (lasts_in (shared_of core)) core.tree below is_core.sizes t (next_number core t) few above key c (first_key t key own_key) is_key
-      (subst (λ (v : List ℕ). length v ≤ value_limit) (whole_by_key core t own c key at own_key ∙ ap (λ n. value_at n) (sym bound_is)) short)
-    where
-      value_at : ℕ → List ℕ
-      value_at n = bytes_or_none (outcome (content_op c) (value_in (value (tree_messages core.tree) key n)))
+  -- the value of the row is the one that its key has
+  value_is : (key : List ℕ) → packed t (own_key key) ≡ key → stored_value.value_in (row_at core t (own_key key)) ≡ value_in (value (tree_messages core.tree) key (lasts_in (shared_of core) t))
+  value_is key is_own =
+      ap (λ (s : Store). stored_value.value_in (map.get s.rows (own_key key))) (stored core t own at)
+      ∙ row_value (tree_messages core.tree) t own.last key is_own
+      ∙ ap (λ n. value_in (value (tree_messages core.tree) key n)) (sym bound_is)
 
-  pub put_message : {B : Type 0} (key : List ℕ) (c : Content B) → AreKeysOf t (key ∷ []) → IsTenantKey key → length (whole_value c key (store_of core t)) ≤ value_limit → IsMessage (write_of (next_number core t) key (content_op c))
-  put_message key c own_is is_key short = put_IsMessage t (next_number core t) key c (stored_value.value_in (finite.get (store_of core t).rows (own_key key))) low few (first_key t key own_is) is_key number_low number_high short
+  short_by_keys : (op : Op) (keys : List (List ℕ)) → AreKeysOf t keys → AllByRecursion (λ key. StaysShort op (stored_value.value_in (row_at core t (own_key key)))) keys
+      → AllByRecursion (λ key. StaysShort op (value_in (value (tree_messages core.tree) key (lasts_in (shared_of core) t)))) keys
+  short_by_keys op [] own_keys short = tt
+  short_by_keys op (key ∷ keys) own_keys short = (subst (StaysShort op) (value_is key (first_own t key keys own_keys)) short.0, short_by_keys op keys (later_own t key keys own_keys) short.1)
 
-  pub can_remove : (keys : List (List ℕ)) → AreKeysOf t keys → AllByRecursion IsTenantKey keys → AreDistinct keys → length keys ≤ 64 → CanReserve core.tree (removals_of (next_number core t) keys)
-  can_remove keys own_keys are distinct few_keys = can_remove_rows (lasts_in (shared_of core)) core.tree below is_core.sizes t (next_number core t) few above keys own_keys are distinct few_keys
+  pub can_give : (keys : List (List ℕ)) (op : Op) → CanGive core t keys op → CanReserve core.tree (writes_of (next_number core t) op keys)
+  can_give keys op give = can_write_rows (lasts_in (shared_of core)) core.tree below is_core.sizes t (next_number core t) few above op keys give.own give.distinct (short_by_keys op keys give.own give.short) give.fit
 
-  pub remove_messages : (keys : List (List ℕ)) → AreKeysOf t keys → AllByRecursion IsTenantKey keys → AreMessages (removals_of (next_number core t) keys)
-  remove_messages keys own_keys are = removals_are_messages t (next_number core t) keys low few own_keys are number_low number_high
+  pub gives_messages : (keys : List (List ℕ)) (op : Op) → CanGive core t keys op → AreMessages (writes_of (next_number core t) op keys)
+  gives_messages keys op give = writes_are_messages t (next_number core t) op (λ key. stored_value.value_in (row_at core t (own_key key))) keys is.0 few give.own give.are_keys number_low number_high give.short

@@ -1,24 +1,22 @@
 -- What the tree has to be told of messages before there is room for them.
-use Rattle.std.proofs.Common.{◌≡◌, ◌≢◌, ℕ, zero, suc, ◌+◌, ◌*◌, ◌<◌, ◌≤◌, List, [], ◌∷◌, length, map, drop, get_or, Option, Some, None, refl, ap, sym, ◌∙◌, subst, arith}
+use Rattle.std.proofs.Common.{◌≡◌, ◌≢◌, ℕ, zero, suc, ◌+◌, ◌*◌, ◌<◌, ◌≤◌, List, [], ◌∷◌, length, drop, get_or, Option, None, refl, ap, sym, ◌∙◌, subst, arith}
 use Rattle.std.specs.List.{AllByRecursion}
 use Rattle.std.proofs.Math.Seq.{drop-cons}
 use Rattle.std.proofs.lemmas.List.{length-append}
 use Rattle.std.proofs.lemmas.List.Sums.{sum_by-cons}
 use Rattle.stow_bytes.specs.Limits.{value_limit, number_limit}
 use Rattle.stow_message.specs.Packed.{message_size, IsMessage}
-use Rattle.stow_core.specs.declared.content.Content.{Content}
-use Rattle.stow_core.specs.declared.content.Content.TheVariants as content
 use Rattle.stow_core.specs.Keys.{AreKeysOf}
 use Rattle.stow_tree.specs.Shapes.{AreInRange}
 use Rattle.stow_core.specs.Taken.{AreDistinct}
-use Rattle.stow_core.specs.Writes.{content_op, write_of, removal_of, removals_of, AreMessages}
+use Rattle.stow_core.specs.Writes.{write_of, writes_of, AreMessages, StaysShort}
 use Rattle.stow_core.proofs.Keyed.{first_own, later_own, tenant_of_own}
 use Rattle.stow_tree.specs.Putting.{CanAdd, CanReserve, IsReserved, AreApart, Puts, bytes_of}
 use Rattle.stow_tree.specs.TreeState.{TreeState, tree_messages, HasBound}
 use Rattle.stow_tree.proofs.Put.{puts_then}
 use Rattle.stow_tree_model.specs.Keys.{packed, own_key, tenant_of, IsTenantKey}
 use Rattle.stow_tree_model.specs.Messages.{Messages, ops_of, value, with_all}
-use Rattle.stow_tree_model.specs.Op.{bytes_in}
+use Rattle.stow_tree_model.specs.Op.{Op, Put, Gone, Append, bytes_in}
 use Rattle.stow_tree_model.specs.Operations.{outcome, value_in, bytes_or_none, NoneAbove}
 use Rattle.stow_tree_model.specs.TreeMessage.{TreeMessage}
 use Rattle.stow_tree_model.specs.Value.{IsValue}
@@ -26,98 +24,85 @@ use Rattle.stow_tree_model.proofs.Latest.{above_bound}
 
 -- ---- messages of a tenant
 
--- a content carries no more than what it makes
-carried_short : {A : Type 0} (c : Content A) (before : Option (List ℕ)) → length (bytes_or_none (outcome (content_op c) before)) ≤ value_limit → length (bytes_in (content_op c)) ≤ value_limit
-carried_short (content.Whole value) before short = short
-carried_short (content.Suffix suffix) before short = let e = length-append (bytes_or_none before) suffix in omega (arith, e, short)
+-- an operation carries no more than what it makes
+carried_short : (op : Op) (before : Option (List ℕ)) → StaysShort op before → length (bytes_in op) ≤ value_limit
+carried_short (Put value) before short = short
+carried_short Gone before short = omega arith
+carried_short (Append suffix) before short = let e = length-append (bytes_or_none before) suffix in omega (arith, e, short)
 
-pub put_IsMessage : {A : Type 0} (t number : ℕ) (key : List ℕ) (c : Content A) (before : Option (List ℕ)) → 1 ≤ t → t ≤ 65535 → packed t (own_key key) ≡ key → IsTenantKey key → 1 ≤ number → number ≤ number_limit
-    → length (bytes_or_none (outcome (content_op c) before)) ≤ value_limit → IsMessage (write_of number key (content_op c))
-put_IsMessage t number key c before low high own is positive limit short = record {
-  is_key = is;
-  is_of_tenant = subst (λ u. (1 ≤ u) × (u ≤ 65535)) (sym (tenant_of_own t key (omega (arith, high)) own)) (low, high);
-  is_numbered = (positive, limit);
-  is_short = carried_short c before short;
-}
-
-pub removals_are_messages : (t number : ℕ) (keys : List (List ℕ)) → 1 ≤ t → t ≤ 65535 → AreKeysOf t keys → AllByRecursion IsTenantKey keys → 1 ≤ number → number ≤ number_limit → AreMessages (removals_of number keys)
-removals_are_messages t number [] low high own are positive limit = tt
-removals_are_messages t number (key ∷ keys) low high own are positive limit = (
+pub writes_are_messages : (t number : ℕ) (op : Op) (before : List ℕ → Option (List ℕ)) (keys : List (List ℕ)) → 1 ≤ t → t ≤ 65535 → AreKeysOf t keys → AllByRecursion IsTenantKey keys → 1 ≤ number → number ≤ number_limit → AllByRecursion (λ key. StaysShort op (before key)) keys
+    → AreMessages (writes_of number op keys)
+writes_are_messages t number op before [] low high own are positive limit short = tt
+writes_are_messages t number op before (key ∷ keys) low high own are positive limit short = (
   record {
     is_key = are.0;
     is_of_tenant = subst (λ u. (1 ≤ u) × (u ≤ 65535)) (sym (tenant_of_own t key (omega (arith, high)) (first_own t key keys own))) (low, high);
     is_numbered = (positive, limit);
-    is_short = omega arith;
+    is_short = carried_short op (before key) short.0;
   },
-  removals_are_messages t number keys low high (later_own t key keys own) are.1 positive limit,
+  writes_are_messages t number op before keys low high (later_own t key keys own) are.1 positive limit short.1,
 )
+
+-- the bytes that a message takes, whose key is one of a tenant's
+pub one_write_fits : (number : ℕ) (op : Op) (key : List ℕ) (before : Option (List ℕ)) → IsTenantKey key → StaysShort op before → bytes_of (writes_of number op (key ∷ [])) ≤ 131072
+one_write_fits number op key before is short = let a = sum_by-cons message_size (write_of number op key) [] in let k = is.is_short in let s = carried_short op before short in omega (arith, a, k, s)
+
+removals_small : (number : ℕ) (keys : List (List ℕ)) → AllByRecursion IsTenantKey keys → bytes_of (writes_of number Gone keys) ≤ 1045 * length keys
+removals_small number [] are = omega arith
+removals_small number (key ∷ keys) are =
+    let a = sum_by-cons message_size (write_of number Gone key) (writes_of number Gone keys) in
+    let k = are.0.is_short in
+    let rest = removals_small number keys are.1 in
+    omega (arith, a, k, rest)
+
+pub removals_fit : (number : ℕ) (keys : List (List ℕ)) → AllByRecursion IsTenantKey keys → length keys ≤ 64 → bytes_of (writes_of number Gone keys) ≤ 131072
+removals_fit number keys are few = let small = removals_small number keys are in omega (arith, small, few)
+
+-- and what takes values away makes none that is too long
+pub removals_short : (before : List ℕ → Option (List ℕ)) (keys : List (List ℕ)) → AllByRecursion (λ key. StaysShort Gone (before key)) keys
+removals_short before [] = tt
+removals_short before (key ∷ keys) = (omega arith, removals_short before keys)
 
 -- ---- they can be put
 
 some_value : (v : Option (List ℕ)) → length (bytes_or_none v) ≤ value_limit → IsValue v
 some_value v short = record { is_short = λ bytes e. subst (λ o. length (bytes_or_none o) ≤ value_limit) e short }
 
-no_value : IsValue None
-no_value = record { is_short = λ bytes e. absurd (apart bytes e) } where
-  apart : (bytes : List ℕ) → None ≡ Some bytes → ⊥
-  apart bytes e = cc
-
 newer : (m : Messages) (bound : ℕ → ℕ) (t number : ℕ) (key : List ℕ) → HasBound m bound → tenant_of key ≡ t → bound t < number → (n : ℕ) → number ≤ n → ops_of m key n ≡ None
 newer m bound t number key has own above n l = has key n (let e : bound (tenant_of key) ≡ bound t = ap bound own in omega (arith, e, above, l))
 
-module _ (bound : ℕ → ℕ) (tree : TreeState) (below : HasBound (tree_messages tree) bound) (sizes : AreInRange tree.root.shape) (t number : ℕ) (high : t ≤ 65535) (above : bound t < number) where
-  -- what the key has at the next number is what it has at the last
+pub writes_apart : (number : ℕ) (op : Op) (keys : List (List ℕ)) → AreDistinct keys → AreApart (writes_of number op keys)
+writes_apart number op [] d = tt
+writes_apart number op (key ∷ keys) d = (all keys d.0, writes_apart number op keys d.1) where
+  all : (ks : List (List ℕ)) → AllByRecursion (λ k. k ≢ key) ks → AllByRecursion (λ (o : TreeMessage). o.key ≢ key) (writes_of number op ks)
+  all [] h = tt
+  all (k ∷ ks) h = (h.0, all ks h.1)
+
+module _ (bound : ℕ → ℕ) (tree : TreeState) (below : HasBound (tree_messages tree) bound) (sizes : AreInRange tree.root.shape) (t number : ℕ) (high : t ≤ 65535) (above : bound t < number) (op : Op) where
+  -- what the key has at the last number
+  abbrev pub last_value : List ℕ → Option (List ℕ)
+  last_value key = value_in (value (tree_messages tree) key (bound t))
+
+  -- is what it has at the next
   value_at : (key : List ℕ) → packed t (own_key key) ≡ key → value (tree_messages tree) key number ≡ value (tree_messages tree) key (bound t)
   value_at key own =
       above_bound (ops_of (tree_messages tree) key) (bound t) number (omega (arith, above))
       (subst (λ u. NoneAbove (bound u) (ops_of (tree_messages tree) key)) (tenant_of_own t key (omega (arith, high)) own) (below key))
 
-  pub can_put_row : {A : Type 0} (key : List ℕ) (c : Content A) → packed t (own_key key) ≡ key → IsTenantKey key
-      → length (bytes_or_none (outcome (content_op c) (value_in (value (tree_messages tree) key (bound t))))) ≤ value_limit
-      → CanReserve tree (write_of number key (content_op c) ∷ [])
-  can_put_row key c own is short = record {
-    can = record {
-      apart = (tt, tt);
-      each = (
-        record {
-          newest = newer (tree_messages tree) bound t number key below (tenant_of_own t key (omega (arith, high)) own) above;
-          short = subst (λ v. IsValue (outcome (content_op c) (value_in v))) (sym (value_at key own)) (some_value (outcome (content_op c) (value_in (value (tree_messages tree) key (bound t)))) short);
-        },
-        tt,
-      );
-    };
-    fit = (let a = sum_by-cons message_size (write_of number key (content_op c)) [] in let room = sizes.buffer.0 in let k = is.is_short in let s = carried_short c (value_in (value (tree_messages tree) key (bound t))) short in omega (arith, a, room, k, s));
-  }
-
-  removals_apart : (keys : List (List ℕ)) → AreDistinct keys → AreApart (removals_of number keys)
-  removals_apart [] d = tt
-  removals_apart (key ∷ keys) d = (all keys d.0, removals_apart keys d.1) where
-    all : (ks : List (List ℕ)) → AllByRecursion (λ k. k ≢ key) ks → AllByRecursion (λ (o : TreeMessage). o.key ≢ key) (removals_of number ks)
-    all [] h = tt
-    all (k ∷ ks) h = (h.0, all ks h.1)
-
-  removals_newer : (keys : List (List ℕ)) → AreKeysOf t keys → AllByRecursion (CanAdd (tree_messages tree)) (removals_of number keys)
-  removals_newer [] own = tt
-  removals_newer (key ∷ keys) own = (
+  writes_newer : (keys : List (List ℕ)) → AreKeysOf t keys → AllByRecursion (λ key. StaysShort op (last_value key)) keys → AllByRecursion (CanAdd (tree_messages tree)) (writes_of number op keys)
+  writes_newer [] own short = tt
+  writes_newer (key ∷ keys) own short = (
     record {
       newest = newer (tree_messages tree) bound t number key below (tenant_of_own t key (omega (arith, high)) (first_own t key keys own)) above;
-      short = no_value;
+      short = subst (λ v. IsValue (outcome op (value_in v))) (sym (value_at key (first_own t key keys own))) (some_value (outcome op (last_value key)) short.0);
     },
-    removals_newer keys (later_own t key keys own),
+    writes_newer keys (later_own t key keys own) short.1,
   )
 
-  removals_small : (keys : List (List ℕ)) → AllByRecursion IsTenantKey keys → bytes_of (removals_of number keys) ≤ 1045 * length keys
-  removals_small [] are = omega arith
-  removals_small (key ∷ keys) are =
-      let a = sum_by-cons message_size (removal_of number key) (removals_of number keys) in
-      let k = are.0.is_short in
-      let rest = removals_small keys are.1 in
-      omega (arith, a, k, rest)
-
-  pub can_remove_rows : (keys : List (List ℕ)) → AreKeysOf t keys → AllByRecursion IsTenantKey keys → AreDistinct keys → length keys ≤ 64 → CanReserve tree (removals_of number keys)
-  can_remove_rows keys own are distinct few = record {
-    can = record { apart = removals_apart keys distinct; each = removals_newer keys own };
-    fit = (let small = removals_small keys are in let room = sizes.buffer.0 in omega (arith, small, room, few));
+  pub can_write_rows : (keys : List (List ℕ)) → AreKeysOf t keys → AreDistinct keys → AllByRecursion (λ key. StaysShort op (last_value key)) keys → bytes_of (writes_of number op keys) ≤ 131072 → CanReserve tree (writes_of number op keys)
+  can_write_rows keys own distinct short fit = record {
+    can = record { apart = writes_apart number op keys distinct; each = writes_newer keys own short };
+    fit = (let room = sizes.buffer.0 in omega (arith, fit, room));
   }
 
 -- ---- one after another
@@ -129,30 +114,34 @@ first_reserved tree m ms reserved = record {
   room = let r = reserved.room in let a = sum_by-cons message_size m ms in let b = sum_by-cons message_size m [] in omega (arith, r, a, b);
 }
 
--- all but the first removals are still to be put
-pub record IsRemoving (number : ℕ) (keys : List (List ℕ)) (old now : TreeState) (i : ℕ) : Type 0 where
-  pub reserved : IsReserved now (removals_of number (drop i keys))
-  pub onward : with_all (tree_messages now) (removals_of number (drop i keys)) ≡ with_all (tree_messages old) (removals_of number keys)
-  pub shape : now.root.shape ≡ old.root.shape
+module _ (number : ℕ) (op : Op) (keys : List (List ℕ)) where
+  -- all but the first messages are still to be put
+  pub record IsPutting (old now : TreeState) (i : ℕ) : Type 0 where
+    pub reserved : IsReserved now (writes_of number op (drop i keys))
+    pub onward : with_all (tree_messages now) (writes_of number op (drop i keys)) ≡ with_all (tree_messages old) (writes_of number op keys)
+    pub shape : now.root.shape ≡ old.root.shape
 
-drop-at : (keys : List (List ℕ)) (i : ℕ) (key : List ℕ) → i < length keys → key ≡ get_or keys i key → drop i keys ≡ key ∷ drop (suc i) keys
-drop-at keys i key l is = drop-cons keys i key l ∙ ap (λ x. x ∷ drop (suc i) keys) (sym is)
+  drop-at : (i : ℕ) (key : List ℕ) → i < length keys → key ≡ get_or keys i key → drop i keys ≡ key ∷ drop (suc i) keys
+  drop-at i key l is = drop-cons keys i key l ∙ ap (λ x. x ∷ drop (suc i) keys) (sym is)
 
-pub first_to_remove : (number : ℕ) (keys : List (List ℕ)) (old now : TreeState) (i : ℕ) (key : List ℕ) → i < length keys → key ≡ get_or keys i key → IsRemoving number keys old now i → IsReserved now (removal_of number key ∷ removals_of number (drop (suc i) keys))
-first_to_remove number keys old now i key l is so = subst (λ ks. IsReserved now (removals_of number ks)) (drop-at keys i key l is) so.reserved
+  pub next_to_put : (old now : TreeState) (i : ℕ) (key : List ℕ) → i < length keys → key ≡ get_or keys i key → IsPutting old now i → IsReserved now (write_of number op key ∷ writes_of number op (drop (suc i) keys))
+  next_to_put old now i key l is so = subst (λ ks. IsReserved now (writes_of number op ks)) (drop-at i key l is) so.reserved
 
-pub removing_on : (number : ℕ) (keys : List (List ℕ)) (old now new : TreeState) (i : ℕ) (key : List ℕ) → i < length keys → key ≡ get_or keys i key → IsRemoving number keys old now i → Puts (removal_of number key ∷ []) now new → IsRemoving number keys old new (i + 1)
-removing_on number keys old now new i key l is so puts = subst (IsRemoving number keys old new) next (record {
-  reserved = puts.rest (removals_of number (drop (suc i) keys)) room;
-  onward = puts_then now new (removal_of number key) (removals_of number (drop (suc i) keys)) room puts ∙ ap (λ ks. with_all (tree_messages now) (removals_of number ks)) (sym (drop-at keys i key l is)) ∙ so.onward;
-  shape = puts.shape ∙ so.shape;
-})
-  where
-    next : suc i ≡ i + 1
-    next = omega arith
+  pub putting_on : (old now new : TreeState) (i : ℕ) (key : List ℕ) → i < length keys → key ≡ get_or keys i key → IsPutting old now i → Puts (write_of number op key ∷ []) now new → IsPutting old new (i + 1)
+  putting_on old now new i key l is so puts = subst (IsPutting old new) next (record {
+    reserved = puts.rest (writes_of number op (drop (suc i) keys)) room;
+    onward =
+        puts_then now new (write_of number op key) (writes_of number op (drop (suc i) keys)) room puts
+        ∙ ap (λ ks. with_all (tree_messages now) (writes_of number op ks)) (sym (drop-at i key l is))
+        ∙ so.onward;
+    shape = puts.shape ∙ so.shape;
+  })
+    where
+      next : suc i ≡ i + 1
+      next = omega arith
 
-    room : IsReserved now (removal_of number key ∷ removals_of number (drop (suc i) keys))
-    room = first_to_remove number keys old now i key l is so
+      room : IsReserved now (write_of number op key ∷ writes_of number op (drop (suc i) keys))
+      room = next_to_put old now i key l is so
 
 drop-past : (keys : List (List ℕ)) (i : ℕ) → length keys ≤ i → drop i keys ≡ []
 drop-past [] zero l = refl
@@ -160,15 +149,11 @@ drop-past [] (suc i) l = refl
 drop-past (x ∷ keys) zero l = absurd (omega (arith, l))
 drop-past (x ∷ keys) (suc i) l = drop-past keys i (omega (arith, l))
 
-pub removed_all : (number : ℕ) (keys : List (List ℕ)) (old now : TreeState) (i : ℕ) → length keys ≤ i → IsRemoving number keys old now i → tree_messages now ≡ with_all (tree_messages old) (removals_of number keys)
-removed_all number keys old now i l so = ap (λ ks. with_all (tree_messages now) (removals_of number ks)) (sym (drop-past keys i l)) ∙ so.onward
+pub put_all_of : (number : ℕ) (op : Op) (keys : List (List ℕ)) (old now : TreeState) (i : ℕ) → length keys ≤ i → IsPutting number op keys old now i → tree_messages now ≡ with_all (tree_messages old) (writes_of number op keys)
+put_all_of number op keys old now i l so = ap (λ ks. with_all (tree_messages now) (writes_of number op ks)) (sym (drop-past keys i l)) ∙ so.onward
 
 -- one of the messages
-pub message_at : (number : ℕ) (keys : List (List ℕ)) (i : ℕ) (key : List ℕ) → AreMessages (removals_of number keys) → i < length keys → key ≡ get_or keys i key → IsMessage (removal_of number key)
-message_at number [] i key all l is = absurd (omega (arith, l))
-message_at number (k ∷ keys) zero key all l is = subst (λ x. IsMessage (removal_of number x)) (sym is) all.0
-message_at number (k ∷ keys) (suc i) key all l is = message_at number keys i key all.1 (omega (arith, l)) is
-
-pub keys_of_removals : (number : ℕ) (keys : List (List ℕ)) → map (λ (m : TreeMessage). m.key) (removals_of number keys) ≡ keys
-keys_of_removals number [] = refl
-keys_of_removals number (key ∷ keys) = ap (λ ks. key ∷ ks) (keys_of_removals number keys)
+pub message_at : (number : ℕ) (op : Op) (keys : List (List ℕ)) (i : ℕ) (key : List ℕ) → AreMessages (writes_of number op keys) → i < length keys → key ≡ get_or keys i key → IsMessage (write_of number op key)
+message_at number op [] i key all l is = absurd (omega (arith, l))
+message_at number op (k ∷ keys) zero key all l is = subst (λ x. IsMessage (write_of number op x)) (sym is) all.0
+message_at number op (k ∷ keys) (suc i) key all l is = message_at number op keys i key all.1 (omega (arith, l)) is

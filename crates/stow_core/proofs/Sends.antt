@@ -9,6 +9,7 @@ use Rattle.stow_core.specs.contracts.Core as core
 use Rattle.stow_core.specs.contracts.Core.TheInside as inside
 use Rattle.stow_login.proofs.tenants.Tenants.TheSendSync as tenants
 use Rattle.stow_merge.proofs.pins.Pins.TheSendSync as pins
+use Rattle.stow_model.proofs.words.Words.TheSendSync as words
 use Rattle.stow_tree.proofs.Sends.{tree_sends}
 
 fields_send : (A : RattleType) (g : Ghosts A.Denot) → IsSend A → IsSync A → Frees g g.dealloc_token → IsSend (inside.the_field A g).row
@@ -17,7 +18,7 @@ fields_send A g sent shared free =
       search (tenants.the_send, tenants.the_sync, crosses, sendable) depth 8,
       (
         search (tenancy.the_send, crosses, sendable) depth 8,
-        (search (pins.the_send, crosses, sendable) depth 8, (search sendable, (tree_sends A g sent shared free, (search (crosses, sendable) depth 8, tt)))),
+        (search (pins.the_send, crosses, sendable) depth 8, (search sendable, (tree_sends A g sent shared free, (search (crosses, sendable) depth 8, (search (words.the_send, crosses, sendable) depth 8, tt))))),
       ),
     )
 

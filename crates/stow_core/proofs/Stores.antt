@@ -1,17 +1,13 @@
 -- One tenant's store in the state of all.
-use Rattle.std.proofs.Common.{◌≡◌, ℕ, ◌-◌, ◌<◌, ◌≤◌, List, [], ◌∷◌, length, map, get_or, Bool, true, nat_lt, Option, Some, None, is_some, refl, ap, sym, ◌∙◌, subst, arith, ⊎_elim}
+use Rattle.std.proofs.Common.{◌≡◌, ℕ, ◌-◌, ◌<◌, ◌≤◌, List, length, map, get_or, Bool, true, nat_lt, Option, Some, None, is_some, refl, ap, sym, ◌∙◌, subst, arith, ⊎_elim}
 use Rattle.std.specs.Prelude.{option_map, Result, Ok, Err, IfOk, OnOk, IfSome}
 use Rattle.std.specs.FinMap as finite
 use Rattle.std.proofs.lemmas.Bool.{cases_lt, ltb-true}
 use Rattle.stow_bytes.specs.Limits.{number_limit}
-use Rattle.stow_core.specs.Keys.{AreKeysOf}
-use Rattle.stow_core.specs.Prepared.{CanWrite, whole_value}
+use Rattle.stow_core.specs.Prepared.{CanWrite}
 use Rattle.stow_core.specs.State.{CoreState, shared_of, store_at, store_of, IsCore}
 use Rattle.stow_core.specs.Tenancies.{TenancyState, own_state, tenancy_at, tenancy_of}
-use Rattle.stow_core.specs.declared.content.Content.{Content}
-use Rattle.stow_core.specs.declared.content.Content.TheVariants as content
-use Rattle.stow_core.specs.Writes.{content_op, row_of}
-use Rattle.stow_core.proofs.Keyed.{first_key}
+use Rattle.stow_core.specs.Writes.{row_of}
 use Rattle.stow_core.proofs.Tenancies.{there, past, found_at}
 use Rattle.stow_core.specs.declared.tenancy.Tenancy.{Tenancy}
 use Rattle.std.proofs.lemmas.List.{length-map}
@@ -29,7 +25,7 @@ use Rattle.stow_state.proofs.Steps.{new_view}
 use Rattle.stow_tree.specs.TreeState.{tree_messages}
 use Rattle.stow_tree_model.specs.Keys.{packed, own_key}
 use Rattle.stow_tree_model.specs.Messages.{Messages, value}
-use Rattle.stow_tree_model.specs.Operations.{NumberedValue, outcome, bytes_or_none, value_in}
+use Rattle.stow_tree_model.specs.Operations.{NumberedValue, value_in}
 use Rattle.stow_tree_model.specs.Value.{IsValue}
 
 -- ---- whose store it is
@@ -105,23 +101,11 @@ version_value None = refl
 version_value (Some v) = refl
 
 -- the value of a tenant's row is the one that its key has
-pub row_value : (m : Messages) (t n : ℕ) (key : List ℕ) → AreKeysOf t (key ∷ []) → stored_value.value_in (finite.get (rows_at m t n) (own_key key)) ≡ value_in (value m key n)
+pub row_value : (m : Messages) (t n : ℕ) (key : List ℕ) → packed t (own_key key) ≡ key → stored_value.value_in (finite.get (rows_at m t n) (own_key key)) ≡ value_in (value m key n)
 row_value m t n key own =
     ap stored_value.value_in (rows_by_value_law m t n (own_key key))
     ∙ version_value (value m (packed t (own_key key)) n)
-    ∙ ap (λ k. value_in (value m k n)) (first_key t key own)
-
--- a content makes a value of whatever is there
-pub makes_whole : {A : Type 0} (c : Content A) (before : Option (List ℕ)) → outcome (content_op c) before ≡ Some (bytes_or_none (outcome (content_op c) before))
-makes_whole (content.Whole value) before = refl
-makes_whole (content.Suffix suffix) before = refl
-
--- what the content makes of the row is what its message makes of what the key has
-pub whole_by_key : {A : Type 0} (core : CoreState) (t : ℕ) (own : TenancyState) (c : Content A) (key : List ℕ) → tenancy_at t core.tenancies ≡ Some own → AreKeysOf t (key ∷ [])
-    → whole_value c key (store_of core t) ≡ bytes_or_none (outcome (content_op c) (value_in (value (tree_messages core.tree) key own.last)))
-whole_by_key core t own c key at is =
-    ap (whole_value c key) (stored core t own at)
-    ∙ ap (λ v. bytes_or_none (outcome (content_op c) v)) (row_value (tree_messages core.tree) t own.last key is)
+    ∙ ap (λ k. value_in (value m k n)) own
 
 -- what holds whatever a call answers holds where it succeeds
 pub on_ok : {X E P : Type 0} (r : Result X E) → P → OnOk r P

@@ -5,7 +5,6 @@ use Rattle.std.proofs.lemmas.Bool.{cond-true, cond-false}
 use Rattle.std.proofs.lemmas.Grind.{take_at_read}
 use Rattle.std.proofs.lemmas.List.{length-append}
 use Rattle.std.proofs.lemmas.Map.Text.{is_eq-slice_cmp}
-use Rattle.std.specs.Prelude.{IsSome}
 use Rattle.std.specs.FinMap as map
 use Rattle.std.specs.Cmp.Lexicographic.{nat_list_cmp_total, nat_list_eq_equiv}
 use Rattle.std.specs.Int.{to_be_bytes}
@@ -86,10 +85,6 @@ none_there : (o : Option Version) → is_some o ≡ false → o ≡ None
 none_there None e = refl
 none_there (Some v) e = absurd (false≢true (sym e))
 
-some_there : (o : Option Version) → is_some o ≡ true → IsSome o
-some_there None e = absurd (false≢true e)
-some_there (Some v) e = refl
-
 gone : (b : Bool) (o : Option Version) → o ≡ None → cond b None o ≡ None
 gone true o e = refl
 gone false o e = e
@@ -115,7 +110,7 @@ distinct_more (x ∷ keys) p d none = (
 )
 
 pub taken_none : (t : ℕ) (rows : Rows) → AreTaken t rows [] []
-taken_none t rows = record { own = refl; short = tt; distinct = tt; there = tt; few = omega arith; left = refl; counted = omega arith }
+taken_none t rows = record { own = refl; short = tt; distinct = tt; few = omega arith; left = refl; counted = omega arith }
 
 -- the next key, that has a row and is not yet among those taken
 pub taken_more : (t : ℕ) (rows : Rows) (keys taken : List (List ℕ)) (i : ℕ) (k : List ℕ) → i < length keys → k ≡ get_or keys i k → IsTenantKey (packed t k) → AreTaken t rows (take i keys) taken
@@ -124,7 +119,6 @@ taken_more t rows keys taken i k l is short so there none = subst (λ ks. AreTak
   own = one_more_own t taken (packed t k) so.own refl;
   short = all_append IsTenantKey taken (packed t k ∷ []) so.short (short, tt);
   distinct = distinct_more taken (packed t k) so.distinct none;
-  there = all_append (λ key. IsSome (map.get rows (own_key key))) taken (packed t k ∷ []) so.there (some_there (map.get rows k) there, tt);
   few = (let a = length-append taken (packed t k ∷ []) in let b = length-append (take i keys) (k ∷ []) in let c = so.few in omega (arith, a, b, c));
   left = ap (λ ks. rows_without ks rows) (map-push taken (packed t k)) ∙ rows_without-push (map own_key taken) k rows ∙ ap (λ r. map.remove r k) so.left ∙ sym (rows_without-push (take i keys) k rows);
   counted =
@@ -148,7 +142,6 @@ taken_same t rows keys taken i k l is so why = subst (λ ks. AreTaken t rows ks 
   own = so.own;
   short = so.short;
   distinct = so.distinct;
-  there = so.there;
   few = (let b = length-append (take i keys) (k ∷ []) in let c = so.few in omega (arith, b, c));
   left = so.left ∙ sym same;
   counted = ap (λ r. length taken + map.len r) same ∙ so.counted;

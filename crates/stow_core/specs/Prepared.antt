@@ -1,5 +1,5 @@
 -- What a prepared answer does to its tenant's store, and where it has its room.
-use Rattle.std.specs.Prelude.{◌≡◌, ℕ, ◌+◌, ◌<◌, ◌≤◌, List, [], ◌∷◌, map, length, pos, Option, Some, None, IfSome, IsSome, IsTrue, IsFalse, Result, Ok, Err, IfOk, IsOkAnd}
+use Rattle.std.specs.Prelude.{◌≡◌, ℕ, ◌+◌, ◌<◌, ◌≤◌, List, map, length, pos, Option, Some, IfSome, IsSome, IsTrue, Result, Ok, Err, IfOk, IsOkAnd}
 use Rattle.std.specs.List.{AllByRecursion}
 use Rattle.std.specs.declared.alloc.AllocError.{AllocError}
 use Rattle.std.specs.FinMap as rows
@@ -12,22 +12,22 @@ use Rattle.stow_model.specs.Reply.{Reply, reply_of}
 use Rattle.stow_model.specs.Reply as reply
 use Rattle.stow_model.specs.declared.reply.Reply as told
 use Rattle.stow_model.specs.Login.{IsTenant}
-use Rattle.stow_model.specs.Store.{Store, Rows, Version, Answer, Written, counted, served, answer, change_answer, exceeds_quota, one_more, rows_without, value_in, without_snapshot}
+use Rattle.stow_model.specs.Store.{Store, Rows, Version, Answer, counted, served, answer, one_more, rows_without, value_in, without_snapshot, written}
 use Rattle.stow_ledger.specs.Accounts.{IsGivenBy, is_allowed}
 use Rattle.stow_ledger.specs.Shown.{charge_of, sized_option}
 use Rattle.stow_ledger.specs.declared.charge.Charge.{Charge}
 use Rattle.stow_ledger.specs.declared.sized_version.SizedVersion.{SizedVersion}
 use Rattle.stow_core.specs.declared.change.Change as coded
 use Rattle.stow_core.specs.declared.change.Change.TheVariants as change
-use Rattle.stow_core.specs.declared.content.Content.{Content}
 use Rattle.stow_core.specs.declared.prepared.Prepared.{Prepared}
+use Rattle.stow_core.specs.declared.write.Write.{Write}
 use Rattle.stow_core.specs.Keys.{AreKeysOf}
+use Rattle.stow_core.specs.Taken.{AreDistinct}
 use Rattle.stow_core.specs.Tenancies.{tenancy_at, versions_of}
-use Rattle.stow_core.specs.Writes.{content_op, write_of, removals_of, AreMessages}
-use Rattle.stow_tree.specs.Putting.{IsReserved}
-use Rattle.stow_tree_model.specs.Keys.{own_key}
-use Rattle.stow_tree_model.specs.Operations.{outcome, bytes_or_none}
-use Rattle.stow_tree_model.specs.TreeMessage.{TreeMessage}
+use Rattle.stow_core.specs.Writes.{given_op, row_given, rows_given, writes_of, AreMessages, StaysShort}
+use Rattle.stow_tree.specs.Putting.{IsReserved, bytes_of}
+use Rattle.stow_tree_model.specs.Keys.{own_key, IsTenantKey}
+use Rattle.stow_tree_model.specs.Op.{Op}
 use Rattle.stow_versions.specs.VersionsState.{IsReady}
 use Rattle.stow_core.specs.State.{CoreState, store_of, row_at, Keeps}
 
@@ -35,24 +35,17 @@ use Rattle.stow_core.specs.State.{CoreState, store_of, row_at, Keeps}
 abbrev pub after_write : Store → Rows → Store
 after_write store rows = record store { rows = rows; last = store.last + 1 }
 
--- the store after a request that gives the key a value
-abbrev pub after_put : List ℕ → List ℕ → Store → Store
-after_put key value store =
-    after_write (counted store)
-    (rows.insert store.rows (own_key key) (record { number = store.last + 1; value = value }))
+-- the rows once each of the keys, among the keys of all, got the operation by the next write
+abbrev pub rows_after : List (List ℕ) → Op → Store → Rows
+rows_after keys op store = rows_given (store.last + 1) op (map own_key keys) store.rows
 
--- the whole value that the key, among the keys of all, has in the store once it has the content
-abbrev pub whole_value : {A : Type 0} → Content A → List ℕ → Store → List ℕ
-whole_value content key store =
-    bytes_or_none (outcome (content_op content) (value_in (rows.get store.rows (own_key key))))
+-- the store after a request that writes so
+abbrev pub after_given : List (List ℕ) → Op → Store → Store
+after_given keys op store = after_write (counted store) (rows_after keys op store)
 
--- the store after a request that gives the key the content
-abbrev pub after_content : {A : Type 0} → List ℕ → Content A → Store → Store
-after_content key content store = after_put key (whole_value content key store) store
-
--- the store after a request that takes the keys out
-abbrev pub after_remove : List (List ℕ) → Store → Store
-after_remove keys store = after_write (counted store) (rows_without (map own_key keys) store.rows)
+-- the store after a request that leads to this write
+abbrev pub after_written : {A : Type 0} → Write A → Store → Store
+after_written write store = after_given write.keys (given_op write.given) store
 
 -- the store after a write that the quota refuses
 abbrev pub after_refusal : Store → Store
@@ -75,8 +68,7 @@ abbrev pub effect_of : {A : Type 0} → coded.Change A → Store → Store
 effect_of change.Nothing store = store
 effect_of change.Count store = counted store
 effect_of change.Refuse store = after_refusal store
-effect_of (change.Write key content charge) store = after_content key content store
-effect_of (change.Remove keys charge) store = after_remove keys store
+effect_of (change.Write write) store = after_written write store
 effect_of change.Take store = after_take store
 effect_of (change.Drop id charge) store = after_drop id store
 
@@ -92,9 +84,9 @@ CanWrite core tenant = (store_of core tenant).last < number_limit
 abbrev pub next_number : CoreState → ℕ → ℕ
 next_number core tenant = (store_of core tenant).last + 1
 
--- what the tenant's next write makes of a row
-abbrev pub next_version : CoreState → ℕ → List ℕ → Version
-next_version core tenant value = record { number = next_number core tenant; value = value }
+-- what the tenant's next write makes of the row of its own key
+abbrev pub next_row : CoreState → ℕ → Op → List ℕ → Option Version
+next_row core tenant op key = row_given (next_number core tenant) op (row_at core tenant key)
 
 -- the charge is that of the store after a change, and the tenant's account gave it and allows it
 pub record IsCharged (core : CoreState) (tenant : ℕ) (charge : Charge) (after : Store)
@@ -104,11 +96,11 @@ pub record IsCharged (core : CoreState) (tenant : ℕ) (charge : Charge) (after 
   pub allowed : IfSome (tenancy_at tenant core.tenancies)
       (λ own. IsTrue (is_allowed own.account charge))
 
--- the charge of the store after a write, unless it exceeds the tenant's quota
-abbrev pub IsPriced : CoreState → ℕ → Option Charge → Store → Type 0
-IsPriced core tenant (Some charge) after = IsCharged core tenant charge after
-    × IsFalse (exceeds_quota (store_of core tenant) after)
-IsPriced core tenant None after = IsTrue (exceeds_quota (store_of core tenant) after)
+-- the charge is that of the store after a change, and the tenant's account gave it
+pub record IsPriced (core : CoreState) (tenant : ℕ) (charge : Charge) (after : Store)
+    : Type 0 where
+  pub is : charge ≡ charge_of after
+  pub given : IfSome (tenancy_at tenant core.tenancies) (λ own. IsGivenBy own.account charge)
 
 -- the store without the rows of some of its own keys
 abbrev pub store_without : List (List ℕ) → Store → Store
@@ -133,28 +125,28 @@ pub record IsChargedWithout (core : CoreState) (tenant : ℕ) (keys : List (List
   pub within : IsChargeWithin core tenant charge
   pub is : charge ≡ charge_of (store_without (map own_key keys) (store_of core tenant))
 
--- the messages of the tenant's next write are of its own keys, and need no more memory
-pub record CanCommit (core : CoreState) (tenant : ℕ) (messages : List TreeMessage) : Type 0 where
+-- The tenant's next write can do this to the values of the keys, among the keys of all: they are
+-- its own, each once, no value becomes too long, and the messages fit the smallest buffer.
+pub record CanGive (core : CoreState) (tenant : ℕ) (keys : List (List ℕ)) (op : Op)
+    : Type 0 where
+  pub own : AreKeysOf tenant keys
+  pub are_keys : AllByRecursion IsTenantKey keys
+  pub distinct : AreDistinct keys
+  pub short : AllByRecursion (λ key. StaysShort op (value_in (row_at core tenant (own_key key))))
+      keys
+  pub fit : bytes_of (writes_of (next_number core tenant) op keys) ≤ 131072
+
+-- a write of the tenant's own keys needs no more memory, and is charged so
+pub record CanPut {A : Type 0} (core : CoreState) (tenant : ℕ) (write : Write A)
+    : Type 0 where
   pub is_tenant : IsTenant core.entries tenant
   pub can_write : CanWrite core tenant
-  pub own : AreKeysOf tenant (map (λ message. message.key) messages)
-  pub are_messages : AreMessages messages
-  pub reserved : IsReserved core.tree messages
-
--- a write to the key, among the keys of all, needs no more memory, and is charged so
-pub record CanPut {A : Type 0} (core : CoreState) (tenant : ℕ) (key : List ℕ) (content : Content A)
-    (charge : Charge) : Type 0 where
-  pub can : CanCommit core tenant
-      (write_of (next_number core tenant) key (content_op content) ∷ [])
-  pub charged : IsCharged core tenant charge (after_content key content (store_of core tenant))
-
--- these are keys of rows of the tenant's, and to take them out needs no more memory, and is charged
--- so
-pub record CanRemove (core : CoreState) (tenant : ℕ) (keys : List (List ℕ))
-    (charge : Charge) : Type 0 where
-  pub can : CanCommit core tenant (removals_of (next_number core tenant) keys)
-  pub there : AllByRecursion (λ key. IsSome (row_at core tenant (own_key key))) keys
-  pub charged : IsCharged core tenant charge (after_remove keys (store_of core tenant))
+  pub own : AreKeysOf tenant write.keys
+  pub are_messages : AreMessages
+      (writes_of (next_number core tenant) (given_op write.given) write.keys)
+  pub reserved : IsReserved core.tree
+      (writes_of (next_number core tenant) (given_op write.given) write.keys)
+  pub charged : IsCharged core tenant write.charge (after_written write (store_of core tenant))
 
 -- one more snapshot of the tenant's, and its pin, need no more memory
 pub record CanTakeSnapshot (core : CoreState) (tenant : ℕ) : Type 0 where
@@ -174,8 +166,7 @@ abbrev pub CanChange : {A : Type 0} → CoreState → ℕ → coded.Change A →
 CanChange core tenant change.Nothing = ¬ (IsTenant core.entries tenant)
 CanChange core tenant change.Count = IsTenant core.entries tenant
 CanChange core tenant change.Refuse = IsTenant core.entries tenant
-CanChange core tenant (change.Write key content charge) = CanPut core tenant key content charge
-CanChange core tenant (change.Remove keys charge) = CanRemove core tenant keys charge
+CanChange core tenant (change.Write write) = CanPut core tenant write
 CanChange core tenant change.Take = CanTakeSnapshot core tenant
 CanChange core tenant (change.Drop id charge) = CanDropSnapshot core tenant id charge
 
@@ -210,12 +201,15 @@ serves command store = served (counted store) command
 abbrev pub changes : List ℕ → Update → Store → Answer
 changes key update store = serves (Change key (update_of update)) store
 
--- the answer to a change that gives the key the content; the key is one among the keys of all
-abbrev pub writes_row : {A : Type 0} → List ℕ → Content A → Reply → Store → Answer
-writes_row key content r store =
-    change_answer (counted store) (own_key key) (Written (whole_value content key store) r)
+-- the answer to a write that does this to the values of the keys, among the keys of all
+abbrev pub gives : List (List ℕ) → Op → Reply → Store → Answer
+gives keys op r store = written (counted store) (rows_after keys op store) r
 
--- the same of words, where the number is a tenant's
+-- the answer to a request that leads to this write
+abbrev pub writes : {A : Type 0} → Write A → Reply → Store → Answer
+writes write r store = gives write.keys (given_op write.given) r store
+
+-- the answer to words is prepared, where the number is a tenant's
 abbrev pub PreparesOwn : {A : Type 0} → CoreState → ℕ → List (List ℕ)
     → Result (Prepared A) AllocError → Type 0
 PreparesOwn core tenant words result = IsTenant core.entries tenant

@@ -1,5 +1,5 @@
 -- The keys that a deletion takes rows out with.
-use Rattle.std.specs.Prelude.{◌≡◌, ◌≢◌, ℕ, ◌+◌, ◌≤◌, List, [], ◌∷◌, length, map, IsSome}
+use Rattle.std.specs.Prelude.{◌≡◌, ◌≢◌, ℕ, ◌+◌, ◌≤◌, List, [], ◌∷◌, length, map}
 use Rattle.std.specs.FinMap as finite
 use Rattle.std.specs.List.{AllByRecursion}
 use Rattle.stow_model.specs.Store.{Rows, rows_without}
@@ -17,7 +17,6 @@ pub record AreTaken (tenant : ℕ) (rows : Rows) (keys taken : List (List ℕ)) 
   pub own : AreKeysOf tenant taken
   pub short : AllByRecursion IsTenantKey taken
   pub distinct : AreDistinct taken
-  pub there : AllByRecursion (λ key. IsSome (finite.get rows (own_key key))) taken
   pub few : length taken ≤ length keys
   pub left : rows_without (map own_key taken) rows ≡ rows_without keys rows
   pub counted : length taken + finite.len (rows_without keys rows) ≡ finite.len rows

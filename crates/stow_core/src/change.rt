@@ -1,25 +1,20 @@
 //! Changes that have their memory.
-use crate::content::Content;
+use crate::write::Write;
 use std::alloc::{Allocator, Global};
-use stow_bytes::byte_string::ByteString;
 use stow_ledger::charge::Charge;
-use stow_model::words::Words;
 
-/// What an answer changes in its tenant's store. `specs/Prepared.antt` says what each does. The keys are
-/// those of the rows of all tenants, and a charge is the tenant's after the change.
+/// What an answer changes in its tenant's store. `specs/Prepared.antt` says what each does.
 #[derive(Drop)]
-pub enum Change<A: Allocator = Global> {
+pub enum Change<'a, A: Allocator = Global> {
     Nothing,
     /// The request is counted.
     Count,
     /// The request is counted, and so is a write that the quota refused.
     Refuse,
-    /// A key, and what it is given.
-    Write(ByteString<A>, Content<A>, Charge),
-    /// The keys whose rows go.
-    Remove(Words<A>, Charge),
+    /// Rows are written, or go.
+    Write(Write<'a, A>),
     /// A snapshot is taken.
     Take,
-    /// The snapshot of this id is dropped.
+    /// The snapshot of this id is dropped, which leads to this charge.
     Drop(u64, Charge),
 }

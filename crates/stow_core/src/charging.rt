@@ -1,15 +1,16 @@
 //! What writes are charged.
-ghost use Rattle.std.specs.Prelude.{◌≡◌, ◌++◌, ◌∷◌, [], ℕ, List, Some};
+ghost use Rattle.std.specs.Prelude.{◌≡◌, ◌++◌, ◌∷◌, [], ℕ, List};
 ghost use Rattle.stow_ledger.specs.Shown.{change_of, charge_of, sized_option, with_row};
 ghost use Rattle.stow_model.specs.Login.{IsTenant};
 ghost use Rattle.stow_model.specs.Store.{value_in};
-ghost use Rattle.stow_core.specs.Prepared.{IsPriced, IsChargeWithin, IsRowWithout, next_version, store_without};
+ghost use Rattle.stow_core.specs.Prepared.{IsPriced, IsChargeWithin, IsRowWithout, next_row, store_without};
 ghost use Rattle.stow_core.specs.State.{store_of};
 ghost use Rattle.stow_core.specs.Writes.{row_of};
+ghost use Rattle.stow_tree_model.specs.Op.{Op};
 ghost use Rattle.stow_tree_model.specs.Value.{IsValue};
 
 use crate::Core;
-use crate::content::length_of;
+use crate::given::length_of;
 use std::alloc::Allocator;
 use stow_ledger::charge::Charge;
 use stow_ledger::row_change::RowChange;
@@ -17,23 +18,18 @@ use stow_ledger::sized_version::SizedVersion;
 use stow_read::found::Found;
 
 impl<A: Allocator + Copy> Core<A> {
-    /// The tenant's charge once its next write changes a row so, unless that exceeds its quota.
-    pub(crate) fn charge_of_write(&self, tenant: u32, change: &RowChange) -> Option<Charge>
+    /// The tenant's charge once its next write changes a row so.
+    pub(crate) fn charge_of_write(&self, tenant: u32, change: &RowChange) -> Charge
         requires { IsTenant self.now.entries tenant }
-        ensures { (key value : List ℕ)
-            → change.now ≡ change_of (store_of self.now tenant) key
-            (Some (next_version self.now tenant value))
+        ensures { (key : List ℕ) (op : Op)
+            → change.now
+            ≡ change_of (store_of self.now tenant) key (next_row self.now tenant op key)
             → IsPriced self.now tenant result
-            (with_row (store_of self.now tenant) key (Some (next_version self.now tenant value))) }
+            (with_row (store_of self.now tenant) key (next_row self.now tenant op key)) }
     {
         let tenancy = self.tenancy(tenant);
         let account = &tenancy.account;
-        let charge = account.after_write(account.present(), change, tenancy.versions.pins());
-        if account.allows(charge) {
-            Some(charge)
-        } else {
-            None
-        }
+        account.after_write(account.present(), change, tenancy.versions.pins())
     }
 
     /// A charge so far, once the tenant's next write also takes a row away whose key has so many bytes of its own.

@@ -2,16 +2,14 @@
 ghost use Rattle.stow_model.specs.Login.{IsTenant};
 ghost use Rattle.stow_model.specs.Store.{counted};
 ghost use Rattle.stow_core.specs.State.{store_of, Moves};
-ghost use Rattle.stow_core.specs.Prepared.{after_content, after_remove, after_refusal, after_take, after_drop, CanPut, CanRemove, CanTakeSnapshot, CanDropSnapshot};
+ghost use Rattle.stow_core.specs.Prepared.{after_written, after_refusal, after_take, after_drop, CanPut, CanTakeSnapshot, CanDropSnapshot};
 
 use crate::Core;
-use crate::content::Content;
 use crate::pinning::{add_pin, remove_pin};
-use crate::writes::{put_removals, put_row};
+use crate::write::Write;
+use crate::writes::put;
 use std::alloc::Allocator;
-use stow_bytes::byte_string::ByteString;
 use stow_ledger::charge::Charge;
-use stow_model::words::Words;
 
 impl<A: Allocator + Copy> Core<A> {
     /// Counts a request of the tenant's.
@@ -30,33 +28,21 @@ impl<A: Allocator + Copy> Core<A> {
         self.tenancies[tenant as usize - 1].refuse();
     }
 
-    /// Writes a row of the tenant's.
-    pub(crate) fn put(
-        &mut self,
-        tenant: u32,
-        key: ByteString<A>,
-        content: Content<A>,
-        charge: Charge,
-    )
-        requires { CanPut self.old tenant key content charge }
+    /// Carries a write of the tenant's out, and keeps the memory of its keys for the next one.
+    pub(crate) fn put(&mut self, tenant: u32, write: Write<'_, A>)
+        requires { CanPut self.old tenant write }
         ensures { Moves self.old tenant
-            (after_content key content (store_of self.old tenant)) self.new }
+            (after_written write.entry (store_of self.old tenant)) self.new }
     {
+        let Write {
+            keys,
+            given,
+            charge,
+        } = write;
         let index = tenant as usize - 1;
         let number = self.tenancies[index].versions.last() + 1;
-        put_row(&mut self.tree, number, key.as_slice(), &content);
-        self.buffer = key.into_vec();
-        self.tenancies[index].write(charge);
-    }
-
-    /// Takes rows of the tenant's out.
-    pub(crate) fn remove(&mut self, tenant: u32, keys: Words<A>, charge: Charge)
-        requires { CanRemove self.old tenant keys charge }
-        ensures { Moves self.old tenant (after_remove keys (store_of self.old tenant)) self.new }
-    {
-        let index = tenant as usize - 1;
-        let number = self.tenancies[index].versions.last() + 1;
-        put_removals(&mut self.tree, number, keys.lent());
+        put(&mut self.tree, number, given.op(), keys.lent());
+        self.keys = keys;
         self.tenancies[index].write(charge);
     }
 

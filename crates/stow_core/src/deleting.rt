@@ -1,5 +1,5 @@
 //! Deletions.
-ghost use Rattle.std.specs.Prelude.{◌≡◌, ◌≤◌, IfOk, length};
+ghost use Rattle.std.specs.Prelude.{◌≡◌, ◌≤◌, [], IfOk, length};
 ghost use Rattle.std.specs.List.{list_any};
 ghost use Rattle.std.specs.Str.{bytes_eq};
 ghost use Rattle.stow_bytes.specs.Limits.{deleted_limit};
@@ -13,56 +13,52 @@ ghost use Rattle.stow_core.specs.Prepared.{IsPrepared, IsChargedWithout, serves}
 ghost use Rattle.stow_core.specs.Taken.{AreTaken};
 
 use crate::Core;
-use crate::change::Change;
 use crate::charging::sized;
+use crate::given::Given;
 use crate::prepared::Prepared;
-use crate::preparing::{only_counted, only_refused};
-use crate::writes::reserve_removals;
+use crate::preparing::only_counted;
+use crate::write::Write;
 use std::alloc::{AllocError, Allocator};
 use stow_ledger::charge::Charge;
 use stow_model::lent_words::LentWords;
-use stow_model::refusal::Refusal;
 use stow_model::reply::Reply;
 use stow_model::words::Words;
 
 impl<A: Allocator + Copy> Core<A> {
     /// Finds what a deletion of keys says.
-    pub(crate) fn prepare_del(
+    pub(crate) fn prepare_del<'a>(
         &mut self,
         buffer: &mut Vec<u8, A>,
         alloc: A,
         tenant: u32,
         keys: LentWords<'_>,
-    ) -> Result<Prepared<A>, AllocError>
+    ) -> Result<Prepared<'a, A>, AllocError>
         requires is_tenant { IsTenant self.old.entries tenant }
         requires sound { IsSound (shared_of self.old) }
         requires short { AreShortKeys (words_in keys) }
         requires few { length (words_in keys) ≤ deleted_limit }
         ensures { IsPrepared self.old tenant (serves (Del (words_in keys.entry))) self.new result }
     {
-        let (taken, charge) = self.taken(buffer, alloc, tenant, keys)?;
+        let spare = self.spare_keys(alloc);
+        let (taken, charge) = self.taken(spare, buffer, alloc, tenant, keys)?;
         if taken.len() == 0 {
+            self.keep_keys(taken);
             return Ok(only_counted(tenant, Reply::Integer(0)));
         }
-        if !self.can_write(tenant) {
-            return Ok(only_counted(tenant, Reply::Error(Refusal::WriteNumbersUsedUp)));
-        }
-        if !self.tenancy(tenant).account.allows(charge) {
-            return Ok(only_refused(tenant));
-        }
-        let number = self.next_number(tenant);
-        reserve_removals(&mut self.tree, alloc, &self.pins, number, taken.lent())?;
         let reply = Reply::Integer(taken.len() as i64);
-        Ok(Prepared {
-            tenant,
-            change: Change::Remove(taken, charge),
-            reply,
-        })
+        let write = Write {
+            keys: taken,
+            given: Given::Gone,
+            charge,
+        };
+        self.prepare_write(alloc, tenant, write, reply)
     }
 
-    /// Those of the keys that have a row, each once, among the keys of all, and the charge without these rows.
+    /// Those of the keys that have a row, each once, among the keys of all, in a list that had none, and the charge
+    /// without these rows.
     fn taken(
         &self,
+        spare: Words<A>,
         buffer: &mut Vec<u8, A>,
         alloc: A,
         tenant: u32,
@@ -70,12 +66,13 @@ impl<A: Allocator + Copy> Core<A> {
     ) -> Result<(Words<A>, Charge), AllocError>
         requires is_tenant { IsTenant self.now.entries tenant }
         requires short { AreShortKeys (words_in keys) }
+        requires none { spare ≡ [] }
         ensures taken { IfOk result (λ r. AreTaken tenant (store_of self.now tenant).rows
             (words_in keys.entry) r.0) }
         ensures charge { IfOk result (λ r. IsChargedWithout self.now tenant r.0 r.1) }
     {
         let rows = self.present(tenant);
-        let mut taken = Words::new(alloc);
+        let mut taken = spare;
         let mut charge = self.tenancy(tenant).account.present();
         for index in 0..keys.len() {
             let row = self.row(buffer, alloc, rows, keys.get(index))?;

@@ -7,11 +7,11 @@
 //! of `stow_login`.
 //!
 //! Rows stand in the order of packed keys, each the tenant's index and then its own key, so a tenant's rows
-//! stand together, in the order of its keys. A write is a message to the tree, with the tenant's next number: `prepare`
-//! makes the room for it, which may move other messages towards the leaves, and `commit` puts it. An APPEND's message
-//! has its suffix alone. A snapshot is an id with the number of the last write, its pin: messages that a pin shows stay
-//! readable when others are merged. What a tenant is charged is kept as its changes come, and looked at before room
-//! is made.
+//! stand together, in the order of its keys. A write is a message to the tree for each of its keys, with the tenant's
+//! next number: `prepare` makes the room for them, which may move other messages towards the leaves, and `commit` puts
+//! them. What they carry is lent from the request, but for a sum. An APPEND's message has its suffix alone. A snapshot is
+//! an id with the number of the last write, its pin: messages that a pin shows stay readable when others are merged. What
+//! a tenant is charged is kept as its changes come, and looked at before room is made.
 //!
 //! A body of `prepare`, `prepare_command` or `prepare_change` that prepares the same twice is right too, since
 //! a prepared answer that is never carried out changes nothing.
@@ -51,8 +51,8 @@ pub mod change;
 mod changing;
 mod charging;
 mod committing;
-pub mod content;
 mod deleting;
+pub mod given;
 mod interval;
 mod keys;
 mod pinning;
@@ -60,12 +60,15 @@ pub mod prepared;
 mod preparing;
 mod ranging;
 mod reading;
+mod row_answer;
 pub mod rows_at;
 pub mod snapshot;
 mod snapshots;
 pub mod tenancy;
 mod usage;
+pub mod write;
 mod writes;
+mod writing;
 
 /// The stores of all tenants.
 #[derive(Drop)]
@@ -77,8 +80,10 @@ pub struct Core<A: Allocator + Copy = Global> {
     /// The tenant for whose next pin there is room, if not 0.
     pin_room: u32,
     tree: Tree<A>,
-    /// Where keys are packed. Its bytes mean nothing between calls, so that its memory serves one after another.
+    /// Where a key is packed. Its bytes mean nothing between calls, so that its memory serves one after another.
     buffer: Vec<u8, A>,
+    /// Where a write's keys are listed. They mean nothing between calls, so that their memory serves one after another.
+    keys: Words<A>,
 }
 
 impl<A: Allocator + Copy> Model for Core<A> {
@@ -128,6 +133,7 @@ impl<A: Allocator + Copy> Core<A> {
             pin_room: 0,
             tree,
             buffer: Vec::new(alloc),
+            keys: Words::new(alloc),
         })
     }
 
@@ -151,12 +157,12 @@ impl<A: Allocator + Copy> Core<A> {
     }
 
     /// Finds a tenant's answer, and all the memory that it takes. No tenant's store changes.
-    pub fn prepare(
+    pub fn prepare<'a>(
         &mut self,
         alloc: A,
         tenant: u32,
-        words: &Words<A>,
-    ) -> Result<Prepared<A>, AllocError>
+        words: &'a Words<A>,
+    ) -> Result<Prepared<'a, A>, AllocError>
         ensures keeps { Keeps self.old self.new }
         ensures room { IfOk result (λ p. CanCarryOut self.new p) }
         ensures tenant { IfOk result (λ p. p.tenant ≡ tenant) }
@@ -178,12 +184,14 @@ impl<A: Allocator + Copy> Core<A> {
     }
 
     /// Carries a prepared answer out. It takes no memory and cannot fail.
-    pub fn commit(&mut self, prepared: Prepared<A>) -> Reply<A>
+    pub fn commit(&mut self, prepared: Prepared<'_, A>) -> Reply<A>
         requires { CanCarryOut self.old prepared }
-        ensures reply { result ≡ prepared.reply }
-        ensures own { IsTenant self.old.entries prepared.tenant → Moves self.old prepared.tenant
-            (effect prepared (store_of self.old prepared.tenant)) self.new }
-        ensures stranger { ¬ (IsTenant self.old.entries prepared.tenant) → self.new ≡ self.old }
+        ensures reply { result ≡ prepared.entry.reply }
+        ensures own { IsTenant self.old.entries prepared.entry.tenant
+            → Moves self.old prepared.entry.tenant
+            (effect prepared.entry (store_of self.old prepared.entry.tenant)) self.new }
+        ensures stranger { ¬ (IsTenant self.old.entries prepared.entry.tenant)
+            → self.new ≡ self.old }
     {
         let Prepared {
             tenant,
@@ -194,8 +202,7 @@ impl<A: Allocator + Copy> Core<A> {
             Change::Nothing => {}
             Change::Count => self.count(tenant),
             Change::Refuse => self.refuse(tenant),
-            Change::Write(key, content, charge) => self.put(tenant, key, content, charge),
-            Change::Remove(keys, charge) => self.remove(tenant, keys, charge),
+            Change::Write(write) => self.put(tenant, write),
             Change::Take => self.take(tenant),
             Change::Drop(id, charge) => self.drop_snapshot(tenant, id, charge),
         }

@@ -32,12 +32,12 @@ impl<A: Allocator + Copy> Core<A> {
     }
 
     /// Finds what a command says in the tenant's own rows. Its keys are packed in the core's buffer; a PING has none.
-    pub(crate) fn prepare_command(
+    pub(crate) fn prepare_command<'a>(
         &mut self,
         alloc: A,
         tenant: u32,
-        command: Command<'_>,
-    ) -> Result<Prepared<A>, AllocError>
+        command: Command<'a>,
+    ) -> Result<Prepared<'a, A>, AllocError>
         requires is_tenant { IsTenant self.old.entries tenant }
         requires sound { IsSound (shared_of self.old) }
         requires legal { HasLegalKeys (command_of command) }
@@ -52,14 +52,14 @@ impl<A: Allocator + Copy> Core<A> {
         prepared
     }
 
-    /// The same with keys packed in a buffer, whose memory a change may keep.
-    fn prepare_in(
+    /// The same with keys packed in a buffer.
+    fn prepare_in<'a>(
         &mut self,
         buffer: &mut Vec<u8, A>,
         alloc: A,
         tenant: u32,
-        command: Command<'_>,
-    ) -> Result<Prepared<A>, AllocError>
+        command: Command<'a>,
+    ) -> Result<Prepared<'a, A>, AllocError>
         requires is_tenant { IsTenant self.old.entries tenant }
         requires sound { IsSound (shared_of self.old) }
         requires legal { HasLegalKeys (command_of command) }
@@ -99,7 +99,7 @@ impl<A: Allocator + Copy> Core<A> {
 }
 
 /// An answer that changes nothing but the count.
-pub(crate) fn only_counted<A: Allocator>(tenant: u32, reply: Reply<A>) -> Prepared<A>
+pub(crate) fn only_counted<'a, A: Allocator>(tenant: u32, reply: Reply<A>) -> Prepared<'a, A>
     ensures { result ≡ record { tenant = tenant; change = Change.Count; reply = reply } }
 {
     Prepared {
@@ -110,10 +110,10 @@ pub(crate) fn only_counted<A: Allocator>(tenant: u32, reply: Reply<A>) -> Prepar
 }
 
 /// The same of a reply that may have been refused memory.
-pub(crate) fn counted<A: Allocator>(
+pub(crate) fn counted<'a, A: Allocator>(
     tenant: u32,
     reply: Result<Reply<A>, AllocError>,
-) -> Result<Prepared<A>, AllocError>
+) -> Result<Prepared<'a, A>, AllocError>
     ensures { OnlyCounts tenant reply result }
 {
     match reply {
@@ -123,7 +123,7 @@ pub(crate) fn counted<A: Allocator>(
 }
 
 /// The answer to a write that the quota refuses.
-pub(crate) fn only_refused<A: Allocator>(tenant: u32) -> Prepared<A>
+pub(crate) fn only_refused<'a, A: Allocator>(tenant: u32) -> Prepared<'a, A>
     ensures { result ≡ record {
       tenant = tenant;
       change = Change.Refuse;

@@ -49,7 +49,7 @@ impl<A: Allocator + Copy> Core<A> {
     }
 
     /// Finds what taking a snapshot says, and makes room for it and its pin.
-    pub(crate) fn prepare_take(&mut self, tenant: u32) -> Result<Prepared<A>, AllocError>
+    pub(crate) fn prepare_take<'a>(&mut self, tenant: u32) -> Result<Prepared<'a, A>, AllocError>
         requires is_tenant { IsTenant self.old.entries tenant }
         requires sound { IsSound (shared_of self.old) }
         ensures { IsPrepared self.old tenant (serves TakeSnapshot) self.new result }
@@ -110,14 +110,14 @@ impl<A: Allocator + Copy> Core<A> {
     }
 
     /// Finds what a GET in a snapshot says.
-    pub(crate) fn prepare_get(
+    pub(crate) fn prepare_get<'a>(
         &mut self,
         buffer: &mut Vec<u8, A>,
         alloc: A,
         tenant: u32,
         id: i64,
         key: &[u8],
-    ) -> Result<Prepared<A>, AllocError>
+    ) -> Result<Prepared<'a, A>, AllocError>
         requires is_tenant { IsTenant self.old.entries tenant }
         requires sound { IsSound (shared_of self.old) }
         requires short { IsShortKey key.now }
@@ -130,14 +130,14 @@ impl<A: Allocator + Copy> Core<A> {
     }
 
     /// Finds what a RANGE in a snapshot says.
-    pub(crate) fn prepare_range(
+    pub(crate) fn prepare_range<'a>(
         &mut self,
         buffer: &mut Vec<u8, A>,
         alloc: A,
         interval: Interval<'_>,
         id: i64,
         count: u32,
-    ) -> Result<Prepared<A>, AllocError>
+    ) -> Result<Prepared<'a, A>, AllocError>
         requires is_tenant { IsTenant self.old.entries interval.tenant }
         requires sound { IsSound (shared_of self.old) }
         requires from { IsShortKey interval.from.now }
@@ -188,12 +188,12 @@ impl<A: Allocator + Copy> Core<A> {
     }
 
     /// Finds what dropping a snapshot says, and what stays charged.
-    pub(crate) fn prepare_drop(
+    pub(crate) fn prepare_drop<'a>(
         &mut self,
         alloc: A,
         tenant: u32,
         id: i64,
-    ) -> Result<Prepared<A>, AllocError>
+    ) -> Result<Prepared<'a, A>, AllocError>
         requires is_tenant { IsTenant self.old.entries tenant }
         requires sound { IsSound (shared_of self.old) }
         ensures { IsPrepared self.old tenant (serves (DropSnapshot id)) self.new result }
@@ -223,7 +223,7 @@ fn ids_of<A: Allocator + Copy>(versions: &Versions<A>) -> &[u64]
 }
 
 /// The answer to a request for a snapshot that isn't live.
-fn no_such_snapshot<A: Allocator>(tenant: u32) -> Prepared<A>
+fn no_such_snapshot<'a, A: Allocator>(tenant: u32) -> Prepared<'a, A>
     ensures { result ≡ record {
       tenant = tenant;
       change = Change.Count;

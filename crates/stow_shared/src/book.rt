@@ -170,19 +170,19 @@ fn resized<A: Allocator>(seat: u32, leaves: usize) -> Entry<A>
 
 /// Adds a call's entry to the journal, and the same to the seat's receipts, where they are kept, and gives the
 /// prepared answer back. An `Err` adds nothing, and the answer is given up.
-fn keep_call<J: Journal, A: Allocator + Copy>(
+fn keep_call<'a, J: Journal, A: Allocator + Copy>(
     alloc: A,
     journal: &mut Vec<Entry<A>, A>,
     seat: &mut Seat<J, A>,
     tenant: u32,
     copies: Option<Copies<A>>,
-    prepared: Prepared<A>,
-) -> Result<Prepared<A>, AllocError>
+    prepared: Prepared<'a, A>,
+) -> Result<Prepared<'a, A>, AllocError>
     requires { AreAlike J.keeps copies }
-    ensures same { IfOk result (λ p. p ≡ prepared) }
+    ensures same { IfOk result (λ p. p ≡ prepared.entry) }
     ensures ok { OnOk result
         (Adds J.keeps
-        (call_entry seat.old.number tenant (copied copies) (reply_of prepared.reply))
+        (call_entry seat.old.number tenant (copied copies) (reply_of prepared.entry.reply))
         (entries_of journal.old.items) seat.old (entries_of journal.new.items) seat.new) }
     ensures err { OnErr result ((journal.new.items ≡ journal.old.items) × (seat.new ≡ seat.old)) }
 {

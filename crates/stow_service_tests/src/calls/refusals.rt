@@ -136,19 +136,19 @@ fn asked_by_call<A: Allocator + Copy, B: Allocator>(
 
 // Each request for memory of a prepare is refused in turn: what stood before still stands, and the same call
 // succeeds once memory is there. Its commit, to which every request is refused, asks for none. No prepare asks for
-// more than it takes: a value, the keys of a deletion, what a reply copies, and the way that a range goes down; nor
-// does a call.
+// more than it takes: a sum's digits, what a reply copies, and the way that a range goes down; nor does a call. A write's
+// value is lent, and its keys stand where those of the last write stood.
 #[test]
 fn prepares_withstand_each_refusal(rt: HostRuntime) -> Result<(), Fail> {
     let global = rt.alloc();
     let heap = Refusing::new(global);
     let used = "ERR value is not an integer or out of range";
     for (line, told, a, b, asked) in [
-        ("SET a new", "OK", "$new", "nil", 1),
-        ("SET b new", "OK", "$old", "$new", 1),
-        ("SET b new NX", "OK", "$old", "$new", 1),
+        ("SET a new", "OK", "$new", "nil", 0),
+        ("SET b new", "OK", "$old", "$new", 0),
+        ("SET b new NX", "OK", "$old", "$new", 0),
         ("SET a new NX", "nil", "$old", "nil", 0),
-        ("SET a new XX", "OK", "$new", "nil", 1),
+        ("SET a new XX", "OK", "$new", "nil", 0),
         ("GET a", "$old", "$old", "nil", 1),
         ("MGET a b a", "[$old nil $old ]", "$old", "nil", 2),
         ("EXISTS a b a", ":2", "$old", "nil", 0),
@@ -156,13 +156,13 @@ fn prepares_withstand_each_refusal(rt: HostRuntime) -> Result<(), Fail> {
         ("RANGE '' '' 9", "[$a $old ]", "$old", "nil", 7),
         ("PING hello", "$hello", "$old", "nil", 1),
         ("ECHO hello", "$hello", "$old", "nil", 1),
-        ("APPEND a er", ":5", "$older", "nil", 1),
-        ("APPEND b er", ":2", "$old", "$er", 1),
+        ("APPEND a er", ":5", "$older", "nil", 0),
+        ("APPEND b er", ":2", "$old", "$er", 0),
         ("INCR b", ":1", "$old", "$1", 1),
         ("DECR b", ":-1", "$old", "$-1", 1),
         ("INCRBY b 12", ":12", "$old", "$12", 1),
         ("INCR a", used, "$old", "nil", 0),
-        ("DEL b a", ":1", "nil", "nil", 3),
+        ("DEL b a", ":1", "nil", "nil", 0),
     ] {
         let needed = refusals(&heap, global, Case { line, told, a, b })?;
         let called = asked_by_call(&heap, (&heap, global), line)?;

@@ -1,9 +1,9 @@
-use Rattle.stow_core.proofs.Charges.{given_own, removed_charge, removed_within}
+use Rattle.stow_core.proofs.Charges.{given_here, removed_charge, removed_within}
 use Rattle.stow_core.proofs.Core.charge_without.Goals as goal
 
 pub after_write-requires-clause-given : goal.after_write-requires-clause-given
 after_write-requires-clause-given g c =
-    given_own c.args.self.now c.args.tenant c.tenancy-tenancy.result.now c.tenancy-tenancy.ensures.own c.tenancy-tenancy.ensures.sound c.tenancy-tenancy.ensures.account c.args.so_far c.requires.within
+    given_here c.args.self.now c.args.tenant c.tenancy-tenancy.result.now c.tenancy-tenancy.ensures.own c.tenancy-tenancy.ensures.sound c.tenancy-tenancy.ensures.account c.args.so_far c.requires.within.given
 
 pub returns-clause-within : goal.returns-clause-within
 returns-clause-within g c =

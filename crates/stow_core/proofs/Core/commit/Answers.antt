@@ -15,10 +15,6 @@ pub returns-in-Write-clause-own : goal.returns-in-Write-clause-own
 returns-in-Write-clause-own g c = λ _.
     subst (λ change. Moves c.args.self.now c.args.prepared.tenant (effect_of change (store_of c.args.self.now c.args.prepared.tenant)) c.put.new.self) (sym c.in-Write.is) c.put.ensures
 
-pub returns-in-Remove-clause-own : goal.returns-in-Remove-clause-own
-returns-in-Remove-clause-own g c = λ _.
-    subst (λ change. Moves c.args.self.now c.args.prepared.tenant (effect_of change (store_of c.args.self.now c.args.prepared.tenant)) c.remove.new.self) (sym c.in-Remove.is) c.remove.ensures
-
 pub returns-in-Take-clause-own : goal.returns-in-Take-clause-own
 returns-in-Take-clause-own g c = λ _.
     subst (λ change. Moves c.args.self.now c.args.prepared.tenant (effect_of change (store_of c.args.self.now c.args.prepared.tenant)) c.take.new.self) (sym c.in-Take.is) c.take.ensures

@@ -19,8 +19,8 @@ loop-index-init g c =
     let core = c.args.self.now in
     let t = c.args.tenant in
     record {
-      taken = subst (AreTaken t (store_of core t).rows []) (sym c.new-taken.ensures) (taken_none t (store_of core t).rows);
-      charged = subst (λ ks. IsChargedWithout core t ks c.present-charge.result) (sym c.new-taken.ensures)
+      taken = subst (AreTaken t (store_of core t).rows []) (sym c.requires.none) (taken_none t (store_of core t).rows);
+      charged = subst (λ ks. IsChargedWithout core t ks c.present-charge.result) (sym c.requires.none)
           (none_freed core t c.tenancy.result.now c.tenancy.ensures.own c.tenancy.ensures.sound c.tenancy.ensures.account c.present-charge.result c.present-charge.ensures.present c.present-charge.ensures.within c.present-charge.ensures.given);
     }
 

@@ -1,0 +1,66 @@
+//! What writes give their keys.
+ghost use Rattle.std.specs.Prelude.{◌≡◌, ◌≤◌, Some, length};
+ghost use Rattle.stow_bytes.specs.Limits.{value_limit};
+ghost use Rattle.stow_core.specs.Writes.{given_op, IsLengthAfter};
+ghost use Rattle.stow_tree_model.specs.Op.{Append, op_of};
+
+use std::alloc::{Allocator, Global};
+use stow_bytes::byte_string::ByteString;
+use stow_ledger::sized_version::SizedVersion;
+use stow_tree_model::op::Op;
+
+/// What a write does to the value of each of its keys.
+#[derive(Drop)]
+pub enum Given<'a, A: Allocator = Global> {
+    /// The key has this value, which is lent from the request.
+    Value(&'a [u8]),
+    /// The key has this value, which was made for it.
+    Made(ByteString<A>),
+    /// The key's value is followed by this, a missing one counting as empty.
+    Suffix(&'a [u8]),
+    /// The key has no value any more.
+    Gone,
+}
+
+impl<A: Allocator> Given<'_, A> {
+    /// The same as messages say it.
+    pub(crate) fn op(&self) -> Op<'_>
+        ensures { op_of result ≡ given_op self.now }
+    {
+        match self {
+            Given::Value(value) => Op::Put(value),
+            Given::Made(value) => Op::Put(value.as_slice()),
+            Given::Suffix(suffix) => Op::Append(suffix),
+            Given::Gone => Op::Gone,
+        }
+    }
+
+    /// The bytes of the key's value afterwards, if it has one, by the version that stands there before.
+    pub(crate) fn length_after(&self, before: Option<SizedVersion>) -> Option<u32>
+        ensures { IsLengthAfter (given_op self.now) before result }
+    {
+        match self {
+            Given::Value(value) => Some(length_of(value)),
+            Given::Made(value) => Some(length_of(value.as_slice())),
+            Given::Suffix(suffix) => Some(length_with(before, suffix)),
+            Given::Gone => None,
+        }
+    }
+}
+
+/// The bytes of a value that a suffix follows.
+fn length_with(before: Option<SizedVersion>, suffix: &[u8]) -> u32
+    ensures { IsLengthAfter (Append suffix.now) before (Some result) }
+{
+    match before {
+        None => length_of(suffix),
+        Some(version) => version.length.saturating_add(length_of(suffix)),
+    }
+}
+
+/// The bytes of a value, of which there are few.
+pub(crate) fn length_of(value: &[u8]) -> u32
+    ensures { length value.now ≤ value_limit → result ≡ length value.now }
+{
+    u32::try_from(value.len()).unwrap_or(u32::MAX)
+}
