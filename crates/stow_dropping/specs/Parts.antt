@@ -19,5 +19,9 @@ shown_of head =
 abbrev pub all_shown : {A : Type 0} → List (RowHead A) → List ShownRow
 all_shown heads = map shown_of heads
 
+-- a tenant's key, of bytes
+abbrev pub IsWholeKey : List ℕ → Type 0
+IsWholeKey key = IsTenantKey key × AreKeyBytes key
+
 abbrev pub HaveWholeKeys : {A : Type 0} → List (RowHead A) → Type 0
 HaveWholeKeys heads = AllByRecursion IsWholeKey (head_keys heads)

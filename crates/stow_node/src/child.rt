@@ -10,8 +10,8 @@ use crate::node::Node;
 use std::alloc::Allocator;
 use std::cmp::Ordering;
 use stow_bytes::compare::compare;
-use stow_leaf::leaf::Leaf;
 use stow_leaf::ends::top_key;
+use stow_leaf::leaf::Leaf;
 use stow_tree_model::tenant_key::TenantKey;
 
 /// What stands below a node: a leaf, or a node one level lower.

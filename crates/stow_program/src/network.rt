@@ -9,7 +9,7 @@ use std::net::{Net, TcpListener, TcpStream};
 use std::sync::Wait;
 use std::thread::Threads;
 use stow_login::tenants::Tenants;
-use stow_run::failure::{Failure, Endpoint};
+use stow_run::failure::{Endpoint, Failure};
 use stow_run::serving::Serving;
 use stow_tree::tree_shape::TreeShape;
 use stow_workers::sink::Sink;

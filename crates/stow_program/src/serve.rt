@@ -10,7 +10,7 @@ use std::net::{SocketAddr, TcpListener};
 use std::sync::{Arc, Wait};
 use std::thread::Threads;
 use stow_login::tenants::Tenants;
-use stow_run::failure::{Failure, Endpoint};
+use stow_run::failure::{Endpoint, Failure};
 use stow_run::serving::Serving;
 use stow_shared::open_fault::OpenFault;
 use stow_shared::seat::Seat;

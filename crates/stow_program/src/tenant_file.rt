@@ -8,7 +8,7 @@ use std::io::Read;
 use stow_login::explaining::explain;
 use stow_login::tenants::Tenants;
 use stow_login::tenants_fault::TenantsFault;
-use stow_run::failure::{Failure, Endpoint};
+use stow_run::failure::{Endpoint, Failure};
 use stow_run::folder::Folder;
 
 /// The tenants of the file of this path. A file that isn't UTF-8 is no TOML text.

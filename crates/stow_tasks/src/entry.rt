@@ -10,7 +10,7 @@ use crate::script::{finish, read_all};
 use std::alloc::Global;
 use stow_login::new_tenant::NewTenant;
 use stow_login::spelling::entry_text;
-use stow_run::failure::{Failure, Endpoint};
+use stow_run::failure::{Endpoint, Failure};
 use stow_run::salt_source::SaltSource;
 use stow_workers::sink::Sink;
 use stow_workers::source::Source;

@@ -10,7 +10,7 @@ use std::alloc::Allocator;
 use std::io::{Read, Write};
 use stow_core::Core;
 use stow_login::tenants::Tenants;
-use stow_run::failure::{Failure, Endpoint};
+use stow_run::failure::{Endpoint, Failure};
 use stow_workers::counted::Counted;
 use stow_workers::open_gate::OpenGate;
 use stow_workers::served::Served;

@@ -18,7 +18,7 @@ use stow_house::house::House;
 use stow_house::step_result::StepResult;
 use stow_login::tenants::Tenants;
 use stow_model::event::Event;
-use stow_run::failure::{Failure, Endpoint};
+use stow_run::failure::{Endpoint, Failure};
 use stow_script::reading::{cut, read_line};
 use stow_script::script_line::ScriptLine;
 use stow_script::stumble::Stumble;

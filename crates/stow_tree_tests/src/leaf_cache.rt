@@ -1,120 +1,149 @@
 //! What no clause says: that the calls succeed where there is memory, and which of them ask for none.
-ghost use Rattle.std.specs.Prelude.{◌≡◌, length, is_some};
-ghost use Rattle.stow_leaf_cache.specs.Cache.{leaves_used, rows_under};
-
 use std::alloc::{AllocError, Allocator};
 use std::test::Fail;
 use stow_leaf_cache::leaf_cache::LeafCache;
-use stow_page::page::{Page, unpack};
+use stow_page::packed_rows::PackedRows;
 use stow_page::rows::Rows;
 use stow_refusing::{Plan, Refusing};
+use stow_tree_model::plain::version;
+use stow_tree_model::tenant_key_buf::TenantKeyBuf;
 
 mod held;
 
-/// The rows of a page with one version, of tenant 1's key `a`, by this write.
+/// The rows of one version, by this write.
 fn rows_of<A: Allocator + Copy>(alloc: A, number: u8) -> Result<Rows<A>, AllocError> {
-    let mut bytes = Vec::from_slice(
-        alloc,
-        b"\x01\x00\x00\x00\x01\x00\x05\x00\x00\x00\x01a\x00\x00\x00\x00\x00\x00\x00",
-    )?;
-    bytes.push(number)?;
-    bytes.push(1)?;
-    if bytes.len() > 100 {
-        return Err(AllocError);
-    }
-    let page = Page::from_bytes(alloc, bytes)?;
-    unpack(alloc, &page).map_err(|_| AllocError)
-}
-
-/// The number of the version under a fence, or 0.
-fn number_under<A: Allocator + Copy>(cache: &LeafCache<A>, fence: &[u8]) -> u64 {
-    match cache.peek(fence) {
-        Some(rows) => {
-            if rows.is_empty() {
-                return 0;
-            }
-            rows.get(0).number
+    let key = TenantKeyBuf::new(alloc, 1, b"a")?;
+    let mut packed = PackedRows::new(alloc)?;
+    if let Some(row) = version(key.as_key(), u64::from(number), None) {
+        if packed.is_below(row) && packed.has_room_for(row) {
+            packed.push(row)?;
         }
-        None => 0,
     }
+    Rows::new(alloc, packed)
 }
 
-/// Uses a leaf. What a caller knows of the cache afterwards.
-fn is_used<A: Allocator + Copy>(cache: &mut LeafCache<A>, fence: &[u8]) -> bool
-    ensures there { result ≡ is_some (rows_under fence.now cache.old.leaves) }
-    ensures leaves { cache.new.leaves ≡ leaves_used fence.now cache.old.leaves }
-    ensures limit { cache.new.limit ≡ cache.old.limit }
-{
-    cache.find(fence).is_some()
+/// A call of a cache. Fences are of one letter.
+#[derive(Clone, Copy)]
+enum Call {
+    /// Keeps the leaf of this version under a fence.
+    Keep(u8, u8),
+    Use(u8),
+    Forget(u8),
+    Resize(usize),
 }
 
-/// Keeps the leaf of a version's number under a fence.
-fn keep<A: Allocator + Copy>(
-    cache: &mut LeafCache<A>,
+/// A call, and the numbers of the versions under `a`, `b` and `c` then, where 0 is none.
+type Row = (Call, [u64; 3]);
+
+/// In a cache of two leaves those that were used last stay, one is held anew, and there are fewer under a lower limit and once
+/// one is forgotten.
+const OF_TWO: [Row; 8] = [
+    (Call::Keep(b'a', 1), [1, 0, 0]),
+    (Call::Keep(b'b', 2), [1, 2, 0]),
+    (Call::Use(b'a'), [1, 2, 0]),
+    (Call::Use(b'c'), [1, 2, 0]),
+    (Call::Keep(b'c', 3), [1, 0, 3]),
+    (Call::Keep(b'a', 4), [4, 0, 3]),
+    (Call::Resize(1), [4, 0, 0]),
+    (Call::Forget(b'a'), [0, 0, 0]),
+];
+
+/// A cache of no leaves holds none, until it may hold some.
+const OF_NONE: [Row; 5] = [
+    (Call::Keep(b'a', 1), [0, 0, 0]),
+    (Call::Resize(65_536), [0, 0, 0]),
+    (Call::Keep(b'a', 1), [1, 0, 0]),
+    (Call::Resize(0), [0, 0, 0]),
+    (Call::Keep(b'a', 1), [0, 0, 0]),
+];
+
+/// Calls that ask for no memory, behind the first two of `OF_TWO`.
+const FREE: [Row; 2] = [
+    (Call::Use(b'a'), [1, 2, 0]),
+    (Call::Forget(b'b'), [1, 0, 0]),
+];
+
+/// A cache, and the allocator of its leaves.
+#[derive(Drop)]
+struct Shelf<A: Allocator + Copy> {
+    cache: LeafCache<A>,
     alloc: A,
-    fence: &[u8],
-    number: u8,
-) -> Result<(), AllocError>
-    ensures { cache.new.limit ≡ cache.old.limit }
-{
-    let rows = rows_of(alloc, number)?;
-    cache.keep(fence, rows);
-    Ok(())
 }
 
-/// Whether a cache holds these under `a`, `b` and `c`, where 0 is none.
-fn are_held<A: Allocator + Copy>(cache: &LeafCache<A>, numbers: [u64; 3]) -> bool {
-    number_under(cache, b"a") == numbers[0]
-        && number_under(cache, b"b") == numbers[1]
-        && number_under(cache, b"c") == numbers[2]
-}
-
-/// Three leaves, of which two are held: those that were used last.
-fn with_two<A: Allocator + Copy>(alloc: A) -> Result<LeafCache<A>, AllocError> {
-    let mut cache = LeafCache::new(alloc, 2)?;
-    keep(&mut cache, alloc, b"a", 1)?;
-    keep(&mut cache, alloc, b"b", 2)?;
-    if is_used(&mut cache, b"a") && !is_used(&mut cache, b"c") {
-        keep(&mut cache, alloc, b"c", 3)?;
+impl<A: Allocator + Copy> Shelf<A> {
+    fn new(alloc: A, limit: usize) -> Result<Shelf<A>, AllocError> {
+        let cache = LeafCache::new(alloc, limit)?;
+        Ok(Shelf { cache, alloc })
     }
-    Ok(cache)
+
+    /// Carries out a call. Whether a leaf that is used is told of as it is by `peek`.
+    fn call(&mut self, call: Call) -> Result<bool, AllocError> {
+        match call {
+            Call::Keep(fence, number) => self.cache.keep(&[fence], rows_of(self.alloc, number)?),
+            Call::Use(fence) => return Ok(self.is_used(fence)),
+            Call::Forget(fence) => self.cache.forget(&[fence]),
+            Call::Resize(limit) => self.cache.resize(limit)?,
+        }
+        Ok(true)
+    }
+
+    fn is_used(&mut self, fence: u8) -> bool {
+        let is_there = self.cache.peek(&[fence]).is_some();
+        self.cache.find(&[fence]).is_some() == is_there
+    }
+
+    /// The number of the version under a fence, or 0.
+    fn number(&self, fence: u8) -> u64 {
+        match self.cache.peek(&[fence]) {
+            Some(rows) if rows.len() > 0 => rows.get(0).number,
+            _ => 0,
+        }
+    }
+
+    /// Whether a cache holds these under `a`, `b` and `c`, and no more.
+    fn holds(&self, numbers: [u64; 3]) -> bool {
+        let [a, b, c] = numbers;
+        let count = usize::from(a > 0) + usize::from(b > 0) + usize::from(c > 0);
+        self.number(b'a') == a
+            && self.number(b'b') == b
+            && self.number(b'c') == c
+            && self.cache.len() == count
+    }
+
+    /// Whether all rows hold.
+    fn work(&mut self, rows: &[Row]) -> Result<bool, AllocError> {
+        for i in 0..rows.len() {
+            let (call, numbers) = rows[i];
+            if !self.call(call)? || !self.holds(numbers) {
+                return Ok(false);
+            }
+        }
+        Ok(true)
+    }
 }
 
-/// Whether the last used stay, a leaf is held anew, and fewer are held under a lower limit and after one is forgotten.
-fn stay<A: Allocator + Copy>(alloc: A) -> Result<bool, AllocError> {
-    let mut cache = with_two(alloc)?;
-    let two = cache.len() == 2 && are_held(&cache, [1, 0, 3]);
-    keep(&mut cache, alloc, b"a", 4)?;
-    let anew = are_held(&cache, [4, 0, 3]);
-    cache.resize(1)?;
-    let one = cache.len() == 1 && are_held(&cache, [4, 0, 0]);
-    cache.forget(b"a");
-    Ok(two && anew && one && cache.len() == 0)
+/// Whether the rows hold of a cache of this limit.
+fn hold<A: Allocator + Copy>(alloc: A, limit: usize, rows: &[Row]) -> Result<bool, AllocError> {
+    Shelf::new(alloc, limit)?.work(rows)
+}
+
+/// How many of 4,000 leaves are held where as many may be as ever.
+fn held_of_many<A: Allocator + Copy>(alloc: A) -> Result<usize, AllocError> {
+    let mut shelf = Shelf::new(alloc, 65_536)?;
+    for number in 0..4_000u32 {
+        shelf.cache.keep(&number.to_be_bytes(), rows_of(alloc, 1)?);
+    }
+    Ok(shelf.cache.len())
 }
 
 #[test]
 fn the_last_used_stay(rt: HostRuntime) -> Result<(), Fail> {
-    assert!(rt; stay(rt.alloc())?);
-    Ok(())
-}
-
-/// Whether a cache of no leaves holds none, until it may hold some.
-fn holds_none<A: Allocator + Copy>(alloc: A) -> Result<bool, AllocError> {
-    let mut cache = LeafCache::new(alloc, 0)?;
-    keep(&mut cache, alloc, b"a", 1)?;
-    let none = cache.len() == 0;
-    cache.resize(65_536)?;
-    keep(&mut cache, alloc, b"a", 1)?;
-    let one = are_held(&cache, [1, 0, 0]);
-    cache.resize(0)?;
-    let dropped = cache.len() == 0;
-    keep(&mut cache, alloc, b"a", 1)?;
-    Ok(none && one && dropped && cache.len() == 0)
-}
-
-#[test]
-fn no_leaves(rt: HostRuntime) -> Result<(), Fail> {
-    assert!(rt; holds_none(rt.alloc())?);
+    let heap = Refusing::new(rt.alloc());
+    assert!(rt; hold(&heap, 2, &OF_TWO)?);
+    assert!(rt; hold(&heap, 0, &OF_NONE)?);
+    assert_eq!(rt; held_of_many(&heap)?, 4_000);
+    heap.set(Plan::RefuseAt(0));
+    assert!(rt; hold(&heap, 2, &OF_TWO).is_err());
     Ok(())
 }
 
@@ -126,37 +155,30 @@ fn withstands<A: Allocator + Copy, B: Allocator>(
     at: u64,
 ) -> Result<Option<bool>, AllocError> {
     heap.set(Plan::Grant);
-    let mut cache = LeafCache::new(alloc, 2)?;
-    keep(&mut cache, alloc, b"b", 2)?;
+    let mut shelf = Shelf::new(alloc, 2)?;
+    shelf.call(Call::Keep(b'b', 2))?;
     let rows = rows_of(alloc, 1)?;
     heap.set(Plan::RefuseAt(at));
-    cache.keep(b"a", rows);
-    if heap.asked() <= at && are_held(&cache, [1, 2, 0]) {
+    shelf.cache.keep(b"a", rows);
+    if heap.asked() <= at && shelf.holds([1, 2, 0]) {
         return Ok(None);
     }
-    Ok(Some(are_held(&cache, [0, 2, 0])))
+    Ok(Some(shelf.holds([0, 2, 0])))
 }
 
-/// Whether a cache can be had.
-fn is_made<A: Allocator + Copy>(alloc: A) -> bool {
-    LeafCache::new(alloc, 2).is_ok()
-}
-
-#[test]
-fn withstands_each_refusal(rt: HostRuntime) -> Result<(), Fail> {
-    let heap = Refusing::new(rt.alloc());
-    heap.set(Plan::RefuseAt(0));
-    assert!(rt; !is_made(&heap));
-    let mut refusals = 0u64;
+/// How many requests there are of which each may be refused; `Err` where one may not.
+fn refusals<A: Allocator + Copy, B: Allocator>(
+    heap: &Refusing<B>,
+    alloc: A,
+) -> Result<u64, AllocError> {
     for at in 0..20u64 {
-        match withstands(&heap, &heap, at)? {
-            None => break,
-            Some(is_right) => assert!(rt; is_right, "request {at}"),
+        match withstands(heap, alloc, at)? {
+            None => return Ok(at),
+            Some(is_right) if is_right => {}
+            Some(_) => return Err(AllocError),
         }
-        refusals = at + 1;
     }
-    assert!(rt; refusals >= 2, "{refusals} refusals");
-    Ok(())
+    Err(AllocError)
 }
 
 /// Whether what is held is looked up and forgotten, and fewer are held, with every request for memory refused. Only the
@@ -165,20 +187,20 @@ fn asks_for_none<A: Allocator + Copy, B: Allocator>(
     heap: &Refusing<B>,
     alloc: A,
 ) -> Result<bool, AllocError> {
-    let mut cache = LeafCache::new(alloc, 2)?;
-    keep(&mut cache, alloc, b"a", 1)?;
-    keep(&mut cache, alloc, b"b", 2)?;
+    heap.set(Plan::Grant);
+    let mut shelf = Shelf::new(alloc, 2)?;
+    let made = shelf.work(&OF_TWO[..2])?;
     heap.set(Plan::RefuseAll);
-    let is_found = is_used(&mut cache, b"a") && cache.peek(b"a").is_some();
-    cache.forget(b"b");
-    let is_free = heap.asked() == 0 && cache.len() == 1;
-    cache.resize(1)?;
-    Ok(is_found && is_free && are_held(&cache, [1, 0, 0]))
+    let is_free = shelf.work(&FREE)? && heap.asked() == 0;
+    shelf.call(Call::Resize(1))?;
+    Ok(made && is_free && shelf.holds([1, 0, 0]))
 }
 
 #[test]
-fn looks_up_without_memory(rt: HostRuntime) -> Result<(), Fail> {
+fn withstands_refusals(rt: HostRuntime) -> Result<(), Fail> {
     let heap = Refusing::new(rt.alloc());
+    let refused = refusals(&heap, &heap)?;
+    assert!(rt; refused >= 2, "{refused} refusals");
     assert!(rt; asks_for_none(&heap, &heap)?);
     Ok(())
 }

@@ -1,11 +1,14 @@
 //! Tests of the buffered tree's crates, from the raw block up to the tree, and of what a drop leaves charged.
 //!
 //! They stand in a crate of their own for the gate's time: it proves a crate again with its tests, and these crates'
-//! proofs are the dearest. A module is named after the crate that it tests.
+//! proofs are the dearest. A module is named after the crate that it tests; `keys` has what several share, and `refusals`
+//! refuses each request of several of their calls in turn.
 #![tactic(auto)]
 
 #[cfg(test)]
 mod flush;
+#[cfg(test)]
+mod keys;
 #[cfg(test)]
 mod leaf;
 #[cfg(test)]
@@ -22,5 +25,7 @@ mod page;
 mod raw;
 #[cfg(test)]
 mod read;
+#[cfg(test)]
+mod refusals;
 #[cfg(test)]
 mod tree;

@@ -1,237 +1,237 @@
-//! Worked rows, random calls beside a sorted vector, and the calls that take no memory with all of it refused.
-ghost use Rattle.std.specs.Prelude.{◌≡◌, ◌<◌};
-
+//! Worked rows and random calls beside sorted vectors, with every request for memory refused but those of making.
+use crate::keys::Keys;
 use std::alloc::{AllocError, Allocator};
 use std::test::Fail;
 use stow_message::head::size;
 use stow_message::message_buf::MessageBuf;
 use stow_message::newest::Newest;
-use stow_message::run::Run;
 use stow_raw::raw_buf::RawBuf;
 use stow_refusing::{Plan, Refusing};
+use stow_testing::random::Random;
 use stow_tree_model::message::Message;
 use stow_tree_model::op::Op;
+use stow_tree_model::plain::message;
 use stow_tree_model::tenant_key::TenantKey;
 use stow_tree_model::tenant_key_buf::TenantKeyBuf;
 
-/// The put of a value, if all is within the limits.
-fn put<'a>(key: TenantKey<'a>, number: u64, value: &'a [u8]) -> Option<Message<'a>> {
-    let index = key.tenant();
-    if index == 0 || index > 65_535 || number == 0 || number > 9_223_372_036_854_775_807 {
-        return None;
-    }
-    if value.len() > 65_535 {
-        return None;
-    }
-    Some(Message {
-        key,
-        number,
-        op: Op::Put(value),
-    })
-}
+/// A put: the place of its key, four to a tenant, its number, and which value it has.
+type Put = (usize, u64, u8);
 
-/// Puts the value, where it fits and none of this key and number is there.
-fn push<A: Allocator>(
-    buf: &mut MessageBuf<A>,
-    key: TenantKey<'_>,
-    number: u64,
-    value: &[u8],
-) -> bool {
-    match put(key, number, value) {
-        Some(message) if buf.fits(message) && buf.is_new(message) => {
-            buf.push(message);
-            true
-        }
-        _ => false,
+/// The keys from a place on and below another.
+type Places = (usize, usize);
+
+/// Behind all messages.
+const LAST: usize = 12;
+
+fn value_of(put: Put) -> &'static [u8] {
+    match put.2 {
+        0 => b"",
+        1 => b"x",
+        2 => b"aa",
+        3 => b"new",
+        4 => b"not",
+        _ => b"old",
     }
 }
 
-/// Whether a buffer has room for a message of 23 bytes, and none for it once more.
-fn takes_once<A: Allocator + Copy>(buf: &mut MessageBuf<A>, key: TenantKey<'_>) -> bool {
-    let Some(message) = put(key, 1, b"x") else {
-        return false;
-    };
-    let before = size(message) == 23 && buf.fits(message) && buf.is_new(message);
-    let pushed = push(buf, key, 1, b"x");
-    let counted = buf.len() == 1 && buf.used() == 23 && buf.capacity() == 40;
-    before && pushed && counted && !buf.fits(message) && !buf.is_new(message)
+/// How many bytes the put's message takes.
+fn size_of(put: Put) -> usize {
+    22 + value_of(put).len()
 }
 
-/// Whether a buffer of 40 bytes takes one such message, and one of none takes none.
-fn has_room_for_one<A: Allocator + Copy>(alloc: A) -> Result<bool, AllocError> {
-    let key = TenantKeyBuf::new(alloc, 1, b"a")?;
-    let mut buf = MessageBuf::with_capacity(alloc, 40)?;
-    let mut empty = MessageBuf::with_capacity(alloc, 0)?;
-    let none = !push(&mut empty, key.as_key(), 1, b"x") && empty.used() == 0;
-    Ok(takes_once(&mut buf, key.as_key()) && none)
+fn is_within(put: Put, (from, to): Places) -> bool {
+    from <= put.0 && put.0 < to
 }
 
-#[test]
-fn one_message(rt: HostRuntime) -> Result<(), Fail> {
-    assert!(rt; has_room_for_one(rt.alloc())?);
-    Ok(())
+/// Whether the message is the put.
+fn is_of(message: Message<'_>, put: Put, key: TenantKey<'_>) -> bool {
+    message.key.bytes == key.bytes
+        && message.number == put.1
+        && matches!(message.op, Op::Put(_))
+        && message.op.carried() == value_of(put)
+        && size(message) == size_of(put)
 }
 
-/// Whether a buffer takes 1,000 keys, finds each, and finds none of 1,000 others.
-fn finds_each<A: Allocator + Copy>(alloc: A) -> Result<bool, AllocError> {
-    let mut buf = MessageBuf::with_capacity(alloc, 65_536)?;
-    let mut same = true;
-    for i in 0..1_000u16 {
-        let key = TenantKeyBuf::new(alloc, 1, &i.to_be_bytes())?;
-        same = push(&mut buf, key.as_key(), 1, b"x") && same;
-    }
-    for i in 0..2_000u16 {
-        let key = TenantKeyBuf::new(alloc, 1, &i.to_be_bytes())?;
-        let is_there = buf.of_key(key.as_key()).len() == 1;
-        same = same && is_there == (i < 1_000);
-    }
-    Ok(same)
-}
-
-#[test]
-fn a_filter_grows_and_hides_none(rt: HostRuntime) -> Result<(), Fail> {
-    assert!(rt; finds_each(rt.alloc())?);
-    Ok(())
-}
-
-/// A number below `end`, and the next seed.
-fn random(seed: u64, end: u64) -> (u64, u64)
-    requires { 0 < end }
-    ensures { result.0 < end }
-{
-    let next = seed
-        .wrapping_mul(6364136223846793005)
-        .wrapping_add(1442695040888963407);
-    ((next >> 33) % end, next)
-}
-
-/// A buffer, and beside it a sorted vector of its messages: the rank of each one's key, and its number.
+/// A buffer of a capacity, and beside it a sorted vector of its messages.
 #[derive(Drop)]
 struct Both<A: Allocator, B: Allocator> {
     buf: MessageBuf<A>,
-    plain: Vec<(u8, u64), B>,
+    plain: Vec<Put, B>,
+    capacity: u16,
 }
 
-/// An empty buffer beside an empty vector.
-fn empty<A: Allocator + Copy, B: Allocator>(
-    heap: A,
-    alloc: B,
-    capacity: usize,
-) -> Result<Both<A, B>, AllocError>
-    requires { capacity < 4294967296 }
-{
-    Ok(Both {
-        buf: MessageBuf::with_capacity(heap, capacity)?,
-        plain: Vec::new(alloc),
-    })
-}
-
-/// The key of a rank, four to a tenant.
-fn key_of<A: Allocator>(alloc: A, rank: u8) -> Result<TenantKeyBuf<A>, AllocError> {
-    TenantKeyBuf::new(alloc, rank as u32 / 4 + 1, &[rank % 4])
-}
-
-/// Whether the message is the put of this rank and number.
-fn is_of(message: Message<'_>, (rank, number): (u8, u64)) -> bool {
-    message.key.bytes == [0, 0, 0, rank / 4 + 1, rank % 4].as_slice()
-        && message.number == number
-        && matches!(message.op, Op::Put(_))
-        && message.op.carried() == [rank].as_slice()
-}
-
-/// Whether these are the messages of the run.
-fn are_same<A: Allocator>(run: &Run<'_, A>, plain: &[(u8, u64)]) -> bool {
-    let mut same = run.len() == plain.len();
-    for (i, one) in plain.iter().enumerate() {
-        same = same && i < run.len() && is_of(run.get(i), *one);
+impl<A: Allocator + Copy, B: Allocator + Copy> Both<A, B> {
+    fn new(heap: A, alloc: B, capacity: u16) -> Result<Both<A, B>, AllocError> {
+        Ok(Both {
+            buf: MessageBuf::with_capacity(heap, usize::from(capacity))?,
+            plain: Vec::new(alloc),
+            capacity,
+        })
     }
-    same
-}
 
-/// Whether these are the messages, from the last one on.
-fn are_newest<A: Allocator>(newest: &Newest<'_, A>, plain: &[(u8, u64)]) -> bool {
-    let mut same = newest.len() == plain.len();
-    for (i, one) in plain.iter().rev().enumerate() {
-        same = same && i < newest.len() && is_of(newest.get(i), *one);
-    }
-    same
-}
-
-/// Those of the ranks from `from` on and below `to`.
-fn between<A: Allocator>(
-    alloc: A,
-    plain: &[(u8, u64)],
-    (from, to): (u8, u8),
-) -> Result<Vec<(u8, u64), A>, AllocError> {
-    let mut among = Vec::new(alloc);
-    for one in plain {
-        if from <= one.0 && one.0 < to {
-            among.push(*one)?;
+    /// Whether a message of the put's key and number is there.
+    fn has_place(&self, put: Put) -> bool {
+        let mut has = false;
+        for one in self.plain.as_slice() {
+            has = has || (one.0 == put.0 && one.1 == put.1);
         }
+        has
     }
-    Ok(among)
-}
 
-/// Whether the buffer lends just what the vector holds: all of it, an interval, and one key.
-fn agrees<A: Allocator, B: Allocator + Copy>(
-    both: &Both<A, B>,
-    alloc: B,
-    (from, to): (u8, u8),
-) -> Result<bool, AllocError> {
-    let (low, high) = (key_of(alloc, from)?, key_of(alloc, to)?);
-    let (first, last) = (key_of(alloc, 0)?, key_of(alloc, 12)?);
-    let among = between(alloc, &both.plain, (from, to))?;
-    let of_key = between(alloc, &both.plain, (from, from.saturating_add(1)))?;
-    Ok(
-        are_same(
-            &both.buf.in_range(first.as_key(), last.as_key()),
-            &both.plain,
-        ) && are_same(&both.buf.in_range(low.as_key(), high.as_key()), &among)
-            && are_newest(&both.buf.of_key(low.as_key()), &of_key)
-            && are_newest(
-                &both.buf.of_key_near(low.as_key(), usize::from(to)),
-                &of_key,
-            ),
-    )
-}
-
-/// Puts a message into both, where it is new.
-fn push_both<A: Allocator, B: Allocator + Copy>(
-    both: &mut Both<A, B>,
-    alloc: B,
-    one: (u8, u64),
-) -> Result<bool, AllocError> {
-    let key = key_of(alloc, one.0)?;
-    let is_new = !both.plain.contains(&one);
-    if is_new {
-        both.plain.push(one)?;
-        both.plain.sort()?;
+    /// Puts a message into both, where it fits and is new. Whether the buffer tells that as the vector does.
+    fn put(&mut self, keys: &Keys<B>, put: Put) -> Result<bool, AllocError> {
+        let has_room = self.buf.used().saturating_add(size_of(put)) <= usize::from(self.capacity);
+        let is_unknown = !self.has_place(put);
+        let Some(made) = message(keys.at(put.0), put.1, Op::Put(value_of(put))) else {
+            return Ok(false);
+        };
+        let (fits, is_new) = (self.buf.fits(made), self.buf.is_new(made));
+        if fits && is_new {
+            self.buf.push(made);
+            self.plain.push(put)?;
+            self.plain.sort()?;
+        }
+        Ok(fits == has_room && is_new == is_unknown)
     }
-    Ok(push(&mut both.buf, key.as_key(), one.1, &[one.0]) == is_new)
-}
 
-/// Moves the messages of an interval of ranks from one to the other, where they fit and are new there.
-fn move_both<A: Allocator, B: Allocator + Copy>(
-    from: &mut Both<A, B>,
-    into: &mut Both<A, B>,
-    alloc: B,
-    (low, high): (u8, u8),
-) -> Result<bool, AllocError> {
-    let (first, last) = (key_of(alloc, low)?, key_of(alloc, high)?);
-    let moved = between(alloc, &from.plain, (low, high))?;
-    let is_new = moved.iter().all(|one| !into.plain.contains(one));
-    if is_new {
-        into.plain.extend_from_slice(&moved)?;
-        into.plain.sort()?;
-        from.plain.retain(|one| one.0 < low || high <= one.0);
+    /// The bytes of an interval's messages, by the vector.
+    fn bytes_within(&self, places: Places) -> usize {
+        let mut bytes = 0usize;
+        for put in self.plain.as_slice() {
+            if is_within(*put, places) {
+                bytes = bytes.saturating_add(size_of(*put));
+            }
+        }
+        bytes
     }
-    Ok(
-        moves(
-            &mut from.buf,
-            (first.as_key(), last.as_key()),
-            &mut into.buf,
-        ) == is_new,
-    )
+
+    /// Whether none of an interval's messages has a place of another's.
+    fn are_new_to(&self, places: Places, other: &Both<A, B>) -> bool {
+        let mut are_new = true;
+        for put in self.plain.as_slice() {
+            are_new = are_new && !(is_within(*put, places) && other.has_place(*put));
+        }
+        are_new
+    }
+
+    /// Drops an interval's messages from the vector.
+    fn forget(&mut self, places: Places) {
+        self.plain.retain(|put| !is_within(*put, places));
+    }
+
+    /// Moves an interval's messages of the vector into another.
+    fn move_plain(&mut self, places: Places, into: &mut Both<A, B>) -> Result<(), AllocError> {
+        for put in self.plain.as_slice() {
+            if is_within(*put, places) {
+                into.plain.push(*put)?;
+            }
+        }
+        self.forget(places);
+        into.plain.sort()
+    }
+
+    /// Moves an interval's messages, where they fit and are new. Whether the buffers tell that as the vectors do.
+    fn move_into(
+        &mut self,
+        keys: &Keys<B>,
+        places: Places,
+        into: &mut Both<A, B>,
+    ) -> Result<bool, AllocError> {
+        let has_room = self.bytes_within(places)
+            <= usize::from(into.capacity).saturating_sub(into.buf.used());
+        let may_move = has_room && self.are_new_to(places, into);
+        let (from, to) = (keys.at(places.0), keys.at(places.1));
+        if moves(&mut self.buf, (from, to), &mut into.buf) {
+            self.move_plain(places, into)?;
+            return Ok(may_move);
+        }
+        Ok(!may_move)
+    }
+
+    /// Drops an interval's messages.
+    fn drop_within(&mut self, keys: &Keys<B>, places: Places) {
+        self.buf.drop_range(keys.at(places.0), keys.at(places.1));
+        self.forget(places);
+    }
+
+    /// Whether all messages of a batch are there.
+    fn has_all(&self, batch: &Both<A, B>) -> bool {
+        let mut has = true;
+        for put in batch.plain.as_slice() {
+            has = has && self.plain.contains(put);
+        }
+        has
+    }
+
+    /// Takes a batch's messages out, where all of them are there. Whether the buffers tell that as the vectors do.
+    fn take(&mut self, batch: &Both<A, B>) -> bool {
+        let is_held = self.has_all(batch);
+        if is_held {
+            self.plain.retain(|put| !batch.plain.contains(put));
+        }
+        self.buf.take_out(&batch.buf) == is_held
+    }
+
+    /// Drops all messages.
+    fn reset(&mut self) -> bool {
+        self.buf.reset();
+        self.plain.clear();
+        self.buf.used() == 0
+    }
+
+    /// Drops the dead bytes. Whether none is left.
+    fn squeeze(&mut self, spare: &mut RawBuf<A>) -> bool {
+        if self.buf.capacity() <= spare.capacity() {
+            self.buf.squeeze(spare);
+        }
+        self.buf.used() == self.bytes_within((0, LAST))
+    }
+
+    /// Whether the buffer lends and counts an interval's messages as the vector does.
+    fn lends(&self, keys: &Keys<B>, places: Places) -> bool {
+        let (from, to) = (keys.at(places.0), keys.at(places.1));
+        let run = self.buf.in_range(from, to);
+        let mut at = 0usize;
+        for put in self.plain.as_slice() {
+            if is_within(*put, places) {
+                if at >= run.len() || !is_of(run.get(at), *put, keys.at(put.0)) {
+                    return false;
+                }
+                at = at.saturating_add(1);
+            }
+        }
+        at == run.len() && self.buf.range_bytes(from, to) == self.bytes_within(places)
+    }
+
+    /// Whether these are the messages of a key, from the newest on.
+    fn are_newest(&self, newest: &Newest<'_, A>, key: TenantKey<'_>, place: usize) -> bool {
+        let mut left = newest.len();
+        for put in self.plain.as_slice() {
+            if put.0 == place {
+                if left == 0 || left > newest.len() || !is_of(newest.get(left - 1), *put, key) {
+                    return false;
+                }
+                left -= 1;
+            }
+        }
+        left == 0
+    }
+
+    /// Whether the buffer lends the messages of a key as the vector does, with a guess of its place and without.
+    fn lends_key(&self, keys: &Keys<B>, (place, guess): Places) -> bool {
+        let key = keys.at(place);
+        self.are_newest(&self.buf.of_key(key), key, place)
+            && self.are_newest(&self.buf.of_key_near(key, guess), key, place)
+    }
+
+    /// Whether the buffer tells what the vector does: of all, an interval, and its first key.
+    fn agrees(&self, keys: &Keys<B>, places: Places) -> bool {
+        self.lends(keys, (0, LAST))
+            && self.lends(keys, places)
+            && self.lends_key(keys, places)
+            && self.buf.len() == self.plain.len()
+            && self.buf.capacity() == usize::from(self.capacity)
+    }
 }
 
 /// Moves the interval, where that may be.
@@ -248,65 +248,54 @@ fn moves<A: Allocator>(
     may_move
 }
 
-/// Takes the messages of the batch out of both, where all of them are there.
-fn take_both<A: Allocator, B: Allocator>(both: &mut Both<A, B>, batch: &Both<A, B>) -> bool {
-    let is_held = batch.plain.iter().all(|one| both.plain.contains(one));
-    if is_held {
-        both.plain.retain(|one| !batch.plain.contains(one));
-    }
-    both.buf.take_out(&batch.buf) == is_held
+/// A call of one of three buffers, of which the third is the batch.
+#[derive(Clone, Copy)]
+enum Call {
+    PutLeft(Put),
+    PutRight(Put),
+    PutBatch(Put),
+    MoveRight(Places),
+    MoveLeft(Places),
+    DropRight(Places),
+    Take,
+    Squeeze,
+    ResetLeft,
+    ResetBatch,
 }
 
-/// Takes a batch of two messages out of both: this one, and the one in the middle.
-fn take_two<A: Allocator, B: Allocator + Copy>(
-    both: &mut Both<A, B>,
-    batch: &mut Both<A, B>,
-    alloc: B,
-    one: (u8, u64),
-) -> Result<bool, AllocError> {
-    batch.buf.reset();
-    batch.plain.clear();
-    let mut same = push_both(batch, alloc, one)?;
-    if let Some(middle) = both.plain.get(both.plain.len() / 2) {
-        same = push_both(batch, alloc, *middle)? && same;
-    }
-    Ok(take_both(both, batch) && same)
-}
+/// A call, and then how many messages and bytes in use the left buffer has, and the right one.
+type Row = (Call, [usize; 4]);
 
-/// Squeezes the buffer. No byte is dead after that: each message takes 23.
-fn squeeze_both<A: Allocator, B: Allocator>(both: &mut Both<A, B>, spare: &mut RawBuf<A>) -> bool {
-    if both.buf.capacity() <= spare.capacity() {
-        both.buf.squeeze(spare);
-    }
-    both.buf.used() == both.plain.len().saturating_mul(23)
-}
+/// Calls of buffers of 40 bytes and of none: one message is taken, and neither it nor another then.
+const TIGHT: [Row; 4] = [
+    (Call::PutLeft((0, 1, 1)), [1, 23, 0, 0]),
+    (Call::PutLeft((0, 1, 1)), [1, 23, 0, 0]),
+    (Call::PutLeft((1, 2, 0)), [1, 23, 0, 0]),
+    (Call::PutRight((0, 1, 1)), [1, 23, 0, 0]),
+];
 
-/// A number from 1 on and below 20, the two ranks of an interval, and the next seed.
-fn random_call(seed: u64) -> (u64, (u8, u8), u64)
-    ensures { (result.1.0 < 12) × (result.1.1 < 13) }
-{
-    let (number, one) = random(seed, 19);
-    let (from, two) = random(one, 12);
-    let (to, three) = random(two, 13);
-    (number + 1, (from as u8, to as u8), three)
-}
-
-/// One call of a random kind on both sides, with random arguments.
-fn random_step<A: Allocator, B: Allocator + Copy>(
-    (left, right): (&mut Both<A, B>, &mut Both<A, B>),
-    (batch, spare): (&mut Both<A, B>, &mut RawBuf<A>),
-    alloc: B,
-    (kind, number, ranks): (u64, u64, (u8, u8)),
-) -> Result<bool, AllocError> {
-    match kind {
-        0 => move_both(left, right, alloc, ranks),
-        1 => move_both(right, left, alloc, ranks),
-        2 => Ok(squeeze_both(left, spare) && squeeze_both(right, spare)),
-        3 => take_two(left, batch, alloc, (ranks.0, number)),
-        4 => push_both(right, alloc, (ranks.0, number)),
-        _ => push_both(left, alloc, (ranks.0, number)),
-    }
-}
+/// Calls of buffers of 200 bytes: four messages of two tenants; a batch that is not all there, and one that is; an
+/// interval that moves and is dropped.
+const WORKED: [Row; 18] = [
+    (Call::PutLeft((4, 1, 2)), [1, 24, 0, 0]),
+    (Call::PutLeft((1, 3, 3)), [2, 49, 0, 0]),
+    (Call::PutLeft((0, 2, 2)), [3, 73, 0, 0]),
+    (Call::PutLeft((1, 1, 5)), [4, 98, 0, 0]),
+    (Call::Squeeze, [4, 98, 0, 0]),
+    (Call::PutBatch((1, 3, 4)), [4, 98, 0, 0]),
+    (Call::PutBatch((0, 2, 2)), [4, 98, 0, 0]),
+    (Call::Take, [4, 98, 0, 0]),
+    (Call::ResetBatch, [4, 98, 0, 0]),
+    (Call::PutBatch((1, 3, 3)), [4, 98, 0, 0]),
+    (Call::PutBatch((0, 2, 2)), [4, 98, 0, 0]),
+    (Call::Take, [2, 90, 0, 0]),
+    (Call::PutLeft((1, 3, 3)), [3, 115, 0, 0]),
+    (Call::MoveRight((1, 4)), [1, 107, 2, 50]),
+    (Call::DropRight((1, 4)), [1, 107, 0, 42]),
+    (Call::Squeeze, [1, 24, 0, 0]),
+    (Call::ResetLeft, [0, 0, 0, 0]),
+    (Call::PutLeft((2, 9, 3)), [1, 25, 0, 0]),
+];
 
 /// Two buffers, a batch and a spare block, each beside its vector.
 #[derive(Drop)]
@@ -315,197 +304,188 @@ struct All<A: Allocator, B: Allocator> {
     right: Both<A, B>,
     batch: Both<A, B>,
     spare: RawBuf<A>,
+    keys: Keys<B>,
 }
 
-fn all_empty<A: Allocator + Copy, B: Allocator + Copy>(
-    heap: A,
-    alloc: B,
-) -> Result<All<A, B>, AllocError> {
-    Ok(All {
-        left: empty(heap, alloc, 9_000)?,
-        right: empty(heap, alloc, 9_000)?,
-        batch: empty(heap, alloc, 60)?,
-        spare: RawBuf::with_capacity(heap, 9_000)?,
+impl<A: Allocator + Copy, B: Allocator + Copy> All<A, B> {
+    fn new(heap: A, alloc: B, (left, right): (u16, u16)) -> Result<All<A, B>, AllocError> {
+        Ok(All {
+            left: Both::new(heap, alloc, left)?,
+            right: Both::new(heap, alloc, right)?,
+            batch: Both::new(heap, alloc, 60)?,
+            spare: RawBuf::with_capacity(heap, usize::from(left))?,
+            keys: Keys::new(alloc, 4, b"abcd")?,
+        })
+    }
+
+    /// Carries out a call. Whether the buffers tell of it as the vectors do.
+    fn call(&mut self, call: Call) -> Result<bool, AllocError> {
+        let keys = &self.keys;
+        match call {
+            Call::PutLeft(put) => self.left.put(keys, put),
+            Call::PutRight(put) => self.right.put(keys, put),
+            Call::PutBatch(put) => self.batch.put(keys, put),
+            Call::MoveRight(places) => self.left.move_into(keys, places, &mut self.right),
+            Call::MoveLeft(places) => self.right.move_into(keys, places, &mut self.left),
+            Call::DropRight(places) => {
+                self.right.drop_within(keys, places);
+                Ok(true)
+            }
+            Call::Take => Ok(self.left.take(&self.batch)),
+            Call::Squeeze => Ok(self.squeeze()),
+            Call::ResetLeft => Ok(self.left.reset()),
+            Call::ResetBatch => Ok(self.batch.reset()),
+        }
+    }
+
+    fn squeeze(&mut self) -> bool {
+        self.left.squeeze(&mut self.spare) && self.right.squeeze(&mut self.spare)
+    }
+
+    fn agrees(&self, places: Places) -> bool {
+        self.left.agrees(&self.keys, places) && self.right.agrees(&self.keys, places)
+    }
+
+    /// How many rows come before the first that does not hold.
+    fn work(&mut self, rows: &[Row]) -> Result<usize, AllocError> {
+        for i in 0..rows.len() {
+            let (call, sizes) = rows[i];
+            let told = self.call(call)?;
+            if !told || !self.agrees((1, 4)) || self.sizes() != sizes {
+                return Ok(i);
+            }
+        }
+        Ok(rows.len())
+    }
+
+    fn sizes(&self) -> [usize; 4] {
+        let (left, right) = (&self.left.buf, &self.right.buf);
+        [left.len(), left.used(), right.len(), right.used()]
+    }
+
+    /// How many of so many random calls come before the first after which they differ.
+    fn go_on(&mut self, random: &mut Random, calls: u32) -> Result<u32, AllocError> {
+        for turn in 0..calls {
+            let places = random_places(random);
+            let call = self.random_call(random, places);
+            if !self.call(call)? || !self.agrees(places) {
+                return Ok(turn);
+            }
+        }
+        Ok(calls)
+    }
+
+    /// A call of a random kind. A batch is filled with a random put and one that is there.
+    fn random_call(&self, random: &mut Random, places: Places) -> Call {
+        let number = u64::from(random.below(19)) + 1;
+        let put = (places.0, number, random.below(6) as u8);
+        match random.below(13) {
+            0 => Call::MoveRight(places),
+            1 => Call::MoveLeft(places),
+            2 => Call::Squeeze,
+            3 | 4 => Call::Take,
+            5 => Call::ResetBatch,
+            6 => Call::PutBatch(put),
+            7 => Call::PutBatch(self.middle(put)),
+            8 => Call::PutRight(put),
+            _ => Call::PutLeft(put),
+        }
+    }
+
+    /// The left vector's put in the middle, or this one.
+    fn middle(&self, put: Put) -> Put {
+        match self.left.plain.get(self.left.plain.len() / 2) {
+            Some(middle) => *middle,
+            None => put,
+        }
+    }
+}
+
+fn random_places(random: &mut Random) -> Places {
+    (random.below(12) as usize, random.below(13) as usize)
+}
+
+/// How many rows and then how many of so many random calls hold in buffers of these capacities, whether both buffers have
+/// many messages then, and how many requests all that makes.
+fn held<A: Allocator + Copy, B: Allocator + Copy, C: Allocator>(
+    heap: &Refusing<C>,
+    (lent, alloc): (A, B),
+    capacities: (u16, u16),
+    (rows, calls): (&[Row], u32),
+) -> Result<(usize, u32, bool, u64), AllocError> {
+    heap.set(Plan::Grant);
+    let mut all = All::new(lent, alloc, capacities)?;
+    heap.set(Plan::RefuseAll);
+    let worked = all.work(rows)?;
+    let turns = all.go_on(&mut Random::new(7), calls)?;
+    let are_many = all.left.plain.len() > 20 && all.right.plain.len() > 20;
+    Ok((worked, turns, are_many, heap.asked()))
+}
+
+#[test]
+fn calls_beside_sorted_vectors(rt: HostRuntime) -> Result<(), Fail> {
+    let heap = Refusing::new(rt.alloc());
+    let lent = (&heap, rt.alloc());
+    let tight = held(&heap, lent, (40, 0), (&TIGHT, 0))?;
+    assert_eq!(rt; tight, (TIGHT.len(), 0, false, 0));
+    let worked = held(&heap, lent, (200, 200), (&WORKED, 0))?;
+    assert_eq!(rt; worked, (WORKED.len(), 0, false, 0));
+    let random = held(&heap, lent, (9_000, 9_000), (&[], 600))?;
+    assert_eq!(rt; random, (0, 600, true, 0));
+    Ok(())
+}
+
+/// Puts a message, where it fits and is new. Whether it did.
+pub(crate) fn pushed<A: Allocator>(buf: &mut MessageBuf<A>, made: Message<'_>) -> bool {
+    let may_push = buf.fits(made) && buf.is_new(made);
+    if may_push {
+        buf.push(made);
+    }
+    may_push
+}
+
+/// Puts the key of this number.
+fn put_number<A: Allocator + Copy>(
+    alloc: A,
+    buf: &mut MessageBuf<A>,
+    number: u16,
+) -> Result<bool, AllocError> {
+    let key = TenantKeyBuf::new(alloc, 1, &number.to_be_bytes())?;
+    Ok(match message(key.as_key(), 1, Op::Put(b"x")) {
+        Some(made) => pushed(buf, made),
+        None => false,
     })
 }
 
-impl<A: Allocator, B: Allocator + Copy> All<A, B> {
-    /// A random call on both sides; whether they still agree. Answers the next seed.
-    fn turn(&mut self, alloc: B, seed: u64) -> Result<(bool, u64), AllocError> {
-        let (kind, one) = random(seed, 9);
-        let (number, ranks, two) = random_call(one);
-        let same = random_step(
-            (&mut self.left, &mut self.right),
-            (&mut self.batch, &mut self.spare),
-            alloc,
-            (kind, number, ranks),
-        )?;
-        let left = agrees(&self.left, alloc, ranks)?;
-        let right = agrees(&self.right, alloc, ranks)?;
-        Ok((same && left && right, two))
-    }
-
-    /// So many random calls; the first after which they don't agree.
-    fn go_on(&mut self, alloc: B, turns: u64) -> Result<Option<u64>, AllocError> {
-        let mut seed = 7;
-        for turn in 0..turns {
-            let (same, next) = self.turn(alloc, seed)?;
-            seed = next;
-            if !same {
-                return Ok(Some(turn));
-            }
-        }
-        Ok(None)
-    }
-}
-
-/// Whether buffers agree with their vectors through random calls, with every request for memory refused.
-fn agree<A: Allocator + Copy, B: Allocator + Copy, C: Allocator>(
-    heap: &Refusing<C>,
-    (lent, alloc): (A, B),
-) -> Result<bool, AllocError> {
-    let mut all = all_empty(lent, alloc)?;
-    heap.set(Plan::RefuseAll);
-    let other = all.go_on(alloc, 400)?;
-    let are_many = all.left.plain.len() > 20 && all.right.plain.len() > 20;
-    Ok(other.is_none() && are_many && heap.asked() == 0)
-}
-
-#[test]
-fn random_calls_beside_sorted_vectors(rt: HostRuntime) -> Result<(), Fail> {
-    let heap = Refusing::new(rt.alloc());
-    assert!(rt; agree(&heap, (&heap, rt.alloc()))?);
-    Ok(())
-}
-
-/// A buffer of 200 bytes with four messages of two tenants, two of them of one key.
-fn four<A: Allocator + Copy>(alloc: A) -> Result<MessageBuf<A>, AllocError> {
-    let mut buf = MessageBuf::with_capacity(alloc, 200)?;
-    let a = TenantKeyBuf::new(alloc, 1, b"a")?;
-    let b = TenantKeyBuf::new(alloc, 1, b"b")?;
-    let c = TenantKeyBuf::new(alloc, 2, b"a")?;
-    push(&mut buf, c.as_key(), 1, b"cc");
-    push(&mut buf, b.as_key(), 3, b"new");
-    push(&mut buf, a.as_key(), 2, b"aa");
-    push(&mut buf, b.as_key(), 1, b"old");
-    Ok(buf)
-}
-
-/// Whether a buffer has so many messages and bytes in use.
-fn has<A: Allocator>(buf: &MessageBuf<A>, len: usize, used: usize) -> bool {
-    buf.len() == len && buf.used() == used
-}
-
-/// Whether these are the messages 3 and 1.
-fn are_two<A: Allocator>(newest: &Newest<'_, A>) -> bool {
-    newest.len() == 2 && newest.get(0).number == 3 && newest.get(1).number == 1
-}
-
-/// Whether a key and an interval of the four are found.
-fn are_found<A: Allocator + Copy>(alloc: A) -> Result<bool, AllocError> {
-    let buf = four(alloc)?;
-    let b = TenantKeyBuf::new(alloc, 1, b"b")?;
-    let c = TenantKeyBuf::new(alloc, 2, b"")?;
-    let interval = buf.in_range(b.as_key(), c.as_key()).len() == 2
-        && buf.range_bytes(b.as_key(), c.as_key()) == 50;
-    Ok(are_two(&buf.of_key(b.as_key())) && interval && buf.used() == 98)
-}
-
-#[test]
-fn a_key_and_an_interval(rt: HostRuntime) -> Result<(), Fail> {
-    assert!(rt; are_found(rt.alloc())?);
-    Ok(())
-}
-
-/// Whether an interval of the four moves, and is dropped, with every request for memory refused.
-fn is_moved<A: Allocator + Copy, B: Allocator>(
-    heap: &Refusing<B>,
+/// How many messages the key of this number has.
+fn count_of<A: Allocator + Copy>(
     alloc: A,
-) -> Result<bool, AllocError> {
-    heap.set(Plan::Grant);
-    let mut buf = four(alloc)?;
-    let mut other = MessageBuf::with_capacity(alloc, 200)?;
-    let b = TenantKeyBuf::new(alloc, 1, b"b")?;
-    let c = TenantKeyBuf::new(alloc, 2, b"")?;
-    heap.set(Plan::RefuseAll);
-    let moved = moves(&mut buf, (b.as_key(), c.as_key()), &mut other);
-    let parted = has(&buf, 2, 90) && has(&other, 2, 50);
-    other.drop_range(b.as_key(), c.as_key());
-    Ok(moved && parted && has(&other, 0, 42) && heap.asked() == 0)
+    buf: &MessageBuf<A>,
+    number: u16,
+) -> Result<usize, AllocError> {
+    let key = TenantKeyBuf::new(alloc, 1, &number.to_be_bytes())?;
+    Ok(buf.of_key(key.as_key()).len())
 }
 
-/// Whether a buffer can be had.
-fn is_made<A: Allocator + Copy>(alloc: A) -> bool {
-    MessageBuf::with_capacity(alloc, 200).is_ok()
+/// Whether a buffer takes 1,000 keys, finds each, and finds none of 1,000 others.
+fn finds_each<A: Allocator + Copy>(alloc: A) -> Result<bool, AllocError> {
+    let mut buf = MessageBuf::with_capacity(alloc, 65_536)?;
+    let mut same = true;
+    for number in 0..1_000u16 {
+        same = put_number(alloc, &mut buf, number)? && same;
+    }
+    for number in 0..2_000u16 {
+        let is_there = count_of(alloc, &buf, number)? == 1;
+        same = same && is_there == (number < 1_000);
+    }
+    Ok(same)
 }
 
 #[test]
-fn an_interval_moves_without_memory(rt: HostRuntime) -> Result<(), Fail> {
+fn a_filter_grows_and_hides_none(rt: HostRuntime) -> Result<(), Fail> {
     let heap = Refusing::new(rt.alloc());
+    assert!(rt; finds_each(&heap)?);
     heap.set(Plan::RefuseAt(0));
-    assert!(rt; !is_made(&heap));
-    assert!(rt; is_moved(&heap, &heap)?);
-    Ok(())
-}
-
-/// A batch of tenant 1's `a` as the four have it, and its `b` at 3 with this value.
-fn fill_batch<A: Allocator + Copy>(
-    batch: &mut MessageBuf<A>,
-    (a, b): (TenantKey<'_>, TenantKey<'_>),
-    value: &[u8],
-) -> bool {
-    batch.reset();
-    push(batch, b, 3, value) && push(batch, a, 2, b"aa")
-}
-
-/// Whether a batch is taken out of the four where all of it is there, and else nothing, with every request for memory
-/// refused.
-fn is_taken_whole<A: Allocator + Copy, B: Allocator>(
-    heap: &Refusing<B>,
-    alloc: A,
-) -> Result<bool, AllocError> {
-    heap.set(Plan::Grant);
-    let mut buf = four(alloc)?;
-    let mut batch = MessageBuf::with_capacity(alloc, 200)?;
-    let a = TenantKeyBuf::new(alloc, 1, b"a")?;
-    let b = TenantKeyBuf::new(alloc, 1, b"b")?;
-    heap.set(Plan::RefuseAll);
-    let other = fill_batch(&mut batch, (a.as_key(), b.as_key()), b"not");
-    let left = other && !buf.take_out(&batch) && has(&buf, 4, 98);
-    let same = fill_batch(&mut batch, (a.as_key(), b.as_key()), b"new");
-    let taken = same && buf.take_out(&batch) && has(&buf, 2, 90);
-    Ok(left && taken && heap.asked() == 0)
-}
-
-#[test]
-fn a_batch_goes_whole_or_not_at_all(rt: HostRuntime) -> Result<(), Fail> {
-    let heap = Refusing::new(rt.alloc());
-    assert!(rt; is_taken_whole(&heap, &heap)?);
-    Ok(())
-}
-
-/// Whether the four are squeezed, and give way to another, with every request for memory refused.
-fn is_squeezed<A: Allocator + Copy, B: Allocator>(
-    heap: &Refusing<B>,
-    alloc: A,
-) -> Result<bool, AllocError> {
-    heap.set(Plan::Grant);
-    let mut buf = four(alloc)?;
-    let mut spare = RawBuf::with_capacity(alloc, 200)?;
-    let key = TenantKeyBuf::new(alloc, 1, b"c")?;
-    heap.set(Plan::RefuseAll);
-    if buf.capacity() <= spare.capacity() {
-        buf.squeeze(&mut spare);
-    }
-    let squeezed = has(&buf, 4, 98);
-    buf.reset();
-    let again = push(&mut buf, key.as_key(), 9, b"again") && buf.used() == 27;
-    Ok(squeezed && again && heap.asked() == 0)
-}
-
-#[test]
-fn dead_bytes_go_without_memory(rt: HostRuntime) -> Result<(), Fail> {
-    let heap = Refusing::new(rt.alloc());
-    assert!(rt; is_squeezed(&heap, &heap)?);
+    assert!(rt; finds_each(&heap).is_err());
     Ok(())
 }

@@ -1,4 +1,4 @@
-//! What no clause says: that the calls succeed where there is memory, and which of them ask for none.
+//! What no clause says: that the calls succeed where there is memory. That each request may be refused is in `refusals`.
 ghost use Rattle.std.specs.Prelude.{◌≡◌, ℕ, ◌+◌, ◌<◌, ◌≤◌, [], length, IsTrue, IfOk};
 ghost use Rattle.stow_tree_model.specs.Keys.{packed};
 ghost use Rattle.stow_node.specs.Flushes.{AreShort};
@@ -6,7 +6,6 @@ ghost use Rattle.stow_tree_tests.specs.Ready.{IsReadyAbove};
 ghost use Rattle.stow_node.specs.Subtree.{messages_of};
 
 use std::alloc::{AllocError, Allocator};
-use std::test::Fail;
 use stow_leaf_cache::leaf_cache::LeafCache;
 use stow_merge::pins::Pins;
 use stow_node::node::Node;
@@ -19,7 +18,7 @@ use stow_tree_model::plain::message;
 use stow_tree_model::tenant_key::TenantKey;
 
 /// The smallest tree.
-fn smallest() -> Shape
+pub(crate) fn smallest() -> Shape
     ensures { (result.fan_out ≡ 4) × (result.buffer ≡ 131072) }
 {
     Shape {
@@ -30,7 +29,7 @@ fn smallest() -> Shape
 }
 
 /// Puts tenant 1's `a` into a node without messages.
-fn put_a<A: Allocator>(node: &mut Node<A>)
+pub(crate) fn put_a<A: Allocator>(node: &mut Node<A>)
     requires none { messages_of node.old ≡ [] }
     requires low { node.old.low ≡ packed 0 [] }
     requires room { node.old.buffer.used + 23 ≤ node.old.buffer.capacity }
@@ -46,65 +45,6 @@ fn put_a<A: Allocator>(node: &mut Node<A>)
         number: 1,
         op: Op::Put(b"x"),
     });
-}
-
-/// Puts a message into a node without any, and takes a step.
-fn put_and_step<A: Allocator + Copy>(
-    alloc: A,
-    node: &mut Node<A>,
-    pins: &Pins<A>,
-    spare: &mut RawBuf<A>,
-    cache: &mut LeafCache<A>,
-) -> Result<(), AllocError>
-    requires none { messages_of node.old ≡ [] }
-    requires low { node.old.low ≡ packed 0 [] }
-    requires room { node.old.buffer.used + 23 ≤ node.old.buffer.capacity }
-    requires few { node.old.width ≤ node.old.shape.fan_out }
-    requires shape { 4 ≤ node.old.shape.fan_out }
-    requires spare { node.old.buffer.capacity ≤ spare.old.capacity }
-{
-    put_a(node);
-    node.step(alloc, pins, spare, cache)
-}
-
-/// Whether a first node can be had.
-fn is_made<A: Allocator + Copy>(alloc: A) -> bool {
-    Node::first(alloc, smallest()).is_ok()
-}
-
-#[test]
-fn making_withstands_each_refusal(rt: HostRuntime) -> Result<(), Fail> {
-    let heap = Refusing::new(rt.alloc());
-    assert!(rt; is_made(&heap));
-    let asked = heap.asked();
-    for n in 0..asked {
-        heap.set(Plan::RefuseAt(n));
-        assert!(rt; !is_made(&heap), "request {n}");
-    }
-    assert!(rt; asked >= 6, "{asked} requests");
-    Ok(())
-}
-
-/// Whether a first node, a spare block and a cache can be had, and a message is merged into the leaf.
-fn is_flushed<A: Allocator + Copy>(alloc: A) -> Result<bool, AllocError> {
-    let mut spare = RawBuf::with_capacity(alloc, 131_072)?;
-    let mut cache = LeafCache::new(alloc, 0)?;
-    let pins = Pins::new(alloc);
-    let mut node = Node::first(alloc, smallest())?;
-    put_and_step(alloc, &mut node, &pins, &mut spare, &mut cache)?;
-    Ok(node.buffer().len() == 0)
-}
-
-#[test]
-fn a_leaf_takes_messages(rt: HostRuntime) -> Result<(), Fail> {
-    let heap = Refusing::new(rt.alloc());
-    assert_eq!(rt; is_flushed(&heap), Ok(true));
-    let asked = heap.asked();
-    for n in 0..asked {
-        heap.set(Plan::RefuseAt(n));
-        assert!(rt; is_flushed(&heap).is_err(), "request {n}");
-    }
-    Ok(())
 }
 
 /// Puts tenant 1's key of this number into a node, or removes it, if the message fits there. Its own number follows the last.
@@ -180,59 +120,57 @@ fn to_empty<A: Allocator + Copy>(alloc: A) -> Result<Node<A>, AllocError>
     Ok(node)
 }
 
-/// How many leaves there are before and after each of three steps that empty one.
-fn widths<A: Allocator + Copy>(alloc: A) -> Result<[usize; 4], AllocError> {
-    let mut node = to_empty(alloc)?;
-    let full = node.width();
-    flush(alloc, &mut node)?;
-    let first = node.width();
-    flush(alloc, &mut node)?;
-    let second = node.width();
-    flush(alloc, &mut node)?;
-    Ok([full, first, second, node.width()])
+/// Whether a node has these widths, before and after each of so many steps but one.
+fn has_widths<A: Allocator + Copy>(
+    alloc: A,
+    node: &mut Node<A>,
+    widths: &[usize],
+) -> Result<bool, AllocError>
+    requires { AreShort (messages_of node.old) }
+{
+    let mut has = true;
+    for width in widths {
+        has = has && node.width() == *width;
+        flush(alloc, node)?;
+    }
+    Ok(has)
 }
 
+/// The widths of a node of which each step empties a leaf.
 // A page of four keys with values of 1,000 bytes has 4,081 bytes: two of them are more than the target, and one fits
 // with an empty one.
-#[test]
-fn emptied_leaves_are_joined(rt: HostRuntime) -> Result<(), Fail> {
-    assert!(rt; widths(rt.alloc())? == [3, 2, 1, 1]);
-    Ok(())
+const EMPTIED: [usize; 4] = [3, 2, 1, 1];
+
+/// Whether a first node can be had, and a message comes down to its leaf.
+pub(crate) fn takes_messages<A: Allocator + Copy>(alloc: A) -> Result<bool, AllocError> {
+    let mut node = Node::first(alloc, smallest())?;
+    put_a(&mut node);
+    flush(alloc, &mut node)?;
+    Ok(node.buffer().len() == 0 && node.width() == 1)
 }
 
-/// The number of leaves once a step was refused its nth request, and three more steps were taken with memory. `None`
-/// where it asked for fewer, `Err` where it did not answer that it was refused.
-fn refused<B: Allocator>(heap: &Refusing<B>, n: u64) -> Result<Option<usize>, AllocError> {
+/// Whether emptied leaves are joined.
+pub(crate) fn joins_leaves<A: Allocator + Copy>(alloc: A) -> Result<bool, AllocError> {
+    let mut node = to_empty(alloc)?;
+    has_widths(alloc, &mut node, &EMPTIED)
+}
+
+/// Whether a step whose nth request is refused is refused, and the leaves are joined then. `None` where it makes fewer.
+pub(crate) fn withstands_join<A: Allocator + Copy, B: Allocator>(
+    heap: &Refusing<B>,
+    alloc: A,
+    n: u64,
+) -> Result<Option<bool>, AllocError> {
     heap.set(Plan::Grant);
-    let mut node = to_empty(heap)?;
+    let mut node = to_empty(alloc)?;
     heap.set(Plan::RefuseAt(n));
-    let is_done = flush(heap, &mut node).is_ok();
+    let is_refused = flush(alloc, &mut node).is_err();
     if heap.asked() <= n {
         return Ok(None);
     }
-    if is_done {
-        return Err(AllocError);
-    }
     heap.set(Plan::Grant);
-    flush(heap, &mut node)?;
-    flush(heap, &mut node)?;
-    flush(heap, &mut node)?;
-    Ok(Some(node.width()))
-}
-
-#[test]
-fn joins_withstand_each_refusal(rt: HostRuntime) -> Result<(), Fail> {
-    let heap = Refusing::new(rt.alloc());
-    let mut refusals = 0u64;
-    for n in 0..100u64 {
-        let Some(width) = refused(&heap, n)? else {
-            break;
-        };
-        assert_eq!(rt; width, 1, "request {n}");
-        refusals = n + 1;
-    }
-    assert!(rt; refusals > 10, "{refusals} refusals");
-    Ok(())
+    let joins = has_widths(alloc, &mut node, &EMPTIED)?;
+    Ok(Some(is_refused && joins))
 }
 
 /// How many messages of `to_spread` there are.
@@ -260,39 +198,27 @@ fn sizes<A: Allocator>(node: &Node<A>) -> (u64, usize, usize) {
     (node.height(), node.width(), node.buffer().len())
 }
 
-/// The sizes of a node once a step was refused its nth request, and once more with memory. `None` where it asked for fewer,
-/// `Err` where it did not answer that it was refused, or moved something.
-fn spread<B: Allocator>(
-    heap: &Refusing<B>,
-    n: u64,
-) -> Result<Option<(u64, usize, usize)>, AllocError> {
-    heap.set(Plan::Grant);
-    let mut node = to_spread(heap)?;
-    heap.set(Plan::RefuseAt(n));
-    let is_done = flush(heap, &mut node).is_ok();
-    if heap.asked() <= n {
-        return Ok(None);
-    }
-    if is_done || sizes(&node) != (1, 1, SPREAD as usize) {
-        return Err(AllocError);
-    }
-    heap.set(Plan::Grant);
-    flush(heap, &mut node)?;
-    Ok(Some(sizes(&node)))
-}
-
+/// Whether a step whose nth request is refused is refused, moves nothing, and then makes a node above nodes. `None` where it
+/// makes fewer.
 // 301 leaves stand under 76 nodes, these under 19, these under 5, these under 2, and these under a new root.
-#[test]
-fn a_leaf_gives_way_to_any_number(rt: HostRuntime) -> Result<(), Fail> {
-    let heap = Refusing::new(rt.alloc());
-    let mut refusals = 0u64;
-    for n in 0..5000u64 {
-        let Some(sizes) = spread(&heap, n)? else {
-            break;
-        };
-        assert!(rt; sizes == (5, 2, 0), "request {n}");
-        refusals = n + 1;
+pub(crate) fn withstands_spread<A: Allocator + Copy, B: Allocator>(
+    heap: &Refusing<B>,
+    alloc: A,
+    n: u64,
+) -> Result<Option<bool>, AllocError> {
+    heap.set(Plan::Grant);
+    let mut node = to_spread(alloc)?;
+    heap.set(Plan::RefuseAt(n));
+    let is_refused = flush(alloc, &mut node).is_err();
+    if heap.asked() <= n {
+        return Ok(if sizes(&node) == (5, 2, 0) {
+            None
+        } else {
+            Some(false)
+        });
     }
-    assert!(rt; refusals > 1000, "{refusals} refusals");
-    Ok(())
+    let stands = sizes(&node) == (1, 1, SPREAD as usize);
+    heap.set(Plan::Grant);
+    flush(alloc, &mut node)?;
+    Ok(Some(is_refused && stands && sizes(&node) == (5, 2, 0)))
 }

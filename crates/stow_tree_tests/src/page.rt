@@ -1,7 +1,6 @@
 //! What no clause says: that the format's definition gives the bytes of worked examples, that a plain reader of the
 //! format agrees on bytes that are no page, and that the calls succeed where there is memory, and only there.
-ghost use Rattle.std.specs.Prelude.{◌≤◌};
-
+use crate::keys::Keys;
 use std::alloc::{AllocError, Allocator};
 use std::test::Fail;
 use stow_page::entry::entry_size;
@@ -10,7 +9,6 @@ use stow_page::page::{Page, pack, unpack};
 use stow_page::rows::{Rows, at};
 use stow_refusing::{Plan, Refusing};
 use stow_tree_model::tenant_key::TenantKey;
-use stow_tree_model::tenant_key_buf::TenantKeyBuf;
 
 mod plain;
 mod random;
@@ -18,10 +16,6 @@ mod random;
 /// The page of tenant 1, key `a`, number 1, with the value `x`.
 pub(crate) const WORKED: &[u8] =
     b"\x01\x00\x00\x00\x01\x00\x05\x00\x00\x00\x01a\x00\x00\x00\x00\x00\x00\x00\x01\x00\x00\x01x";
-
-/// The same with the header of two entries, and the entry twice.
-const TWICE: &[u8] =
-    b"\x01\x00\x00\x00\x02\x00\x05\x00\x00\x00\x01a\x00\x00\x00\x00\x00\x00\x00\x01\x00\x00\x01x\x00\x05\x00\x00\x00\x01a\x00\x00\x00\x00\x00\x00\x00\x01\x00\x00\x01x";
 
 /// Two versions of a key: the value `x` by write 1, and a tombstone by write 2.
 const REMOVED: &[u8] =
@@ -57,63 +51,123 @@ pub(crate) fn rows_of<A: Allocator + Copy>(
     Ok(unpack(alloc, &page).ok())
 }
 
-/// Whether rows are one version, of tenant 1's key `a` by write 1 with the value `x`.
-fn are_worked<A: Allocator>(rows: &Rows<A>) -> bool {
-    if rows.len() != 1 {
-        return false;
-    }
-    let version = rows.get(0);
-    version.key.bytes == b"\x00\x00\x00\x01a".as_slice()
-        && version.number == 1
-        && version.value == Some(b"x".as_slice())
+/// Whether a page has these bytes.
+fn is_page<A: Allocator>(rows: &Rows<A>, bytes: &[u8]) -> Result<bool, AllocError> {
+    Ok(pack(rows)?.as_bytes() == bytes)
 }
 
-/// Whether the worked page is read, packed again in the same bytes, and read again.
-fn is_read<A: Allocator + Copy>(alloc: A) -> Result<bool, AllocError> {
-    let Some(rows) = rows_of(alloc, WORKED)? else {
-        return Ok(false);
-    };
+/// The rows, shared as a page and unpacked.
+fn shared<A: Allocator + Copy>(alloc: A, rows: &Rows<A>) -> Result<Rows<A>, AllocError> {
     let page = pack(&rows.share()?)?;
-    let again = unpack(alloc, &page.share()?).map_err(|_| AllocError)?;
-    Ok(are_worked(&rows) && page.as_bytes() == WORKED && are_worked(&again))
+    unpacked(alloc, &page.share()?)
 }
 
-#[test]
-fn worked_page(rt: HostRuntime) -> Result<(), Fail> {
-    assert!(rt; is_read(rt.alloc())?);
-    Ok(())
-}
-
-/// The number of the fault of the worked page with its first byte changed.
-fn fault_of_format<A: Allocator + Copy>(alloc: A, format: u8) -> Result<u8, AllocError> {
-    let mut bytes = Vec::from_slice(alloc, WORKED)?;
-    if let Some(first) = bytes.first_mut() {
-        *first = format;
+fn unpacked<A: Allocator + Copy>(alloc: A, page: &Page<A>) -> Result<Rows<A>, AllocError> {
+    match unpack(alloc, page) {
+        Ok(rows) => Ok(rows),
+        Err(_) => Err(AllocError),
     }
+}
+
+/// A copy of the rows, pushed one by one.
+fn pushed<A: Allocator + Copy>(alloc: A, rows: &Rows<A>) -> Result<PackedRows<A>, AllocError> {
+    let mut packed = PackedRows::new(alloc)?;
+    for i in 0..rows.len() {
+        let version = rows.get(i);
+        if !packed.is_below(version) || !packed.has_room_for(version) {
+            return Err(AllocError);
+        }
+        packed.push(version)?;
+    }
+    Ok(packed)
+}
+
+/// Whether the rows, pushed one by one, are as many in these bytes, and their last does not stand below another.
+fn is_pushed<A: Allocator + Copy>(
+    alloc: A,
+    rows: &Rows<A>,
+    bytes: &[u8],
+) -> Result<bool, AllocError> {
+    let packed = pushed(alloc, rows)?;
+    let is_last = !rows.is_empty() && !packed.is_below(rows.get(0));
+    Ok(is_last && !packed.is_empty() && packed.len() == rows.len() && packed.as_bytes() == bytes)
+}
+
+/// Whether a page without rows has a header alone.
+fn is_empty_page<A: Allocator + Copy>(alloc: A) -> Result<bool, AllocError> {
+    let rows = Rows::new(alloc, PackedRows::new(alloc)?)?;
+    Ok(rows.is_empty() && is_page(&rows, &[1, 0, 0, 0, 0])?)
+}
+
+/// Whether the bytes are read as rows whose entries have these sizes, and stand in the same bytes again: packed, shared and
+/// unpacked, and pushed one by one.
+fn is_read<A: Allocator + Copy>(
+    alloc: A,
+    bytes: &[u8],
+    sizes: &[usize],
+) -> Result<bool, AllocError> {
+    let rows = rows_of(alloc, bytes)?.ok_or(AllocError)?;
+    Ok(
+        have_sizes(&rows, sizes)
+            && is_page(&rows, bytes)?
+            && is_page(&shared(alloc, &rows)?, bytes)?
+            && is_pushed(alloc, &rows, bytes)?,
+    )
+}
+
+fn have_sizes<A: Allocator>(rows: &Rows<A>, sizes: &[usize]) -> bool {
+    let mut same = rows.len() == sizes.len();
+    for i in 0..sizes.len() {
+        same = same && i < rows.len() && entry_size(rows.get(i)) == sizes[i];
+    }
+    same
+}
+
+/// Whether all worked pages are read; `Err` where memory was refused. The put's entry has 19 bytes, the tombstone's 16.
+pub(crate) fn are_read<A: Allocator + Copy>(alloc: A) -> Result<bool, AllocError> {
+    Ok(
+        is_read(alloc, WORKED, &[19])?
+            && is_read(alloc, REMOVED, &[19, 16])?
+            && is_read(alloc, TOMBSTONE, &[16])?
+            && is_empty_page(alloc)?,
+    )
+}
+
+/// The number of the fault of a page with a byte changed to another, and then so many of its bytes and one more.
+fn fault_of_changed<A: Allocator + Copy>(
+    alloc: A,
+    (page, at, byte): (&[u8], usize, u8),
+    more: &[u8],
+) -> Result<u8, AllocError> {
+    let mut bytes = Vec::from_slice(alloc, page)?;
+    if let Some(changed) = bytes.get_mut(at) {
+        *changed = byte;
+    }
+    bytes.extend_from_slice(more)?;
     fault_of(alloc, bytes.as_slice())
 }
 
-/// The number of the fault of the worked page with a byte more.
-fn fault_of_longer<A: Allocator + Copy>(alloc: A) -> Result<u8, AllocError> {
-    let mut bytes = Vec::from_slice(alloc, WORKED)?;
-    bytes.push(0)?;
-    fault_of(alloc, bytes.as_slice())
+/// The first byte of the worked page, and the fault that it leads to.
+const FORMATS: [(u8, u8); 5] = [(0, 1), (1, 0), (2, 1), (3, 1), (255, 1)];
+
+/// Whether pages have the faults of another format, of one that is cut off or goes on, and of an entry that comes twice.
+fn are_faults<A: Allocator + Copy>(alloc: A) -> Result<bool, AllocError> {
+    let mut are = true;
+    for (format, fault) in FORMATS {
+        are = are && fault_of_changed(alloc, (WORKED, 0, format), &[])? == fault;
+    }
+    Ok(
+        are && fault_of(alloc, &WORKED[..WORKED.len() - 1])? == 2
+            && fault_of(alloc, &[])? == 2
+            && fault_of_changed(alloc, (WORKED, 4, 2), &WORKED[5..])? == 3
+            && fault_of_changed(alloc, (WORKED, 4, 1), &[0])? == 4,
+    )
 }
 
 #[test]
 fn faults(rt: HostRuntime) -> Result<(), Fail> {
-    assert_eq!(rt; fault_of_longer(rt.alloc())?, 4);
-    for (bytes, fault) in [
-        (&WORKED[..WORKED.len() - 1], 2),
-        (b"".as_slice(), 2),
-        (TWICE, 3),
-        (WORKED, 0),
-    ] {
-        assert_eq!(rt; fault_of(rt.alloc(), bytes)?, fault);
-    }
-    for format in [0u8, 2, 3, 255] {
-        assert_eq!(rt; fault_of_format(rt.alloc(), format)?, 1);
-    }
+    let heap = Refusing::new(rt.alloc());
+    assert!(rt; are_faults(&heap)?);
     Ok(())
 }
 
@@ -124,163 +178,76 @@ fn is_looked_up<A: Allocator>(rows: &Rows<A>, key: TenantKey<'_>) -> bool {
         && at(rows, key, 2).is_none()
 }
 
-/// The number of a tenant's version of `a` that stands at 9.
-fn number_at_9<A: Allocator + Copy>(
-    alloc: A,
-    rows: &Rows<A>,
-    tenant: u32,
-) -> Result<Option<u64>, AllocError>
-    requires { tenant ≤ 9 }
-{
-    let key = TenantKeyBuf::new(alloc, tenant, b"a")?;
-    let found = rows.version_at(key.as_key(), 9, usize::MAX);
-    Ok(found.map(|version| version.number))
-}
-
-/// Whether look-ups find what the rows of a removed key have, and nothing of another tenant's.
-fn are_looked_up<A: Allocator + Copy>(alloc: A) -> Result<bool, AllocError> {
-    let Some(rows) = rows_of(alloc, REMOVED)? else {
-        return Ok(false);
-    };
-    let key = TenantKeyBuf::new(alloc, 1, b"a")?;
-    let own = number_at_9(alloc, &rows, 1)?;
-    let other = number_at_9(alloc, &rows, 2)?;
-    Ok(is_looked_up(&rows, key.as_key()) && own == Some(2) && other.is_none())
-}
-
-#[test]
-fn look_ups(rt: HostRuntime) -> Result<(), Fail> {
-    assert!(rt; are_looked_up(rt.alloc())?);
-    Ok(())
-}
-
-/// Rows from elsewhere, packed again, shared and unpacked, as bytes.
-fn repacked<A: Allocator + Copy>(alloc: A, bytes: &[u8]) -> Result<Vec<u8, A>, AllocError> {
-    let Some(rows) = rows_of(alloc, bytes)? else {
-        return Err(AllocError);
-    };
-    let packed = PackedRows::new(alloc)?;
-    let none = Rows::new(alloc, packed)?;
-    let page = pack(&rows)?.share()?;
-    let empty = pack(&none)?;
-    let mut all = Vec::from_slice(alloc, page.as_bytes())?;
-    all.extend_from_slice(empty.as_bytes())?;
-    Ok(all)
-}
-
-/// A copy of the rows, pushed one by one.
-fn pushed<A: Allocator + Copy>(alloc: A, rows: &Rows<A>) -> Result<PackedRows<A>, AllocError> {
-    let mut packed = PackedRows::new(alloc)?;
-    for i in 0..rows.len() {
-        if i < rows.len() {
-            let version = rows.get(i);
-            if !packed.is_below(version) || !packed.has_room_for(version) {
-                return Err(AllocError);
-            }
-            packed.push(version)?;
-        }
+/// The number of a key's version that stands at 9, or 0.
+fn number_at_9<A: Allocator>(rows: &Rows<A>, key: TenantKey<'_>) -> u64 {
+    match rows.version_at(key, 9, usize::MAX) {
+        Some(version) => version.number,
+        None => 0,
     }
-    Ok(packed)
 }
 
-/// Whether the versions of a removed key, pushed again, stand in the same bytes: the put's entry has 19, the tombstone's 16.
-fn are_same_when_pushed<A: Allocator + Copy>(alloc: A) -> Result<bool, AllocError> {
-    let Some(rows) = rows_of(alloc, REMOVED)? else {
-        return Ok(false);
-    };
-    let packed = pushed(alloc, &rows)?;
-    if rows.len() != 2 {
-        return Ok(false);
-    }
-    let sizes = entry_size(rows.get(0)) == 19 && entry_size(rows.get(1)) == 16;
-    let counted = packed.len() == 2 && !packed.is_empty();
-    Ok(sizes && counted && packed.as_bytes() == REMOVED && !packed.is_below(rows.get(0)))
-}
-
-#[test]
-fn pushed_anew(rt: HostRuntime) -> Result<(), Fail> {
-    assert!(rt; are_same_when_pushed(rt.alloc())?);
-    Ok(())
-}
-
-/// The page of versions and of one that stands above them.
-fn with_one_above<A: Allocator + Copy>(
-    alloc: A,
-    lower: PackedRows<A>,
-    upper: PackedRows<A>,
-) -> Result<Option<Page<A>>, AllocError> {
-    if upper.len() != 1 {
-        return Ok(None);
-    }
-    let version = upper.get(0);
-    if !lower.is_below(version) || !lower.has_room_for(version) {
-        return Ok(None);
-    }
-    let rows = Rows::new(alloc, lower)?;
-    let above = Rows::new(alloc, upper)?;
-    Ok(Some(pack(&rows.joined(alloc, &above)?)?))
-}
-
-/// The pages of a put and of a tombstone, joined.
-fn joined_page<A: Allocator + Copy>(alloc: A) -> Result<Option<Page<A>>, AllocError> {
-    let (Some(lower), Some(upper)) = (rows_of(alloc, WORKED)?, rows_of(alloc, TOMBSTONE)?) else {
-        return Ok(None);
-    };
-    with_one_above(alloc, pushed(alloc, &lower)?, pushed(alloc, &upper)?)
-}
-
-/// Whether the joined page is that of both versions.
-fn is_joined<A: Allocator + Copy>(alloc: A) -> Result<bool, AllocError> {
-    Ok(match joined_page(alloc)? {
-        Some(page) => page.as_bytes() == REMOVED,
-        None => false,
-    })
-}
-
-#[test]
-fn joined_pages(rt: HostRuntime) -> Result<(), Fail> {
-    assert!(rt; is_joined(rt.alloc())?);
-    Ok(())
-}
-
-/// Whether rows are packed again.
-fn are_repacked<A: Allocator + Copy>(alloc: A) -> Result<bool, AllocError> {
-    Ok(repacked(alloc, REMOVED)?.as_slice().starts_with(REMOVED))
-}
-
-#[test]
-fn withstands_each_refusal(rt: HostRuntime) -> Result<(), Fail> {
-    let heap = Refusing::new(rt.alloc());
-    assert!(rt; are_repacked(&heap)?);
-    let asked = heap.asked();
-    for n in 0..asked {
-        heap.set(Plan::RefuseAt(n));
-        assert!(rt; are_repacked(&heap).is_err(), "request {n}");
-    }
-    heap.set(Plan::Grant);
-    assert!(rt; are_repacked(&heap)? && asked >= 6, "{asked} requests");
-    Ok(())
-}
-
-/// Whether rows are looked up and shared with every request for memory refused.
-fn ask_for_none<A: Allocator + Copy, B: Allocator>(
+/// Whether, with every request for memory refused, look-ups find what the rows of a removed key have, and nothing of another
+/// tenant's, and the rows are shared.
+fn are_looked_up<A: Allocator + Copy, B: Allocator>(
     heap: &Refusing<B>,
     alloc: A,
 ) -> Result<bool, AllocError> {
     let Some(rows) = rows_of(alloc, REMOVED)? else {
         return Ok(false);
     };
-    let key = TenantKeyBuf::new(alloc, 1, b"a")?;
+    let keys = Keys::new(alloc, 2, b"a")?;
+    let own = keys.at(0);
     heap.set(Plan::RefuseAll);
-    let page = pack(&rows)?;
-    let again = unpack(alloc, &page).map_err(|_| AllocError)?;
-    Ok(is_looked_up(&rows, key.as_key()) && again.len() == 2 && heap.asked() == 0)
+    let found = is_looked_up(&rows, own)
+        && number_at_9(&rows, own) == 2
+        && number_at_9(&rows, keys.at(1)) == 0;
+    Ok(found && shared(alloc, &rows)?.len() == 2 && heap.asked() == 0)
 }
 
-// Looking up and sharing what was made here take no memory.
 #[test]
 fn looks_up_without_memory(rt: HostRuntime) -> Result<(), Fail> {
     let heap = Refusing::new(rt.alloc());
-    assert!(rt; ask_for_none(&heap, &heap)?);
+    assert!(rt; are_looked_up(&heap, &heap)?);
+    Ok(())
+}
+
+/// Whether versions and one that stands above them make the page of these bytes.
+fn is_joined<A: Allocator + Copy>(
+    alloc: A,
+    lower: PackedRows<A>,
+    upper: PackedRows<A>,
+    bytes: &[u8],
+) -> Result<bool, AllocError> {
+    if upper.len() != 1 {
+        return Ok(false);
+    }
+    let version = upper.get(0);
+    if !lower.is_below(version) || !lower.has_room_for(version) {
+        return Ok(false);
+    }
+    let rows = Rows::new(alloc, lower)?;
+    let above = Rows::new(alloc, upper)?;
+    is_page(&rows.joined(alloc, &above)?, bytes)
+}
+
+/// Whether a put's page and a tombstone's, joined, are that of both.
+fn are_joined<A: Allocator + Copy>(alloc: A) -> Result<bool, AllocError> {
+    let (Some(lower), Some(upper)) = (rows_of(alloc, WORKED)?, rows_of(alloc, TOMBSTONE)?) else {
+        return Ok(false);
+    };
+    is_joined(
+        alloc,
+        pushed(alloc, &lower)?,
+        pushed(alloc, &upper)?,
+        REMOVED,
+    )
+}
+
+#[test]
+fn joined_pages(rt: HostRuntime) -> Result<(), Fail> {
+    let heap = Refusing::new(rt.alloc());
+    assert!(rt; are_joined(&heap)?);
+    heap.set(Plan::RefuseAt(heap.asked().saturating_sub(1)));
+    assert!(rt; are_joined(&heap).is_err());
     Ok(())
 }

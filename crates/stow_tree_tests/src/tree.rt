@@ -1,6 +1,6 @@
 //! What no clause says: that the calls succeed where there is memory, withstand each refusal, and hold leaves; and that a
 //! tree which grows through all its shapes tells what a plain list of its messages tells.
-mod calls;
+pub(crate) mod calls;
 mod changes;
 mod dropping;
 mod few;
@@ -9,4 +9,4 @@ mod numbered;
 mod random;
 mod refusals;
 mod run;
-mod walking;
+pub(crate) mod walking;

@@ -1,75 +1,22 @@
 //! Random merges through jobs, and a job that comes back whole where memory is refused.
-use super::{are_same, packed, pins_of, random_batch, random_pins, random_rows};
-use std::alloc::{AllocError, Allocator, Global};
-use std::process::Abort;
+use crate::keys::Keys;
+use crate::merge::case::{Case, are_same, packed};
+use crate::message::pushed;
+use std::alloc::{AllocError, Allocator};
 use std::test::Fail;
 use stow_merge::fitting::is_mergeable;
 use stow_merge::flush_job::FlushJob;
-use stow_merge::flush_result::FlushResult;
-use stow_merge::flush_target::{FlushTarget, GREATEST_LEAF_TARGET, LEAST_LEAF_TARGET};
+use stow_merge::flush_target::{FlushTarget, LEAST_LEAF_TARGET};
 use stow_merge::pins::Pins;
 use stow_message::message_buf::MessageBuf;
 use stow_page::rows::Rows;
 use stow_refusing::{Plan, Refusing};
+use stow_testing::random::Random;
 use stow_tree_model::message::Message;
 use stow_tree_model::op::Op;
-use stow_tree_model::pin::Pin;
-use stow_tree_model::plain::{merge, message, version};
+use stow_tree_model::plain::{message, version};
+use stow_tree_model::tenant_key::TenantKey;
 use stow_tree_model::tenant_key_buf::TenantKeyBuf;
-use stow_tree_model::version::Version;
-use stow_tree_model::version_buf::VersionBuf;
-
-/// What a job is made of, and the versions of the plain merge.
-#[derive(Drop)]
-struct Case<'a> {
-    rows: Vec<Version<'a>>,
-    batch: Vec<Message<'a>>,
-    pins: Vec<Pin>,
-    merged: Vec<VersionBuf>,
-}
-
-fn has_version(rows: &[Version<'_>], message: Message<'_>) -> bool {
-    for row in rows {
-        if row.key.is_same(message.key) && row.number == message.number {
-            return true;
-        }
-    }
-    false
-}
-
-/// The messages whose key and number no version has.
-fn apart<'a>(
-    alloc: Global,
-    rows: &[Version<'_>],
-    batch: &[Message<'a>],
-) -> Result<Vec<Message<'a>>, AllocError> {
-    let mut kept = Vec::new(alloc);
-    for message in batch {
-        if !has_version(rows, *message) {
-            kept.push(*message)?;
-        }
-    }
-    Ok(kept)
-}
-
-fn random_case<'a>(
-    alloc: Global,
-    keys: &'a [TenantKeyBuf],
-    long: &'a [u8],
-    state: &mut u64,
-) -> Result<Case<'a>, AllocError> {
-    let rows = random_rows(alloc, keys, long, state)?;
-    let all = random_batch(alloc, keys, long, state)?;
-    let batch = apart(alloc, rows.as_slice(), all.as_slice())?;
-    let pins = random_pins(alloc, state)?;
-    let merged = merge(alloc, rows.as_slice(), batch.as_slice(), pins.as_slice())?;
-    Ok(Case {
-        rows,
-        batch,
-        pins,
-        merged,
-    })
-}
 
 /// The messages in one buffer.
 fn buffered<A: Allocator + Copy>(
@@ -78,156 +25,201 @@ fn buffered<A: Allocator + Copy>(
 ) -> Result<MessageBuf<A>, AllocError> {
     let mut buffer = MessageBuf::with_capacity(alloc, 131_072)?;
     for message in messages {
-        if buffer.fits(*message) && buffer.is_new(*message) {
-            buffer.push(*message);
+        if !pushed(&mut buffer, *message) {
+            return Err(AllocError);
         }
     }
     Ok(buffer)
 }
 
-/// The job of these parts, if they can be merged.
+/// The job of these parts, cut by the lowest target, if they can be merged.
 fn job_of<A: Allocator + Copy>(
     alloc: A,
     page: Rows<A>,
     batch: MessageBuf<A>,
     pins: Pins<A>,
-    target: FlushTarget<A>,
 ) -> Result<Option<FlushJob<A>>, AllocError> {
-    if is_mergeable(alloc, &page, &batch, &pins)? {
-        Ok(Some(FlushJob::new(page, batch, pins, target)))
-    } else {
-        Ok(None)
+    if !is_mergeable(alloc, &page, &batch, &pins)? {
+        return Ok(None);
     }
-}
-
-/// The job of a case, if it can be merged, cut by the lowest target.
-fn job<A: Allocator + Copy>(alloc: A, case: &Case<'_>) -> Result<Option<FlushJob<A>>, AllocError> {
-    let page = packed(alloc, case.rows.as_slice())?;
-    let batch = buffered(alloc, case.batch.as_slice())?;
-    let pins = pins_of(alloc, case.pins.as_slice())?;
     let target = FlushTarget {
         low_fence: TenantKeyBuf::new(alloc, 1, b"")?,
         leaf_target: LEAST_LEAF_TARGET,
     };
-    job_of(alloc, page, batch, pins, target)
+    Ok(Some(FlushJob::new(page, batch, pins, target)))
 }
 
-/// How many pages the job's merge has, or none where they aren't those of the case.
-fn pages_of<A: Allocator + Copy>(merged: &FlushResult<A>, case: &Case<'_>) -> usize {
-    if merged.job.batch.len() == case.batch.len()
-        && are_same(merged.pages.as_slice(), case.merged.as_slice())
-    {
-        merged.pages.len()
-    } else {
-        0
-    }
+/// The job of a case.
+fn job<A: Allocator + Copy, B: Allocator + Copy>(
+    alloc: A,
+    case: &Case<'_, B>,
+) -> Result<FlushJob<A>, AllocError> {
+    let page = packed(alloc, case.rows.as_slice())?;
+    let batch = buffered(alloc, case.batch.as_slice())?;
+    job_of(alloc, page, batch, case.pins(alloc)?)?.ok_or(AllocError)
 }
 
-/// Merges the case's job with ample memory.
-fn pages_with_memory(rt: &impl Abort, alloc: Global, case: &Case<'_>) -> Result<usize, AllocError> {
-    let job = job(alloc, case)?.expect(rt, "a job");
+/// How many pages the merge of a case's job has, or 0 where they aren't those of the case; where memory is refused, the job
+/// that came back.
+fn pages_of<A: Allocator + Copy, B: Allocator + Copy>(
+    alloc: A,
+    job: FlushJob<A>,
+    case: &Case<'_, B>,
+) -> Result<usize, FlushJob<A>> {
     match job.merge(alloc) {
-        Ok(merged) => Ok(pages_of(&merged, case)),
-        Err((_, refused)) => Err(refused),
+        Ok(merged) => {
+            let is_whole = merged.job.batch.len() == case.batch.len();
+            let are_same = are_same(merged.pages.as_slice(), case.merged.as_slice());
+            Ok(if is_whole && are_same {
+                merged.pages.len()
+            } else {
+                0
+            })
+        }
+        Err((whole, _)) => Err(whole),
     }
 }
 
-fn keys(alloc: Global) -> Result<[TenantKeyBuf; 3], AllocError> {
-    Ok([
-        TenantKeyBuf::new(alloc, 1, b"a")?,
-        TenantKeyBuf::new(alloc, 1, b"ab")?,
-        TenantKeyBuf::new(alloc, 2, b"a")?,
-    ])
-}
-
-#[test]
-fn random_jobs_are_plain_merges(rt: HostRuntime) -> Result<(), Fail> {
-    let alloc = rt.alloc();
-    let keys = keys(alloc)?;
-    let long = vec![in alloc; b'v'; 1_000]?;
-    let mut state = 7;
-    let mut most = 0;
-    for round in 0..100u64 {
-        let case = random_case(alloc, keys.as_slice(), long.as_slice(), &mut state)?;
-        let pages = pages_with_memory(&rt, alloc, &case)?;
-        assert!(rt; pages > 0, "round {round}");
-        most = most.max(pages);
-    }
-    assert_eq!(rt; most, 3);
-    Ok(())
-}
-
-/// How many pages the job's merge has, and whether it was refused memory before: then the job that came back is
-/// merged with ample memory.
-fn merged_at_last<'h>(
-    heap: &'h Refusing<Global>,
-    job: FlushJob<&'h Refusing<Global>>,
-    case: &Case<'_>,
+/// How many pages a job's merge has, and whether it was refused memory before: then the job that came back is merged again.
+fn merged_at_last<A: Allocator + Copy, B: Allocator + Copy, C: Allocator>(
+    heap: &Refusing<C>,
+    alloc: A,
+    job: FlushJob<A>,
+    case: &Case<'_, B>,
 ) -> Result<(usize, bool), AllocError> {
-    match job.merge(heap) {
-        Ok(merged) => Ok((pages_of(&merged, case), false)),
-        Err((whole, _)) => {
+    match pages_of(alloc, job, case) {
+        Ok(pages) => Ok((pages, false)),
+        Err(whole) => {
             heap.set(Plan::Grant);
-            match whole.merge(heap) {
-                Ok(merged) => Ok((pages_of(&merged, case), true)),
-                Err((_, refused)) => Err(refused),
+            match pages_of(alloc, whole, case) {
+                Ok(pages) => Ok((pages, true)),
+                Err(_) => Err(AllocError),
             }
         }
     }
 }
 
-#[test]
-fn refused_jobs_come_back_whole(rt: HostRuntime) -> Result<(), Fail> {
-    let alloc = rt.alloc();
-    let heap = Refusing::new(alloc);
-    let keys = keys(alloc)?;
-    let long = vec![in alloc; b'v'; 1_000]?;
-    let mut state = 7;
-    let case = random_case(alloc, keys.as_slice(), long.as_slice(), &mut state)?;
-    let mut refusals = 0u64;
-    for round in 0..100u64 {
-        heap.set(Plan::Grant);
-        let job = job(&heap, &case)?.expect(&rt, "a job");
-        heap.set(Plan::RefuseAt(round));
-        let (pages, was_refused) = merged_at_last(&heap, job, &case)?;
-        assert!(rt; pages > 0, "request {round}");
-        if !was_refused {
-            break;
-        }
-        refusals = round + 1;
-    }
-    assert!(rt; refusals >= 10, "{refusals} refusals");
-    Ok(())
+/// A long value.
+const LONG: &[u8] = &[b'v'; 1_000];
+
+/// A case of which no message has the key and number of a version.
+fn random_case<'a, A: Allocator + Copy>(
+    alloc: A,
+    keys: &'a Keys<A>,
+    random: &mut Random,
+) -> Result<Case<'a, A>, AllocError> {
+    Case::random(alloc, keys, LONG, random)?.apart(alloc)
 }
 
-/// Whether a leaf of one version of the key, the first, can be merged with one message of it.
-fn can_merge(
-    alloc: Global,
-    key: &TenantKeyBuf,
+/// How many pages a random job's merge has, and whether its nth request was refused before.
+fn pages_of_random<A: Allocator + Copy, B: Allocator>(
+    heap: &Refusing<B>,
+    alloc: A,
+    keys: &Keys<A>,
+    (random, n): (&mut Random, u64),
+) -> Result<(usize, bool), AllocError> {
+    let case = random_case(alloc, keys, random)?;
+    let job = job(alloc, &case)?;
+    heap.set(Plan::RefuseAt(n));
+    let merged = merged_at_last(heap, alloc, job, &case);
+    heap.set(Plan::Grant);
+    merged
+}
+
+/// How many pages the most of so many random jobs have, or 0 where one's aren't the plain ones or it is refused.
+pub(crate) fn most_pages<A: Allocator + Copy, B: Allocator>(
+    heap: &Refusing<B>,
+    alloc: A,
+    count: u32,
+) -> Result<usize, AllocError> {
+    let keys = Keys::new(alloc, 2, b"ab")?;
+    let mut random = Random::new(7);
+    let mut most = 0;
+    for _ in 0..count {
+        let (pages, was_refused) = pages_of_random(heap, alloc, &keys, (&mut random, u64::MAX))?;
+        if pages == 0 || was_refused {
+            return Ok(0);
+        }
+        most = most.max(pages);
+    }
+    Ok(most)
+}
+
+/// Whether a job whose nth request is refused comes back whole. `None` where it makes fewer.
+pub(crate) fn withstands<A: Allocator + Copy, B: Allocator>(
+    heap: &Refusing<B>,
+    alloc: A,
+    n: u64,
+) -> Result<Option<bool>, AllocError> {
+    heap.set(Plan::Grant);
+    let keys = Keys::new(alloc, 2, b"ab")?;
+    let (pages, was_refused) = pages_of_random(heap, alloc, &keys, (&mut Random::new(7), n))?;
+    Ok(if was_refused {
+        Some(pages > 0)
+    } else if pages > 0 {
+        None
+    } else {
+        Some(false)
+    })
+}
+
+/// How long the value of a version of number 1 is, which message is added, and whether both can be merged and values are
+/// short then.
+const FITTING: [(usize, u64, Op<'static>, bool, bool); 4] = [
+    (1, 2, Op::Gone, true, true),
+    (1, 1, Op::Gone, false, true),
+    (65_535, 2, Op::Append(b""), true, true),
+    (65_535, 2, Op::Append(b"y"), false, false),
+];
+
+/// Whether values are short once a leaf and a batch are merged.
+fn is_short<A: Allocator + Copy>(
+    alloc: A,
+    leaf: &Rows<A>,
+    batch: &[Message<'_>],
+) -> Result<bool, AllocError> {
+    Ok(super::merged(alloc, leaf, batch, &Pins::new(alloc), 30)?.is_some())
+}
+
+/// Whether there is a job of a leaf and a batch.
+fn is_job<A: Allocator + Copy>(
+    alloc: A,
+    leaf: Rows<A>,
+    batch: &[Message<'_>],
+) -> Result<bool, AllocError> {
+    let batch = buffered(alloc, batch)?;
+    Ok(job_of(alloc, leaf, batch, Pins::new(alloc))?.is_some())
+}
+
+/// Whether a leaf of one version and one message can be merged, and whether values are short then.
+fn can_merge<A: Allocator + Copy>(
+    alloc: A,
+    key: TenantKey<'_>,
     value: &[u8],
-    number: u64,
-    op: Op<'_>,
-) -> Result<bool, Fail> {
-    let row = version(key.as_key(), 1, Some(value)).ok_or("range")?;
-    let added = message(key.as_key(), number, op).ok_or("range")?;
-    let page = packed(alloc, &[row])?;
-    let batch = buffered(alloc, &[added])?;
-    let pins = Pins::new(alloc);
-    let target = FlushTarget {
-        low_fence: TenantKeyBuf::from_key(alloc, key.as_key())?,
-        leaf_target: GREATEST_LEAF_TARGET,
-    };
-    Ok(job_of(alloc, page, batch, pins, target)?.is_some())
+    (number, op): (u64, Op<'_>),
+) -> Result<(bool, bool), AllocError> {
+    let row = version(key, 1, Some(value)).ok_or(AllocError)?;
+    let added = [message(key, number, op).ok_or(AllocError)?];
+    let leaf = packed(alloc, &[row])?;
+    let is_short = is_short(alloc, &leaf, &added)?;
+    Ok((is_job(alloc, leaf, &added)?, is_short))
+}
+
+/// Whether all these can be merged as they are to be.
+fn are_fitting<A: Allocator + Copy>(alloc: A) -> Result<bool, AllocError> {
+    let keys = Keys::new(alloc, 1, b"a")?;
+    let mut are = true;
+    for (len, number, op, can, is_short) in FITTING {
+        let value = Vec::from_elem(alloc, b'x', len)?;
+        let found = can_merge(alloc, keys.at(0), value.as_slice(), (number, op))?;
+        are = are && found == (can, is_short);
+    }
+    Ok(are)
 }
 
 #[test]
 fn what_can_be_merged(rt: HostRuntime) -> Result<(), Fail> {
-    let alloc = rt.alloc();
-    let key = TenantKeyBuf::new(alloc, 1, b"a")?;
-    let longest = vec![in alloc; b'x'; 65_535]?;
-    assert!(rt; can_merge(alloc, &key, b"x", 2, Op::Gone)?);
-    assert!(rt; !can_merge(alloc, &key, b"x", 1, Op::Gone)?);
-    assert!(rt; can_merge(alloc, &key, longest.as_slice(), 2, Op::Append(b""))?);
-    assert!(rt; !can_merge(alloc, &key, longest.as_slice(), 2, Op::Append(b"y"))?);
+    let heap = Refusing::new(rt.alloc());
+    assert!(rt; are_fitting(&heap)?);
     Ok(())
 }

@@ -1,14 +1,13 @@
 //! Each call of a small tree.
-use crate::tree::numbered::{Interval, Numbered};
+use crate::tree::changes::Kind;
+use crate::tree::run::{Course, Run};
 use std::alloc::{AllocError, Allocator};
 use std::test::Fail;
-use stow_merge::pins::Pins;
+use stow_refusing::Refusing;
 use stow_tree::shape_report::ShapeReport;
 use stow_tree::tree::Tree;
 use stow_tree::tree_fault::TreeFault;
 use stow_tree::tree_shape::{MOST_BUFFER, MOST_CACHE, MOST_FAN_OUT, MOST_LEAF, TreeShape};
-use stow_tree_model::op::Op;
-use stow_tree_model::tenant_key::TenantKey;
 
 /// Each size is the least.
 pub(crate) const SMALLEST: TreeShape = TreeShape::SMALLEST;
@@ -21,21 +20,13 @@ pub(crate) const LARGEST: TreeShape = TreeShape {
     cache: MOST_CACHE,
 };
 
-/// Tenant 1's `a`.
-pub(crate) fn key_a() -> TenantKey<'static> {
-    TenantKey::from_packed(&[0, 0, 0, 1, b'a'])
-}
-
-/// Tenant 1's `b`.
-pub(crate) fn key_b() -> TenantKey<'static> {
-    TenantKey::from_packed(&[0, 0, 0, 1, b'b'])
-}
-
-/// All keys of tenant 1.
-pub(crate) fn own_keys() -> Interval<'static> {
-    Interval {
-        from: TenantKey::from_packed(&[0, 0, 0, 1]),
-        to: TenantKey::from_packed(&[0, 0, 0, 2]),
+/// A tree that has one leaf under one node, and so many messages in buffers.
+fn small(buffered: u64) -> ShapeReport {
+    ShapeReport {
+        height: 1,
+        leaves: 1,
+        buffered,
+        cached: 0,
     }
 }
 
@@ -44,152 +35,215 @@ fn new_report<A: Allocator + Copy>(alloc: A, shape: TreeShape) -> Result<ShapeRe
     Ok(Tree::new(alloc, shape)?.shape())
 }
 
-#[test]
-fn a_new_tree_has_one_leaf(rt: HostRuntime) -> Result<(), Fail> {
-    let wanted = ShapeReport {
-        height: 1,
-        leaves: 1,
-        buffered: 0,
-        cached: 0,
-    };
-    assert_eq!(rt; new_report(rt.alloc(), SMALLEST), Ok(wanted));
-    assert_eq!(rt; new_report(rt.alloc(), LARGEST), Ok(wanted));
-    Ok(())
-}
-
-#[test]
-fn a_size_out_of_its_range_is_refused(rt: HostRuntime) -> Result<(), Fail> {
-    let cases = [
-        TreeShape {
-            buffer: 131_071,
-            ..SMALLEST
-        },
-        TreeShape {
-            leaf: 4_095,
-            ..SMALLEST
-        },
-        TreeShape {
-            fan_out: 3,
-            ..SMALLEST
-        },
-        TreeShape {
-            buffer: 4_194_305,
-            ..LARGEST
-        },
-        TreeShape {
-            leaf: 1_048_577,
-            ..LARGEST
-        },
-        TreeShape {
-            fan_out: 257,
-            ..LARGEST
-        },
-        TreeShape {
-            cache: 65_537,
-            ..LARGEST
-        },
-    ];
-    for i in 0..cases.len() {
-        assert_eq!(rt;
-            new_report(rt.alloc(), cases[i]),
-            Err(TreeFault::Shape),
-            "case {i}"
-        );
+/// Whether a new tree can be had. `Err` where memory was refused.
+pub(crate) fn is_made<A: Allocator + Copy>(alloc: A) -> Result<bool, AllocError> {
+    match new_report(alloc, SMALLEST) {
+        Ok(report) => Ok(report == small(0)),
+        Err(TreeFault::Memory) => Err(AllocError),
+        Err(TreeFault::Shape) => Ok(false),
     }
-    Ok(())
 }
 
-/// How many messages are buffered after a write of a key and its removal.
-fn written_and_removed<A: Allocator + Copy>(alloc: A) -> Result<u64, AllocError> {
-    let pins = Pins::new(alloc);
-    let mut tree = Numbered::new(alloc, SMALLEST)?;
-    tree.put(alloc, key_a(), Op::Put(b"x"), &pins)?;
-    tree.put(alloc, key_a(), Op::Gone, &pins)?;
-    Ok(tree.tree.shape().buffered)
-}
+/// Sizes of which one is below the least, or above the most.
+const OUT_OF_RANGE: [TreeShape; 7] = [
+    TreeShape {
+        buffer: 131_071,
+        ..SMALLEST
+    },
+    TreeShape {
+        leaf: 4_095,
+        ..SMALLEST
+    },
+    TreeShape {
+        fan_out: 3,
+        ..SMALLEST
+    },
+    TreeShape {
+        buffer: 4_194_305,
+        ..LARGEST
+    },
+    TreeShape {
+        leaf: 1_048_577,
+        ..LARGEST
+    },
+    TreeShape {
+        fan_out: 257,
+        ..LARGEST
+    },
+    TreeShape {
+        cache: 65_537,
+        ..LARGEST
+    },
+];
 
-#[test]
-fn a_write_and_a_removal_are_buffered(rt: HostRuntime) -> Result<(), Fail> {
-    assert_eq!(rt; written_and_removed(rt.alloc())?, 2);
-    Ok(())
-}
-
-/// A tree in which `a` was given 60,000 bytes and then, in a hundred appends, one byte more at a time.
-fn appended<A: Allocator + Copy>(alloc: A) -> Result<Numbered<A>, AllocError> {
-    let pins = Pins::new(alloc);
-    let mut tree = Numbered::new(alloc, SMALLEST)?;
-    let value = [b'v'; 60_000];
-    tree.put(alloc, key_a(), Op::Put(&value), &pins)?;
-    for _ in 0..100 {
-        tree.put(alloc, key_a(), Op::Append(b"w"), &pins)?;
-    }
-    Ok(tree)
-}
-
-/// How large that tree is, and how long the value of `a` is.
-fn appended_report<A: Allocator + Copy>(alloc: A) -> Result<(ShapeReport, usize), AllocError> {
-    let tree = appended(alloc)?;
-    let len = match tree.tree.get(alloc, key_a(), 101)? {
-        Some(found) => found.bytes().len(),
-        None => 0,
-    };
-    Ok((tree.tree.shape(), len))
-}
-
-#[test]
-fn appends_are_buffered(rt: HostRuntime) -> Result<(), Fail> {
-    let wanted = ShapeReport {
-        height: 1,
-        leaves: 1,
-        buffered: 101,
-        cached: 0,
-    };
-    let (report, len) = appended_report(rt.alloc())?;
-    assert_eq!(rt; report, wanted);
-    assert_eq!(rt; len, 60_100);
-    Ok(())
-}
-
-/// What `a` and `b` have, in order, before and after both are removed in one call.
-fn removed_together<A: Allocator + Copy>(alloc: A) -> Result<(usize, usize, u64), AllocError> {
-    let pins = Pins::new(alloc);
-    let mut tree = Numbered::new(alloc, SMALLEST)?;
-    tree.put(alloc, key_a(), Op::Put(b"x"), &pins)?;
-    tree.put(alloc, key_b(), Op::Put(b"y"), &pins)?;
-    tree.remove_both(alloc, key_a(), key_b(), &pins)?;
-    let before = tree.range(alloc, own_keys(), 2, 9)?.len();
-    let after = tree.range(alloc, own_keys(), 3, 9)?.len();
-    Ok((before, after, tree.tree.shape().buffered))
-}
-
-#[test]
-fn keys_are_removed_together(rt: HostRuntime) -> Result<(), Fail> {
-    assert_eq!(rt; removed_together(rt.alloc())?, (2, 0, 4));
-    Ok(())
-}
-
-/// The numbers of all versions of `a`, which is written, removed, and written again.
-fn version_numbers<A: Allocator + Copy>(alloc: A) -> Result<[(u64, bool); 3], AllocError> {
-    let pins = Pins::new(alloc);
-    let mut tree = Numbered::new(alloc, SMALLEST)?;
-    tree.put(alloc, key_a(), Op::Put(b"x"), &pins)?;
-    tree.put(alloc, key_a(), Op::Gone, &pins)?;
-    tree.put(alloc, key_a(), Op::Append(b"y"), &pins)?;
-    let all = tree.versions(alloc, key_a())?;
-    let mut numbers = [(0, false); 3];
-    if all.len() == 3 {
-        for i in 0..3 {
-            numbers[i] = (all[i].number, all[i].value.is_some());
+/// How many of the sizes out of their range come before the first that is not refused as that.
+fn refused<A: Allocator + Copy>(alloc: A) -> usize {
+    for i in 0..OUT_OF_RANGE.len() {
+        if new_report(alloc, OUT_OF_RANGE[i]) != Err(TreeFault::Shape) {
+            return i;
         }
     }
-    Ok(numbers)
+    OUT_OF_RANGE.len()
 }
 
 #[test]
-fn a_key_has_each_version(rt: HostRuntime) -> Result<(), Fail> {
-    assert_eq!(rt;
-        version_numbers(rt.alloc())?,
-        [(1, true), (2, false), (3, true)]
-    );
+fn a_new_tree_has_one_leaf(rt: HostRuntime) -> Result<(), Fail> {
+    let heap = Refusing::new(rt.alloc());
+    assert_eq!(rt; new_report(&heap, SMALLEST), Ok(small(0)));
+    assert_eq!(rt; new_report(&heap, LARGEST), Ok(small(0)));
+    assert_eq!(rt; refused(&heap), OUT_OF_RANGE.len());
+    Ok(())
+}
+
+/// A call of a tree, beside a plain list. Keys are told by their places: 0, 1 and 2 are tenant 1's.
+#[derive(Clone, Copy)]
+enum Call {
+    /// A value of so many bytes.
+    Put(usize, u32),
+    Remove(usize),
+    RemoveBoth(usize, usize),
+    /// A byte more, so often.
+    Append(usize, u32),
+    /// A pin of tenant 1 at the last number.
+    Pin,
+    /// Wants a value of so many bytes at a number.
+    Length(usize, u64, usize),
+    /// Wants so many of tenant 1's rows at a number.
+    Rows(u64, usize),
+    /// Wants as many versions, of which this one is the last: its number, and whether it has a value.
+    Versions(usize, usize, bool),
+    /// Wants so many messages in buffers, and that the tree tells what the list does.
+    Buffered(u64),
+}
+
+/// The smallest tree, and three keys of each tenant.
+pub(crate) const COURSE: Course = Course {
+    shape: SMALLEST,
+    letters: b"abc",
+    longest: 60_000,
+    number: 1,
+};
+
+/// A key is written and removed.
+const REMOVED: [Call; 3] = [Call::Put(0, 1), Call::Remove(0), Call::Buffered(2)];
+
+/// Appends to a long value.
+const APPENDED: [Call; 4] = [
+    Call::Put(0, 60_000),
+    Call::Append(0, 100),
+    Call::Buffered(101),
+    Call::Length(0, 101, 60_100),
+];
+
+/// Two keys are removed together.
+const TOGETHER: [Call; 7] = [
+    Call::Put(0, 1),
+    Call::Put(1, 1),
+    Call::Pin,
+    Call::RemoveBoth(0, 1),
+    Call::Rows(2, 2),
+    Call::Rows(3, 0),
+    Call::Buffered(4),
+];
+
+/// A key is written, removed, and written again.
+const AGAIN: [Call; 7] = [
+    Call::Put(0, 1),
+    Call::Versions(0, 1, true),
+    Call::Remove(0),
+    Call::Versions(0, 2, false),
+    Call::Append(0, 1),
+    Call::Versions(0, 3, true),
+    Call::Buffered(3),
+];
+
+/// Carries out a call. Whether what is wanted of it holds.
+fn carry_out<A: Allocator + Copy>(
+    alloc: A,
+    run: &mut Run<A>,
+    call: Call,
+) -> Result<bool, AllocError> {
+    match call {
+        Call::Put(place, len) => run.change(alloc, (Kind::Put, place, len))?,
+        Call::Remove(place) => run.change(alloc, (Kind::Gone, place, 0))?,
+        Call::RemoveBoth(first, second) => run.remove_both(alloc, first, second)?,
+        Call::Append(place, times) => append(alloc, run, place, times)?,
+        Call::Pin => run.pin(1)?,
+        Call::Length(place, at, len) => return has_length(alloc, run, (place, at, len)),
+        Call::Rows(at, count) => return Ok(run.rows(alloc, 1, (at, 9))?.len() == count),
+        Call::Versions(place, count, has_value) => {
+            return has_versions(alloc, run, (place, count, has_value));
+        }
+        Call::Buffered(count) => {
+            return Ok(run.tree.tree.shape() == small(count) && run.agrees(alloc)?);
+        }
+    }
+    Ok(true)
+}
+
+fn append<A: Allocator + Copy>(
+    alloc: A,
+    run: &mut Run<A>,
+    place: usize,
+    times: u32,
+) -> Result<(), AllocError> {
+    for _ in 0..times {
+        run.change(alloc, (Kind::Append, place, 1))?;
+    }
+    Ok(())
+}
+
+fn has_length<A: Allocator + Copy>(
+    alloc: A,
+    run: &Run<A>,
+    (place, at, len): (usize, u64, usize),
+) -> Result<bool, AllocError> {
+    Ok(match run.value(alloc, place, at)? {
+        Some(value) => value.as_slice().len() == len,
+        None => false,
+    })
+}
+
+fn has_versions<A: Allocator + Copy>(
+    alloc: A,
+    run: &mut Run<A>,
+    (place, count, has_value): (usize, usize, bool),
+) -> Result<bool, AllocError> {
+    let versions = run.versions(alloc, place)?;
+    Ok(match versions.last() {
+        Some(last) => {
+            versions.len() == count
+                && last.number == count as u64
+                && last.value.is_some() == has_value
+        }
+        None => false,
+    })
+}
+
+/// Whether what is wanted of these calls holds.
+fn hold<A: Allocator + Copy>(alloc: A, calls: &[Call]) -> Result<bool, AllocError> {
+    let mut run = Run::new(alloc, COURSE)?;
+    for call in calls {
+        if !carry_out(alloc, &mut run, *call)? {
+            return Ok(false);
+        }
+    }
+    Ok(true)
+}
+
+/// Whether what is wanted of all calls holds.
+fn are_told<A: Allocator + Copy>(alloc: A) -> Result<bool, AllocError> {
+    Ok(
+        hold(alloc, &REMOVED)?
+            && hold(alloc, &APPENDED)?
+            && hold(alloc, &TOGETHER)?
+            && hold(alloc, &AGAIN)?,
+    )
+}
+
+#[test]
+fn each_call_of_a_small_tree(rt: HostRuntime) -> Result<(), Fail> {
+    let heap = Refusing::new(rt.alloc());
+    assert!(rt; are_told(&heap)?);
     Ok(())
 }

@@ -1,26 +1,32 @@
 //! A tree of several levels that loses nearly all of its rows.
 use crate::tree::calls::SMALLEST;
-use crate::tree::run::{Course, Run};
+use crate::tree::run::{Course, FORTY, Run};
 use std::alloc::{AllocError, Allocator};
 use std::test::Fail;
+use stow_refusing::Refusing;
 use stow_tree::shape_report::ShapeReport;
 use stow_tree::tree_shape::TreeShape;
 
-/// Writes most keys and removes them, so many times, as pins come and go. Answers whether the tree tells what the list does.
+/// Writes most keys and removes them, so many times, as pins come and go. How large the tree is then, if it tells what the
+/// list does.
 fn shrink<A: Allocator + Copy>(
     alloc: A,
     run: &mut Run<A>,
     rounds: u32,
-) -> Result<bool, AllocError> {
+) -> Result<Option<ShapeReport>, AllocError> {
     for _ in 0..rounds {
         run.remove_most(alloc)?;
         run.move_pins()?;
     }
-    run.agrees(alloc)
+    Ok(if run.agrees(alloc)? {
+        Some(run.tree.tree.shape())
+    } else {
+        None
+    })
 }
 
 /// How large a tree is after 3,000 random changes, and after 40 and 80 rounds of writes and removals.
-#[derive(Clone, Copy, Debug)]
+#[derive(Clone, Copy)]
 struct Reports {
     grown: ShapeReport,
     middle: ShapeReport,
@@ -34,54 +40,49 @@ fn reports_of<A: Allocator + Copy>(alloc: A, fan_out: u32) -> Result<Option<Repo
             fan_out,
             ..SMALLEST
         },
-        keys: 40,
+        letters: FORTY,
         longest: 4_000,
         number: 7,
     };
     let mut run = Run::new(alloc, course)?;
-    let is_grown = run.go_on(alloc, 3_000)?;
+    if !run.go_on(alloc, 3_000)? {
+        return Ok(None);
+    }
     let grown = run.tree.tree.shape();
-    let is_middle = shrink(alloc, &mut run, 40)?;
-    let middle = run.tree.tree.shape();
-    let is_last = shrink(alloc, &mut run, 40)?;
-    let last = run.tree.tree.shape();
-    Ok(if is_grown && is_middle && is_last {
-        Some(Reports {
-            grown,
-            middle,
-            last,
-        })
-    } else {
-        None
-    })
+    let (Some(middle), Some(last)) = (shrink(alloc, &mut run, 40)?, shrink(alloc, &mut run, 40)?)
+    else {
+        return Ok(None);
+    };
+    Ok(Some(Reports {
+        grown,
+        middle,
+        last,
+    }))
+}
+
+/// Whether the leaves of a tree of three levels become few again.
+fn are_few(reports: Reports) -> bool {
+    let (grown, last) = (reports.grown, reports.last);
+    grown.height == 3 && last.height == 3 && grown.leaves >= 60 && last.leaves <= 30
+}
+
+/// Whether leaves become fewer twice.
+fn are_fewer(reports: Reports) -> bool {
+    let (grown, middle, last) = (reports.grown, reports.middle, reports.last);
+    grown.height >= 3 && middle.leaves < grown.leaves && last.leaves < middle.leaves
+}
+
+/// Whether a tree's leaves become few. Nodes are not joined, so at a fan-out of 4 they become fewer and not few.
+fn become_few<A: Allocator + Copy>(alloc: A) -> Result<bool, AllocError> {
+    let (Some(wide), Some(narrow)) = (reports_of(alloc, 8)?, reports_of(alloc, 4)?) else {
+        return Ok(false);
+    };
+    Ok(are_few(wide) && are_fewer(narrow))
 }
 
 #[test]
 fn leaves_become_few_again(rt: HostRuntime) -> Result<(), Fail> {
-    let Some(reports) = reports_of(rt.alloc(), 8)? else {
-        panic!(rt; "they differ");
-    };
-    assert!(rt;
-        reports.grown.height == 3 && reports.last.height == 3,
-        "{reports:?}"
-    );
-    assert!(rt;
-        reports.grown.leaves >= 60 && reports.last.leaves <= 30,
-        "{reports:?}"
-    );
-    Ok(())
-}
-
-// Nodes are not joined, so at a fan-out of 4 the leaves become fewer and not few.
-#[test]
-fn leaves_become_fewer_in_the_smallest_shape(rt: HostRuntime) -> Result<(), Fail> {
-    let Some(reports) = reports_of(rt.alloc(), 4)? else {
-        panic!(rt; "they differ");
-    };
-    assert!(rt; reports.grown.height >= 3, "{reports:?}");
-    assert!(rt;
-        reports.middle.leaves < reports.grown.leaves && reports.last.leaves < reports.middle.leaves,
-        "{reports:?}"
-    );
+    let heap = Refusing::new(rt.alloc());
+    assert!(rt; become_few(&heap)?);
     Ok(())
 }

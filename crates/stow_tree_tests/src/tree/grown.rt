@@ -1,181 +1,206 @@
 //! A tree of four hundred rows of a thousand bytes, in several shapes: what is read, and how many leaves are held.
+use crate::keys::Keys;
 use crate::tree::calls::{LARGEST, SMALLEST};
 use crate::tree::numbered::{Interval, Numbered};
 use std::alloc::{AllocError, Allocator};
 use std::test::Fail;
 use stow_merge::pins::Pins;
 use stow_read::row::Row;
+use stow_refusing::Refusing;
 use stow_tree::tree_shape::TreeShape;
 use stow_tree_model::op::Op;
+use stow_tree_model::tenant_key::TenantKey;
 use stow_tree_model::tenant_key_buf::TenantKeyBuf;
 
-const ROWS: u32 = 400;
+const ROWS: usize = 400;
 
 const VALUE: [u8; 1_000] = [b'v'; 1_000];
 
-/// Tenant 1's key of a row.
-fn key_of<A: Allocator + Copy>(alloc: A, row: u32) -> Result<TenantKeyBuf<A>, AllocError> {
-    let [_, _, high, low] = row.to_be_bytes();
-    TenantKeyBuf::new(alloc, 1, &[b'k', high, low])
-}
-
-/// The tree with all rows.
-fn filled<A: Allocator + Copy>(alloc: A, shape: TreeShape) -> Result<Numbered<A>, AllocError> {
-    let pins = Pins::new(alloc);
-    let mut tree = Numbered::new(alloc, shape)?;
-    for row in 0..ROWS {
-        let key = key_of(alloc, row)?;
-        tree.put(alloc, key.as_key(), Op::Put(&VALUE), &pins)?;
+/// Tenant 1's keys of all rows, in order.
+fn keys_of<A: Allocator + Copy>(alloc: A) -> Result<Vec<TenantKeyBuf<A>, A>, AllocError> {
+    let mut keys = Vec::new(alloc);
+    for row in 0..ROWS as u16 {
+        keys.push(TenantKeyBuf::new(alloc, 1, &row.to_be_bytes())?)?;
     }
-    Ok(tree)
+    Ok(keys)
 }
 
-/// How many rows have their value, as each is looked up and its leaf offered.
-fn looked_up<A: Allocator + Copy>(alloc: A, tree: &mut Numbered<A>) -> Result<u32, AllocError> {
-    let mut found = 0u32;
-    for row in 0..ROWS {
-        let key = key_of(alloc, row)?;
-        if let Some(value) = tree.tree.get(alloc, key.as_key(), 400)? {
-            if value.bytes() == VALUE.as_slice() {
-                found = found.saturating_add(1);
+/// Whether a row has its value.
+fn has_value<A: Allocator + Copy>(
+    alloc: A,
+    tree: &Numbered<A>,
+    key: TenantKey<'_>,
+) -> Result<bool, AllocError> {
+    Ok(match tree.tree.get(alloc, key, 400)? {
+        Some(value) => value.bytes() == VALUE.as_slice(),
+        None => false,
+    })
+}
+
+/// A tree of the rows with these keys.
+#[derive(Drop)]
+struct Grown<A: Allocator + Copy> {
+    tree: Numbered<A>,
+    rows: Vec<TenantKeyBuf<A>, A>,
+    keys: Keys<A>,
+}
+
+impl<A: Allocator + Copy> Grown<A> {
+    fn new(alloc: A, shape: TreeShape) -> Result<Grown<A>, AllocError> {
+        let mut grown = Grown {
+            tree: Numbered::new(alloc, shape)?,
+            rows: keys_of(alloc)?,
+            keys: Keys::new(alloc, 1, b"")?,
+        };
+        grown.put(alloc, (0, ROWS), Op::Put(&VALUE))?;
+        Ok(grown)
+    }
+
+    /// Does the same to all rows from one on and before another.
+    fn put(&mut self, alloc: A, (from, to): (usize, usize), op: Op<'_>) -> Result<(), AllocError> {
+        let pins = Pins::new(alloc);
+        for row in from..to {
+            if let Some(key) = self.rows.get(row) {
+                self.tree.put(alloc, key.as_key(), op, &pins)?;
             }
         }
-        tree.offer(key.as_key());
+        Ok(())
     }
-    Ok(found)
-}
 
-/// Whether the rows are these, in order.
-fn are_all<A: Allocator + Copy>(alloc: A, rows: &[Row<A>]) -> Result<bool, AllocError> {
-    let mut row = 0u32;
-    for it in rows {
-        let key = key_of(alloc, row)?;
-        if it.key.as_key().bytes != key.as_key().bytes || it.value.as_slice() != VALUE.as_slice() {
-            return Ok(false);
+    /// How many rows have their value, as each is looked up and its leaf offered.
+    fn looked_up(&mut self, alloc: A) -> Result<usize, AllocError> {
+        let mut found = 0usize;
+        for row in 0..ROWS {
+            if let Some(key) = self.rows.get(row) {
+                let has_value = has_value(alloc, &self.tree, key.as_key())?;
+                self.tree.offer(key.as_key());
+                found = found.saturating_add(usize::from(has_value));
+            }
         }
-        row = row.saturating_add(1);
+        Ok(found)
     }
-    Ok(row == ROWS)
+
+    /// Whether this is the row.
+    fn is_row(&self, row: &Row<A>, place: usize) -> bool {
+        place < self.rows.len()
+            && row.key.as_key().bytes == self.rows[place].as_key().bytes
+            && row.value.as_slice() == VALUE.as_slice()
+    }
+
+    /// Whether all of tenant 1's keys at a number, up to 1,024, are the rows but those from one on and before another.
+    fn are_but(
+        &mut self,
+        alloc: A,
+        at: u64,
+        (from, to): (usize, usize),
+    ) -> Result<bool, AllocError> {
+        let interval = Interval {
+            from: self.keys.low(1),
+            to: self.keys.low(2),
+        };
+        let rows = self.tree.range(alloc, interval, at, 1_024)?;
+        let gone = to.saturating_sub(from);
+        let mut are = rows.len().saturating_add(gone) == ROWS;
+        for i in 0..rows.len() {
+            let place = if i < from { i } else { i.saturating_add(gone) };
+            are = are && self.is_row(&rows[i], place);
+        }
+        Ok(are)
+    }
+
+    /// How many leaves are held.
+    fn cached(&self) -> u64 {
+        self.tree.tree.shape().cached
+    }
 }
 
-/// Whether all of tenant 1's keys, up to 1,024, are the rows.
-fn are_in_range<A: Allocator + Copy>(alloc: A, tree: &mut Numbered<A>) -> Result<bool, AllocError> {
-    let from = TenantKeyBuf::new(alloc, 1, &[])?;
-    let to = TenantKeyBuf::new(alloc, 2, &[])?;
-    let interval = Interval {
-        from: from.as_key(),
-        to: to.as_key(),
-    };
-    let rows = tree.range(alloc, interval, 400, 1_024)?;
-    are_all(alloc, rows.as_slice())
+/// Whether a tree has several leaves and buffered messages, whether all is read, and how many leaves are held at the end.
+fn look_at<A: Allocator + Copy>(
+    alloc: A,
+    shape: TreeShape,
+) -> Result<(bool, bool, u64), AllocError> {
+    let mut grown = Grown::new(alloc, shape)?;
+    let report = grown.tree.tree.shape();
+    let is_grown = report.leaves >= 2 && report.buffered >= 1;
+    let is_read = grown.looked_up(alloc)? == ROWS && grown.are_but(alloc, 400, (0, 0))?;
+    Ok((is_grown, is_read, grown.cached()))
 }
 
-/// What is seen of a tree: whether it has several leaves and buffered messages, and how many leaves are held at the end.
-#[derive(Clone, Copy, Debug, PartialEq, Eq)]
-struct Outcome {
-    is_grown: bool,
-    is_read: bool,
-    cached: u64,
+/// Fan-outs and limits of a cache, and how many leaves are held at least and at most.
+const HELD: [(u32, u32, u64, u64); 6] = [
+    (4, 0, 0, 0),
+    (4, 1, 1, 1),
+    (4, 1_000, 2, 1_000),
+    (256, 0, 0, 0),
+    (256, 1, 1, 1),
+    (256, 1_000, 2, 1_000),
+];
+
+/// How many of these come before the first in which a tree does not grow, or not all is read.
+fn shapes_read<A: Allocator + Copy>(alloc: A) -> Result<usize, AllocError> {
+    for i in 0..HELD.len() {
+        let (fan_out, cache, least, most) = HELD[i];
+        let shape = TreeShape {
+            fan_out,
+            cache,
+            ..SMALLEST
+        };
+        let (is_grown, is_read, cached) = look_at(alloc, shape)?;
+        if !is_grown || !is_read || cached < least || cached > most {
+            return Ok(i);
+        }
+    }
+    Ok(HELD.len())
 }
 
-fn look_at<A: Allocator + Copy>(alloc: A, shape: TreeShape) -> Result<Outcome, AllocError> {
-    let mut tree = filled(alloc, shape)?;
-    let grown = tree.tree.shape();
-    let found = looked_up(alloc, &mut tree)?;
-    let ranged = are_in_range(alloc, &mut tree)?;
-    Ok(Outcome {
-        is_grown: grown.leaves >= 2 && grown.buffered >= 1,
-        is_read: found == ROWS && ranged,
-        cached: tree.tree.shape().cached,
-    })
+/// Whether all is read in a large tree, which does not grow.
+fn is_large_read<A: Allocator + Copy>(alloc: A) -> Result<bool, AllocError> {
+    let (is_grown, is_read, _) = look_at(alloc, LARGEST)?;
+    Ok(!is_grown && is_read)
 }
 
 #[test]
 fn rows_are_read_in_each_shape(rt: HostRuntime) -> Result<(), Fail> {
-    for fan_out in [4, 256] {
-        for cache in [0, 1, 1_000] {
-            let shape = TreeShape {
-                fan_out,
-                cache,
-                ..SMALLEST
-            };
-            let outcome = look_at(rt.alloc(), shape)?;
-            assert!(rt; outcome.is_grown && outcome.is_read, "fan-out {fan_out}");
-            match cache {
-                0 => assert_eq!(rt; outcome.cached, 0),
-                1 => assert_eq!(rt; outcome.cached, 1),
-                _ => assert!(rt; outcome.cached >= 2),
-            }
-        }
-    }
-    let outcome = look_at(rt.alloc(), LARGEST)?;
-    assert!(rt; !outcome.is_grown && outcome.is_read);
+    let heap = Refusing::new(rt.alloc());
+    assert_eq!(rt; shapes_read(&heap)?, HELD.len());
+    assert!(rt; is_large_read(&heap)?);
     Ok(())
 }
 
-/// How many leaves are held once each leaf was offered: at first, with a limit of 1, of 0, and, offered again, of 3.
-fn held<A: Allocator + Copy>(alloc: A) -> Result<[u64; 4], AllocError> {
+/// Whether three leaves at least are held once each leaf was offered; then how many with a limit of 1, of 0, and, offered
+/// again, of 3.
+fn held<A: Allocator + Copy>(alloc: A) -> Result<(bool, u64, u64, u64), AllocError> {
     let shape = TreeShape {
         cache: 1_000,
         ..SMALLEST
     };
-    let mut tree = filled(alloc, shape)?;
-    looked_up(alloc, &mut tree)?;
-    let first = tree.tree.shape().cached;
-    tree.resize(1)?;
-    let one = tree.tree.shape().cached;
-    tree.resize(0)?;
-    let none = tree.tree.shape().cached;
-    tree.resize(3)?;
-    looked_up(alloc, &mut tree)?;
-    Ok([first, one, none, tree.tree.shape().cached])
+    let mut grown = Grown::new(alloc, shape)?;
+    grown.looked_up(alloc)?;
+    let first = grown.cached();
+    grown.tree.resize(1)?;
+    let one = grown.cached();
+    grown.tree.resize(0)?;
+    let none = grown.cached();
+    grown.tree.resize(3)?;
+    grown.looked_up(alloc)?;
+    Ok((first >= 3, one, none, grown.cached()))
 }
 
-#[test]
-fn a_limit_is_kept(rt: HostRuntime) -> Result<(), Fail> {
-    let [first, one, none, again] = held(rt.alloc())?;
-    assert!(rt; first >= 3);
-    assert_eq!(rt; (one, none, again), (1, 0, 3));
-    Ok(())
-}
-
-/// Removes the rows from 100 on and below 300 again and again, until the removals have come down to the leaves.
-fn remove_stretch<A: Allocator + Copy>(alloc: A, tree: &mut Numbered<A>) -> Result<(), AllocError> {
-    let pins = Pins::new(alloc);
+/// Removes the rows from 100 on and before 300 again and again, until the removals have come down to the leaves. Whether the
+/// others are all in order then.
+fn passes_over<A: Allocator + Copy>(alloc: A) -> Result<bool, AllocError> {
+    let mut grown = Grown::new(alloc, SMALLEST)?;
     for _ in 0..400 {
-        for row in 100..300 {
-            let key = key_of(alloc, row)?;
-            tree.put(alloc, key.as_key(), Op::Gone, &pins)?;
-        }
+        grown.put(alloc, (100, 300), Op::Gone)?;
     }
-    Ok(())
-}
-
-/// How many of tenant 1's rows, up to 1,024, are in order below the removed ones, and how many above.
-fn around_stretch<A: Allocator + Copy>(alloc: A) -> Result<(usize, usize), AllocError> {
-    let mut tree = filled(alloc, SMALLEST)?;
-    remove_stretch(alloc, &mut tree)?;
-    let from = TenantKeyBuf::new(alloc, 1, &[])?;
-    let to = TenantKeyBuf::new(alloc, 2, &[])?;
-    let interval = Interval {
-        from: from.as_key(),
-        to: to.as_key(),
-    };
-    let last = tree.last;
-    let first_above = key_of(alloc, 300)?;
-    let (mut below, mut above) = (0usize, 0usize);
-    for row in tree.range(alloc, interval, last, 1_024)?.as_slice() {
-        if row.key.as_key().bytes < first_above.as_key().bytes {
-            below = below.saturating_add(1);
-        } else {
-            above = above.saturating_add(1);
-        }
-    }
-    Ok((below, above))
+    let last = grown.tree.last;
+    grown.are_but(alloc, last, (100, 300))
 }
 
 #[test]
-fn a_range_passes_over_removed_rows(rt: HostRuntime) -> Result<(), Fail> {
-    assert_eq!(rt; around_stretch(rt.alloc())?, (100, 100));
+fn a_limit_is_kept_and_removed_rows_passed_over(rt: HostRuntime) -> Result<(), Fail> {
+    let heap = Refusing::new(rt.alloc());
+    assert_eq!(rt; held(&heap)?, (true, 1, 0, 3));
+    assert!(rt; passes_over(&heap)?);
     Ok(())
 }

@@ -10,7 +10,6 @@ use std::alloc::{AllocError, Allocator};
 use stow_bytes::limits::VALUE_LIMIT;
 use stow_merge::pins::Pins;
 use stow_read::row::Row;
-use stow_refusing::{Plan, Refusing};
 use stow_tree::tree::Tree;
 use stow_tree::tree_shape::{LEAST_BUFFER, TreeShape};
 use stow_tree_model::message::Message;
@@ -81,30 +80,6 @@ impl<A: Allocator + Copy> Numbered<A> {
         self.tree.put_all(messages.as_slice());
         self.last = made.number;
         Ok(())
-    }
-
-    /// Puts a message of the next number, and answers how many requests for memory that makes once room was made: the heap
-    /// refuses them all. What can't be put is told as want of memory.
-    pub(crate) fn put_without_memory<B: Allocator>(
-        &mut self,
-        alloc: A,
-        heap: &Refusing<B>,
-        key: TenantKey<'_>,
-        op: Op<'_>,
-        pins: &Pins<A>,
-    ) -> Result<u64, AllocError> {
-        let Some(made) = message(key, self.last.saturating_add(1), op) else {
-            return Err(AllocError);
-        };
-        if !self.is_short(alloc, made)? {
-            return Err(AllocError);
-        }
-        let messages = [made];
-        self.tree.reserve(alloc, messages.as_slice(), pins)?;
-        heap.set(Plan::RefuseAll);
-        self.tree.put_all(messages.as_slice());
-        self.last = made.number;
-        Ok(heap.asked())
     }
 
     /// Removes two keys with one number. What can't be put is told as want of memory.

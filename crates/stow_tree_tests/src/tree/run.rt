@@ -1,6 +1,8 @@
-//! A tree under random changes, beside the plain list of them.
+//! A tree under changes, beside the plain list of them.
 ghost use Rattle.std.specs.Prelude.{◌≤◌};
 
+use crate::keys::Keys;
+use crate::merge::pinning::pinned;
 use crate::tree::changes::{Change, Kind, messages_of};
 use crate::tree::numbered::{Interval, Numbered};
 use std::alloc::{AllocError, Allocator};
@@ -9,9 +11,7 @@ use stow_merge::pins::Pins;
 use stow_read::row::Row;
 use stow_testing::random::Random;
 use stow_tree::tree_shape::TreeShape;
-use stow_tree_model::message::Message;
 use stow_tree_model::plain::value_of_key;
-use stow_tree_model::tenant_key::TenantKey;
 use stow_tree_model::tenant_key_buf::TenantKeyBuf;
 use stow_tree_model::version_buf::VersionBuf;
 
@@ -27,21 +27,24 @@ const SHORT: u32 = 1_000;
 #[derive(Clone, Copy)]
 pub(crate) struct Course {
     pub(crate) shape: TreeShape,
-    /// How many keys each tenant has.
-    pub(crate) keys: u8,
-    /// Values are shorter than this.
+    /// The keys that each tenant has.
+    pub(crate) letters: &'static [u8],
+    /// Random values are shorter than this.
     pub(crate) longest: u16,
     /// The number of its source of random numbers.
     pub(crate) number: u64,
 }
 
-/// A tree under random changes of some keys of several tenants, beside the plain list of them.
+/// Forty letters.
+pub(crate) const FORTY: &[u8] = b"0123456789ABCDEFGHIJKLMNOPQRSTUVWXYZabcd";
+
+/// A tree under changes of some keys of several tenants, beside the plain list of them.
 #[derive(Drop)]
 pub(crate) struct Run<A: Allocator + Copy> {
     pub(crate) tree: Numbered<A>,
-    keys: Vec<TenantKeyBuf<A>, A>,
+    pub(crate) keys: Keys<A>,
     bytes: Vec<u8, A>,
-    pins: Pins<A>,
+    pub(crate) pins: Pins<A>,
     changes: Vec<Change, A>,
     random: Random,
     longest: u32,
@@ -53,20 +56,6 @@ pub(crate) enum Read {
     Get,
     Versions,
     Range,
-}
-
-/// The keys of all tenants, in order.
-fn keys_of<A: Allocator + Copy>(
-    alloc: A,
-    count: u8,
-) -> Result<Vec<TenantKeyBuf<A>, A>, AllocError> {
-    let mut keys = Vec::new(alloc);
-    for tenant in 1..=TENANTS {
-        for own in 0..count {
-            keys.push(TenantKeyBuf::new(alloc, tenant, &[b'k', own])?)?;
-        }
-    }
-    Ok(keys)
 }
 
 /// Random bytes.
@@ -82,22 +71,19 @@ fn random_bytes<A: Allocator + Copy>(
     Ok(bytes)
 }
 
-/// What the messages give a key at a number.
-fn plain_value<A: Allocator + Copy>(
-    alloc: A,
-    messages: &[Message<'_>],
-    key: TenantKey<'_>,
-    at: u64,
-) -> Result<Option<ByteString<A>>, AllocError> {
-    Ok(value_of_key(alloc, messages, key, at)?.map(|it| it.value))
-}
-
 /// Whether both are the same bytes, or none.
 fn is_same<A: Allocator>(bytes: Option<&[u8]>, wanted: &Option<ByteString<A>>) -> bool {
     match (bytes, wanted) {
         (None, None) => true,
         (Some(bytes), Some(wanted)) => bytes == wanted.as_slice(),
         _ => false,
+    }
+}
+
+fn bytes_of<A: Allocator>(value: &Option<ByteString<A>>) -> Option<&[u8]> {
+    match value {
+        Some(bytes) => Some(bytes.as_slice()),
+        None => None,
     }
 }
 
@@ -122,7 +108,7 @@ impl<A: Allocator + Copy> Run<A> {
         let longest = u32::from(course.longest);
         Ok(Run {
             tree: Numbered::new(alloc, course.shape)?,
-            keys: keys_of(alloc, course.keys)?,
+            keys: Keys::new(alloc, TENANTS, course.letters)?,
             bytes: random_bytes(alloc, &mut random, PLACES + longest)?,
             pins: Pins::new(alloc),
             changes: Vec::new(alloc),
@@ -164,30 +150,50 @@ impl<A: Allocator + Copy> Run<A> {
     /// Puts a change into the tree and the list.
     pub(crate) fn put(&mut self, alloc: A, change: Change) -> Result<(), AllocError> {
         self.changes.reserve(1)?;
-        let Some(key) = self.keys.get(change.key) else {
-            return Err(AllocError);
-        };
-        self.tree.put(
-            alloc,
-            key.as_key(),
-            change.op(self.bytes.as_slice()),
-            &self.pins,
-        )?;
+        let key = self.keys.at(change.key);
+        let op = change.op(self.bytes.as_slice());
+        self.tree.put(alloc, key, op, &self.pins)?;
         self.changes.push(change)?;
         Ok(())
     }
 
-    /// Gives the key at a place a short value, and then removes it.
-    fn put_and_remove(&mut self, alloc: A, key: usize) -> Result<(), AllocError> {
-        for kind in [Kind::Put, Kind::Gone] {
-            let change = Change {
+    /// Puts a change of a key into both, so many bytes of those that all share.
+    pub(crate) fn change(
+        &mut self,
+        alloc: A,
+        (kind, key, len): (Kind, usize, u32),
+    ) -> Result<(), AllocError> {
+        let number = self.tree.last.saturating_add(1);
+        let from = 0;
+        self.put(
+            alloc,
+            Change {
                 key,
-                number: self.tree.last.saturating_add(1),
+                number,
                 kind,
-                from: self.random.below(PLACES),
-                len: SHORT,
-            };
-            self.put(alloc, change)?;
+                from,
+                len,
+            },
+        )
+    }
+
+    /// Removes two keys with one number.
+    pub(crate) fn remove_both(
+        &mut self,
+        alloc: A,
+        first: usize,
+        second: usize,
+    ) -> Result<(), AllocError> {
+        let (from, to) = (self.keys.at(first), self.keys.at(second));
+        self.tree.remove_both(alloc, from, to, &self.pins)?;
+        for key in [first, second] {
+            self.changes.push(Change {
+                key,
+                number: self.tree.last,
+                kind: Kind::Gone,
+                from: 0,
+                len: 0,
+            })?;
         }
         Ok(())
     }
@@ -196,8 +202,17 @@ impl<A: Allocator + Copy> Run<A> {
     pub(crate) fn remove_most(&mut self, alloc: A) -> Result<(), AllocError> {
         for place in 0..self.keys.len() {
             if place % 20 != 0 {
-                self.put_and_remove(alloc, place)?;
+                self.change(alloc, (Kind::Put, place, SHORT))?;
+                self.change(alloc, (Kind::Gone, place, 0))?;
             }
+        }
+        Ok(())
+    }
+
+    /// Adds a pin of a tenant at the last number, if there are few.
+    pub(crate) fn pin(&mut self, tenant: u32) -> Result<(), AllocError> {
+        if self.pins.of(tenant).len() < 4 {
+            pinned(&mut self.pins, tenant, self.tree.last)?;
         }
         Ok(())
     }
@@ -205,14 +220,10 @@ impl<A: Allocator + Copy> Run<A> {
     /// Adds a pin of a tenant at the last number, or removes one.
     pub(crate) fn move_pins(&mut self) -> Result<(), AllocError> {
         let tenant = 1 + self.random.below(TENANTS);
-        let own = self.pins.of(tenant);
-        let last = self.tree.last;
         if self.random.below(2) == 0 {
-            if own.len() < 4 && own.iter().all(|pin| *pin < last) {
-                self.pins.room(tenant)?;
-                self.pins.add(tenant, last);
-            }
-        } else if let Some(pin) = own.first() {
+            return self.pin(tenant);
+        }
+        if let Some(pin) = self.pins.of(tenant).first() {
             let pin = *pin;
             self.pins.remove(tenant, pin);
         }
@@ -231,36 +242,37 @@ impl<A: Allocator + Copy> Run<A> {
                 self.versions(alloc, place)?;
             }
             Read::Range => {
-                self.rows_below(alloc, place, last)?;
+                let interval = Interval {
+                    from: self.keys.low(1),
+                    to: self.keys.at(place),
+                };
+                self.tree.range(alloc, interval, last, 100)?;
             }
         }
         Ok(())
     }
 
     /// All versions of the key at a place.
-    fn versions(&mut self, alloc: A, place: usize) -> Result<Vec<VersionBuf<A>, A>, AllocError> {
-        match self.keys.get(place) {
-            Some(key) => self.tree.versions(alloc, key.as_key()),
-            None => Err(AllocError),
-        }
-    }
-
-    /// The rows below the key at a place.
-    fn rows_below(
+    pub(crate) fn versions(
         &mut self,
         alloc: A,
         place: usize,
-        at: u64,
+    ) -> Result<Vec<VersionBuf<A>, A>, AllocError> {
+        self.tree.versions(alloc, self.keys.at(place))
+    }
+
+    /// The first rows of a tenant.
+    pub(crate) fn rows(
+        &mut self,
+        alloc: A,
+        tenant: u32,
+        (at, count): (u64, usize),
     ) -> Result<Vec<Row<A>, A>, AllocError> {
-        let from = TenantKeyBuf::new(alloc, 1, &[])?;
-        let Some(to) = self.keys.get(place) else {
-            return Err(AllocError);
-        };
         let interval = Interval {
-            from: from.as_key(),
-            to: to.as_key(),
+            from: self.keys.low(tenant),
+            to: self.keys.low(tenant.saturating_add(1)),
         };
-        self.tree.range(alloc, interval, at, 100)
+        self.tree.range(alloc, interval, at, count)
     }
 
     /// The place of the key that was last appended to.
@@ -282,11 +294,13 @@ impl<A: Allocator + Copy> Run<A> {
     }
 
     /// What the tree has of the key at a place, at a number.
-    fn value(&self, alloc: A, place: usize, at: u64) -> Result<Option<ByteString<A>>, AllocError> {
-        let Some(key) = self.keys.get(place) else {
-            return Ok(None);
-        };
-        match self.tree.tree.get(alloc, key.as_key(), at)? {
+    pub(crate) fn value(
+        &self,
+        alloc: A,
+        place: usize,
+        at: u64,
+    ) -> Result<Option<ByteString<A>>, AllocError> {
+        match self.tree.tree.get(alloc, self.keys.at(place), at)? {
             Some(found) => Ok(Some(ByteString::from_slice(alloc, found.bytes())?)),
             None => Ok(None),
         }
@@ -299,21 +313,18 @@ impl<A: Allocator + Copy> Run<A> {
         place: usize,
         at: u64,
     ) -> Result<Option<ByteString<A>>, AllocError> {
-        let Some(key) = self.keys.get(place) else {
-            return Ok(None);
-        };
-        let key = key.as_key();
+        let key = self.keys.at(place);
         let changes = self.changes.as_slice();
         let messages = messages_of(alloc, changes, place, key, self.bytes.as_slice())?;
-        plain_value(alloc, messages.as_slice(), key, at)
+        match value_of_key(alloc, messages.as_slice(), key, at)? {
+            Some(numbered) => Ok(Some(numbered.value)),
+            None => Ok(None),
+        }
     }
 
     /// The tenant of the key at a place.
     fn tenant(&self, place: usize) -> u32 {
-        match self.keys.get(place) {
-            Some(key) => key.as_key().tenant(),
-            None => 0,
-        }
+        self.keys.at(place).tenant()
     }
 
     /// Whether the key at a place has what the list gives it, by `get` and by `versions`.
@@ -323,7 +334,7 @@ impl<A: Allocator + Copy> Run<A> {
         for at in numbers.as_slice() {
             let wanted = self.plain_value(alloc, place, *at)?;
             let value = self.value(alloc, place, *at)?;
-            if !is_same(value.as_ref().map(|it| it.as_slice()), &wanted)
+            if !is_same(bytes_of(&value), &wanted)
                 || !is_same(shown(versions.as_slice(), *at), &wanted)
             {
                 return Ok(false);
@@ -337,14 +348,13 @@ impl<A: Allocator + Copy> Run<A> {
         &self,
         alloc: A,
         tenant: u32,
-        at: u64,
-        count: usize,
+        (at, count): (u64, usize),
     ) -> Result<Vec<Row<A>, A>, AllocError> {
         let mut rows = Vec::new(alloc);
         for place in 0..self.keys.len() {
             if self.tenant(place) == tenant && rows.len() < count {
                 if let Some(value) = self.plain_value(alloc, place, at)? {
-                    let key = TenantKeyBuf::from_key(alloc, self.keys[place].as_key())?;
+                    let key = TenantKeyBuf::from_key(alloc, self.keys.at(place))?;
                     rows.push(Row { key, value })?;
                 }
             }
@@ -353,19 +363,11 @@ impl<A: Allocator + Copy> Run<A> {
     }
 
     /// Whether a tenant's first rows are those of the list.
-    fn is_range(&mut self, alloc: A, tenant: u32, count: usize) -> Result<bool, AllocError>
-        requires { tenant ≤ 3 }
-    {
-        let from = TenantKeyBuf::new(alloc, tenant, &[])?;
-        let to = TenantKeyBuf::new(alloc, tenant + 1, &[])?;
-        let interval = Interval {
-            from: from.as_key(),
-            to: to.as_key(),
-        };
+    fn is_range(&mut self, alloc: A, tenant: u32, count: usize) -> Result<bool, AllocError> {
         let numbers = self.numbers(alloc, tenant)?;
         for at in numbers.as_slice() {
-            let rows = self.tree.range(alloc, interval, *at, count)?;
-            let wanted = self.plain_rows(alloc, tenant, *at, count)?;
+            let rows = self.rows(alloc, tenant, (*at, count))?;
+            let wanted = self.plain_rows(alloc, tenant, (*at, count))?;
             if !are_same_rows(rows.as_slice(), wanted.as_slice()) {
                 return Ok(false);
             }

@@ -3,8 +3,8 @@ use Rattle.stow_tree_model.specs.Order.{VersionsRise}
 use Rattle.stow_tree_model.specs.Version.{version_of}
 use Rattle.stow_page.specs.Format.{packed_page}
 use Rattle.stow_page.proofs.Joined.{lone}
-use Rattle.stow_tree_tests.proofs.page.with_one_above.Goals as goal
-use Rattle.stow_tree_tests.proofs.page.with_one_above.Given as given
+use Rattle.stow_tree_tests.proofs.page.is_joined.Goals as goal
+use Rattle.stow_tree_tests.proofs.page.is_joined.Given as given
 
 both : (g : given.Over) (c : goal.After-above-2-1 g) → c.args.lower ++ version_of c.get-version.result ∷ [] ≡ c.in_ok-rows.rows ++ c.in_ok-above.above
 both g c = sym (λ i. c.in_ok-rows.ensures i ++ (c.in_ok-above.ensures ∙ lone c.args.upper (version_of c.get-version.result) (sym c.len.ensures.len ∙ c.if-len-ne1.false) c.get-version.ensures.version) i)

@@ -1,7 +1,0 @@
-use Rattle.std.proofs.Common.{arith}
-use Rattle.stow_tree_model.specs.Keys.{tenant_of}
-use Rattle.stow_tree_tests.proofs.tree.calls.key_b.Goals as goal
-
-pub from_packed-requires : goal.from_packed-requires
-unfolding tenant_of
-from_packed-requires c = record { has_index = omega arith; is_short = omega arith; is_near = omega arith }
