@@ -6,6 +6,9 @@ pub const KEY_LIMIT: usize = 1024;
 /// Bytes of a value, at most.
 pub const VALUE_LIMIT: usize = 65_535;
 
+/// Bytes of an inline request's line, before its LF, at most.
+pub const LINE_LIMIT: usize = 65_536;
+
 /// The highest write number, snapshot id, quota and count.
 pub const NUMBER_LIMIT: u64 = 9_223_372_036_854_775_807;
 

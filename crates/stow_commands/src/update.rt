@@ -67,7 +67,7 @@ fn set<A: Allocator + Copy>(
 }
 
 /// Whether a SET with this condition writes.
-fn allows(condition: Condition, present: Option<&[u8]>) -> bool
+pub fn allows(condition: Condition, present: Option<&[u8]>) -> bool
     ensures { result ≡ meant.allows (condition_of condition) (value_of present.entry) }
 {
     match condition {

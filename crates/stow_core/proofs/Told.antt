@@ -5,8 +5,7 @@ use Rattle.stow_core.specs.Ends.{row_bulks}
 use Rattle.stow_read.specs.Range.{KeyValue, key_value}
 use Rattle.stow_read.specs.declared.row.Row as coded
 use Rattle.stow_model.specs.Item.{Item}
-use Rattle.stow_dropping.specs.Parts.{IsWholeKey}
-use Rattle.stow_tree_model.specs.Intervals.{AreKeyBytes}
+use Rattle.stow_tree_model.specs.Intervals.{AreKeyBytes, IsWholeKey}
 
 pub all_bytes : (key : List ℕ) → ((i : ℕ) → get_or key i 0 < 256) → AreKeyBytes key
 all_bytes [] h = tt

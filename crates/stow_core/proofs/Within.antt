@@ -18,7 +18,7 @@ use Rattle.stow_leaf.specs.Intervals.{spans}
 use Rattle.stow_model.specs.Item.{Item}
 use Rattle.stow_model.specs.Item as item
 use Rattle.stow_model.specs.Store.{Rows, Shown, Version, is_within, row_items, rows_within}
-use Rattle.stow_dropping.specs.Parts.{IsWholeKey}
+use Rattle.stow_tree_model.specs.Intervals.{IsWholeKey}
 use Rattle.stow_core.specs.Ends.{upper_end, row_bulks}
 use Rattle.stow_read.specs.Range.{KeyValue, IsRange, AreUnder}
 use Rattle.stow_state.specs.Rows.{rows_at, version_of}

@@ -3,7 +3,7 @@ ghost use Rattle.std.specs.Prelude.{◌≡◌};
 ghost use Rattle.stow_commands.specs.Commands.{condition_of, update_of};
 ghost use Rattle.stow_commands.specs.Outcomes.{value_of};
 ghost use Rattle.stow_core.specs.Writes.{IsRowAnswer};
-ghost use Rattle.stow_model.specs.Store.{allows, append_outcome, outcome, set_outcome};
+ghost use Rattle.stow_model.specs.Store.{append_outcome, outcome, set_outcome};
 
 use crate::given::Given;
 use std::alloc::{Allocator, Global};
@@ -11,7 +11,7 @@ use stow_bytes::limits::VALUE_LIMIT;
 use stow_commands::condition::Condition;
 use stow_commands::outcome::Outcome;
 use stow_commands::outcome_fault::OutcomeFault;
-use stow_commands::update::{Update, append_reply};
+use stow_commands::update::{Update, allows, append_reply};
 use stow_model::refusal::Refusal;
 use stow_model::reply::Reply;
 use stow_model::simple_string::SimpleString;
@@ -55,22 +55,11 @@ fn set<'a, A: Allocator>(
     if value.len() > VALUE_LIMIT {
         return Err(OutcomeFault::Refused(Refusal::ValueTooLong));
     }
-    if !writes(condition, present) {
+    if !allows(condition, present) {
         return Ok(RowAnswer::Unchanged(Reply::Null));
     }
     let told = Reply::Simple(SimpleString::Ok);
     Ok(RowAnswer::Written(Given::Value(value), told))
-}
-
-/// Whether a SET with this condition writes.
-fn writes(condition: Condition, present: Option<&[u8]>) -> bool
-    ensures { result ≡ allows (condition_of condition) (value_of present.entry) }
-{
-    match condition {
-        Condition::Always => true,
-        Condition::IfMissing => present.is_none(),
-        Condition::IfThere => present.is_some(),
-    }
 }
 
 fn append<'a, A: Allocator>(

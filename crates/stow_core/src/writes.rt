@@ -1,5 +1,5 @@
 //! Messages of writes, and the room that the tree has for them.
-ghost use Rattle.std.specs.Prelude.{◌≡◌, ◌∷◌, [], OnOk};
+ghost use Rattle.std.specs.Prelude.{◌≡◌, ◌∷◌, [], map, IfOk, OnOk};
 ghost use Rattle.stow_merge.specs.Pins.{pins_in};
 ghost use Rattle.stow_message.specs.Packed.{IsMessage};
 ghost use Rattle.stow_model.specs.LentWords.{words_in};
@@ -48,36 +48,30 @@ pub fn reserve<A: Allocator + Copy>(
     ensures shape { tree.new.root.shape ≡ tree.old.root.shape }
 {
     match keys.only() {
-        Some(key) => {
-            let messages = [message(number, op, key)];
-            tree.reserve(alloc, &messages, pins)
+        Some(key) => tree.reserve(alloc, &[message(number, op, key)], pins),
+        None => {
+            let made = messages(alloc, number, op, keys)?;
+            tree.reserve(alloc, made.as_slice(), pins)
         }
-        None => reserve_all(tree, alloc, pins, number, op, keys),
     }
 }
 
-/// The same, by a list of the messages.
-fn reserve_all<A: Allocator + Copy>(
-    tree: &mut Tree<A>,
+/// The messages that do this to the values of these keys.
+fn messages<'a, A: Allocator + Copy>(
     alloc: A,
-    pins: &Pins<A>,
     number: u64,
-    op: Op<'_>,
-    keys: LentWords<'_>,
-) -> Result<(), AllocError>
-    requires messages { AreMessages (writes_of number (op_of op) (words_in keys)) }
-    requires can { CanReserve tree.old (writes_of number (op_of op) (words_in keys)) }
-    ensures reserved { OnOk result
-        (IsReserved tree.new (writes_of number (op_of op.entry) (words_in keys.entry))) }
-    ensures agrees { AgreeUnder (pins_in pins.now) (tree_messages tree.old)
-        (tree_messages tree.new) }
-    ensures shape { tree.new.root.shape ≡ tree.old.root.shape }
+    op: Op<'a>,
+    keys: LentWords<'a>,
+) -> Result<Vec<Message<'a>, A>, AllocError>
+    requires { AreMessages (writes_of number (op_of op) (words_in keys)) }
+    ensures { IfOk result (λ made. map message_of made.items
+        ≡ writes_of number (op_of op.entry) (words_in keys.entry)) }
 {
     let mut messages = Vec::with_capacity(alloc, keys.len())?;
     for index in 0..keys.len() {
         messages.push(message(number, op, keys.get(index)))?;
     }
-    tree.reserve(alloc, messages.as_slice(), pins)
+    Ok(messages)
 }
 
 /// Puts a message into the tree, which has the room.

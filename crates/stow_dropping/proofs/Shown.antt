@@ -2,7 +2,8 @@
 use Rattle.std.proofs.Common.{◌≡◌, ℕ, zero, suc, ◌+◌, ◌<◌, List, [], ◌∷◌, ◌++◌, length, take, get_or, ap, sym, ◌∙◌, subst, arith}
 use Rattle.stow_ledger.specs.declared.shown_row.ShownRow.{ShownRow}
 use Rattle.stow_read.specs.declared.row_head.RowHead.{RowHead}
-use Rattle.stow_dropping.specs.Parts.{shown_of, all_shown, HaveWholeKeys, IsWholeKey}
+use Rattle.stow_dropping.specs.Parts.{shown_of, all_shown, HaveWholeKeys}
+use Rattle.stow_tree_model.specs.Intervals.{IsWholeKey}
 
 -- the first heads were gone over
 pub record AreShownSoFar {A : Type 0} (heads : List (RowHead A)) (i : ℕ) (rows : List ShownRow) : Type 0 where

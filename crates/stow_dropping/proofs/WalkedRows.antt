@@ -12,7 +12,7 @@ use Rattle.std.proofs.lemmas.Bool.{cond-true, cond-false}
 use Rattle.stow_bytes.specs.Bytes.{bytes_cmp}
 use Rattle.stow_bytes.specs.Limits.{tenant_limit}
 use Rattle.stow_model.specs.Store.{Version, Shown, is_within}
-use Rattle.stow_tree_model.specs.Intervals.{IsWithin}
+use Rattle.stow_tree_model.specs.Intervals.{IsWholeKey, IsWithin}
 use Rattle.stow_tree_model.specs.Keys.{packed, own_key}
 use Rattle.stow_tree_model.specs.Merged.{same_key}
 use Rattle.stow_tree_model.specs.Messages.{Messages, ops_of, value}
@@ -27,7 +27,7 @@ use Rattle.stow_state.proofs.Rows.{rows_by_value_law, interval_in_order_law}
 use Rattle.stow_read.specs.Walk.{is_inside, head_keys, IsHead}
 use Rattle.stow_read.specs.declared.row_head.RowHead.{RowHead}
 use Rattle.stow_read.proofs.FirstKeys.{inside_from, inside_to, insided}
-use Rattle.stow_dropping.specs.Parts.{HaveWholeKeys, IsWholeKey}
+use Rattle.stow_dropping.specs.Parts.{HaveWholeKeys}
 
 -- ---- keys of the tenant
 

@@ -1,8 +1,7 @@
 -- Rows of a walk, as an account is told them.
 use Rattle.std.specs.Prelude.{ℕ, ◌-◌, List, length, map}
 use Rattle.std.specs.List.{AllByRecursion}
-use Rattle.stow_tree_model.specs.Intervals.{AreKeyBytes}
-use Rattle.stow_tree_model.specs.Keys.{IsTenantKey}
+use Rattle.stow_tree_model.specs.Intervals.{IsWholeKey}
 use Rattle.stow_ledger.specs.declared.shown_row.ShownRow.{ShownRow}
 use Rattle.stow_read.specs.Walk.{head_keys}
 use Rattle.stow_read.specs.declared.row_head.RowHead.{RowHead}
@@ -18,10 +17,6 @@ shown_of head =
 
 abbrev pub all_shown : {A : Type 0} → List (RowHead A) → List ShownRow
 all_shown heads = map shown_of heads
-
--- a tenant's key, of bytes
-abbrev pub IsWholeKey : List ℕ → Type 0
-IsWholeKey key = IsTenantKey key × AreKeyBytes key
 
 abbrev pub HaveWholeKeys : {A : Type 0} → List (RowHead A) → Type 0
 HaveWholeKeys heads = AllByRecursion IsWholeKey (head_keys heads)

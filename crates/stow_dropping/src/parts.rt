@@ -1,8 +1,8 @@
 //! Rows of a walk, as an account is told them.
 ghost use Rattle.std.specs.Prelude.{◌≡◌, ◌-◌, IfOk, length};
-ghost use Rattle.stow_tree_model.specs.Intervals.{AreKeyBytes};
+ghost use Rattle.stow_tree_model.specs.Intervals.{AreKeyBytes, IsWholeKey};
 ghost use Rattle.stow_tree_model.specs.Keys.{IsTenantKey};
-ghost use Rattle.stow_dropping.specs.Parts.{shown_of, all_shown, HaveWholeKeys, IsWholeKey};
+ghost use Rattle.stow_dropping.specs.Parts.{shown_of, all_shown, HaveWholeKeys};
 
 use std::alloc::{AllocError, Allocator};
 use stow_ledger::shown_row::ShownRow;

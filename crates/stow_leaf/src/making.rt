@@ -44,7 +44,8 @@ pub(crate) fn leaves_from<A: Allocator + Copy>(
     pages: &[Rows<A>],
 ) -> Result<Vec<Leaf<A>, A>, AllocError>
     requires { AreFilled pages.now }
-    ensures { IfOk result (λ leaves. map leaf_rows leaves.items ≡ leaves_from low.entry.bytes.now pages.now) }
+    ensures { IfOk result (λ leaves.
+        map leaf_rows leaves.items ≡ leaves_from low.entry.bytes.now pages.now) }
 {
     let mut leaves = Vec::new(alloc);
     for i in 0..pages.len() {

@@ -43,8 +43,7 @@ fn joined_rows<A: Allocator + Copy>(
     requires { KeysBelow lower.now upper.now }
     ensures { IfOk result (IsJoinOf target lower.now upper.now) }
 {
-    let _lower = lower.len();
-    let _upper = upper.len();
+    let _known = (lower.len(), upper.len());
     if !are_to_join(lower, upper, target) {
         return Ok(None);
     }

@@ -21,7 +21,8 @@ pub struct FlushJob<A: Allocator = Global> {
     pub batch: MessageBuf<A>,
     pub pins: Pins<A>,
     pub target: FlushTarget<A>,
-    pub ghost can_merge: { IsMergeable page batch.messages (pins_in pins) } by { Prim.hlevel props },
+    pub ghost can_merge: { IsMergeable page batch.messages
+        (pins_in pins) } by { Prim.hlevel props },
 }
 
 impl<A: Allocator + Copy> FlushJob<A> {

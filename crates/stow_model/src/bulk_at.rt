@@ -1,10 +1,12 @@
 //! One element of a request in array form.
 ghost use Rattle.std.specs.Prelude.{◌≤◌, ◌++◌};
+ghost use Rattle.stow_bytes.specs.Limits.{value_limit};
 ghost use Rattle.stow_model.specs.Wire.{bulk_line};
 ghost use Rattle.stow_model.specs.Parts.{IsBulkAt};
 
 use crate::number_at::{NumberAt, number};
 use crate::stream_fault::StreamFault;
+use stow_bytes::limits::VALUE_LIMIT;
 
 /// What is found where an element is to stand.
 pub enum BulkAt<'a> {
@@ -26,7 +28,7 @@ pub fn bulk(bytes: &[u8]) -> BulkAt<'_>
     if *sign != b'$' {
         return BulkAt::Stuck(StreamFault::ExpectedBulk);
     }
-    match number(after, 65535) {
+    match number(after, VALUE_LIMIT as u32) {
         NumberAt::Number(len, rest) => body(rest, len),
         NumberAt::More => BulkAt::More,
         NumberAt::Stuck => BulkAt::Stuck(StreamFault::InvalidBulkLength),
@@ -35,7 +37,7 @@ pub fn bulk(bytes: &[u8]) -> BulkAt<'_>
 
 /// The element after its line, which says how many bytes it has.
 fn body(rest: &[u8], len: u32) -> BulkAt<'_>
-    requires { len ≤ 65535 }
+    requires { len ≤ value_limit }
     ensures { IsBulkAt (bulk_line len ++ rest.now) result }
 {
     if rest.len() < len as usize {

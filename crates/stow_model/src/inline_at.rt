@@ -7,6 +7,7 @@ ghost use Rattle.stow_model.specs.Parts.{IsInlineAt, IsLooked, AsksForWords, IsN
 use crate::message::Message;
 use crate::words::Words;
 use std::alloc::{AllocError, Allocator};
+use stow_bytes::limits::LINE_LIMIT;
 
 /// What is found where an inline request's line is to stand.
 pub enum InlineAt<'a> {
@@ -23,13 +24,13 @@ pub fn inline(bytes: &[u8], looked: usize) -> InlineAt<'_>
     requires { IsLooked looked bytes.now }
     ensures { IsInlineAt bytes.now result }
 {
-    let end = bytes.len().min(65537);
+    let end = bytes.len().min(LINE_LIMIT + 1);
     match bytes[looked..end].iter().position(|b| *b == b'\n') {
         Some(more) => {
             let (line, ended) = bytes.split_at(looked + more);
             InlineAt::Line(line, &ended[1..])
         }
-        None if bytes.len() > 65536 => InlineAt::TooLong,
+        None if bytes.len() > LINE_LIMIT => InlineAt::TooLong,
         None => InlineAt::More,
     }
 }

@@ -40,7 +40,8 @@ pub fn number(bytes: &[u8], limit: u32) -> NumberAt<'_>
 fn end_of_line(byte: u8, after: &[u8], value: u32, some: bool) -> NumberAt<'_>
     requires { 48 ≤ byte → byte ≤ 57 → ⊥ }
     ensures { (front : List ℕ) (limit : ℕ) → limit < 100000 → IsSoFar limit front value
-        → (some ≡ true → 0 < length front) → (some ≡ false → front ≡ []) → IsNumberAt limit (front ++ byte ∷ after.now) result }
+        → (some ≡ true → 0 < length front) → (some ≡ false → front ≡ [])
+        → IsNumberAt limit (front ++ byte ∷ after.now) result }
 {
     if !some || byte != b'\r' {
         return NumberAt::Stuck;

@@ -202,8 +202,10 @@ impl<A: Allocator + Copy> Node<A> {
         requires some { 0 < length self.old.buffer.messages }
         requires fan_out { 1 ≤ self.old.shape.fan_out }
         requires short { AreShort (messages_of self.old) }
-        ensures ok { IfOk result (λ room. StepsAsOne (pins_in pins.now) self.old self.new room.came.items) }
-        ensures goes { IfOk result (λ room. Goes self.old.height (pins_in pins.now) self.old self.new
+        ensures ok { IfOk result (λ room.
+            StepsAsOne (pins_in pins.now) self.old self.new room.came.items) }
+        ensures goes { IfOk result (λ room.
+            Goes self.old.height (pins_in pins.now) self.old self.new
             room.came.items cache.old cache.new) }
         ensures room { IfOk result (HasRoom self.old.shape above.now) }
         ensures err { OnErr result (self.new ≡ self.old) }
@@ -250,8 +252,10 @@ impl<A: Allocator + Copy> Node<A> {
         requires fan_out { 4 ≤ self.old.shape.fan_out }
         requires short { AreShort (messages_of self.old) }
         requires spare { self.old.buffer.capacity ≤ spare.old.capacity }
-        ensures ok { IfOk result (λ room. StepsAsOne (pins_in pins.now) self.old self.new room.came.items) }
-        ensures goes { IfOk result (λ room. Goes self.old.height (pins_in pins.now) self.old self.new
+        ensures ok { IfOk result (λ room.
+            StepsAsOne (pins_in pins.now) self.old self.new room.came.items) }
+        ensures goes { IfOk result (λ room.
+            Goes self.old.height (pins_in pins.now) self.old self.new
             room.came.items cache.old cache.new) }
         ensures room { IfOk result (HasRoom self.old.shape above.old.items) }
         ensures err { OnErr result (StaysInMeaning self.old self.new) }
@@ -292,7 +296,8 @@ impl<A: Allocator + Copy> Node<A> {
         requires fan_out { 4 ≤ self.old.shape.fan_out }
         requires height { self.old.height + 1 < 2 ^ 64 }
         requires are { AreBehind self.old room.old.came.items }
-        ensures rises { (pins : TenantPins) (x : Subtree) → StandAsOne pins x self.old room.old.came.items
+        ensures rises { (pins : TenantPins) (x : Subtree)
+            → StandAsOne pins x self.old room.old.came.items
             → StandAsOne pins x self.new room.new.came.items }
         ensures leaves { self.new.leaves ++ leaves_of room.new.came.items
             ≡ self.old.leaves ++ leaves_of room.old.came.items }
@@ -428,7 +433,8 @@ impl<A: Allocator> Node<A> {
         requires spare { self.old.buffer.capacity ≤ spare.old.capacity }
         requires ample { bytes ≤ ample }
         ensures same { IsSqueezed self.old self.new }
-        ensures still { self.old.buffer.used + bytes ≤ self.old.buffer.capacity → self.new ≡ self.old }
+        ensures still { self.old.buffer.used + bytes ≤ self.old.buffer.capacity
+            → self.new ≡ self.old }
         ensures room { IsTrue result → self.new.buffer.used + bytes ≤ self.new.buffer.capacity }
         ensures full { result ≡ false → self.new.buffer.capacity
             < sum_by message_size self.new.buffer.messages + ample }

@@ -86,7 +86,8 @@ impl<A: Allocator + Copy> Room<A> {
     /// What a new node takes.
     pub(crate) fn shell(&mut self) -> Shell<A>
         requires { 0 < length self.old.shells.items }
-        ensures shell { (shape : Shape) (nodes : ℕ) → AreShells (suc nodes) shape self.old.shells.items
+        ensures shell { (shape : Shape) (nodes : ℕ)
+            → AreShells (suc nodes) shape self.old.shells.items
             → (result ≡ shape) × AreShells nodes shape self.new.shells.items }
         ensures came { self.new.came ≡ self.old.came }
         ensures wides { self.new.wides ≡ self.old.wides }

@@ -174,7 +174,8 @@ impl<A: Allocator + Copy> PlainStore<A> {
         outcome: Result<Outcome<A>, OutcomeFault>,
     ) -> Result<Reply<A>, AllocError>
         ensures ok { (o : store.Outcome) → IsOutcome outcome o
-            → IfOk result (λ r. Tells self.new r (store.change_answer (store_of self.old) key.now o)) }
+            → IfOk result (λ r.
+            Tells self.new r (store.change_answer (store_of self.old) key.now o)) }
         ensures err { OnErr result (self.new ≡ self.old) }
     {
         match outcome {

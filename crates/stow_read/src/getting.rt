@@ -56,7 +56,8 @@ fn walk<'a, A: Allocator + Copy>(
 ) -> Result<End<'a, A>, AllocError>
     requires { spans node.now.low top_key key.bytes.now ≡ true }
     ensures value { IfOk result (λ end.
-        continued (suffixes_of suffixes.old) (latest (ops_in (messages_of node.now) key.entry.bytes.now) at)
+        continued (suffixes_of suffixes.old)
+        (latest (ops_in (messages_of node.now) key.entry.bytes.now) at)
         ≡ continued (suffixes_of suffixes.new) (option_map lent_of end.base)) }
     ensures leaf { IfOk result (λ end. IfSome end.leaf
         (λ leaf. Contains node.now.leaves (leaf_rows leaf.now))) }

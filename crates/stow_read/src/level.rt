@@ -29,8 +29,8 @@ impl<'a, A: Allocator> Level<'a, A> {
         guess: usize,
     ) -> Level<'a, A>
         ensures buffer { result.buffer.now ≡ buffer.now }
-        ensures next { IsNextKey (ops_in result.buffer.now.messages) start.entry.key.bytes.now start.entry.after
-            to.entry.bytes.now (key_in result.next) }
+        ensures next { IsNextKey (ops_in result.buffer.now.messages)
+            start.entry.key.bytes.now start.entry.after to.entry.bytes.now (key_in result.next) }
     {
         let mut place = guess;
         let next = next_in_buffer(buffer, start, to, &mut place);

@@ -51,8 +51,8 @@ pub(crate) fn step<'a, A: Allocator + Copy>(
 ) -> Result<Option<TenantKey<'a>>, AllocError>
     requires inside { spans node.now.low top_key key.bytes.now ≡ true }
     requires at { IsAt node.now way.old key.bytes.now to.bytes.now }
-    ensures next { IfOk result (λ next. IsNextKey (ops_in (messages_of node.now)) key.entry.bytes.now true
-        to.entry.bytes.now (key_in next)) }
+    ensures next { IfOk result (λ next. IsNextKey (ops_in (messages_of node.now))
+        key.entry.bytes.now true to.entry.bytes.now (key_in next)) }
     ensures at { IfOk result (λ next. IfSome next
         (λ k. IsAt node.now way.new k.bytes.now to.entry.bytes.now)) }
 {

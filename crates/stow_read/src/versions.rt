@@ -129,8 +129,9 @@ pub fn versions<A: Allocator + Copy>(
     node: &Node<A>,
     key: TenantKey<'_>,
 ) -> Result<Vec<VersionBuf<A>, A>, AllocError>
-    ensures { IfOk result (λ versions. AreVersionsOf (ops_in (messages_of node.now) key.entry.bytes.now)
-        key.entry.bytes.now (map version_of_buf versions.items)) }
+    ensures { IfOk result (λ versions. AreVersionsOf
+        (ops_in (messages_of node.now) key.entry.bytes.now) key.entry.bytes.now
+        (map version_of_buf versions.items)) }
 {
     let _known = node.children();
     if !may_hold(node, key) {

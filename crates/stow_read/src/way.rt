@@ -115,7 +115,8 @@ fn pass_levels<'a, A: Allocator>(
 impl<'a, A: Allocator> Way<'a, A> {
     /// The rows go on behind the key if it is their next one.
     fn pass_row(&mut self, key: TenantKey<'_>, to: TenantKey<'_>)
-        requires { IsNextKey (row_ops self.old) key.bytes.now false to.bytes.now (key_in self.old.next_row) }
+        requires { IsNextKey (row_ops self.old) key.bytes.now false to.bytes.now
+            (key_in self.old.next_row) }
         ensures same { IsSameWay self.old self.new }
         ensures levels { self.new.levels ≡ self.old.levels }
         ensures next { IsNextKey (row_ops self.new) key.entry.bytes.now true to.entry.bytes.now

@@ -125,7 +125,8 @@ impl<A: Allocator + Copy> Tree<A> {
     ) -> Result<(), AllocError>
         requires can { CanReserve self.old (map message_of messages.now) }
         ensures reserved { OnOk result (IsReserved self.new (map message_of messages.now)) }
-        ensures agrees { AgreeUnder (pins_in pins.now) (tree_messages self.old) (tree_messages self.new) }
+        ensures agrees { AgreeUnder (pins_in pins.now) (tree_messages self.old)
+            (tree_messages self.new) }
         ensures unmoved { FitsSqueezed (bytes_of (map message_of messages.now)) self.old.root
             → IsSqueezed self.old.root self.new.root }
         ensures shape { self.new.root.shape ≡ self.old.root.shape }
@@ -191,8 +192,8 @@ impl<A: Allocator + Copy> Tree<A> {
         at: u64,
         count: usize,
     ) -> Result<Vec<Row<A>, A>, AllocError>
-        ensures rows { IfOk result (λ rows. IsRange (ops_of (tree_messages self.old)) from.entry.bytes.now
-            to.entry.bytes.now at count (map key_value rows.items)) }
+        ensures rows { IfOk result (λ rows. IsRange (ops_of (tree_messages self.old))
+            from.entry.bytes.now to.entry.bytes.now at count (map key_value rows.items)) }
         ensures same { IsRead self.old self.new }
     {
         let rows = range(alloc, &self.root, from, to, at, count)?;
@@ -213,8 +214,8 @@ impl<A: Allocator + Copy> Tree<A> {
         at: u64,
         count: usize,
     ) -> Result<Vec<RowHead<A>, A>, AllocError>
-        ensures { IfOk result (λ rows. IsWalk (ops_of (tree_messages self.now)) from.entry.key.bytes.now
-            from.entry.after to.entry.bytes.now at count rows.items) }
+        ensures { IfOk result (λ rows. IsWalk (ops_of (tree_messages self.now))
+            from.entry.key.bytes.now from.entry.after to.entry.bytes.now at count rows.items) }
     {
         walk(alloc, &self.root, from, to, at, count)
     }

@@ -11,8 +11,13 @@ use Rattle.stow_tree_model.specs.Keys.{packed, tenant_of, IsTenantKey}
 abbrev pub IsWithin : List ℕ → List ℕ → List ℕ → Type 0
 IsWithin from to key = (bytes_cmp key from ≡ Less → ⊥) × (bytes_cmp key to ≡ Less)
 
+-- each number of a key is a byte
 abbrev pub AreKeyBytes : List ℕ → Type 0
 AreKeyBytes key = AllByRecursion (λ b. b < 256) key
+
+-- a tenant's key, of bytes
+abbrev pub IsWholeKey : List ℕ → Type 0
+IsWholeKey key = IsTenantKey key × AreKeyBytes key
 
 -- ---- the laws
 

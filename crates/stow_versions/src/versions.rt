@@ -42,7 +42,8 @@ impl<A: Allocator> Model for Versions<A> {
       room = min (room_of v.ids) (min (room_of v.numbers) (room_of v.pins));
     } };
 
-    ghost invariant = { λ v. AreVersionLists v.last v.next v.ids.items v.numbers.items v.pins.items };
+    ghost invariant = { λ v.
+        AreVersionLists v.last v.next v.ids.items v.numbers.items v.pins.items };
 }
 
 impl<A: Allocator + Copy> Versions<A> {
@@ -101,8 +102,10 @@ impl<A: Allocator + Copy> Versions<A> {
     /// The live snapshots' numbers, each once, rising.
     pub fn pins(&self) -> &[u64]
         ensures rise { IsStrictlyIncreasing result.now }
-        ensures members { (n : ℕ) → Contains result.now n ↔ Contains (map.values self.now.snapshots) n }
-        ensures among { (n : ℕ) → is_among n result.now ≡ is_among n (map.values self.now.snapshots) }
+        ensures members { (n : ℕ)
+            → Contains result.now n ↔ Contains (map.values self.now.snapshots) n }
+        ensures among { (n : ℕ)
+            → is_among n result.now ≡ is_among n (map.values self.now.snapshots) }
     {
         self.pins.as_slice()
     }
@@ -177,7 +180,8 @@ impl<A: Allocator + Copy> Versions<A> {
           snapshots = map.remove self.old.snapshots id;
           room = self.new.room;
         }) }
-        ensures numbers { IfOk result (λ number. (n : ℕ) → is_among n (map.values self.old.snapshots)
+        ensures numbers { IfOk result (λ number. (n : ℕ)
+            → is_among n (map.values self.old.snapshots)
             ≡ (is_among n (map.values self.new.snapshots) || (number == n))) }
         ensures unchanged { OnErr result (self.new ≡ self.old) }
     {

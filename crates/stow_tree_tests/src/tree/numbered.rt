@@ -48,7 +48,8 @@ impl<A: Allocator + Copy> Numbered<A> {
 
     /// Whether the key's value is within the limit once the message is put.
     fn is_short(&self, alloc: A, message: Message<'_>) -> Result<bool, AllocError>
-        ensures { IfOk result (λ short. IsTrue short → IsValue (outcome (message_of message.entry).op
+        ensures { IfOk result (λ short. IsTrue short
+            → IsValue (outcome (message_of message.entry).op
             (value_in (value (tree_messages self.now.tree) (message_of message.entry).key
             (message_of message.entry).number)))) }
     {

@@ -1,6 +1,6 @@
 use Rattle.std.proofs.Common.{ap, ◌∙◌, subst, map, ◌++◌}
 use Rattle.std.specs.List.{AllByRecursion, flat_map}
-use Rattle.stow_dropping.specs.Parts.{IsWholeKey}
+use Rattle.stow_tree_model.specs.Intervals.{IsWholeKey}
 use Rattle.stow_core.specs.Ends.{row_bulks}
 use Rattle.stow_read.specs.Range.{key_value}
 use Rattle.stow_core.proofs.Tenancies.{take_all}

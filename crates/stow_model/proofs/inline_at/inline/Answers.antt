@@ -22,7 +22,7 @@ returns-in-None c =
     let at = position_from_yields_List (λ (b : ℕ). b == 10) _ _ _ c.position.ensures.ran (YieldsList-from_slice (take (end - c.args.looked) (drop c.args.looked bytes)) c.iter.ensures.rest) (λ x b q k. search (rules, tests)) in
     let none = found_none (λ b. b == 10) (take (end - c.args.looked) (drop c.args.looked bytes)) (sym at ∙ c.in-None.is) in
     let is : end ≡ 65537 = omega arith in
-    line_stuck bytes c.args.looked c.requires c.if-bytes-gt65536.true (subst (λ n. AllByRecursion (λ b. (b == 10) ≡ false) (take (n - c.args.looked) (drop c.args.looked bytes))) is none)
+    line_stuck bytes c.args.looked c.requires c.if-bytes-gt-LINE_LIMIT.true (subst (λ n. AllByRecursion (λ b. (b == 10) ≡ false) (take (n - c.args.looked) (drop c.args.looked bytes))) is none)
 
 pub returns-in-None-2 : goal.returns-in-None-2
 returns-in-None-2 c =
@@ -32,4 +32,4 @@ returns-in-None-2 c =
     let at = position_from_yields_List (λ (b : ℕ). b == 10) _ _ _ c.position.ensures.ran (YieldsList-from_slice (take (end - c.args.looked) (drop c.args.looked bytes)) c.iter.ensures.rest) (λ x b q k. search (rules, tests)) in
     let none = found_none (λ b. b == 10) (take (end - c.args.looked) (drop c.args.looked bytes)) (sym at ∙ c.in-None.is) in
     let is : end ≡ length bytes = omega arith in
-    line_goes_on bytes c.args.looked c.requires c.if-bytes-gt65536.false (subst (λ n. AllByRecursion (λ b. (b == 10) ≡ false) (take (n - c.args.looked) (drop c.args.looked bytes))) is none)
+    line_goes_on bytes c.args.looked c.requires c.if-bytes-gt-LINE_LIMIT.false (subst (λ n. AllByRecursion (λ b. (b == 10) ≡ false) (take (n - c.args.looked) (drop c.args.looked bytes))) is none)
