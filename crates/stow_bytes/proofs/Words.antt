@@ -10,13 +10,13 @@ use Rattle.std.specs.Slice.Scan.{big_endian}
 use Rattle.stow_bytes.specs.Bytes.{bytes_cmp}
 use Rattle.stow_bytes.specs.Words.{AreBytes}
 
-lower : (m n : ℕ) → m < n → nat_cmp m n ≡ Less
+pub lower : (m n : ℕ) → m < n → nat_cmp m n ≡ Less
 lower m n l = grind (arith, nat_tests)
 
-higher : (m n : ℕ) → n < m → nat_cmp m n ≡ Greater
+pub higher : (m n : ℕ) → n < m → nat_cmp m n ≡ Greater
 higher m n l = grind (arith, nat_tests)
 
-same : (n : ℕ) → nat_cmp n n ≡ Equal
+pub same : (n : ℕ) → nat_cmp n n ≡ Equal
 same n = tied_itself nat_cmp_total n
 
 -- a lower number stays lower whatever bytes follow
@@ -60,7 +60,7 @@ read n us vs rest others x y p q g h a b c d = record {
   compared = fronts n 0 us vs p q g h ∙ sym (λ i. ordering_then (nat_cmp (a i) (b i)) (bytes_cmp (c i) (d i)));
 }
 
-eight : (bytes : List ℕ) → 8 ≤ length bytes → from_be_bytes w64 bytes ≡ big_endian 0 (take 8 bytes)
+pub eight : (bytes : List ℕ) → 8 ≤ length bytes → from_be_bytes w64 bytes ≡ big_endian 0 (take 8 bytes)
 eight [] long = absurd (omega arith)
 eight (_ ∷ []) long = absurd (omega arith)
 eight (_ ∷ _ ∷ []) long = absurd (omega arith)

@@ -45,7 +45,7 @@ sum-all_placed [] ns = omega arith
 sum-all_placed (m ∷ ms) ns = omega (arith, sum-all_placed ms (placed m ns), sum-placed m ns, sum_by-cons message_size m ms)
 
 -- a message below those that are put stays first
-placed_first : (m : TreeMessage) (ms ns : List TreeMessage) → AllAbove (place_of m) ms → all_placed ms (m ∷ ns) ≡ m ∷ all_placed ms ns
+pub placed_first : (m : TreeMessage) (ms ns : List TreeMessage) → AllAbove (place_of m) ms → all_placed ms (m ∷ ns) ≡ m ∷ all_placed ms ns
 placed_first m [] ns h = refl
 placed_first m (x ∷ ms) ns h = ap (λ o. all_placed ms (if is_lt o then m ∷ placed x ns else x ∷ m ∷ ns)) h.0 ∙ placed_first m ms (placed x ns) h.1
 

@@ -92,7 +92,7 @@ filter_same f g (m ∷ ms) h = (λ i. if h.0 i then m ∷ filter f ms else filte
 not_below_zero : (n : ℕ) → is_lt (nat_cmp n 0) ≡ false
 not_below_zero n = grind arith
 
-below_key_by : (n : ℕ) (o : Ordering) → is_lt (ordering_then o (nat_cmp n 0)) ≡ is_lt o
+pub below_key_by : (n : ℕ) (o : Ordering) → is_lt (ordering_then o (nat_cmp n 0)) ≡ is_lt o
 below_key_by n Less = refl
 below_key_by n Equal = not_below_zero n
 below_key_by n Greater = refl

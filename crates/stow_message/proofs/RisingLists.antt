@@ -56,6 +56,15 @@ unfolding IsStrictlySortedBy
 below_first p m ms i d up lt h =
     ap is_lt (place_total.trans (place_of m) (place_of (get_or ms i d)) p (all_at (λ n. place_cmp (place_of m) (place_of n) ≡ Less) ms i d (of_map (λ q. place_cmp (place_of m) q ≡ Less) ms up.0) lt) (lt_is (place_cmp (place_of (get_or ms i d)) p) h))
 
+-- of two messages of a rising list the later one stands above
+pub rises_at : (ms : List TreeMessage) (i j : ℕ) (d : TreeMessage) → MessagesRise ms → i < j → j < length ms → place_cmp (place_of (get_or ms i d)) (place_of (get_or ms j d)) ≡ Less
+unfolding IsStrictlySortedBy
+rises_at [] i j d up lt within = absurd (omega (arith, within))
+rises_at (m ∷ ms) zero zero d up lt within = absurd (omega (arith, lt))
+rises_at (m ∷ ms) zero (suc j) d up lt within = all_at (λ n. place_cmp (place_of m) (place_of n) ≡ Less) ms j d (of_map (λ q. place_cmp (place_of m) q ≡ Less) ms up.0) (omega (arith, within))
+rises_at (m ∷ ms) (suc i) zero d up lt within = absurd (omega (arith, lt))
+rises_at (m ∷ ms) (suc i) (suc j) d up lt within = rises_at ms i j d up.1 (omega (arith, lt)) (omega (arith, within))
+
 abbrev Tells : Bool → ℕ → ℕ → Type 0
 Tells b i n = (b ≡ true → i < n) × (b ≡ false → n ≤ i)
 

@@ -7,14 +7,14 @@ use Rattle.stow_tree_model.specs.TreeMessage.{TreeMessage}
 use Rattle.stow_tree_model.specs.Order.{VersionPlace, place_of, MessagesRise}
 use Rattle.stow_raw.specs.RawBuf.{RawLists, raw_used}
 use Rattle.stow_message.specs.Packed.{message_at, BeginsWith}
-use Rattle.stow_message.specs.MessageBuf.{MessageList, message_list, messages_in, messages_from, IsPackedBuffer, IsFilledFrom}
+use Rattle.stow_message.specs.MessageBuf.{MessageList, message_list, messages_in, messages_from, named, IsPackedBuffer, IsFilledFrom}
 use Rattle.stow_message.specs.Rising.{is_below, is_first_below, below}
 use Rattle.stow_message.proofs.RisingLists.{below_first, below_tells, no_path}
 use Rattle.stow_message.proofs.Removed.{all_dropped, rest_rises}
 use Rattle.stow_message.proofs.Stored.{all_at, get_or-map}
 
 -- a rising list's messages from an index on rise
-rises_from : (ms : List TreeMessage) (j : ℕ) → MessagesRise ms → MessagesRise (drop j ms)
+pub rises_from : (ms : List TreeMessage) (j : ℕ) → MessagesRise ms → MessagesRise (drop j ms)
 rises_from ms j up = rest_rises ms 0 j (omega arith) up
 
 -- of messages that stand below, those from a later one on are fewer by as many
@@ -51,6 +51,14 @@ first_not_below m (n ∷ ns) = step (is_below (place_of m) n) refl (first_not_be
   step true e on = on
   step false e on = e
 
+-- .. and so the first that is left isn't
+pub start_not_below : (p : VersionPlace) (ms : List TreeMessage) (x : TreeMessage) (ys : List TreeMessage) → drop (below p ms) ms ≡ x ∷ ys → is_below p x ≡ false
+start_not_below p [] x ys e = cc
+start_not_below p (n ∷ ns) x ys e = step (is_below p n) refl (start_not_below p ns x ys) e where
+  step : (b : Bool) → b ≡ is_below p n → (drop (below p ns) ns ≡ x ∷ ys → is_below p x ≡ false) → drop (if b then suc (below p ns) else 0) (n ∷ ns) ≡ x ∷ ys → is_below p x ≡ false
+  step true f on e = on e
+  step false f on e = let first : n ≡ x = cc in ap (is_below p) (sym first) ∙ sym f
+
 pub all_filled : (raw : RawLists) → IsPackedBuffer raw → IsFilledFrom raw 0
 all_filled raw h = record { whole = h.whole; rising = h.rising; small = omega (arith, h.within) }
 
@@ -86,6 +94,9 @@ module _ (raw : RawLists) (from : ℕ) (h : IsFilledFrom raw from) where
 
     pub begins_at : BeginsWith (drop (get_or raw.slots i 0) raw.front)
     begins_at = subst (λ slot. BeginsWith (drop slot raw.front)) (same_slot 0) (all_at (λ slot. BeginsWith (drop slot raw.front)) (drop from raw.slots) (i - from) 0 h.whole less)
+
+    pub named_at : (d : TreeMessage) → get_or ms (i - from) d ≡ named raw i
+    named_at d = let f = λ (slot : ℕ). message_at (drop slot raw.front) in get_or-map f (drop from raw.slots) (i - from) 0 d less ∙ ap f (same_slot 0)
 
     -- what a comparison with one message tells
     pub tells : (p : VersionPlace) (b : Bool) → b ≡ is_below p (message_at (drop (get_or raw.slots i 0) raw.front)) → (b ≡ true → i < from + below p ms) × (b ≡ false → from + below p ms ≤ i)

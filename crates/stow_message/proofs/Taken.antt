@@ -1,13 +1,13 @@
--- A batch that is taken out of a rising list, in one walk over both.
-use Rattle.std.proofs.Common.{◌≡◌, ℕ, zero, suc, ◌+◌, ◌-◌, ◌*◌, ◌<◌, ◌≤◌, Bool, true, false, List, [], ◌∷◌, ◌++◌, map, length, take, drop, get_or, refl, sym, ap, subst, ◌∙◌, arith, eqb-true, eq-eqb, drop-drop, length-append, length-take, length-drop, take_all}
-use Rattle.std.proofs.lemmas.List.{drop_more, drop_all, get_or-drop, length-map, take-append-le, append-nil}
+-- A batch that is taken out of a rising list, and what is left.
+use Rattle.std.proofs.Common.{◌≡◌, ℕ, zero, suc, ◌+◌, ◌*◌, ◌<◌, ◌≤◌, Bool, true, false, List, [], ◌∷◌, map, length, drop, get_or, refl, sym, ap, subst, ◌∙◌, arith, eqb-true, eq-eqb, drop-drop, length-drop}
+use Rattle.std.proofs.lemmas.List.{get_or-drop, length-map}
 use Rattle.std.proofs.lemmas.List.Sums.{sum_by-cons}
 use Rattle.std.proofs.lemmas.Slice.Eq.{bytes_eq-Decides}
-use Rattle.std.specs.Prelude.{if◌then◌else◌, not, ◌&&◌, slice_set}
+use Rattle.std.specs.Prelude.{if◌then◌else◌, not, ◌&&◌}
 use Rattle.std.specs.declared.cmp.Ordering.{Ordering}
 use Rattle.std.specs.declared.cmp.Ordering.TheVariants.{Less, Equal, Greater}
 use Rattle.std.specs.Ordering.{is_lt, is_eq, ordering_reverse}
-use Rattle.std.specs.List.{AllByRecursion, Contains, filter, sum_by, remove_range}
+use Rattle.std.specs.List.{AllByRecursion, Contains, filter, sum_by}
 use Rattle.std.specs.List.Sorted.{IsStrictlySortedBy}
 use Rattle.stow_tree_model.specs.TreeMessage.{TreeMessage}
 use Rattle.stow_tree_model.specs.Order.{VersionPlace, place_cmp, place_of, MessagesRise}
@@ -16,10 +16,9 @@ use Rattle.stow_raw.specs.RawBuf.{RawLists, raw_lists, raw_used}
 use Rattle.stow_message.specs.Packed.{kind_of, op_by, message_size, message_at, BeginsWith}
 use Rattle.stow_message.specs.MessageBuf.{op_is, messages_in, IsPackedBuffer}
 use Rattle.stow_message.specs.Rising.{is_same, is_first, without}
-use Rattle.stow_message.proofs.Stored.{all_at, filled_at, read_is, message_there}
+use Rattle.stow_message.proofs.Stored.{all_at}
 use Rattle.stow_message.proofs.Placed.{itself}
 use Rattle.stow_message.proofs.Ranges.{filter_rises}
-use Rattle.stow_message.proofs.Squeezed.{slot_moved, slot_after}
 use Rattle.stow_message.proofs.RisingLists.{place_total, no_path, of_map, AllAbove, above_all, none_of}
 
 self_equal : (o : Ordering) → o ≡ ordering_reverse o → o ≡ Equal
@@ -41,7 +40,7 @@ same_is m n e = let p = and_parts _ _ e in let q = and_parts _ _ p.1 in let r = 
     let op : m.op ≡ n.op = sym (op_is m.op) ∙ (λ i. op_by (kind i) (value i)) ∙ op_is n.op in
     λ i. record { key = key i; number = number i; op = op i }
 
-same_self : (m : TreeMessage) → is_same m m ≡ true
+pub same_self : (m : TreeMessage) → is_same m m ≡ true
 same_self m = let number = eq-eqb m.number m.number refl in let kind = eq-eqb (kind_of m.op) (kind_of m.op) refl in
     let key = (bytes_eq-Decides m.key m.key).1 refl in let value = (bytes_eq-Decides (bytes_in m.op) (bytes_in m.op)).1 refl in
     λ i. number i && (kind i && (key i && value i))
@@ -173,28 +172,9 @@ all_kept P f bs (x ∷ xs) h = step (is_first (f x) bs) (all_kept P f (drop 1 bs
   step true one other = one
   step false one other = (h.0, other)
 
--- the walk goes on by one message
-pub found_next : (bs ms : List TreeMessage) (j i : ℕ) (m d : TreeMessage) (t : Bool) → i < length ms → m ≡ get_or ms i d → t ≡ is_first m (drop j bs)
-    → unfound (drop j bs) (drop i ms) ≡ unfound (if t then drop (j + 1) bs else drop j bs) (drop (i + 1) ms)
-found_next bs ms j i m d t lt here e = ap (unfound (drop j bs)) (drop_more ms i d lt) ∙ ap (λ x. unfound (next x (drop j bs)) (drop (i + 1) ms)) (sym here)
-    ∙ (λ k. unfound (if sym e k then drop-drop 1 j bs k else drop j bs) (drop (i + 1) ms))
-
-kept_next : {X : Type 0} (f : X → TreeMessage) (bs : List TreeMessage) (xs : List X) (j i : ℕ) (x d : X) (t : Bool) → i < length xs → x ≡ get_or xs i d → t ≡ is_first (f x) (drop j bs)
-    → kept f (drop j bs) (drop i xs) ≡ (if t then kept f (drop (j + 1) bs) (drop (i + 1) xs) else x ∷ kept f (drop j bs) (drop (i + 1) xs))
-kept_next f bs xs j i x d t lt here e = let rest = drop (i + 1) xs in
-    ap (kept f (drop j bs)) (drop_more xs i d lt) ∙ ap (λ y. if is_first (f y) (drop j bs) then kept f (drop 1 (drop j bs)) rest else y ∷ kept f (drop j bs) rest) (sym here)
-    ∙ (λ k. if sym e k then kept f (drop-drop 1 j bs k) rest else x ∷ kept f (drop j bs) rest)
-
 pub from_drop : {X : Type 0} (xs : List X) (k : ℕ) (x : X) (ys : List X) → drop k xs ≡ x ∷ ys → (k < length xs) × (x ≡ get_or xs k x) × (drop (k + 1) xs ≡ ys)
 from_drop xs k x ys e = let at : k + 0 ≡ k = omega arith in
     (omega (arith, length-drop k xs, ap length e), ap (λ l. get_or l 0 x) (sym e) ∙ get_or-drop k xs 0 x ∙ ap (λ n. get_or xs n x) at, sym (drop-drop 1 k xs) ∙ ap (drop 1) e)
-
--- the rest of the slots goes
-rest_goes : (ps ss : List ℕ) (k g : ℕ) → k ≡ length ps → k + g ≡ length ss → remove_range (take k ps ++ drop k ss) k (k + g) ≡ ps
-rest_goes ps ss k g e f = let whole : take k ps ≡ ps = take_all k ps (omega (arith, e)) in
-    (λ i. take k (whole i ++ drop k ss) ++ drop (k + g) (whole i ++ drop k ss))
-    ∙ (λ i. take-append-le k ps (drop k ss) (omega (arith, e)) i ++ drop_all (k + g) (ps ++ drop k ss) (omega (arith, length-append ps (drop k ss), length-drop k ss, e, f)) i)
-    ∙ append-nil (take k ps) ∙ whole
 
 pub without_rises : (bs ms : List TreeMessage) → MessagesRise ms → MessagesRise (without bs ms)
 without_rises [] ms up = up
@@ -211,14 +191,6 @@ module _ (raw : RawLists) (bs : List TreeMessage) where
   abbrev pub taken : RawLists
   taken = raw_lists raw.front stay raw.capacity
 
-  -- while the walk is at slot i: k slots stay, and j of the batch went
-  pub record Halfway (now : RawLists) (k j i : ℕ) : Type 0 where
-    pub raw_is : now ≡ raw_lists raw.front (take k stay ++ drop k raw.slots) raw.capacity
-    pub rest : drop k stay ≡ kept at (drop j bs) (drop i raw.slots)
-    pub on : unfound bs (messages_in raw) ≡ unfound (drop j bs) (drop i (messages_in raw))
-    pub counts : k + j ≡ i
-    pub within : (j ≤ length bs) × (k ≤ length stay)
-
 module _ (raw : RawLists) (h : IsPackedBuffer raw) (bs : List TreeMessage) where
   module _ (all : unfound bs (messages_in raw) ≡ []) where
     pub taken_messages : messages_in (taken raw bs) ≡ without bs (messages_in raw)
@@ -234,59 +206,3 @@ module _ (raw : RawLists) (h : IsPackedBuffer raw) (bs : List TreeMessage) where
       live = omega (arith, h.live, taken_used, kept_sizes bs (messages_in raw), ap (sum_by message_size) (map_kept (at raw bs) bs raw.slots), ap length (map_kept (at raw bs) bs raw.slots), length-map (stay raw bs) (at raw bs), length-map raw.slots (at raw bs), count (at raw bs) bs raw.slots, ap length all);
       within = (omega (arith, h.within, taken_used), h.within.1);
     }
-
-  module _ (now : RawLists) (k j i : ℕ) (w : Halfway raw bs now k j i) where
-    pub slots_stay : i ≤ length raw.slots → length now.slots ≡ length raw.slots
-    slots_stay le = omega (arith, ap (λ (r : RawLists). length r.slots) w.raw_is, length-append (take k (stay raw bs)) (drop k raw.slots), length-take k (stay raw bs), length-drop k raw.slots, w.counts, w.within)
-
-    module _ (lt : i < length raw.slots) (s : ℕ) (e : s ≡ get_or now.slots i 0) where
-      pub same_slot : s ≡ get_or raw.slots i 0
-      same_slot = e ∙ ap (λ (r : RawLists). get_or r.slots i 0) w.raw_is ∙ slot_after (stay raw bs) raw.slots k i 0 (omega (arith, w.within)) (omega (arith, w.counts)) lt
-
-      pub begins_there : BeginsWith (drop s now.front)
-      begins_there = subst (λ (r : RawLists). BeginsWith (drop s r.front)) (sym w.raw_is) (filled_at raw h i lt s same_slot)
-
-      module _ (m : TreeMessage) (f : m ≡ message_at (drop s now.front)) where
-        is_at : m ≡ (at raw bs) s
-        is_at = f ∙ ap (λ (r : RawLists). message_at (drop s r.front)) w.raw_is
-
-        is_message : m ≡ get_or (messages_in raw) i m
-        is_message = is_at ∙ read_is raw.front s (filled_at raw h i lt s same_slot) ∙ sym (message_there raw h i lt s same_slot m)
-
-        within_messages : i < length (messages_in raw)
-        within_messages = omega (arith, lt, length-map raw.slots (at raw bs))
-
-        pub one_goes : true ≡ is_first m (drop j bs) → j < length bs → Halfway raw bs now k (j + 1) (i + 1)
-        one_goes t less = record {
-          raw_is = w.raw_is;
-          rest = w.rest ∙ kept_next (at raw bs) bs raw.slots j i s 0 true lt same_slot (t ∙ ap (λ x. is_first x (drop j bs)) is_at);
-          on = w.on ∙ found_next bs (messages_in raw) j i m m true within_messages is_message t;
-          counts = omega (arith, w.counts);
-          within = (omega (arith, less), w.within.1);
-        }
-
-        pub one_stays : false ≡ is_first m (drop j bs) → (new : RawLists) → new ≡ raw_lists now.front (slice_set now.slots k s) now.capacity → Halfway raw bs new (k + 1) j (i + 1)
-        one_stays t new g = let next_kept = w.rest ∙ kept_next (at raw bs) bs raw.slots j i s 0 false lt same_slot (t ∙ ap (λ x. is_first x (drop j bs)) is_at) in
-            let first = from_drop (stay raw bs) k s (kept (at raw bs) (drop j bs) (drop (i + 1) raw.slots)) next_kept in record {
-              raw_is = g ∙ ap (λ (r : RawLists). raw_lists r.front (slice_set r.slots k s) r.capacity) w.raw_is
-                  ∙ ap (λ l. raw_lists raw.front l raw.capacity) (slot_moved (stay raw bs) raw.slots k s first.0 (omega (arith, lt, w.counts)) first.1);
-              rest = first.2;
-              on = w.on ∙ found_next bs (messages_in raw) j i m m false within_messages is_message t;
-              counts = omega (arith, w.counts);
-              within = (w.within.0, omega (arith, first.0));
-            }
-
-    -- at the end of the slots the whole batch went
-    module _ (past_all : length raw.slots ≤ i) (le : i ≤ length raw.slots) (all : unfound bs (messages_in raw) ≡ []) where
-      all_went : j ≡ length bs
-      all_went = omega (arith, w.within, length-drop j bs, ap length (sym (w.on ∙ ap (unfound (drop j bs)) (drop_all i (messages_in raw) (omega (arith, past_all, length-map raw.slots (at raw bs))))) ∙ all))
-
-      pub ends : k + length bs ≡ length raw.slots
-      ends = omega (arith, all_went, w.counts, past_all, le)
-
-      pub taken_is : (new : RawLists) (n : ℕ) → n ≡ length bs → new ≡ raw_lists now.front (remove_range now.slots k (k + n)) now.capacity → new ≡ taken raw bs
-      taken_is new n f g = g ∙ ap (λ (r : RawLists). raw_lists r.front (remove_range r.slots k (k + n)) r.capacity) w.raw_is ∙ ap (λ l. raw_lists raw.front l raw.capacity)
-          (rest_goes (stay raw bs) raw.slots k n (omega (arith, count (at raw bs) bs raw.slots, ap length all, ends)) (omega (arith, ends, f)))
-
-      pub less_used : raw_used (taken raw bs) ≡ raw_used raw - 4 * length bs
-      less_used = omega (arith, taken_used all)

@@ -4,7 +4,7 @@ use Rattle.std.specs.List.{Contains, sum_by}
 use Rattle.stow_tree_model.specs.TreeMessage.{TreeMessage}
 use Rattle.stow_tree_model.specs.Order.{MessagesRise}
 use Rattle.stow_message.specs.Packed.{message_size}
-use Rattle.stow_message.specs.Rising.{placed, IsNew, in_range, out_of_range, all_placed, AreNew, AreHeld, without}
+use Rattle.stow_message.specs.Rising.{placed, IsNew, in_range, out_of_range, all_placed, AreNew, AreHeld, AreOldest, without}
 
 -- a rising list with a new message rises
 abbrev pub PlacedRises : Type 0
@@ -48,3 +48,8 @@ RestsRise = (from to : List ℕ) (batch ms : List TreeMessage) → MessagesRise 
 abbrev pub SizesAddUp : Type 0
 SizesAddUp = (ms ns : List TreeMessage)
     → sum_by message_size (all_placed ms ns) ≡ sum_by message_size ms + sum_by message_size ns
+
+-- a batch whose messages are the oldest of their keys is held
+abbrev pub OldestAreHeld : Type 0
+OldestAreHeld = (batch held : List TreeMessage) → MessagesRise batch → AreOldest batch held
+    → AreHeld batch held

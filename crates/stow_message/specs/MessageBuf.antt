@@ -1,5 +1,5 @@
 -- What a contract sees of a `MessageBuf`.
-use Rattle.std.specs.Prelude.{◌≡◌, ℕ, ◌+◌, ◌-◌, ◌*◌, ◌≤◌, ◌<◌, List, length, map, refl, drop}
+use Rattle.std.specs.Prelude.{◌≡◌, ℕ, ◌+◌, ◌-◌, ◌*◌, ◌≤◌, ◌<◌, List, length, map, refl, drop, slice_index}
 use Rattle.std.specs.Coded.{Coded, code_by, coded×, coded_list, coded_ℕ}
 use Rattle.stow_raw.specs.RawBuf.{RawLists, raw_used}
 use Rattle.stow_tree_model.specs.Op.{Op, Put, Gone, Append, bytes_in}
@@ -73,6 +73,10 @@ messages_in raw = map (λ slot. message_at (drop slot raw.front)) raw.slots
 -- the messages at the places of the slots from the index on
 abbrev pub messages_from : RawLists → ℕ → List TreeMessage
 messages_from raw from = map (λ slot. message_at (drop slot raw.front)) (drop from raw.slots)
+
+-- the message that the slot at an index names
+abbrev pub named : RawLists → ℕ → TreeMessage
+named raw index = message_at (drop (slice_index raw.slots index) raw.front)
 
 -- each slot from the index on names a message, and they rise
 pub record IsFilledFrom (raw : RawLists) (from : ℕ) : Type 0 where

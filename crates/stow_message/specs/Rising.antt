@@ -1,11 +1,12 @@
 -- Lists of messages that rise by key and number.
-use Rattle.std.specs.Prelude.{◌≡◌, ℕ, suc, List, [], ◌∷◌, Bool, if◌then◌else◌, not, ◌&&◌, ◌==◌, false}
+use Rattle.std.specs.Prelude.{◌≡◌, ℕ, suc, ◌≤◌, List, [], ◌∷◌, Bool, if◌then◌else◌, not, ◌&&◌, ◌==◌, false}
 use Rattle.std.specs.Ordering.{is_lt, is_eq}
 use Rattle.std.specs.List.{All, Contains, filter}
 use Rattle.std.specs.Str.{bytes_eq}
 use Rattle.stow_bytes.specs.Bytes.{bytes_cmp}
 use Rattle.stow_tree_model.specs.Op.{bytes_in}
 use Rattle.stow_tree_model.specs.TreeMessage.{TreeMessage}
+use Rattle.stow_tree_model.specs.Messages.{ops_in}
 use Rattle.stow_tree_model.specs.Order.{VersionPlace, place_cmp, place_of}
 use Rattle.stow_message.specs.Packed.{kind_of}
 
@@ -71,6 +72,11 @@ is_first m (b ∷ bs) = is_same b m
 -- each message of the batch is there, with its operation
 abbrev pub AreHeld : List TreeMessage → List TreeMessage → Type 0
 AreHeld batch ms = All (Contains ms) batch
+
+-- of each key of the batch, the held messages up to the batch's newest of it are the batch's
+abbrev pub AreOldest : List TreeMessage → List TreeMessage → Type 0
+AreOldest batch held = (m : TreeMessage) → Contains batch m → (n : ℕ) → n ≤ m.number
+    → ops_in held m.key n ≡ ops_in batch m.key n
 
 -- the list without the messages of the batch's keys and numbers
 abbrev pub without : List TreeMessage → List TreeMessage → List TreeMessage

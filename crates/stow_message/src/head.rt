@@ -78,6 +78,24 @@ pub(crate) fn write_head(message: Message<'_>) -> [u8; HEAD]
     ]
 }
 
+/// The length of the key.
+pub(crate) fn read_key_len(bytes: &[u8]) -> usize
+    requires { 2 ≤ length bytes.now }
+    ensures { result ≡ key_len_at bytes.now }
+{
+    u16::from_be_bytes([bytes[0], bytes[1]]) as usize
+}
+
+/// The number of the write.
+pub(crate) fn read_number(bytes: &[u8]) -> u64
+    requires { 10 ≤ length bytes.now }
+    ensures { result ≡ number_at bytes.now }
+{
+    u64::from_be_bytes([
+        bytes[2], bytes[3], bytes[4], bytes[5], bytes[6], bytes[7], bytes[8], bytes[9],
+    ])
+}
+
 pub(crate) fn read_head(bytes: &[u8]) -> Head
     requires { 13 ≤ length bytes.now }
     ensures key_len { result.key_len ≡ key_len_at bytes.now }
@@ -86,10 +104,8 @@ pub(crate) fn read_head(bytes: &[u8]) -> Head
     ensures value_len { result.value_len ≡ value_len_at bytes.now }
 {
     Head {
-        key_len: u16::from_be_bytes([bytes[0], bytes[1]]) as usize,
-        number: u64::from_be_bytes([
-            bytes[2], bytes[3], bytes[4], bytes[5], bytes[6], bytes[7], bytes[8], bytes[9],
-        ]),
+        key_len: read_key_len(bytes),
+        number: read_number(bytes),
         kind: bytes[10],
         value_len: u16::from_be_bytes([bytes[11], bytes[12]]) as usize,
     }

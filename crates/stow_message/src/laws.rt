@@ -1,5 +1,5 @@
 //! Laws over the definitions: functions that do nothing, and whose contracts are the laws.
-ghost use Rattle.stow_message.specs.Laws.{PlacedRises, AllPlacedRise, AllPlacedHold, RangeAndRest, MoveKeepsAll, TakenAndRest, RestsRise, SizesAddUp};
+ghost use Rattle.stow_message.specs.Laws.{PlacedRises, AllPlacedRise, AllPlacedHold, RangeAndRest, MoveKeepsAll, TakenAndRest, RestsRise, SizesAddUp, OldestAreHeld};
 
 /// A rising list with a new message rises.
 pub fn placed_rises()
@@ -39,4 +39,9 @@ pub fn rests_rise()
 /// The size of a list with more messages is that of the list and that of the messages.
 pub fn sizes_add_up()
     ensures { SizesAddUp }
+{}
+
+/// A batch whose messages are the oldest of their keys is held.
+pub fn oldest_are_held()
+    ensures { OldestAreHeld }
 {}

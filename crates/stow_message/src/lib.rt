@@ -8,6 +8,7 @@
 //! the filter spares stands in no contract: one of whose marks all are set is right too.
 #![tactic(auto)]
 
+pub mod copying;
 mod filter;
 mod hash;
 pub mod head;

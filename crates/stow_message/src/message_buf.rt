@@ -7,7 +7,7 @@ ghost use Rattle.stow_raw.specs.RawBuf.{raw_lists, RawFits};
 ghost use Rattle.stow_message.specs.Filter.{Covers};
 ghost use Rattle.stow_message.specs.MessageBuf.{message_list, messages_in, Fits, IsPackedBuffer, with_message, with_messages, without_batch, without_range};
 ghost use Rattle.stow_message.specs.Packed.{message_bytes, message_size, message_at, IsMessage, BeginsWith, all_bytes};
-ghost use Rattle.stow_message.specs.Rising.{is_below, below, placed, IsNew, of_key, in_range, out_of_range, all_placed, AreNew, is_same, is_first, AreHeld, without};
+ghost use Rattle.stow_message.specs.Rising.{is_below, below, placed, IsNew, of_key, in_range, out_of_range, all_placed, AreNew, is_same, is_first, AreHeld, AreOldest, without};
 ghost use Rattle.std.specs.List.{All, AllByRecursion, sum_by, remove_range};
 
 use crate::filter::Filter;
@@ -45,7 +45,7 @@ impl<A: Allocator> Model for MessageBuf<A> {
 }
 
 /// Whether the message stands below the key and number.
-pub(crate) fn is_message_below(message: Message<'_>, key: &[u8], number: u64) -> bool
+fn is_message_below(message: Message<'_>, key: &[u8], number: u64) -> bool
     ensures { result ≡ is_below (key.now, number) (message_of message.entry) }
 {
     match compare(message.key.bytes, key) {
@@ -76,7 +76,7 @@ fn is_same(a: Message<'_>, b: Message<'_>) -> bool
 }
 
 /// The message that begins `at` bytes into the front.
-pub(crate) fn read_message<A: Allocator>(raw: &RawBuf<A>, at: usize) -> Message<'_>
+fn read_message<A: Allocator>(raw: &RawBuf<A>, at: usize) -> Message<'_>
     requires begins { BeginsWith (drop at raw.now.front) }
     requires small { length raw.now.front < 2 ^ 32 }
     ensures { message_of result ≡ message_at (drop at raw.now.front) }
@@ -386,7 +386,7 @@ impl<A: Allocator> MessageBuf<A> {
 
     /// Puts the messages of a run to their places. Each is searched from the place of the one before on, and the slots between are
     /// moved unread.
-    fn push_all<B: Allocator>(&mut self, run: &Run<'_, B>)
+    pub(crate) fn push_all<B: Allocator>(&mut self, run: &Run<'_, B>)
         requires room { self.old.used + sum_by message_size run.now ≤ self.old.capacity }
         requires valid { All IsMessage run.now }
         requires rising { MessagesRise run.now }
@@ -444,6 +444,7 @@ impl<A: Allocator> MessageBuf<A> {
     fn has_at(&self, index: usize, message: Message<'_>) -> bool
         ensures same { result ≡ is_first (message_of message.entry) (drop index self.now.messages) }
         ensures within { IsTrue result → index < length self.now.messages }
+        ensures small { IsTrue result → index < 4294967296 }
     {
         if index < self.len() {
             is_same(self.message(index), message)
@@ -456,32 +457,76 @@ impl<A: Allocator> MessageBuf<A> {
     pub fn holds<B: Allocator>(&self, batch: &MessageBuf<B>) -> bool
         ensures { IsTrue result ↔ AreHeld batch.now.messages self.now.messages }
     {
-        let mut found = 0;
-        for i in 0..self.len() {
-            if batch.has_at(found, self.message(i)) {
-                found += 1;
+        let mut place = 0;
+        for i in 0..batch.len() {
+            let message = batch.message(i);
+            let at = self.count_below(message.key, message.number, place);
+            if !self.has_at(at, message) {
+                return false;
             }
+            place = at + 1;
         }
-        found == batch.len()
+        true
     }
 
-    /// Lets the batch's messages go: their bytes are dead.
+    /// From which number on the message at `index` is the first of its key: past that of the one before it, where that is of the
+    /// key too.
+    fn first_number(&self, index: usize) -> u64
+        requires { index < length self.now.messages }
+        ensures first { (none : TreeMessage)
+            → below ((slice_index_or self.now.messages index none).key, result) self.now.messages
+            ≡ index }
+        ensures within { (none : TreeMessage)
+            → result ≤ (slice_index_or self.now.messages index none).number }
+        ensures past { (none : TreeMessage) → 0 < result → (0 < index)
+            × ((slice_index_or self.now.messages (index - 1) none).key
+            ≡ (slice_index_or self.now.messages index none).key)
+            × (result ≡ (slice_index_or self.now.messages (index - 1) none).number + 1) }
+    {
+        let _known = self.len();
+        if index == 0 {
+            return 0;
+        }
+        let before = self.message(index - 1);
+        if before.key.bytes == self.message(index).key.bytes {
+            before.number + 1
+        } else {
+            0
+        }
+    }
+
+    /// Whether of each key of the batch the messages that are held up to the batch's newest are the batch's.
+    pub fn holds_oldest<B: Allocator>(&self, batch: &MessageBuf<B>) -> bool
+        ensures { IsTrue result ↔ AreOldest batch.now.messages self.now.messages }
+    {
+        let mut place = 0;
+        for i in 0..batch.len() {
+            let message = batch.message(i);
+            let at = self.count_below(message.key, batch.first_number(i), place);
+            if !self.has_at(at, message) {
+                return false;
+            }
+            place = at + 1;
+        }
+        true
+    }
+
+    /// Lets the batch's messages go: their bytes are dead. Each is searched from the place of the one before on, and the slots
+    /// between are moved unread.
     fn remove_all<B: Allocator>(&mut self, batch: &MessageBuf<B>)
         requires { AreHeld batch.now.messages self.old.messages }
         ensures { self.new ≡ message_list (without batch.now.messages self.old.messages)
             (self.old.used - 4 * length batch.now.messages) self.old.capacity }
     {
-        let (mut gone, mut kept) = (0, 0);
-        for place in 0..self.raw.slot_count() {
-            let slot = self.raw.slot(place);
-            if batch.has_at(gone, read_message(&self.raw, slot as usize)) {
-                gone += 1;
-            } else {
-                self.raw.set_slot(kept, slot);
-                kept += 1;
-            }
+        let (mut kept, mut from) = (0, 0);
+        for i in 0..batch.len() {
+            let gone = batch.message(i);
+            let at = search_from(&self.raw, from, gone.key.bytes, gone.number);
+            move_slots(&mut self.raw, kept, from, at - from);
+            kept += at - from;
+            from = at + 1;
         }
-        self.raw.remove_slots(kept, batch.len());
+        self.raw.remove_slots(kept, from - kept);
     }
 
     /// Takes all messages of the batch out, or none where one of them is missing. Their bytes are dead.

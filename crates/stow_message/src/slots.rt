@@ -1,29 +1,84 @@
 //! Slots of a block, and the messages that they name.
 ghost use Rattle.std.specs.Prelude.{◌≡◌, ◌+◌, ◌^◌, ◌<◌, ◌≤◌, ◌++◌, length, take, drop, slice_index};
 ghost use Rattle.std.specs.List.{remove_range};
+ghost use Rattle.stow_bytes.specs.Words.{AreAlike};
 ghost use Rattle.stow_raw.specs.RawBuf.{raw_lists};
-ghost use Rattle.stow_message.specs.MessageBuf.{messages_from, IsFilledFrom};
+ghost use Rattle.stow_message.specs.MessageBuf.{messages_from, named, IsFilledFrom};
 ghost use Rattle.stow_message.specs.Packed.{message_at, BeginsWith};
 ghost use Rattle.stow_message.specs.Rising.{below, is_below};
 
-use crate::message_buf::{is_message_below, read_message};
+use crate::head::{HEAD, read_key_len, read_number};
 use std::alloc::Allocator;
+use std::cmp::Ordering;
+use stow_bytes::compare::compare_past;
 use stow_raw::raw_buf::RawBuf;
+
+/// The key of the message that begins `at` bytes into the front.
+fn key_at<A: Allocator>(raw: &RawBuf<A>, at: usize) -> &[u8]
+    requires begins { BeginsWith (drop at raw.now.front) }
+    requires small { length raw.now.front < 2 ^ 32 }
+    ensures { result.now ≡ (message_at (drop at raw.now.front)).key }
+{
+    let len = read_key_len(raw.bytes(at, HEAD));
+    raw.bytes(at + HEAD, len)
+}
+
+/// The number of the message that begins `at` bytes into the front.
+fn number_in<A: Allocator>(raw: &RawBuf<A>, at: usize) -> u64
+    requires begins { BeginsWith (drop at raw.now.front) }
+    requires small { length raw.now.front < 2 ^ 32 }
+    ensures { result ≡ (message_at (drop at raw.now.front)).number }
+{
+    read_number(raw.bytes(at, HEAD))
+}
+
+/// Where a message stands to a key and number, and how many bytes its key and that one were seen to share at the front.
+#[derive(Clone, Copy)]
+struct Standing {
+    is_below: bool,
+    shared: usize,
+}
+
+/// Where the message of the slot at `index` stands to the key and number. Of the keys so many bytes are known to be the same.
+fn stand<A: Allocator>(
+    raw: &RawBuf<A>,
+    index: usize,
+    key: &[u8],
+    number: u64,
+    shared: usize,
+) -> Standing
+    requires within { index < length raw.now.slots }
+    requires begins { BeginsWith (drop (slice_index raw.now.slots index) raw.now.front) }
+    requires small { length raw.now.front < 2 ^ 32 }
+    requires alike { AreAlike shared (named raw.now index).key key.now }
+    ensures below { result.is_below ≡ is_below (key.now, number) (named raw.now index) }
+    ensures alike { AreAlike result.shared (named raw.now index).key key.now }
+{
+    let at = raw.slot(index) as usize;
+    let found = compare_past(key_at(raw, at), key, shared);
+    let is_below = match found.order {
+        Ordering::Less => true,
+        Ordering::Equal => number_in(raw, at) < number,
+        Ordering::Greater => false,
+    };
+    Standing {
+        is_below,
+        shared: found.shared,
+    }
+}
 
 /// Whether the message of the slot at `index` stands below the key and number.
 fn is_slot_below<A: Allocator>(raw: &RawBuf<A>, index: usize, key: &[u8], number: u64) -> bool
     requires within { index < length raw.now.slots }
     requires begins { BeginsWith (drop (slice_index raw.now.slots index) raw.now.front) }
     requires small { length raw.now.front < 2 ^ 32 }
-    ensures { result
-        ≡ is_below (key.now, number)
-        (message_at (drop (slice_index raw.now.slots index) raw.now.front)) }
+    ensures { result ≡ is_below (key.now, number) (named raw.now index) }
 {
-    let held = read_message(raw, raw.slot(index) as usize);
-    is_message_below(held, key, number)
+    stand(raw, index, key, number, 0).is_below
 }
 
-/// The first index from `low` on whose message doesn't stand below the key and number: it is at most `high`.
+/// The first index from `low` on whose message doesn't stand below the key and number: it is at most `high`. What the messages
+/// at both ends share with the key all between them do.
 pub(crate) fn search_between<A: Allocator>(
     raw: &RawBuf<A>,
     mut low: usize,
@@ -36,12 +91,16 @@ pub(crate) fn search_between<A: Allocator>(
     requires end { low + below (key.now, number) (messages_from raw.now low) ≤ high }
     ensures { result ≡ low + below (key.now, number) (messages_from raw.now low) }
 {
+    let (mut before, mut after) = (0, 0);
     while low < high {
         let middle = low + (high - low) / 2;
-        if is_slot_below(raw, middle, key, number) {
+        let standing = stand(raw, middle, key, number, before.min(after));
+        if standing.is_below {
             low = middle + 1;
+            before = standing.shared;
         } else {
             high = middle;
+            after = standing.shared;
         }
     }
     low

@@ -1,9 +1,7 @@
-use Rattle.std.proofs.Common.{◌≡◌, ◌≤◌, length, drop}
-use Rattle.stow_message.proofs.Taken.{unfound}
+use Rattle.std.proofs.Common.{ℕ, ◌<◌, get_or}
+use Rattle.std.specs.List.{Contains}
+use Rattle.stow_tree_model.specs.TreeMessage.{TreeMessage}
 use Rattle.stow_message.proofs.message_buf.MessageBuf.holds.Given as goal
 
 abbrev pub invariant-loop-i : goal.invariant-loop-i
-invariant-loop-i g l = let bs = l.batch.messages in let ms = l.self.messages in record {
-  on : unfound bs ms ≡ unfound (drop l.found bs) (drop l.i ms);
-  within : (l.found ≤ length bs) × (l.found ≤ l.i);
-}
+invariant-loop-i g l = (j : ℕ) → j < l.i → (d : TreeMessage) → Contains l.self.messages (get_or l.batch.messages j d)
