@@ -47,6 +47,10 @@ or_none (Some op) b e = refl
 pub none_or : (a b : Option Op) → a ≡ None → or_else a b ≡ b
 none_or a b e = ap (λ o. or_else o b) e
 
+pub or_assoc : (a b c : Option Op) → or_else (or_else a b) c ≡ or_else a (or_else b c)
+or_assoc None b c = refl
+or_assoc (Some op) b c = refl
+
 pub none_some : (o : Option Op) → o ≡ None → IsSome o → ⊥
 none_some o e s = cc
 
@@ -75,13 +79,16 @@ first_stays n ns key k s = step (eq_by_cmp place_cmp (key, k) (place_of n)) wher
   step false = s
 
 -- an operation that messages have is one of theirs
-pub found : {X : Type 0} (ms : List TreeMessage) (key : List ℕ) (n : ℕ) → IsSome (ops_in ms key n) → ((m : TreeMessage) → Contains ms m → m.key ≡ key → X) → X
-found [] key n s f = absurd cc
-found (m ∷ ms) key n s f = ⊎_elim
-    (λ (e : (◌≡◌ {A = VersionPlace} (key, n) (place_of m)) × (eq_by_cmp place_cmp (key, n) (place_of m) ≡ true)). f m (contains_here m ms) (sym (ap (λ (p : VersionPlace). p.0) e.0)))
+pub found_at : {X : Type 0} (ms : List TreeMessage) (key : List ℕ) (n : ℕ) → IsSome (ops_in ms key n) → ((m : TreeMessage) → Contains ms m → ◌≡◌ {A = VersionPlace} (key, n) (place_of m) → X) → X
+found_at [] key n s f = absurd cc
+found_at (m ∷ ms) key n s f = ⊎_elim
+    (λ (e : (◌≡◌ {A = VersionPlace} (key, n) (place_of m)) × (eq_by_cmp place_cmp (key, n) (place_of m) ≡ true)). f m (contains_here m ms) e.0)
     (λ (e : (◌≢◌ {A = VersionPlace} (key, n) (place_of m)) × (eq_by_cmp place_cmp (key, n) (place_of m) ≡ false)).
-    found ms key n (subst IsSome (ops_in-skip m ms key n e.0) s) (λ w c k. f w (contains_there m w ms c) k))
+    found_at ms key n (subst IsSome (ops_in-skip m ms key n e.0) s) (λ w c k. f w (contains_there m w ms c) k))
     (place_cases (key, n) (place_of m))
+
+pub found : {X : Type 0} (ms : List TreeMessage) (key : List ℕ) (n : ℕ) → IsSome (ops_in ms key n) → ((m : TreeMessage) → Contains ms m → m.key ≡ key → X) → X
+found ms key n s f = found_at ms key n s (λ m c e. f m c (sym (ap (λ (p : VersionPlace). p.0) e)))
 
 -- the same of rows
 pub found_row : {X : Type 0} (vs : List Version) (key : List ℕ) (n : ℕ) → IsSome (ops_in (map row_message vs) key n) → ((v : Version) → Contains vs v → v.key ≡ key → X) → X

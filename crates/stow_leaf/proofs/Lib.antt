@@ -2,6 +2,7 @@ pub mod Intervals
 pub mod Ops
 pub mod Found
 pub mod Tiles
+pub mod Covered
 pub mod Fronts
 pub mod Steps
 pub mod Over

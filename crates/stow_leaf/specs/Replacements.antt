@@ -1,7 +1,10 @@
 -- What comes in a leaf's place, with messages for it merged.
 use Rattle.std.specs.Prelude.{◌≡◌, ◌≢◌, ◌⊎◌, ℕ, ◌<◌, ◌≤◌, List, [], length, map, true, IsSome}
 use Rattle.std.specs.List.{AllByRecursion}
+use Rattle.stow_merge.specs.Covering.{Covers}
 use Rattle.stow_merge.specs.Pages.{HaveOneKey, HaveShortValues}
+use Rattle.stow_merge.specs.Pins.{pins_in}
+use Rattle.stow_merge.specs.declared.flush_job.FlushJob.{FlushJob}
 use Rattle.stow_message.specs.Rising.{in_range}
 use Rattle.stow_page.specs.Format.{packed_page}
 use Rattle.stow_tree_model.specs.Agreement.{TenantPins, AgreeAt}
@@ -60,7 +63,7 @@ IsFence leaf ms fence = (fence ≡ leaf.0) ⊎ AreThere (ops_with ms leaf.1 fenc
 
 -- Leaves in the place of one, with the messages for it merged: each of its keys means the same
 -- under the pins.
-pub record IsReplacement (leaf : LeafRows) (high : List ℕ) (ms : List TreeMessage)
+pub record TakePlace (leaf : LeafRows) (high : List ℕ) (ms : List TreeMessage)
     (pins : TenantPins) (target : ℕ) (leaves : List LeafRows) : Type 0 where
   pub tiled : LeavesTo high leaves
   pub first : first_fence high leaves ≡ leaf.0
@@ -69,10 +72,23 @@ pub record IsReplacement (leaf : LeafRows) (high : List ℕ) (ms : List TreeMess
       → GiveWay (pins (tenant_of key)) (ops_with ms leaf.1 key) (ops_in (row_messages leaves) key)
   pub short : (key : List ℕ) → spans leaf.0 high key ≡ true
       → HasShortValues (ops_with ms leaf.1 key) → HasShortValues (ops_in (row_messages leaves) key)
-  -- one leaf is enough where all that stays fits the target
-  pub one : length (packed_page (merged leaf.1 (in_range leaf.0 high ms) pins)) ≤ target
-      → length leaves ≡ 1
   -- no other keys come in
   pub fences : AllByRecursion (λ l. IsFence leaf ms l.0) leaves
   pub keys : (key : List ℕ) → AreThere (ops_in (row_messages leaves) key)
       → AreThere (ops_with ms leaf.1 key)
+
+-- and they are no more than one where all that stays fits the target
+pub record IsReplacement (leaf : LeafRows) (high : List ℕ) (ms : List TreeMessage)
+    (pins : TenantPins) (target : ℕ) (leaves : List LeafRows) : Type 0 where
+  pub place : TakePlace leaf high ms pins target leaves
+  pub one : length (packed_page (merged leaf.1 (in_range leaf.0 high ms) pins)) ≤ target
+      → length leaves ≡ 1
+
+-- A job of the leaf's rows, with messages for it alone: under the present pins its merge keeps all
+-- that they show.
+pub record IsJobOf {A : Type 0} (leaf : LeafRows) (high : List ℕ) (present : TenantPins)
+    (job : FlushJob A) : Type 0 where
+  pub page : job.page ≡ leaf.1
+  pub tile : IsLeafTile leaf high
+  pub within : NoneOutside leaf.0 high job.batch.messages
+  pub covers : Covers (pins_in job.pins) present leaf.1 job.batch.messages

@@ -1,11 +1,13 @@
 //! Leaves of the tree.
-ghost use Rattle.std.specs.Prelude.{◌≡◌, map, IfOk};
+ghost use Rattle.std.specs.Prelude.{◌≡◌, ℕ, List, map, IfOk};
 ghost use Rattle.stow_leaf.specs.LeafRows.{leaf_rows};
-ghost use Rattle.stow_leaf.specs.Replacements.{CanReplace, IsReplacement};
+ghost use Rattle.stow_leaf.specs.Replacements.{CanReplace, IsJobOf, IsReplacement, TakePlace};
+ghost use Rattle.stow_tree_model.specs.Agreement.{TenantPins};
 ghost use Rattle.stow_merge.specs.Pins.{pins_in};
 
 use crate::making::{leaves_from, lent_run};
 use std::alloc::{AllocError, Allocator, Global};
+use stow_merge::flush_result::FlushResult;
 use stow_merge::merging::merge_into_pages;
 use stow_merge::pins::Pins;
 use stow_message::message_buf::MessageBuf;
@@ -41,6 +43,17 @@ impl<A: Allocator + Copy> Leaf<A> {
         let lent = lent_run(alloc, &buffer.in_range(low, high))?;
         let pages = merge_into_pages(alloc, &self.rows, lent.as_slice(), pins, target)?;
         leaves_from(alloc, low, pages.as_slice())
+    }
+
+    /// The leaves that come in its place, one at least, once a job's result is put there. They take its place where the job is its
+    /// own, and its merge keeps what the present pins show.
+    pub fn installed(&self, alloc: A, merge: &FlushResult<A>) -> Result<Vec<Leaf<A>, A>, AllocError>
+        ensures { IfOk result (λ leaves. (high : List ℕ) (present : TenantPins)
+            → IsJobOf (leaf_rows self.now) high present merge.now.job
+            → TakePlace (leaf_rows self.now) high merge.now.job.batch.messages present
+            merge.now.job.target.leaf_target (map leaf_rows leaves.items)) }
+    {
+        leaves_from(alloc, self.low.as_key(), merge.pages.as_slice())
     }
 
     /// The same leaf once more: its fence copied, its rows shared.

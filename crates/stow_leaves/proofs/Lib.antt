@@ -3,3 +3,4 @@ pub mod Joined
 pub mod Pairs
 pub mod Fences
 pub mod Replaced
+pub mod Parted

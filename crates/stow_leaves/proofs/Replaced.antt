@@ -1,5 +1,5 @@
 -- A row of leaves of which one gave way to others, with its messages merged.
-use Rattle.std.proofs.Common.{zero, suc, ◌≡◌, ◌≢◌, ℕ, ◌+◌, ◌<◌, ◌≤◌, true, false, cond, List, [], ◌∷◌, ◌++◌, length, map, take, drop, get_or, Some, None, refl, sym, ap, ◌∙◌, subst, arith, ⊎_elim, length-append, append_assoc, append-nil}
+use Rattle.std.proofs.Common.{zero, suc, ◌≡◌, ◌≢◌, ℕ, ◌+◌, ◌<◌, ◌≤◌, true, false, cond, List, [], ◌∷◌, ◌++◌, length, map, take, drop, get_or, Option, Some, None, refl, sym, ap, ◌∙◌, subst, arith, ⊎_elim, length-append, append_assoc, append-nil}
 use Rattle.std.specs.List.{AllByRecursion, insert}
 use Rattle.std.specs.Ordering.{is_lt}
 use Rattle.std.specs.Prelude.{IsSome, not, slice_get, Contains}
@@ -8,26 +8,27 @@ use Rattle.std.proofs.lemmas.List.{length-take-le, map-append, take-map, drop-ma
 use Rattle.std.proofs.lemmas.List.Elements.{Contains-append_left, Contains-append_right, Contains-append_cases}
 use Rattle.stow_leaf_cache.specs.Cache.{Cache, rows_under, leaves_without}
 use Rattle.stow_merge.proofs.Lists.{all_split, all_join}
+use Rattle.stow_merge.specs.declared.flush_job.FlushJob.{FlushJob}
 use Rattle.stow_message.proofs.RisingLists.{no_path}
 use Rattle.stow_message.specs.Rising.{in_range, out_of_range}
 use Rattle.stow_tree_model.specs.Agreement.{TenantPins}
 use Rattle.stow_tree_model.specs.Keys.{tenant_of}
 use Rattle.stow_tree_model.specs.Merged.{row_message}
 use Rattle.stow_tree_model.specs.Messages.{ops_in}
-use Rattle.stow_tree_model.specs.Operations.{Operations, latest, or_else, value_in}
+use Rattle.stow_tree_model.specs.Operations.{Operations, latest, or_else, over, value_in}
 use Rattle.stow_tree_model.specs.TreeMessage.{TreeMessage}
 use Rattle.stow_tree_model.specs.Value.{IsValue}
 use Rattle.stow_tree_model.proofs.Latest.{contains_cases}
 use Rattle.stow_leaf.specs.Intervals.{top_key, spans}
 use Rattle.stow_leaf.specs.LeafRows.{LeafRows, leaf_rows, row_messages, first_fence, IsLeafTile, LeavesTo}
-use Rattle.stow_leaf.specs.Replacements.{IsLeafSize, AreThere, MeanTheSame, ops_with, CanReplace, IsFence, IsReplacement}
+use Rattle.stow_leaf.specs.Replacements.{IsLeafSize, AreThere, MeanTheSame, ops_with, CanReplace, IsFence, TakePlace}
 use Rattle.stow_leaf.specs.declared.leaf.Leaf.{Leaf}
-use Rattle.stow_leaf.proofs.Found.{both_none, or_none, none_or, none_some, some_or, some_left, some_right, merged_short}
+use Rattle.stow_leaf.proofs.Found.{both_none, or_assoc, or_none, none_or, none_some, some_or, some_left, some_right, merged_short}
 use Rattle.stow_leaf.proofs.Fronts.{range_within}
 use Rattle.stow_leaf.proofs.Intervals.{lt, by_test, lt_self, lt_trans, lt_le, le_le, lt_not, under, beyond, span_low, span_high, not_spanned}
-use Rattle.stow_leaf.proofs.Over.{same_itself}
+use Rattle.stow_leaf.proofs.Over.{Above, over_same, same_itself}
 use Rattle.stow_leaf.proofs.Ops.{ops-append, ops-in_range, ops-out_of_range}
-use Rattle.stow_leaves.specs.Absorbs.{fence_at, with_leaves, ops_above, CanAbsorb, StandsFor}
+use Rattle.stow_leaves.specs.Absorbs.{fence_at, with_leaves, left_above, ops_above, BatchGoes, CanAbsorb, CanPutPages, CanPutOthers, StandsFor}
 use Rattle.stow_leaves.specs.Forgets.{Forgets, cache_without}
 use Rattle.stow_leaves.specs.Joins.{AreJoined, JoinsAll}
 use Rattle.stow_leaves.proofs.Fences.{parted, fence_is}
@@ -82,6 +83,11 @@ pub rows_at : {A : Type 0} (leaves : List (Leaf A)) (i : ℕ) (x : Leaf A) → i
 rows_at [] i x l e = absurd (omega arith)
 rows_at (y ∷ leaves) zero x l e = ap (λ (k : Leaf _). Some (leaf_rows k)) (sym e)
 rows_at (y ∷ leaves) (suc i) x l e = rows_at leaves i x (omega arith) e
+
+pub same_leaf : (leaves : List LeafRows) (i : ℕ) (x y : LeafRows) → slice_get leaves i ≡ Some x → slice_get leaves i ≡ Some y → x ≡ y
+same_leaf leaves i x y e f = same x y (sym e ∙ f) where
+  same : (x y : LeafRows) → ◌≡◌ {A = Option LeafRows} (Some x) (Some y) → x ≡ y
+  same x y e = cc
 
 -- ---- leaves in a row
 
@@ -201,11 +207,10 @@ pub record Middle (leaves : List LeafRows) (i : ℕ) (others : List LeafRows) : 
   pub some : 0 < length (with_leaves leaves i others)
   pub tiled : LeavesTo top_key (with_leaves leaves i others)
 
-pub middle : (leaves : List LeafRows) (i : ℕ) (ms : List TreeMessage) (pins : TenantPins) (target : ℕ) (leaf : LeafRows) (others : List LeafRows) → LeavesTo top_key leaves → slice_get leaves i ≡ Some leaf
-    → IsReplacement leaf (fence_at leaves (i + 1)) ms pins target others → Middle leaves i others
-middle leaves i ms pins target leaf others all at made = record { some = by_others others refl; tiled = tiled } where
+pub middle : (leaves : List LeafRows) (i : ℕ) (leaf : LeafRows) (others : List LeafRows) → CanPutOthers leaves i others → slice_get leaves i ≡ Some leaf → Middle leaves i others
+middle leaves i leaf others can at = record { some = by_others others refl; tiled = tiled } where
   r : Row leaves i leaf
-  r = row leaves i leaf all at
+  r = row leaves i leaf can.tiled at
 
   xs : List LeafRows
   xs = take i leaves
@@ -213,32 +218,53 @@ middle leaves i ms pins target leaf others all at made = record { some = by_othe
   ys : List LeafRows
   ys = drop (i + 1) leaves
 
+  first : first_fence (fence_at leaves (i + 1)) others ≡ leaf.0
+  first = can.first ∙ fence_is leaves i leaf at
+
   tiled : LeavesTo top_key (xs ++ (others ++ ys))
-  tiled = tiled_both top_key xs (others ++ ys) (subst (λ low. LeavesTo low xs) (sym (first_fence-append top_key others ys ∙ made.first)) r.left) (tiled_both top_key others ys made.tiled r.right)
+  tiled = tiled_both top_key xs (others ++ ys) (subst (λ low. LeavesTo low xs) (sym (first_fence-append top_key others ys ∙ first)) r.left) (tiled_both top_key others ys can.others_tiled r.right)
 
   by_others : (ls : List LeafRows) → ls ≡ others → 0 < length (xs ++ (others ++ ys))
-  by_others [] e = absurd (no_path (sym (lt_self leaf.0) ∙ ap (lt leaf.0) (sym (ap (first_fence (fence_at leaves (i + 1))) e ∙ made.first)) ∙ ap is_lt r.tile.ordered))
+  by_others [] e = absurd (no_path (sym (lt_self leaf.0) ∙ ap (lt leaf.0) (sym (ap (first_fence (fence_at leaves (i + 1))) e ∙ first)) ∙ ap is_lt r.tile.ordered))
   by_others (l ∷ ls) e =
       let n = length-append xs (others ++ ys) in
       let m = length-append others ys in
       let k = ap length e in
       omega (arith, n, m, k)
 
-pub stands_for : (leaves : List LeafRows) (i : ℕ) (ms : List TreeMessage) (pins : TenantPins) (target : ℕ) (leaf : LeafRows) (others fresh : List LeafRows) → CanAbsorb leaves i ms target → slice_get leaves i ≡ Some leaf
-    → IsReplacement leaf (fence_at leaves (i + 1)) ms pins target others → AreJoined target (with_leaves leaves i others) fresh → StandsFor leaves i ms pins target fresh
-stands_for leaves i ms pins target leaf others fresh can at made joined = record {
+pub can_put : (leaves : List LeafRows) (i : ℕ) (ms : List TreeMessage) (pins : TenantPins) (target : ℕ) (leaf : LeafRows) (others : List LeafRows) → i < length leaves → LeavesTo top_key leaves → slice_get leaves i ≡ Some leaf
+    → TakePlace leaf (fence_at leaves (i + 1)) ms pins target others → CanPutOthers leaves i others
+can_put leaves i ms pins target leaf others inside tiled at made = record {
+  inside = inside;
+  tiled = tiled;
+  others_tiled = made.tiled;
+  first = made.first ∙ sym (fence_is leaves i leaf at);
+}
+
+-- of the messages above the leaves the leaf takes a batch, and of its keys newer ones are left
+pub record Parting (leaf : LeafRows) (high : List ℕ) (ms left batch : List TreeMessage) : Type 0 where
+  pub inside : (key : List ℕ) (n : ℕ) → spans leaf.0 high key ≡ true → ops_in ms key n ≡ or_else (ops_in left key n) (ops_in batch key n)
+  pub outside : (key : List ℕ) (n : ℕ) → spans leaf.0 high key ≡ false → ops_in left key n ≡ ops_in ms key n
+  pub newer : (key : List ℕ) → spans leaf.0 high key ≡ true → Above (ops_in left key) (ops_with batch leaf.1 key)
+  pub held : (key : List ℕ) (n : ℕ) → IsSome (ops_in batch key n) → IsSome (ops_in ms key n)
+
+pub stands_for : (leaves : List LeafRows) (i : ℕ) (ms left batch : List TreeMessage) (pins : TenantPins) (target : ℕ) (leaf : LeafRows) (others fresh : List LeafRows) → LeavesTo top_key leaves → AllByRecursion (λ (l : LeafRows). IsLeafSize target l.1) leaves
+    → i < length leaves → slice_get leaves i ≡ Some leaf → Parting leaf (fence_at leaves (i + 1)) ms left batch → TakePlace leaf (fence_at leaves (i + 1)) batch pins target others → AreJoined target (with_leaves leaves i others) fresh
+    → StandsFor leaves i ms left pins target fresh
+stands_for leaves i ms left batch pins target leaf others fresh tiled sizes within at parting made joined = record {
   some = same.some between.some;
   first = same.first top_key ∙ first_fence-append top_key xs (others ++ ys) ∙ ap (λ low. first_fence low xs) lows ∙ sym (first_fence-append top_key xs (leaf ∷ ys)) ∙ sym (ap (first_fence top_key) r.are);
-  sizes = same.sizes (with_others (λ l. IsLeafSize target l.1) can.sizes (λ _. made.sizes));
-  means = λ key. rw (fence_is leaves i leaf at) (by_test (spans leaf.0 high key)
-      (λ s. subst (λ f. MeanTheSame (pins (tenant_of key)) f (now key)) (sym (old_inside key s)) (subst (MeanTheSame (pins (tenant_of key)) (ops_with ms leaf.1 key)) (sym (new_inside key s)) (record { way = made.agrees key s; short = made.short key s; there = made.keys key })))
-      (λ s. subst (MeanTheSame (pins (tenant_of key)) (ops_above ms leaves key)) (sym (outside key s)) (same_itself (pins (tenant_of key)) (ops_above ms leaves key))));
+  sizes = same.sizes (with_others (λ l. IsLeafSize target l.1) sizes (λ _. made.sizes));
+  means = λ key. by_test (spans leaf.0 high key)
+      (λ s. subst (λ f. MeanTheSame (pins (tenant_of key)) f (now key)) (sym (old_inside key s)) (subst (MeanTheSame (pins (tenant_of key)) (over (ops_in left key) (ops_with batch leaf.1 key))) (sym (new_inside key s))
+      (over_same (pins (tenant_of key)) (ops_in left key) (ops_with batch leaf.1 key) (ops_in (row_messages others) key) (parting.newer key s) (record { way = made.agrees key s; short = made.short key s; there = made.keys key }))))
+      (λ s. subst (MeanTheSame (pins (tenant_of key)) (ops_above ms leaves key)) (sym (outside key s)) (same_itself (pins (tenant_of key)) (ops_above ms leaves key)));
   beside = λ key n. rw (fence_is leaves i leaf at) (λ o. same_rows key n o);
   fences = λ low high old all. same.fences low high (with_others (λ l. spans low high l.0 ≡ true) old (λ s. each low high s all others made.fences));
 }
   where
     r : Row leaves i leaf
-    r = row leaves i leaf can.tiled at
+    r = row leaves i leaf tiled at
 
     high : List ℕ
     high = fence_at leaves (i + 1)
@@ -257,7 +283,7 @@ stands_for leaves i ms pins target leaf others fresh can at made joined = record
     lows = first_fence-append top_key others ys ∙ made.first
 
     between : Middle leaves i others
-    between = middle leaves i ms pins target leaf others can.tiled at made
+    between = middle leaves i leaf others (can_put leaves i batch pins target leaf others within tiled at made) at
 
     -- what each leaf has, and each of the others has where the leaf has it
     with_others : (P : LeafRows → Type 0) → AllByRecursion P leaves → (P leaf → AllByRecursion P others) → AllByRecursion P (xs ++ (others ++ ys))
@@ -266,17 +292,18 @@ stands_for leaves i ms pins target leaf others fresh can at made joined = record
         all_join P xs (others ++ ys) split.0 (all_join P others ys (h split.1.0) split.1.1)
 
     now : List ℕ → Operations
-    now key = ops_above (out_of_range leaf.0 high ms) fresh key
+    now key = ops_above left fresh key
 
     fresh_rows : (key : List ℕ) (n : ℕ) → ops_in (row_messages fresh) key n ≡ ops_in (row_messages (xs ++ (others ++ ys))) key n
     fresh_rows key n = ap (λ l. ops_in l key n) same.rows
 
-    old_inside : (key : List ℕ) → spans leaf.0 high key ≡ true → ops_above ms leaves key ≡ ops_with ms leaf.1 key
-    old_inside key s = λ j n. ap (or_else (ops_in ms key n)) (own_rows r key n s) j
+    old_inside : (key : List ℕ) → spans leaf.0 high key ≡ true → ops_above ms leaves key ≡ over (ops_in left key) (ops_with batch leaf.1 key)
+    old_inside key s = λ j n. (ap (or_else (ops_in ms key n)) (own_rows r key n s)
+        ∙ ap (λ o. or_else o (ops_in (map row_message leaf.1) key n)) (parting.inside key n s)
+        ∙ or_assoc (ops_in left key n) (ops_in batch key n) (ops_in (map row_message leaf.1) key n)) j
 
-    new_inside : (key : List ℕ) → spans leaf.0 high key ≡ true → now key ≡ ops_in (row_messages others) key
-    new_inside key s = λ j n. (none_or (ops_in (out_of_range leaf.0 high ms) key n) (ops_in (row_messages fresh) key n) (ops-out_of_range leaf.0 high ms key n ∙ ap (λ t. cond (not t) (ops_in ms key n) None) s)
-        ∙ fresh_rows key n ∙ only r others key n s) j
+    new_inside : (key : List ℕ) → spans leaf.0 high key ≡ true → now key ≡ over (ops_in left key) (ops_in (row_messages others) key)
+    new_inside key s = λ j n. ap (or_else (ops_in left key n)) (fresh_rows key n ∙ only r others key n s) j
 
     same_rows : (key : List ℕ) (n : ℕ) → spans leaf.0 high key ≡ false → ops_in (row_messages fresh) key n ≡ ops_in (row_messages leaves) key n
     same_rows key n o =
@@ -286,15 +313,15 @@ stands_for leaves i ms pins target leaf others fresh can at made joined = record
         ∙ sym (three xs (leaf ∷ []) ys key n) ∙ sym (ap (λ ls. ops_in (row_messages ls) key n) r.are)
 
     outside : (key : List ℕ) → spans leaf.0 high key ≡ false → now key ≡ ops_above ms leaves key
-    outside key o = λ j n. (ap (λ q. or_else q (ops_in (row_messages fresh) key n)) (ops-out_of_range leaf.0 high ms key n ∙ ap (λ t. cond (not t) (ops_in ms key n) None) o)
+    outside key o = λ j n. (ap (λ q. or_else q (ops_in (row_messages fresh) key n)) (parting.outside key n o)
         ∙ ap (or_else (ops_in ms key n)) (same_rows key n o)) j
 
-    -- what a leaf and the messages have, the row has
-    whole : (key : List ℕ) → AreThere (ops_with ms leaf.1 key) → AreThere (ops_above ms leaves key)
+    -- what a leaf and its batch have, the row and all messages have
+    whole : (key : List ℕ) → AreThere (ops_with batch leaf.1 key) → AreThere (ops_above ms leaves key)
     whole key t = (
       t.0,
-      some_or (ops_in ms key t.0) (ops_in (map row_message leaf.1) key t.0)
-          (λ s. some_left (ops_in ms key t.0) (ops_in (row_messages leaves) key t.0) s)
+      some_or (ops_in batch key t.0) (ops_in (map row_message leaf.1) key t.0)
+          (λ s. some_left (ops_in ms key t.0) (ops_in (row_messages leaves) key t.0) (parting.held key t.0 s))
           (λ s. some_right (ops_in ms key t.0) (ops_in (row_messages leaves) key t.0)
           (subst IsSome (sym (ap (λ ls. ops_in (row_messages ls) key t.0) r.are ∙ three xs (leaf ∷ []) ys key t.0))
           (some_right (ops_in (row_messages xs) key t.0) (or_else (ops_in (row_messages (leaf ∷ [])) key t.0) (ops_in (row_messages ys) key t.0))
@@ -303,12 +330,47 @@ stands_for leaves i ms pins target leaf others fresh can at made joined = record
           t.1,
     )
 
-    each : (low high : List ℕ) → spans low high leaf.0 ≡ true → ((key : List ℕ) → AreThere (ops_above ms leaves key) → spans low high key ≡ true) → (ls : List LeafRows) → AllByRecursion (λ (l : LeafRows). IsFence leaf ms l.0) ls → AllByRecursion (λ (l : LeafRows). spans low high l.0 ≡ true) ls
+    each : (low high : List ℕ) → spans low high leaf.0 ≡ true → ((key : List ℕ) → AreThere (ops_above ms leaves key) → spans low high key ≡ true) → (ls : List LeafRows) → AllByRecursion (λ (l : LeafRows). IsFence leaf batch l.0) ls → AllByRecursion (λ (l : LeafRows). spans low high l.0 ≡ true) ls
     each low high s all [] f = tt
     each low high s all (l ∷ ls) f = (
-      ⊎_elim (λ (e : l.0 ≡ leaf.0). ap (spans low high) e ∙ s) (λ (k : AreThere (ops_with ms leaf.1 l.0)). all l.0 (whole l.0 k)) f.0,
+      ⊎_elim (λ (e : l.0 ≡ leaf.0). ap (spans low high) e ∙ s) (λ (k : AreThere (ops_with batch leaf.1 l.0)). all l.0 (whole l.0 k)) f.0,
       each low high s all ls f.1,
     )
+
+-- all messages for the leaf are merged into it
+pub merged_stands_for : (leaves : List LeafRows) (i : ℕ) (ms : List TreeMessage) (pins : TenantPins) (target : ℕ) (leaf : LeafRows) (others fresh : List LeafRows) → CanAbsorb leaves i ms target → slice_get leaves i ≡ Some leaf
+    → TakePlace leaf (fence_at leaves (i + 1)) ms pins target others → AreJoined target (with_leaves leaves i others) fresh → StandsFor leaves i ms (left_above leaves i ms) pins target fresh
+merged_stands_for leaves i ms pins target leaf others fresh can at made joined =
+    stands_for leaves i ms left ms pins target leaf others fresh can.tiled can.sizes can.inside at
+    (record {
+      inside = λ key n s. sym (none_or (ops_in left key n) (ops_in ms key n) (left_inside key n s));
+      outside = λ key n o. left_is key n ∙ ap (λ t. cond (not t) (ops_in ms key n) None) o;
+      newer = λ key s n k t u. absurd (none_some (ops_in left key n) (left_inside key n s) t);
+      held = λ key n s. s;
+    }) made joined
+  where
+    left : List TreeMessage
+    left = left_above leaves i ms
+
+    left_is : (key : List ℕ) (n : ℕ) → ops_in left key n ≡ cond (not (spans leaf.0 (fence_at leaves (i + 1)) key)) (ops_in ms key n) None
+    left_is key n = ap (λ low. ops_in (out_of_range low (fence_at leaves (i + 1)) ms) key n) (fence_is leaves i leaf at) ∙ ops-out_of_range leaf.0 (fence_at leaves (i + 1)) ms key n
+
+    left_inside : (key : List ℕ) (n : ℕ) → spans leaf.0 (fence_at leaves (i + 1)) key ≡ true → ops_in left key n ≡ None
+    left_inside key n s = left_is key n ∙ ap (λ t. cond (not t) (ops_in ms key n) None) s
+
+-- the batch of a job that is put there goes
+pub installed_stands_for : {A : Type 0} (leaves : List LeafRows) (i : ℕ) (ms left : List TreeMessage) (pins : TenantPins) (job : FlushJob A) (others fresh : List LeafRows) (can : CanPutPages leaves i job)
+    → BatchGoes leaves i ms left job.batch.messages job.page → TakePlace can.leaf (fence_at leaves (i + 1)) job.batch.messages pins job.target.leaf_target others
+    → AreJoined job.target.leaf_target (with_leaves leaves i others) fresh → StandsFor leaves i ms left pins job.target.leaf_target fresh
+installed_stands_for leaves i ms left pins job others fresh can goes made joined =
+    stands_for leaves i ms left job.batch.messages pins job.target.leaf_target can.leaf others fresh can.tiled can.sizes can.inside can.at
+    (record {
+      inside = λ key n s. goes.parts key n;
+      outside = λ key n o. sym (goes.parts key n ∙ or_none (ops_in left key n) (ops_in job.batch.messages key n) (can.is.within.outside key n o));
+      newer = λ key s n k t u. goes.newer key n k (ap (λ low. spans low (fence_at leaves (i + 1)) key) (fence_is leaves i can.leaf can.at) ∙ s) t
+          (subst (λ rows. IsSome (ops_with job.batch.messages rows key k)) (sym can.is.page) u);
+      held = λ key n s. subst IsSome (sym (goes.parts key n)) (some_right (ops_in left key n) (ops_in job.batch.messages key n) s);
+    }) made joined
 
 -- ---- its cache
 

@@ -1,8 +1,9 @@
 -- Parts of lists, and what holds of their members.
-use Rattle.std.proofs.Common.{◌≡◌, ◌≢◌, ℕ, zero, suc, ◌<◌, ◌≤◌, List, [], ◌∷◌, ◌++◌, length, take, drop, get_or, map, refl, sym, subst, arith, ⊎_elim}
+use Rattle.std.proofs.Common.{◌≡◌, ◌≢◌, ℕ, zero, suc, ◌+◌, ◌<◌, ◌≤◌, List, [], ◌∷◌, ◌++◌, length, take, drop, get_or, map, refl, sym, ◌∙◌, subst, arith, ⊎_elim}
 use Rattle.std.specs.Prelude.{Contains}
 use Rattle.std.specs.List.{AllByRecursion}
-use Rattle.std.proofs.lemmas.List.{take-append-drop}
+use Rattle.std.proofs.lemmas.Bool.{cases_lt}
+use Rattle.std.proofs.lemmas.List.{get_or_default, take-append-drop}
 use Rattle.stow_tree_model.proofs.Latest.{contains_cases}
 use Rattle.stow_tree_model.proofs.Pruning.{contains_here, contains_there, none_in_nothing}
 
@@ -48,3 +49,10 @@ split_at zero next xs l = sym (take-append-drop next xs)
 split_at (suc from) zero xs l = absurd (omega arith)
 split_at (suc from) (suc next) [] l = refl
 split_at (suc from) (suc next) (x ∷ xs) l = split_at from next xs (omega arith)
+
+-- what holds of the first members holds of one more, if the next one has it
+pub one_more_has : {X : Type 0} (P : X → Type 0) (xs : List X) (i : ℕ) (x : X) → ((k : ℕ) (d : X) → k < i → P (get_or xs k d)) → i < length xs → x ≡ get_or xs i x → P x → (k : ℕ) (d : X) → k < i + 1 → P (get_or xs k d)
+one_more_has P xs i x before l is h k d m = ⊎_elim
+    (λ (lower : k < i). before k d lower)
+    (λ (same : i ≤ k). let e : k ≡ i = omega arith in subst (λ j. P (get_or xs j d)) (sym e) (subst P (is ∙ get_or_default xs i x d l) h))
+    (cases_lt k i)

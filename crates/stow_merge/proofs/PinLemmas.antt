@@ -1,5 +1,5 @@
 -- Lists of numbers by tenant, after a change of one.
-use Rattle.std.proofs.Common.{◌≡◌, ◌≢◌, ℕ, zero, suc, ◌<◌, ◌≤◌, Bool, true, false, List, [], ◌∷◌, ◌++◌, length, get_or, set, Some, refl, ap, ◌∙◌, sym, subst, arith, ⊎_elim, cond, eqb}
+use Rattle.std.proofs.Common.{◌≡◌, ◌≢◌, ℕ, zero, suc, ◌<◌, ◌≤◌, Bool, true, false, List, [], ◌∷◌, ◌++◌, length, map, get_or, set, Some, refl, ap, ◌∙◌, sym, subst, arith, ⊎_elim, cond, eqb}
 use Rattle.std.specs.Prelude.{filter, slice_get}
 use Rattle.std.specs.declared.vec.Vec.{Vec}
 use Rattle.std.proofs.lemmas.Bool.{cases_eq, eq-eqb, ne_eqb, cond-true, cond-false}
@@ -83,3 +83,18 @@ rising_filter test xs h i j l m = AllPairs-filter (λ x y. x < y) test xs (λ a 
     let first = any_default xs a d 0 (omega arith) in
     let second = any_default xs b d 0 q in
     omega arith) i j 0 l m
+
+-- ---- a copy
+
+abbrev pub number_lists : {A : Type 0} → List (Vec ℕ A) → List (List ℕ)
+number_lists lists = map (λ v. v.items) lists
+
+-- lists with the same numbers give each tenant the same pins
+pub same_lists : {A B : Type 0} (lists : List (Vec ℕ A)) (others : List (Vec ℕ B)) (t : ℕ) → number_lists lists ≡ number_lists others → numbers_at lists t ≡ numbers_at others t
+same_lists [] [] t e = refl
+same_lists [] (y ∷ others) t e = absurd cc
+same_lists (x ∷ lists) [] t e = absurd cc
+same_lists (x ∷ lists) (y ∷ others) zero e = cc
+same_lists (x ∷ lists) (y ∷ others) (suc t) e = same_lists lists others t (tail_of e) where
+  tail_of : x.items ∷ number_lists lists ≡ y.items ∷ number_lists others → number_lists lists ≡ number_lists others
+  tail_of e = cc

@@ -6,3 +6,4 @@ pub mod Pages
 pub mod Writing
 pub mod Mergeable
 pub mod FlushJobs
+pub mod Covering

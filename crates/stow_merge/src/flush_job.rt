@@ -3,6 +3,7 @@ ghost use Rattle.std.proofs.Props.{props};
 ghost use Rattle.stow_merge.specs.Mergeable.{IsMergeable};
 ghost use Rattle.stow_merge.specs.Pins.{pins_in};
 
+use crate::covering::{are_rows_covered, is_batch_covered};
 use crate::flush_result::FlushResult;
 use crate::flush_target::FlushTarget;
 use crate::lending::lent_messages;
@@ -26,7 +27,8 @@ pub struct FlushJob<A: Allocator = Global> {
 }
 
 impl<A: Allocator + Copy> FlushJob<A> {
-    ghost use Rattle.std.specs.Prelude.{◌≡◌, IfOk, IfErr};
+    ghost use Rattle.std.specs.Prelude.{◌≡◌, ◌↔◌, IfOk, IfErr, IsTrue};
+    ghost use Rattle.stow_merge.specs.Covering.{Covers};
     ghost use Rattle.stow_merge.specs.FlushJobs.{IsMergeOf};
 
     /// The job of these parts.
@@ -59,6 +61,16 @@ impl<A: Allocator + Copy> FlushJob<A> {
             Ok(pages) => Ok(FlushResult { job: self, pages }),
             Err(refused) => Err((self, refused)),
         }
+    }
+
+    /// Whether its merge keeps all that these pins show: each of a tenant of the job was used, or isn't below any number that the
+    /// job has of the tenant.
+    pub fn covers(&self, pins: &Pins<A>) -> bool
+        ensures { IsTrue result ↔ Covers (pins_in self.now.pins) (pins_in pins.now) self.now.page
+            self.now.batch.messages }
+    {
+        are_rows_covered(&self.pins, pins, &self.page)
+            && is_batch_covered(&self.pins, pins, &self.batch)
     }
 
     /// The pages of the merge.

@@ -11,11 +11,13 @@
 //! lock, and with nobody waiting. Its type keeps what a merge asks (`specs/Mergeable.antt`, for which `is_mergeable` is
 //! the test), so `FlushJob::merge` asks nothing. A `FlushResult` holds its job, and its type keeps that its pages are that
 //! job's merge, so what installs them needs nobody's word for it. Where memory is refused the job comes back whole.
+//! `FlushJob::covers` tells whether pins that came after the plan see nothing that the merge left out (`specs/Covering.antt`).
 //!
 //! A call that asks for memory may be refused it at any time, so a body that always answers `AllocError` meets
 //! its contract: tests call each with ample memory. How full pages are (`Filling`) stands in no contract.
 #![tactic(auto)]
 
+mod covering;
 pub mod cutting;
 mod filling;
 pub mod fitting;

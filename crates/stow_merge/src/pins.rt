@@ -1,5 +1,5 @@
 //! The numbers at which tenants' rows are to stay readable.
-ghost use Rattle.std.specs.Prelude.{◌≡◌, ℕ, ◌+◌, ◌<◌, ◌≤◌, ◌==◌, length, filter, not};
+ghost use Rattle.std.specs.Prelude.{◌≡◌, ℕ, ◌+◌, ◌<◌, ◌≤◌, ◌==◌, length, filter, not, IfOk};
 ghost use Rattle.stow_merge.specs.PinLists.{pin_limit, numbers_at, AreRising};
 
 use std::alloc::{AllocError, Allocator, Global};
@@ -36,6 +36,17 @@ impl<A: Allocator + Copy> Pins<A> {
         }
     }
 
+    /// The same pins in lists of their own.
+    pub fn copied(&self, alloc: A) -> Result<Pins<A>, AllocError>
+        ensures { IfOk result (λ copy. (t : ℕ) → pins_in copy t ≡ pins_in self.now t) }
+    {
+        let mut numbers = Vec::new(alloc);
+        for i in 0..self.numbers.len() {
+            numbers.push(copied_numbers(alloc, self.numbers[i].as_slice())?)?;
+        }
+        Ok(Pins { numbers })
+    }
+
     /// Makes room for one more pin of a tenant.
     pub fn room(&mut self, tenant: u32) -> Result<(), AllocError>
         ensures same { (t : ℕ) → pins_in self.new t ≡ pins_in self.old t }
@@ -70,6 +81,15 @@ impl<A: Allocator + Copy> Pins<A> {
             take_out(numbers, number);
         }
     }
+}
+
+/// The numbers in a list of their own.
+fn copied_numbers<A: Allocator + Copy>(alloc: A, numbers: &[u64]) -> Result<Vec<u64, A>, AllocError>
+    ensures { IfOk result (λ copy. copy.items ≡ numbers.now) }
+{
+    let mut copy = Vec::new(alloc);
+    copy.extend_from_slice(numbers)?;
+    Ok(copy)
 }
 
 fn take_out<A: Allocator + Copy>(numbers: &mut Vec<u64, A>, number: u64)

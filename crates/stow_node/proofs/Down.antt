@@ -50,7 +50,7 @@ squeezed_same x y s = rw s.is (squeezed_stays x s.used, refl, refl)
 pub node_at : {A : Type 0} (cs : List (Child A)) (i : ℕ) (c : Child A) (x : Subtree) → i < length cs → c ≡ get_or cs i c → c ≡ in_child.Node x → slice_get cs i ≡ Some (in_child.Node x)
 node_at cs i c x h e is = slice_get-get_or cs i c h ∙ ap (λ d. Some d) (sym e ∙ is)
 
-get-set : {X : Type 0} (xs : List X) (i : ℕ) (x : X) → i < length xs → slice_get (set xs i x) i ≡ Some x
+pub get-set : {X : Type 0} (xs : List X) (i : ℕ) (x : X) → i < length xs → slice_get (set xs i x) i ≡ Some x
 get-set [] i x h = absurd (omega arith)
 get-set (y ∷ ys) zero x h = refl
 get-set (y ∷ ys) (suc i) x h = get-set ys i x (omega arith)
@@ -90,7 +90,7 @@ made_room {A} a i x y node at s room = record {
     bytes : sum_by message_size (in_range y.low (high_of (parts_of (set a.children.items i (in_child.Node y))) i) a.buffer.messages) ≡ bytes_for (parts_of a.children.items) a.buffer i (node_part x)
     bytes = rw (high, low) refl
 
-some_there : (ms : List TreeMessage) → 0 < sum_by message_size ms → 0 < length ms
+pub some_there : (ms : List TreeMessage) → 0 < sum_by message_size ms → 0 < length ms
 some_there [] h = absurd (omega (arith, h))
 some_there (m ∷ ms) h = omega arith
 

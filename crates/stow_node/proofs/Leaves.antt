@@ -1,6 +1,6 @@
 -- A node right above leaves, of which all messages for one were merged into it.
-use Rattle.std.proofs.Common.{zero, suc, ◌≡◌, ℕ, ◌+◌, ◌*◌, ◌<◌, false, cond, List, [], ◌∷◌, ◌++◌, length, map, get_or, None, refl, sym, ap, ◌∙◌, subst, arith, append-nil}
-use Rattle.std.specs.Prelude.{IsSome, not}
+use Rattle.std.proofs.Common.{zero, suc, ◌≡◌, ℕ, ◌+◌, ◌*◌, ◌<◌, false, cond, List, [], ◌∷◌, ◌++◌, length, map, get_or, Option, Some, None, refl, sym, ap, ◌∙◌, subst, arith, append-nil}
+use Rattle.std.specs.Prelude.{IsSome, not, slice_get}
 use Rattle.std.specs.List.{AllByRecursion, sum_by}
 use Rattle.std.specs.Ordering.{is_lt}
 use Rattle.std.specs.declared.vec.Vec.{Vec}
@@ -18,13 +18,13 @@ use Rattle.stow_tree_model.specs.Operations.{or_else}
 use Rattle.stow_tree_model.specs.TreeMessage.{TreeMessage}
 use Rattle.stow_leaf_cache.specs.Cache.{Cache}
 use Rattle.stow_leaf.specs.Intervals.{top_key, spans, NoneOutside}
-use Rattle.stow_leaf.specs.LeafRows.{leaf_rows, row_messages, first_fence, IsLeafTile, LeavesTo}
+use Rattle.stow_leaf.specs.LeafRows.{LeafRows, leaf_rows, row_messages, first_fence, IsLeafTile, LeavesTo}
 use Rattle.stow_leaf.specs.Replacements.{AreThere, HasShortValues, MeanTheSame}
 use Rattle.stow_leaf.specs.declared.leaf.Leaf.{Leaf}
-use Rattle.stow_leaf.proofs.Found.{none_some}
+use Rattle.stow_leaf.proofs.Found.{none_some, some_left, some_right}
 use Rattle.stow_leaf.proofs.Intervals.{by_test, lt_self, spanned}
-use Rattle.stow_leaf.proofs.Ops.{ops-out_of_range}
-use Rattle.stow_leaves.specs.Absorbs.{fence_at, ops_above, CanAbsorb, Merges, StandsFor}
+use Rattle.stow_leaf.proofs.Ops.{ops-append, ops-out_of_range}
+use Rattle.stow_leaves.specs.Absorbs.{fence_at, left_above, ops_above, CanAbsorb, Merges, StandsFor}
 use Rattle.stow_leaves.proofs.Fences.{fence_is}
 use Rattle.stow_node.specs.declared.child.Child.{Child}
 use Rattle.stow_node.specs.declared.child.Child.TheVariants as in_child
@@ -32,7 +32,7 @@ use Rattle.stow_node.specs.declared.node.Node.TheInside.{Inside}
 use Rattle.stow_node.specs.declared.shape.Shape.{Shape}
 use Rattle.stow_node.specs.Flushes.{AreShort, KeepsMeaning}
 use Rattle.stow_node.specs.Moves.{IsHeaviest}
-use Rattle.stow_node.specs.Nodes.{leaf_part, part_of, node_part, parts_of, leaves_of, AreLeaves, IsBelow, subtree_of, IsNode}
+use Rattle.stow_node.specs.Nodes.{leaf_part, part_of, node_part, parts_of, leaves_of, AreLeaves, AreNewer, IsBelow, subtree_of, IsNode}
 use Rattle.stow_node.specs.Parts.{Part, low_or, high_of, IsTile, TiledTo, messages_in, weight_in}
 use Rattle.stow_node.specs.Regroups.{Grows}
 use Rattle.stow_node.specs.Subtree.{Subtree, messages_of}
@@ -40,6 +40,7 @@ use Rattle.stow_node.specs.Ways.{MergesHeaviest}
 use Rattle.stow_node.proofs.Accepted.{whole_ops}
 use Rattle.stow_node.proofs.Cut.{none_cond, some_cond}
 use Rattle.stow_node.proofs.Filled.{heaviest_has_bytes}
+use Rattle.stow_node.proofs.Newer.{newer_than_part}
 use Rattle.stow_node.proofs.Raised.{whole_tile}
 use Rattle.stow_node.proofs.Standing.{outside_tile, stands}
 use Rattle.stow_node.proofs.Ways.{merges_heaviest}
@@ -126,6 +127,36 @@ leaf_count cs h = (row cs h).count
 pub fence_low : {A : Type 0} (a : Inside A) (i : ℕ) (d : Part) → IsNode a → a.height ≡ 1 → i < length a.children.items → (get_or (parts_of a.children.items) i d).low ≡ fence_at (leaves_of a.children.items) i
 fence_low a i d node one l = (row a.children.items (children_are_leaves a node one)).fence i d l
 
+-- .. and ends at the next one's
+pub leaf_end : {A : Type 0} (a : Inside A) (i : ℕ) → IsNode a → a.height ≡ 1 → high_of (parts_of a.children.items) i ≡ fence_at (leaves_of a.children.items) (i + 1)
+leaf_end a i node one = (row a.children.items (children_are_leaves a node one)).end i
+
+-- the leaf at a place
+pub leaf_there : {A : Type 0} (cs : List (Child A)) (i : ℕ) (leaf : Leaf A) → AreLeaves cs → slice_get cs i ≡ Some (in_child.Leaf leaf) → slice_get (leaves_of cs) i ≡ Some (leaf_rows leaf)
+leaf_there {A} cs i leaf are at = ap (λ (l : List (Child A)). slice_get (leaves_of l) i) are.are ∙ there are.leaves i (ap (λ (l : List (Child A)). slice_get l i) (sym are.are) ∙ at) where
+  there : (ls : List (Leaf A)) (i : ℕ) → slice_get (map {B = Child A} in_child.Leaf ls) i ≡ Some (in_child.Leaf leaf) → slice_get (leaves_of (map {B = Child A} in_child.Leaf ls)) i ≡ Some (leaf_rows leaf)
+  there [] i e = absurd cc
+  there (l ∷ ls) zero e = ap (λ x. Some (leaf_rows x)) (same l e) where
+    same : (l : Leaf A) → ◌≡◌ {A = Option (Child A)} (Some (in_child.Leaf l)) (Some (in_child.Leaf leaf)) → l ≡ leaf
+    same l e = cc
+  there (l ∷ ls) (suc i) e = there ls i e
+
+-- its rows are among those of all
+pub rows_there : (ls : List LeafRows) (i : ℕ) (leaf : LeafRows) (key : List ℕ) (n : ℕ) → slice_get ls i ≡ Some leaf → IsSome (ops_in (map row_message leaf.1) key n) → IsSome (ops_in (row_messages ls) key n)
+rows_there [] i leaf key n e s = absurd cc
+rows_there (l ∷ ls) zero leaf key n e s = subst IsSome (sym (ops-append (map row_message l.1) (row_messages ls) key n)) (some_left (ops_in (map row_message l.1) key n) (ops_in (row_messages ls) key n) (subst (λ (x : LeafRows). IsSome (ops_in (map row_message x.1) key n)) (same l e) s)) where
+  same : (l : LeafRows) → ◌≡◌ {A = Option LeafRows} (Some l) (Some leaf) → leaf ≡ l
+  same l e = cc
+rows_there (l ∷ ls) (suc i) leaf key n e s = subst IsSome (sym (ops-append (map row_message l.1) (row_messages ls) key n)) (some_right (ops_in (map row_message l.1) key n) (ops_in (row_messages ls) key n) (rows_there ls i leaf key n e s))
+
+-- a node's own messages are newer than a leaf's rows right below it
+pub newer_than_rows : {A : Type 0} (a : Inside A) (i : ℕ) (leaf : Leaf A) → IsNode a → a.height ≡ 1 → slice_get a.children.items i ≡ Some (in_child.Leaf leaf) → AreNewer a.buffer.messages (map row_message leaf.rows)
+newer_than_rows a i leaf node one at = newer_than_part a.buffer.messages (messages_in (parts_of a.children.items) ++ row_messages (leaves_of a.children.items)) (map row_message leaf.rows)
+    (λ key k s. subst IsSome (sym (ops-append (messages_in (parts_of a.children.items)) (row_messages (leaves_of a.children.items)) key k))
+    (some_right (ops_in (messages_in (parts_of a.children.items)) key k) (ops_in (row_messages (leaves_of a.children.items)) key k)
+    (rows_there (leaves_of a.children.items) i (leaf_rows leaf) key k (leaf_there a.children.items i leaf (children_are_leaves a node one) at) s)))
+    node.newer
+
 pub no_node_there : {A : Type 0} (cs : List (Child A)) (h : AreLeaves cs) (i : ℕ) (d : Child A) (n : Subtree) → i < length cs → d ≡ get_or cs i d → d ≡ in_child.Node n → ⊥
 no_node_there {A} cs h i d n l here is = there h.leaves i d (subst (λ (k : List (Child A)). i < length k) h.are l) (here ∙ ap (λ (k : List (Child A)). get_or k i d) h.are) is where
   other : (x : Leaf A) (d : Child A) → d ≡ in_child.Leaf x → d ≡ in_child.Node n → ⊥
@@ -178,7 +209,7 @@ pub record MergedLeaf {A : Type 0} (a : Inside A) (v : Vec (Child A) A) (low hig
   pub goes : (b : MessageList) (new : Subtree) (came : List (Child A)) → b ≡ without_range low high a.buffer → Grows pins (subtree_of (record a { children = v; buffer = b })) new came → MergesHeaviest pins (subtree_of a) new came cache cache'
 
 pub merged_leaf : {A : Type 0} (a : Inside A) (v : Vec (Child A) A) (i : ℕ) (low high : List ℕ) (pins : TenantPins) (cache cache' : Cache) → IsNode a → a.height ≡ 1 → IsHeaviest (parts_of a.children.items) a.buffer i → CanAbsorb (leaves_of a.children.items) i a.buffer.messages a.shape.leaf
-    → AreLeaves v.items → Merges (leaves_of a.children.items) i a.buffer.messages pins a.shape.leaf (leaves_of v.items) cache cache' → StandsFor (leaves_of a.children.items) i a.buffer.messages pins a.shape.leaf (leaves_of v.items)
+    → AreLeaves v.items → Merges (leaves_of a.children.items) i a.buffer.messages pins a.shape.leaf (leaves_of v.items) cache cache' → StandsFor (leaves_of a.children.items) i a.buffer.messages (left_above (leaves_of a.children.items) i a.buffer.messages) pins a.shape.leaf (leaves_of v.items)
     → low ≡ fence_at (leaves_of a.children.items) i → high ≡ high_of (parts_of a.children.items) i → MergedLeaf a v low high pins cache cache'
 merged_leaf {A} a v i low high pins cache cache' node one heavy can leaves m s l h = record {
   is_node = is_node;

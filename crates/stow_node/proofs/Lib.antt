@@ -22,3 +22,8 @@ pub mod Rooms
 pub mod Came
 pub mod Rising
 pub mod Ways
+pub mod Deepest
+pub mod Fences
+pub mod Planned
+pub mod Mergeable
+pub mod PlanSteps

@@ -8,3 +8,5 @@ pub mod Flushes
 pub mod Regroups
 pub mod Rooms
 pub mod Ways
+pub mod Installs
+pub mod Plans

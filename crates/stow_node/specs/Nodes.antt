@@ -1,6 +1,7 @@
 -- What a node keeps.
 use Rattle.std.specs.Prelude.{◌≡◌, ℕ, ◌+◌, ◌*◌, ◌<◌, ◌≤◌, List, [], ◌∷◌, ◌++◌, map, length, IsSome, Option, None}
-use Rattle.std.specs.List.{AllByRecursion, flat_map}
+use Rattle.std.specs.List.{AllByRecursion}
+use Rattle.stow_message.specs.Rising.{in_range}
 use Rattle.stow_tree_model.specs.Messages.{ops_in}
 use Rattle.stow_tree_model.specs.TreeMessage.{TreeMessage}
 use Rattle.stow_node.specs.declared.child.Child.{Child}
@@ -54,8 +55,12 @@ abbrev pub nearest_of : {A : Type 0} → Child A → List TreeMessage
 nearest_of (in_child.Leaf leaf) = []
 nearest_of (in_child.Node node) = right_above_leaves node
 
+-- .. of each child those of its own keys
 abbrev pub nearest_in : {A : Type 0} → List (Child A) → List TreeMessage
-nearest_in children = flat_map nearest_of children
+nearest_in [] = []
+nearest_in (child ∷ children) =
+    in_range (part_of child).low (low_or top_key (parts_of children)) (nearest_of child)
+    ++ nearest_in children
 
 -- how high a child's deepest buffer stands that holds a message
 abbrev pub deepest_of : {A : Type 0} → Child A → Option ℕ

@@ -2,7 +2,7 @@
 ghost use Rattle.std.specs.Prelude.{◌≡◌, ◌≤◌, [], map, IfOk, OnErr};
 ghost use Rattle.std.specs.Vec.{vec_len, vec_capacity};
 ghost use Rattle.stow_merge.specs.Pins.{pins_in};
-ghost use Rattle.stow_leaves.specs.Absorbs.{CanAbsorb, Merges, StandsFor};
+ghost use Rattle.stow_leaves.specs.Absorbs.{left_above, CanAbsorb, Merges, StandsFor};
 ghost use Rattle.stow_leaves.specs.Forgets.{Forgets};
 ghost use Rattle.stow_node.specs.Nodes.{AreLeaves, leaves_of};
 ghost use Rattle.stow_node.specs.declared.child.Child.TheVariants as in_child;
@@ -66,7 +66,8 @@ pub(crate) fn merged<A: Allocator + Copy>(
         buffer.now.messages (pins_in pins.now) target (leaves_of fresh.items)
         cache.old cache.new) }
     ensures stands { IfOk result (λ fresh. StandsFor (leaves_of children.now) index
-        buffer.now.messages (pins_in pins.now) target (leaves_of fresh.items)) }
+        buffer.now.messages (left_above (leaves_of children.now) index buffer.now.messages)
+        (pins_in pins.now) target (leaves_of fresh.items)) }
     ensures cache { IfOk result (λ fresh. Forgets (leaves_of children.now) (leaves_of fresh.items)
         cache.old cache.new) }
     ensures err { OnErr result (Forgets (leaves_of children.now) (leaves_of children.now)

@@ -13,13 +13,18 @@
 //! So where memory is refused no message has moved. The root means the same under the pins, its messages are fewer or
 //! nearer to the leaves (`Flushes`), and no node is too wide. `buffer` and `children` lend what reads go by.
 //!
+//! `plan` gives a job for a flush outside the lock, or none exactly where no buffer holds a message: of the deepest buffer
+//! that holds one, from which the messages for the heaviest child move down first, into empty buffers, where it stands above
+//! nodes; all messages for one leaf are copied (`specs/Plans.antt`). `CanInstall` (`specs/Installs.antt`) is that none of the
+//! causes is there for which a job's result is stale, and a job is planned so. What the node means stays, also after an `Err`.
+//!
 //! Which way a step goes stands in `specs/Ways.antt`, and `step` promises it (`StepsDown`): to the child for which most
 //! bytes are buffered, the leftmost of equals. A node gets all its messages, or, where it lacks room, the step is its
 //! own. A leaf has all its messages merged, no two neighbours are left under its node that are to become one, and the
 //! cache loses this leaf and those that were joined, and no other. A root gets others above it only where nodes come
 //! behind it, at most one for each. A merged leaf within the leaf target is one leaf. Leaves under two nodes stay
 //! apart. How evenly children are shared out stands in the contract of `share_of_last` of `stow_groups` alone. After an
-//! `Err` the cache may have lost more. A body of `first` or `step` that always answers `AllocError` meets its contract:
+//! `Err` the cache may have lost more. A body of `first`, `step` or `plan` that always answers `AllocError` meets its contract:
 //! tests call each with ample memory and with each request refused. `step` answers `AllocError` too where there are
 //! more than 2^63 levels, or where more than 2^32 nodes would come: no memory holds them.
 #![tactic(auto)]
@@ -31,6 +36,7 @@ mod counting;
 mod fence;
 mod moving;
 pub mod node;
+mod planning;
 mod room;
 pub mod shape;
 mod shell;

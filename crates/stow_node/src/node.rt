@@ -1,5 +1,5 @@
 //! Inner nodes.
-ghost use Rattle.std.specs.Prelude.{◌≡◌, ◌↔◌, ◌+◌, ◌-◌, ◌^◌, ◌<◌, ◌≤◌, ◌++◌, ℕ, IsTrue, [], ◌∷◌, length, true, false, IfOk, OnOk, OnErr};
+ghost use Rattle.std.specs.Prelude.{◌≡◌, ◌≢◌, ◌↔◌, ◌+◌, ◌-◌, ◌^◌, ◌<◌, ◌≤◌, ◌++◌, ℕ, IsTrue, [], ◌∷◌, length, true, false, None, IfOk, IfSome, OnOk, OnErr};
 ghost use Rattle.std.specs.List.{sum_by};
 ghost use Rattle.std.specs.Vec.{vec_capacity};
 ghost use Rattle.stow_groups.specs.Groups.{groups};
@@ -16,9 +16,10 @@ ghost use Rattle.stow_node.specs.Moves.{accepted, CanAccept, IsSqueezed, StaysIn
 ghost use Rattle.stow_node.specs.Nodes.{AreChildren, AreLeafSizes, leaves_of, node_part};
 ghost use Rattle.stow_leaf.specs.Intervals.{top_key};
 ghost use Rattle.stow_node.specs.Parts.{IsTile};
+ghost use Rattle.stow_node.specs.Plans.{HasLeafTarget, IsPlanned, Plans, TakesLeaf, TakesOwn};
 ghost use Rattle.stow_node.specs.Regroups.{Grows, StepsAsOne, StandAsOne, AreBehind, ForgetsCame};
 ghost use Rattle.stow_node.specs.Rooms.{AreShells, HasRoom};
-ghost use Rattle.stow_node.specs.Subtree.{Subtree, first_subtree, messages_of};
+ghost use Rattle.stow_node.specs.Subtree.{Subtree, buffered, first_subtree, messages_of};
 ghost use Rattle.stow_node.specs.Ways.{Goes, StepsDown};
 
 use crate::absorbing::merged;
@@ -27,6 +28,7 @@ use crate::coming::{moved_from, take_in};
 use crate::counting::room_for;
 use crate::fence::Fence;
 use crate::moving::{bytes_for, hand_down, heaviest};
+use crate::planning::{deepest_child, is_drained, job_for};
 use crate::room::Room;
 use crate::shape::Shape;
 use crate::shell::{MOST_FENCE, Shell};
@@ -37,6 +39,7 @@ use stow_groups::sharing::{groups, share_of_last};
 use stow_leaf::ends::top_key;
 use stow_leaf::leaf::Leaf;
 use stow_leaf_cache::leaf_cache::LeafCache;
+use stow_merge::flush_job::FlushJob;
 use stow_merge::pins::Pins;
 use stow_message::message_buf::MessageBuf;
 use stow_page::packed_rows::PackedRows;
@@ -352,6 +355,98 @@ impl<A: Allocator + Copy> Node<A> {
             self.rise(&mut room);
         }
         Ok(())
+    }
+}
+
+impl<A: Allocator + Copy> Node<A> {
+    /// Drops the dead bytes of its own buffer, which holds no message.
+    fn clear(&mut self)
+        requires { self.old.buffer.messages ≡ [] }
+        ensures same { IsSqueezed self.old self.new }
+        ensures empty { self.new.buffer.used ≡ 0 }
+    {
+        self.buffer.reset();
+    }
+
+    /// The job of the leaf for which most bytes are buffered, of a node right above leaves.
+    fn plan_leaf(&self, alloc: A, pins: &Pins<A>) -> Result<FlushJob<A>, AllocError>
+        requires level { self.now.height ≡ 1 }
+        requires some { 0 < length self.now.buffer.messages }
+        requires short { AreShort (messages_of self.now) }
+        requires target { HasLeafTarget self.now.shape }
+        ensures job { IfOk result (IsPlanned (pins_in pins.now) self.now) }
+        ensures way { IfOk result (TakesLeaf self.now self.now) }
+    {
+        let children = self.children.as_slice();
+        let index = heaviest(children, &self.buffer);
+        let high = high_after(children, index);
+        match &children[index] {
+            Child::Leaf(leaf) => job_for(alloc, leaf, high, &self.buffer, pins, self.shape),
+            Child::Node(_) => unreachable!(),
+        }
+    }
+
+    /// The job of its own messages, of a node below which no buffer holds one. Further up the messages for the child for
+    /// which most bytes are buffered move into that child's buffer first, and so on down. Where memory is refused they
+    /// may have moved too.
+    fn plan_own(&mut self, alloc: A, pins: &Pins<A>) -> Result<FlushJob<A>, AllocError>
+        requires some { 0 < length self.old.buffer.messages }
+        requires none { self.old.deeper ≡ [] }
+        requires short { AreShort (messages_of self.old) }
+        requires target { HasLeafTarget self.old.shape }
+        ensures same { StaysInMeaning self.old self.new }
+        ensures job { IfOk result (IsPlanned (pins_in pins.now) self.new) }
+        ensures way { IfOk result (TakesOwn self.old.height self.old self.new) }
+    {
+        let _known = self.buffer.used();
+        let _known = self.buffer.len();
+        if self.height == 1 {
+            return self.plan_leaf(alloc, pins);
+        }
+        let index = heaviest(self.children.as_slice(), &self.buffer);
+        match &mut self.children[index] {
+            Child::Leaf(_) => unreachable!(),
+            Child::Node(node) => node.clear(),
+        }
+        hand_down(&mut self.children, index, &mut self.buffer);
+        match &mut self.children[index] {
+            Child::Leaf(_) => unreachable!(),
+            Child::Node(node) => node.plan_own(alloc, pins),
+        }
+    }
+
+    /// The job of the deepest buffer that holds a message, of it and all below it (`plan_own`).
+    fn plan_below(&mut self, alloc: A, pins: &Pins<A>) -> Result<FlushJob<A>, AllocError>
+        requires some { buffered self.old ≢ [] }
+        requires short { AreShort (messages_of self.old) }
+        requires target { HasLeafTarget self.old.shape }
+        ensures same { StaysInMeaning self.old self.new }
+        ensures job { IfOk result (IsPlanned (pins_in pins.now) self.new) }
+        ensures way { IfOk result (Plans self.old.height self.old self.new) }
+    {
+        let Some(index) = deepest_child(self.children.as_slice()) else {
+            return self.plan_own(alloc, pins);
+        };
+        match &mut self.children[index] {
+            Child::Leaf(_) => unreachable!(),
+            Child::Node(node) => node.plan_below(alloc, pins),
+        }
+    }
+
+    /// A job for a flush outside the lock, under pins, where a buffer holds a message: it is of the deepest such buffer.
+    /// Messages may have moved towards the leaves, also where memory is refused.
+    pub fn plan(&mut self, alloc: A, pins: &Pins<A>) -> Result<Option<FlushJob<A>>, AllocError>
+        requires short { AreShort (messages_of self.old) }
+        requires target { HasLeafTarget self.old.shape }
+        ensures same { StaysInMeaning self.old self.new }
+        ensures none { IfOk result (λ job. job ≡ None ↔ buffered self.old ≡ []) }
+        ensures job { IfOk result (λ job. IfSome job (IsPlanned (pins_in pins.now) self.new)) }
+        ensures way { IfOk result (λ job. IfSome job (Plans self.old.height self.old self.new)) }
+    {
+        if is_drained(self) {
+            return Ok(None);
+        }
+        Ok(Some(self.plan_below(alloc, pins)?))
     }
 }
 

@@ -8,3 +8,4 @@ pub mod Held
 pub mod Made
 pub mod Read
 pub mod Sends
+pub mod Planned

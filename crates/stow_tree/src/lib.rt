@@ -6,7 +6,12 @@
 //! that the tree means under the pins that it is given; `put_all` then takes no memory and cannot fail. Reads (`versions`,
 //! `get`, `range`) tell what the set of messages tells, and move none.
 //!
-//! A body of `reserve` or of a read that always answers `AllocError` meets its contract, and so does a cache that holds
+//! `plan` gives a job for a flush outside the lock (`stow_merge::flush_job::FlushJob`), or none exactly where no buffer holds
+//! a message. It is of the deepest buffer that holds one; where that one stands above nodes, its messages for the child for
+//! which most bytes are buffered move down first, into empty buffers (`Plans`). The tree means what it did. The job's batch
+//! is not empty, and its result could be installed as the tree is then (`CanInstall`, the causes for which one is stale).
+//!
+//! A body of `reserve`, of `plan` or of a read that always answers `AllocError` meets its contract, and so does a cache that holds
 //! nothing, as where `offer` does nothing: tests call each with ample memory, and with each request refused, and look at what
 //! the cache holds. How much work a call does stands in no contract, so a body of `versions` or of `range` that reads twice
 //! and answers what it read last meets it too: it answers the same.

@@ -1,10 +1,12 @@
 //! The tree.
-ghost use Rattle.std.specs.Prelude.{◌≡◌, ◌<◌, ◌≤◌, ◌^◌, length, map, option_map, IfOk, OnOk, OnErr, Err};
+ghost use Rattle.std.specs.Prelude.{◌≡◌, ◌↔◌, ◌<◌, ◌≤◌, ◌^◌, [], length, map, None, option_map, IfOk, IfSome, OnOk, OnErr, Err};
 ghost use Rattle.std.specs.FinMap as finite;
 ghost use Rattle.stow_flush.specs.Rooms.{FitsSqueezed};
 ghost use Rattle.stow_leaf_cache.specs.Cache.{cache_resized};
 ghost use Rattle.stow_merge.specs.Pins.{pins_in};
-ghost use Rattle.stow_node.specs.Moves.{IsSqueezed};
+ghost use Rattle.stow_node.specs.Moves.{IsSqueezed, StaysInMeaning};
+ghost use Rattle.stow_node.specs.Plans.{IsPlanned, Plans};
+ghost use Rattle.stow_node.specs.Subtree.{buffered};
 ghost use Rattle.stow_read.specs.Found.{found_value};
 ghost use Rattle.stow_read.specs.Range.{IsRange, key_value};
 ghost use Rattle.stow_read.specs.Versions.{AreVersionsOf};
@@ -29,6 +31,7 @@ use std::marker::Model;
 use stow_flush::room::make_room;
 use stow_leaf::leaf::Leaf;
 use stow_leaf_cache::leaf_cache::LeafCache;
+use stow_merge::flush_job::FlushJob;
 use stow_merge::pins::Pins;
 use stow_message::head::size;
 use stow_node::node::Node;
@@ -150,6 +153,22 @@ impl<A: Allocator + Copy> Tree<A> {
         for i in 0..messages.len() {
             self.root.push(messages[i]);
         }
+    }
+
+    /// A job for a flush outside the lock, under pins, if a buffer holds a message: it is of the deepest such buffer, from
+    /// which messages for one child move down first, where it stands above nodes. What the tree means stays, also where
+    /// memory is refused.
+    pub fn plan(&mut self, alloc: A, pins: &Pins<A>) -> Result<Option<FlushJob<A>>, AllocError>
+        ensures same { tree_messages self.new ≡ tree_messages self.old }
+        ensures moves { StaysInMeaning self.old.root self.new.root }
+        ensures cache { self.new.cache ≡ self.old.cache }
+        ensures none { IfOk result (λ job. job ≡ None ↔ buffered self.old.root ≡ []) }
+        ensures job { IfOk result (λ job. IfSome job
+            (IsPlanned (pins_in pins.now) self.new.root)) }
+        ensures way { IfOk result (λ job. IfSome job
+            (Plans self.old.root.height self.old.root self.new.root)) }
+    {
+        self.root.plan(alloc, pins)
     }
 
     /// All versions of the key, from the oldest: at each number the newest one up to it has what the key has there. A

@@ -163,13 +163,26 @@ impl<A: Allocator + Copy, B: Allocator + Copy> Both<A, B> {
         has
     }
 
-    /// Takes a batch's messages out, where all of them are there. Whether the buffers tell that as the vectors do.
+    /// Whether of each key of a batch the messages that are there up to the batch's newest are the batch's.
+    fn has_oldest(&self, batch: &Both<A, B>) -> bool {
+        let mut has = self.has_all(batch);
+        for one in batch.plain.as_slice() {
+            for put in self.plain.as_slice() {
+                has = has && (put.0 != one.0 || put.1 > one.1 || batch.plain.contains(put));
+            }
+        }
+        has
+    }
+
+    /// Takes a batch's messages out, where all of them are there. Whether the buffers tell that, and whether they are the oldest,
+    /// as the vectors do.
     fn take(&mut self, batch: &Both<A, B>) -> bool {
+        let told = self.buf.holds_oldest(&batch.buf) == self.has_oldest(batch);
         let is_held = self.has_all(batch);
         if is_held {
             self.plain.retain(|put| !batch.plain.contains(put));
         }
-        self.buf.take_out(&batch.buf) == is_held
+        self.buf.take_out(&batch.buf) == is_held && told
     }
 
     /// Drops all messages.
@@ -276,7 +289,7 @@ const TIGHT: [Row; 4] = [
 
 /// Calls of buffers of 200 bytes: four messages of two tenants; a batch that is not all there, and one that is; an
 /// interval that moves and is dropped.
-const WORKED: [Row; 18] = [
+const WORKED: [Row; 22] = [
     (Call::PutLeft((4, 1, 2)), [1, 24, 0, 0]),
     (Call::PutLeft((1, 3, 3)), [2, 49, 0, 0]),
     (Call::PutLeft((0, 2, 2)), [3, 73, 0, 0]),
@@ -290,8 +303,12 @@ const WORKED: [Row; 18] = [
     (Call::PutBatch((0, 2, 2)), [4, 98, 0, 0]),
     (Call::Take, [2, 90, 0, 0]),
     (Call::PutLeft((1, 3, 3)), [3, 115, 0, 0]),
-    (Call::MoveRight((1, 4)), [1, 107, 2, 50]),
-    (Call::DropRight((1, 4)), [1, 107, 0, 42]),
+    (Call::ResetBatch, [3, 115, 0, 0]),
+    (Call::PutBatch((1, 1, 5)), [3, 115, 0, 0]),
+    (Call::Take, [2, 111, 0, 0]),
+    (Call::PutLeft((1, 1, 5)), [3, 136, 0, 0]),
+    (Call::MoveRight((1, 4)), [1, 128, 2, 50]),
+    (Call::DropRight((1, 4)), [1, 128, 0, 42]),
     (Call::Squeeze, [1, 24, 0, 0]),
     (Call::ResetLeft, [0, 0, 0, 0]),
     (Call::PutLeft((2, 9, 3)), [1, 25, 0, 0]),

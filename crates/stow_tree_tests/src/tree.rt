@@ -6,6 +6,7 @@ mod dropping;
 mod few;
 mod grown;
 mod numbered;
+mod planning;
 mod random;
 mod refusals;
 mod run;

@@ -8,6 +8,7 @@ ghost use Rattle.stow_tree.specs.TreeState.{tree_messages, HasBound};
 
 use std::alloc::{AllocError, Allocator};
 use stow_bytes::limits::VALUE_LIMIT;
+use stow_merge::flush_job::FlushJob;
 use stow_merge::pins::Pins;
 use stow_read::row::Row;
 use stow_tree::tree::Tree;
@@ -106,6 +107,15 @@ impl<A: Allocator + Copy> Numbered<A> {
         self.tree.put_all(messages.as_slice());
         self.last = first.number;
         Ok(())
+    }
+
+    /// The tree's `plan`.
+    pub(crate) fn plan(
+        &mut self,
+        alloc: A,
+        pins: &Pins<A>,
+    ) -> Result<Option<FlushJob<A>>, AllocError> {
+        self.tree.plan(alloc, pins)
     }
 
     /// The tree's `versions`.

@@ -1,7 +1,7 @@
 use Rattle.std.proofs.Common.{map, sym, subst}
 use Rattle.stow_leaf.specs.LeafRows.{leaf_rows}
 use Rattle.stow_merge.specs.Pins.{pins_in}
-use Rattle.stow_leaves.specs.Absorbs.{CanAbsorb, Merges, StandsFor}
+use Rattle.stow_leaves.specs.Absorbs.{left_above, CanAbsorb, Merges, StandsFor}
 use Rattle.stow_leaves.specs.Forgets.{Forgets}
 use Rattle.stow_node.specs.Nodes.{leaves_of}
 use Rattle.stow_node.proofs.Leaves.{rows_of}
@@ -17,8 +17,8 @@ returns-clause-merged g c =
 
 pub returns-clause-stands : goal.returns-clause-stands
 returns-clause-stands g c =
-    subst (λ ls. StandsFor ls c.args.index c.args.buffer.now.messages (pins_in c.args.pins.now) c.args.target (leaves_of c.as_children.result.items)) (rows_of c.in_ok-leaves.leaves.items c.args.children.now (sym c.in_ok-leaves.ensures))
-    (subst (StandsFor (map leaf_rows c.in_ok-leaves.leaves.items) c.args.index c.args.buffer.now.messages (pins_in c.args.pins.now) c.args.target) (rows_of c.in_ok-fresh.fresh.items c.as_children.result.items c.as_children.ensures) c.in_ok-fresh.ensures.stands)
+    subst (λ ls. StandsFor ls c.args.index c.args.buffer.now.messages (left_above ls c.args.index c.args.buffer.now.messages) (pins_in c.args.pins.now) c.args.target (leaves_of c.as_children.result.items)) (rows_of c.in_ok-leaves.leaves.items c.args.children.now (sym c.in_ok-leaves.ensures))
+    (subst (StandsFor (map leaf_rows c.in_ok-leaves.leaves.items) c.args.index c.args.buffer.now.messages (left_above (map leaf_rows c.in_ok-leaves.leaves.items) c.args.index c.args.buffer.now.messages) (pins_in c.args.pins.now) c.args.target) (rows_of c.in_ok-fresh.fresh.items c.as_children.result.items c.as_children.ensures) c.in_ok-fresh.ensures.stands)
 
 pub returns-clause-cache : goal.returns-clause-cache
 returns-clause-cache g c =

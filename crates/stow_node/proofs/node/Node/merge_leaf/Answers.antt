@@ -1,7 +1,7 @@
 use Rattle.std.proofs.Common.{◌≡◌, ◌+◌, ◌-◌, ◌<◌, ◌≤◌, List, length, refl, sym, ap, ◌∙◌, subst, arith}
 use Rattle.std.proofs.lemmas.List.{length-map}
 use Rattle.stow_merge.specs.Pins.{pins_in}
-use Rattle.stow_leaves.specs.Absorbs.{CanAbsorb, Merges, StandsFor}
+use Rattle.stow_leaves.specs.Absorbs.{left_above, CanAbsorb, Merges, StandsFor}
 use Rattle.stow_node.specs.Flushes.{AreShort}
 use Rattle.stow_leaves.specs.Forgets.{Forgets}
 use Rattle.stow_node.specs.Moves.{IsHeaviest}
@@ -40,7 +40,7 @@ done g c can =
     (subst (λ children. IsHeaviest (parts_of children) c.self.inside.buffer c.heaviest-index.result) c.as_slice.ensures.value c.heaviest-index.ensures)
     can c.in_ok-fresh.ensures.leaves
     (subst (λ (l : List (Child g.row.A.Denot)). Merges (leaves_of l) c.heaviest-index.result c.self.inside.buffer.messages (pins_in c.args.pins.now) c.self.inside.shape.leaf (leaves_of c.in_ok-fresh.fresh.items) c.args.cache.now c.merged.new.cache) c.as_slice-2.ensures.value c.in_ok-fresh.ensures.merged)
-    (subst (λ (l : List (Child g.row.A.Denot)). StandsFor (leaves_of l) c.heaviest-index.result c.self.inside.buffer.messages (pins_in c.args.pins.now) c.self.inside.shape.leaf (leaves_of c.in_ok-fresh.fresh.items)) c.as_slice-2.ensures.value c.in_ok-fresh.ensures.stands)
+    (subst (λ (l : List (Child g.row.A.Denot)). StandsFor (leaves_of l) c.heaviest-index.result c.self.inside.buffer.messages (left_above (leaves_of l) c.heaviest-index.result c.self.inside.buffer.messages) (pins_in c.args.pins.now) c.self.inside.shape.leaf (leaves_of c.in_ok-fresh.fresh.items)) c.as_slice-2.ensures.value c.in_ok-fresh.ensures.stands)
     (c.low.ensures ∙ sym (low_at c.self.inside.children.items c.heaviest-index.result c.index.result.now inside c.index.ensures (part_of c.index.result.now)) ∙ fence_low c.self.inside c.heaviest-index.result (part_of c.index.result.now) c.self.invariant one inside)
     (c.high_after-high.ensures ∙ ap (λ (l : List (Child g.row.A.Denot)). high_of (parts_of l) c.heaviest-index.result) c.as_slice-3.ensures.value)
 

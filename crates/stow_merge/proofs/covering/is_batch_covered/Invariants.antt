@@ -1,0 +1,9 @@
+use Rattle.std.proofs.Common.{ℕ, ◌<◌, get_or}
+use Rattle.stow_tree_model.specs.Keys.{tenant_of}
+use Rattle.stow_tree_model.specs.TreeMessage.{TreeMessage}
+use Rattle.stow_merge.specs.Covering.{IsCovered}
+use Rattle.stow_merge.specs.Pins.{pins_in}
+use Rattle.stow_merge.proofs.covering.is_batch_covered.Given as goal
+
+abbrev pub invariant-loop-i : goal.invariant-loop-i
+invariant-loop-i g l = (k : ℕ) (d : TreeMessage) → k < l.i → IsCovered (pins_in l.used (tenant_of (get_or l.batch.messages k d).key)) (pins_in l.present (tenant_of (get_or l.batch.messages k d).key)) (get_or l.batch.messages k d).number

@@ -1,0 +1,31 @@
+-- Where the result of a flush job can be installed.
+use Rattle.std.specs.Prelude.{◌≡◌, ℕ, List, [], ◌∷◌, Contains, if◌then◌else◌}
+use Rattle.std.specs.Ordering.{is_lt}
+use Rattle.stow_bytes.specs.Bytes.{bytes_cmp}
+use Rattle.stow_leaf.specs.Intervals.{top_key, NoneOutside}
+use Rattle.stow_leaf.specs.LeafRows.{LeafRows}
+use Rattle.stow_merge.specs.Covering.{Covers}
+use Rattle.stow_merge.specs.Pins.{pins_in}
+use Rattle.stow_merge.specs.declared.flush_job.FlushJob.{FlushJob}
+use Rattle.stow_message.specs.Rising.{AreOldest}
+use Rattle.stow_tree_model.specs.Agreement.{TenantPins}
+use Rattle.stow_tree_model.specs.TreeMessage.{TreeMessage}
+use Rattle.stow_node.specs.Subtree.{Subtree, right_above_leaves}
+
+-- where the next leaf above a fence begins, or else the upper end
+abbrev pub next_fence : List ℕ → List LeafRows → List ℕ → List ℕ
+next_fence high [] fence = high
+next_fence high (leaf ∷ leaves) fence =
+    if is_lt (bytes_cmp fence leaf.0) then leaf.0 else next_fence high leaves fence
+
+-- None of the four causes for which a result is stale: the leaf at the target has the job's page,
+-- and is cut as the job says; each key of the batch is the leaf's; the batch is all that is
+-- buffered of its keys right above the leaf, up to its numbers; and no pin is missing.
+pub record CanInstall {A : Type 0} (t : Subtree) (job : FlushJob A)
+    (pins : TenantPins) : Type 0 where
+  pub leaf : Contains t.leaves (job.target.low_fence, job.page)
+  pub target : job.target.leaf_target ≡ t.shape.leaf
+  pub inside : NoneOutside job.target.low_fence
+      (next_fence top_key t.leaves job.target.low_fence) job.batch.messages
+  pub oldest : AreOldest job.batch.messages (right_above_leaves t)
+  pub covered : Covers (pins_in job.pins) pins job.page job.batch.messages
