@@ -1,4 +1,5 @@
 pub mod Tenants
 pub mod Stood
+pub mod Hearing
 pub mod Here
 pub mod Runs

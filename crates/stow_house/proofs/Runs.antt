@@ -225,41 +225,31 @@ refused-if : (b : Bool) → b ≡ says_refused (mark_if b)
 refused-if true = refl
 refused-if false = refl
 
--- of two steps of one event with one mark either both are void or none is
-void_once : (entries : List Entry) (s t : Step) (earlier earlier' : List Step) (m : Mark) → IsStep entries s earlier → IsStep entries t earlier' → event_of_step s ≡ event_of_step t → IsMark s m → IsMark t m → is_void s ≡ is_void t
-unfolding IsStep
-void_once entries (Void (event.By e)) t earlier earlier' m p q same a b = absurd p
-void_once entries s (Void (event.By e)) earlier earlier' m p q same a b = absurd q
-void_once entries (Void (event.SetQuota tenant quota)) t earlier earlier' m p q same a b = absurd p
-void_once entries s (Void (event.SetQuota tenant quota)) earlier earlier' m p q same a b = absurd q
-void_once entries (Void (event.On c e)) (Void (event.On d e')) earlier earlier' m p q same a b = refl
-void_once entries (Void (event.On c e)) (At d own) earlier earlier' m p q same a b = ap says_void (sym a ∙ b) ∙ sym (void-if (is_refused_own own))
-void_once entries (Void (event.On c e)) (Flushed e') earlier earlier' m p q same a b = cc same
-void_once entries (Void (event.On c e)) (Ordered tenant quota) earlier earlier' m p q same a b = cc same
-void_once entries (At c own) (Void (event.On d e')) earlier earlier' m p q same a b = void-if (is_refused_own own) ∙ ap says_void (sym a ∙ b)
-void_once entries (At c own) (At d own') earlier earlier' m p q same a b = refl
-void_once entries (At c own) (Flushed e') earlier earlier' m p q same a b = refl
-void_once entries (At c own) (Ordered tenant quota) earlier earlier' m p q same a b = refl
-void_once entries (Flushed e) (Void (event.On d e')) earlier earlier' m p q same a b = cc same
-void_once entries (Flushed e) (At d own) earlier earlier' m p q same a b = refl
-void_once entries (Flushed e) (Flushed e') earlier earlier' m p q same a b = refl
-void_once entries (Flushed e) (Ordered tenant quota) earlier earlier' m p q same a b = refl
-void_once entries (Ordered tenant quota) (Void (event.On d e)) earlier earlier' m p q same a b = cc same
-void_once entries (Ordered tenant quota) (At d own) earlier earlier' m p q same a b = refl
-void_once entries (Ordered tenant quota) (Flushed e) earlier earlier' m p q same a b = refl
-void_once entries (Ordered tenant quota) (Ordered tenant' quota') earlier earlier' m p q same a b = refl
+-- a void step is an event of a connection that is marked so
+void_by : Event → Mark → Bool
+void_by (event.On c e) m = says_void m
+void_by (event.By e) m = false
+void_by (event.SetQuota tenant quota) m = false
 
-voids_once : (entries : List Entry) (history history' : List Step) (marks : List Mark) → IsHistory entries history → IsHistory entries history' → map event_of_step history ≡ map event_of_step history' → AreMarks history marks → AreMarks history' marks
-    → map is_void history ≡ map is_void history'
-unfolding IsHistory
-voids_once entries [] [] marks p q same a b = refl
-voids_once entries [] (t ∷ later) marks p q same a b = cc same
-voids_once entries (s ∷ earlier) [] marks p q same a b = cc same
-voids_once entries (s ∷ earlier) (t ∷ earlier') [] p q same a b = absurd a
-voids_once entries (s ∷ earlier) (t ∷ earlier') (m ∷ marks) p q same a b =
-    let here : event_of_step s ≡ event_of_step t = cc in
-    let before : map event_of_step earlier ≡ map event_of_step earlier' = cc in
-    λ i. void_once entries s t earlier earlier' m p.0 q.0 here a.0 b.0 i ∷ voids_once entries earlier earlier' marks p.1 q.1 before a.1 b.1 i
+voids_by : List Event → List Mark → List Bool
+voids_by [] marks = []
+voids_by (e ∷ events) [] = []
+voids_by (e ∷ events) (m ∷ marks) = void_by e m ∷ voids_by events marks
+
+void-mark : (entries : List Entry) (s : Step) (earlier : List Step) (m : Mark) → IsStep entries s earlier → IsMark s m → is_void s ≡ void_by (event_of_step s) m
+unfolding IsStep void_by
+void-mark entries (Void (event.On c e)) earlier m p is = ap says_void (sym is)
+void-mark entries (Void (event.By e)) earlier m p is = absurd p
+void-mark entries (Void (event.SetQuota tenant quota)) earlier m p is = absurd p
+void-mark entries (At c own) earlier m p is = void-if (is_refused_own own) ∙ ap says_void (sym is)
+void-mark entries (Flushed e) earlier m p is = refl
+void-mark entries (Ordered tenant quota) earlier m p is = refl
+
+void-marks : (entries : List Entry) (history : List Step) (marks : List Mark) → IsHistory entries history → AreMarks history marks → map is_void history ≡ voids_by (map event_of_step history) marks
+unfolding IsHistory voids_by
+void-marks entries [] marks p are = refl
+void-marks entries (s ∷ earlier) [] p are = absurd are
+void-marks entries (s ∷ earlier) (m ∷ marks) p are = λ i. void-mark entries s earlier m p.0 are.0 i ∷ void-marks entries earlier marks p.1 are.1 i
 
 flusher-unrefused : (e : FlusherEvent) (m : Mark) → IsFlusherMark e m → false ≡ says_refused m
 flusher-unrefused (event.Plan f) m is = ap says_refused (sym is)
@@ -283,7 +273,7 @@ pub one_run : OneHistory → OneRun
 one_run one entries events told told' marks house house' s s' =
     let in_order : map event_of_step s.history ≡ map event_of_step s'.history = s.in_order ∙ sym s'.in_order in
     let same : s.history ≡ s'.history = one entries s.history s'.history s.stands.is_history s'.stands.is_history in_order
-    (voids_once entries s.history s'.history (reverse marks) s.stands.is_history s'.stands.is_history in_order s.marked s'.marked)
+    (void-marks entries s.history (reverse marks) s.stands.is_history s.marked ∙ ap (λ es. voids_by es (reverse marks)) in_order ∙ sym (void-marks entries s'.history (reverse marks) s'.stands.is_history s'.marked))
     (refused-marks s.history (reverse marks) s.marked ∙ sym (refused-marks s'.history (reverse marks) s'.marked)) in (
       sym (reverse-reverse told) ∙ ap reverse (sym s.output ∙ ap (λ h. map told_in_history (tellings entries h)) same ∙ s'.output) ∙ reverse-reverse told',
       (λ tenant. s.stands.stores tenant ∙ ap (λ h. store_after (quota_of entries tenant) (line_of entries tenant h)) same ∙ sym (s'.stands.stores tenant)),

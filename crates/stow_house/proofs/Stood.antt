@@ -22,7 +22,8 @@ use Rattle.stow_state.proofs.Steps.{run_sound, step_is_there_law}
 use Rattle.stow_house.specs.SharedRuns.{IsCalled, call_of, shared_steps}
 use Rattle.stow_house.specs.Seen.{Seen, IsServedTenant, never_opened}
 use Rattle.stow_house.specs.StepResult.{StepResult, Done, Refused, NoMemory, answer_to_own, answer_to_order, MayAnswer, IsAnswer}
-use Rattle.stow_house.specs.Connections.{moved, reply_in_core, Reads, CanWait, Can, MovesConnection, Leads, AsksMemory, IsVoid, Happens}
+use Rattle.stow_house.specs.Conversations.{Reads, CanWait, Can}
+use Rattle.stow_house.specs.Connections.{moved, reply_in_core, MovesConnection, Leads, AsksMemory, IsVoid, Happens}
 use Rattle.stow_house.specs.Steps.{HouseState, StandsAt, Stands, GoesOn, TreeBy, IsStepOf}
 use Rattle.stow_house.proofs.Here.{moves_by}
 use Rattle.stow_house.proofs.Tenants.{served_tenant}
@@ -143,9 +144,9 @@ led old new c own r history same m others s =
     let who : seen.tenant ≡ served_as entries (part_of c history) = at.tenant in
     record {
       stands = record {
-        is_history = (follows entries own seen (new.seen c) (part_of c history) at m.unread m.can, s.is_history);
+        is_history = (follows entries own seen (new.seen c) (part_of c history) at m.moves.unread m.moves.can, s.is_history);
         tenants = same;
-        connections = stands_at entries old new c own history s (stands_here entries own seen (new.seen c) (part_of c history) at m.status m.tenant m.unread) others;
+        connections = stands_at entries old new c own history s (stands_here entries own seen (new.seen c) (part_of c history) at m.moves.status m.moves.tenant m.moves.unread) others;
         stores = λ t. m.stores t ∙ (λ i. moved t (request_of own (who i)) (s.stores t i)) ∙ one_more t (quota_of entries t) (request_of own (served_as entries (part_of c history))) (line_of entries t history);
         shared = on (new_state (quota_of entries)) (request_of own seen.tenant) (request_of own (served_as entries (part_of c history))) _ _ (shared_steps entries history) old.core new.core
             (ap (request_of own) who) (λ i. told_by entries own (who i) (λ is_refused words t. (answer_with (s.stores t i) (record { words = words; is_refused = is_refused })).1)) m.shared s.shared;

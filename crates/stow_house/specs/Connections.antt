@@ -1,22 +1,20 @@
 -- What an event does on its own connection, and to the stores.
-use Rattle.std.specs.Prelude.{◌≡◌, ℕ, Bool, not, List, Option, Some, None, if◌then◌else◌, ◌==◌, ◌⊎◌}
+use Rattle.std.specs.Prelude.{◌≡◌, ℕ, Bool, List, Option, Some, None, if◌then◌else◌, ◌==◌, ◌⊎◌}
 use Rattle.stow_model.specs.Event.{ConnectionEvent}
 use Rattle.stow_model.specs.Event as event
 use Rattle.stow_model.specs.Reply.{Reply}
-use Rattle.stow_model.specs.Wire.{IsBegun, IsFaulty}
 use Rattle.stow_model.specs.Store.{Store, step, answer_with}
-use Rattle.stow_model.specs.History.{ConnectionStep, Plain, Took, Broke, event_of_own, Status, Unused, IsOpen, Closed, status_after, served_after, stream_after_event, MayBeRefused, Service, request_of, told_by}
-use Rattle.stow_resp.specs.Next.{IsTaken, HasWords}
-use Rattle.stow_core.specs.State.{CoreState, store_of, Calls}
+use Rattle.stow_model.specs.History.{ConnectionStep, event_of_own, Unused, IsOpen, Service, request_of, told_by}
+use Rattle.stow_resp.specs.Next.{HasWords}
+use Rattle.stow_core.specs.State.{CoreState, store_of}
 use Rattle.stow_house.specs.declared.connection_event.ConnectionEvent as coded
 use Rattle.stow_house.specs.declared.connection_event.ConnectionEvent.TheVariants as in_code
-use Rattle.stow_resp.specs.declared.next.Next.{Next}
 use Rattle.stow_house.specs.declared.connection.Connection.{Connection}
 use Rattle.stow_house.specs.declared.step_result.StepResult as result
 use Rattle.stow_house.specs.Seen.{Seen, seen, IsServedTenant}
 use Rattle.stow_house.specs.SharedRuns.{IsCalled}
-use Rattle.stow_house.specs.Sessions.{arrival_of, Serves}
-use Rattle.stow_house.specs.StepResult.{StepResult, step_result_of, NoMemory, answered, answer_to_own}
+use Rattle.stow_house.specs.Conversations.{Moves}
+use Rattle.stow_house.specs.StepResult.{StepResult, step_result_of, NoMemory, answer_to_own}
 
 -- what the code's type stands for
 abbrev pub meaning : coded.ConnectionEvent → ConnectionEvent
@@ -37,36 +35,11 @@ reply_in_core core is_refused words tenant =
 
 -- ---- a step
 
--- what becomes of the unread bytes
-abbrev pub Reads : ConnectionStep → Status → List ℕ → List ℕ → Type 0
-Reads (Plain e) status old new = new ≡ stream_after_event e status old
-Reads (Took m is_refused) status old new = IsTaken m old new
-Reads (Broke fault) status old new = new ≡ old
-
--- what a Serve that takes nothing says of the unread bytes
-abbrev pub CanWait : Status → List ℕ → Type 0
-CanWait Unused unread = Unit {0}
-CanWait IsOpen unread = IsBegun unread
-CanWait Closed unread = Unit {0}
-
-abbrev pub CanBePlain : ConnectionEvent → Seen → Type 0
-CanBePlain event.Serve seen = CanWait seen.status seen.unread
-CanBePlain _ seen = Unit {0}
-
--- what the step says of the connection before it
-abbrev pub Can : ConnectionStep → Seen → Type 0
-Can (Plain e) seen = CanBePlain e seen
-Can (Took m is_refused) seen = (seen.status ≡ IsOpen) × MayBeRefused m is_refused seen.tenant
-Can (Broke fault) seen = (seen.status ≡ IsOpen) × IsFaulty seen.unread fault
-
 -- a step: what it does to its connection, to each store and to the state that all share, and what
 -- is answered
 pub record MovesConnection (own : ConnectionStep) (r : StepResult) (old new : Seen)
     (before after : CoreState) : Type 0 where
-  pub can : Can own old
-  pub status : new.status ≡ status_after own old.status
-  pub tenant : new.tenant ≡ served_after before.entries own old.tenant
-  pub unread : Reads own old.status old.unread new.unread
+  pub moves : Moves before.entries own old new
   pub stores : (t : ℕ) → store_of after t ≡ moved t (request_of own old.tenant) (store_of before t)
   pub shared : IsCalled (request_of own old.tenant)
       (told_by before.entries own old.tenant (reply_in_core before)) before after
@@ -109,19 +82,3 @@ abbrev pub Happened : {A : Type 0} → ConnectionEvent → result.StepResult A �
     → Connection A → CoreState → CoreState → Type 0
 Happened e r old new before after =
     Happens e (step_result_of r) (seen (Some old)) (seen (Some new)) before after
-
--- the core isn't asked
-abbrev pub HappenedAlone : {A : Type 0} → ConnectionEvent → result.StepResult A → Connection A
-    → Connection A → Type 0
-HappenedAlone e r old new = (core : CoreState) → Happened e r old new core core
-
--- what came on an open connection was served through the core, and answered
-pub record IsServedHere {A : Type 0} (next : Next A) (r : result.StepResult A)
-    (old new : Connection A) (before after : CoreState) : Type 0 where
-  pub input : new.input ≡ old.input
-  pub told : Option Reply
-  pub ends : Bool
-  pub serves : Serves Calls before.entries old.session new.session before
-      (arrival_of next) told ends after
-  pub status : new.is_open ≡ not ends
-  pub answer : step_result_of r ≡ answered told

@@ -1,4 +1,5 @@
 pub mod Seen
+pub mod Conversations
 pub mod StepResult
 pub mod Sessions
 pub mod SharedRuns

@@ -27,8 +27,8 @@ seen None = never_opened
 seen (Some connection) =
     record {
       status = status_by connection.is_open;
-      tenant = connection.session;
-      unread = connection.input;
+      tenant = connection.conversation.session;
+      unread = connection.conversation.input;
     }
 
 -- what is known of the connection of this number

@@ -6,6 +6,8 @@ use Rattle.stow_model.specs.Login.{Entry}
 use Rattle.stow_model.specs.Event.{Event, ConnectionEvent, FlusherEvent}
 use Rattle.stow_model.specs.Event as event
 use Rattle.stow_model.specs.History.{Step, Void, At, Flushed, Ordered, ConnectionStep, Plain, Took, Broke, Status, Unused, IsOpen, Closed, status_of, part_of, may_be_given, told_at}
+use Rattle.stow_house.specs.declared.stop.Stop.{Stop}
+use Rattle.stow_house.specs.declared.stop.Stop.TheVariants as stopped
 use Rattle.stow_house.specs.declared.step_result.StepResult as coded
 use Rattle.stow_house.specs.declared.step_result.StepResult.TheVariants as in_result
 
@@ -56,6 +58,14 @@ answer_to_event event.Close status = when_open status Done
 abbrev pub answered : Option Reply → StepResult
 answered None = Blank
 answered (Some reply) = Answered reply
+
+-- the answer to a Serve by which this is told, and that goes no further than so
+abbrev pub served_so : Option Reply → Option Stop → StepResult
+served_so told None = answered told
+served_so told (Some stopped.More) = More
+served_so told (Some stopped.Quit) = answered told
+served_so told (Some (stopped.Faulted fault)) = answered told
+served_so told (Some stopped.NoMemory) = NoMemory
 
 -- the answer to a connection's step, by the status before it and what is told
 abbrev pub answer_to_own : ConnectionStep → Status → Option Reply → StepResult

@@ -1,23 +1,22 @@
-//! One client's stream, and whom it is served as.
+//! A conversation that was opened, and may be closed.
 ghost use Rattle.std.specs.Prelude.{◌≡◌, [], None, true};
 ghost use Rattle.stow_model.specs.Event as event;
+ghost use Rattle.stow_house.specs.Conversations.{talk_of};
 ghost use Rattle.stow_house.specs.StepResult.{step_result_of, CanAnswerOn};
-ghost use Rattle.stow_house.specs.Connections.{meaning, Happened, HappenedAlone, IsServedHere};
+ghost use Rattle.stow_house.specs.Connections.{meaning, Happened};
 
-use crate::answer::Answer;
 use crate::connection_event::ConnectionEvent;
-use crate::session::Session;
+use crate::conversation::Conversation;
+use crate::heard::Heard;
 use crate::step_result::StepResult;
+use crate::stop::Stop;
 use std::alloc::{Allocator, Global};
 use stow_core::Core;
-use stow_resp::input::Input;
-use stow_resp::next::Next;
 
 /// A connection that was opened.
 #[derive(Drop)]
 pub struct Connection<A: Allocator = Global> {
-    input: Input<A>,
-    session: Session,
+    conversation: Conversation<A>,
     is_open: bool,
 }
 
@@ -25,12 +24,11 @@ impl<A: Allocator + Copy> Connection<A> {
     /// A connection on which nothing has come.
     pub fn new(alloc: A) -> Connection<A>
         ensures open { result.is_open ≡ true }
-        ensures unread { result.input ≡ [] }
-        ensures tenant { result.session ≡ None }
+        ensures unread { (talk_of result.conversation).unread ≡ [] }
+        ensures tenant { (talk_of result.conversation).tenant ≡ None }
     {
         Connection {
-            input: Input::new(alloc),
-            session: Session::new(),
+            conversation: Conversation::new(alloc),
             is_open: true,
         }
     }
@@ -50,7 +48,10 @@ impl<A: Allocator + Copy> Connection<A> {
             return StepResult::Refused;
         }
         match event {
-            ConnectionEvent::Piece(bytes) => self.feed(bytes),
+            ConnectionEvent::Piece(bytes) => match self.conversation.feed(bytes) {
+                Ok(()) => StepResult::Done,
+                Err(_) => StepResult::NoMemory,
+            },
             ConnectionEvent::Serve => self.serve(alloc, core),
             ConnectionEvent::Close => {
                 self.is_open = false;
@@ -59,46 +60,23 @@ impl<A: Allocator + Copy> Connection<A> {
         }
     }
 
-    fn feed(&mut self, bytes: &[u8]) -> StepResult<A>
-        requires { self.old.is_open ≡ true }
-        ensures possible { CanAnswerOn (event.Piece bytes.now) (step_result_of result) }
-        ensures does { HappenedAlone (event.Piece bytes.now) result self.old self.new }
-    {
-        match self.input.feed(bytes) {
-            Ok(()) => StepResult::Done,
-            Err(_) => StepResult::NoMemory,
-        }
-    }
-
+    /// Serves the next message of the open connection. A request's words serve the one after it.
     #[inline(always)]
     fn serve(&mut self, alloc: A, core: &mut Core<A>) -> StepResult<A>
         requires { self.old.is_open ≡ true }
         ensures possible { CanAnswerOn event.Serve (step_result_of result) }
         ensures does { Happened event.Serve result self.old self.new core.old core.new }
     {
-        match self.input.next(alloc) {
-            Next::More => StepResult::More,
-            Next::NoMemory => StepResult::NoMemory,
-            next => self.answer(alloc, core, next),
-        }
-    }
-
-    /// Answers what came on the open connection. Used words serve the next message.
-    #[inline(always)]
-    fn answer(&mut self, alloc: A, core: &mut Core<A>, next: Next<A>) -> StepResult<A>
-        requires { self.old.is_open ≡ true }
-        ensures possible { CanAnswerOn event.Serve (step_result_of result) }
-        ensures served { IsServedHere next result self.old self.new core.old core.new }
-    {
-        let taken = self.session.take(core.tenants(), next);
-        let Answer { reply, ends, used } = taken.finish(alloc, core);
-        self.is_open = !ends;
-        if let Some(words) = used {
-            self.input.reuse(words);
-        }
-        match reply {
-            Some(reply) => StepResult::Answered(reply),
-            None => StepResult::Blank,
+        match self.conversation.hear(alloc, core.tenants()) {
+            Heard::Told(told, stop) => {
+                self.is_open = Stop::stays_open(stop);
+                StepResult::of(told, stop)
+            }
+            Heard::Request(tenant, words) => {
+                let reply = core.call(alloc, tenant, &words);
+                self.conversation.reuse(words);
+                StepResult::Answered(reply)
+            }
         }
     }
 }

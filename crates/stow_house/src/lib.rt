@@ -5,15 +5,18 @@
 //! theorem of all events so far: each connection is told what each tenant's own run, alone, over its own requests
 //! would tell, and each tenant's store is the last of its own run. `House::run` does so with a list of events
 //! (`specs/Runs.antt`).
-//! `Session` holds one connection's login and serves what comes on its stream through any `Door`, whose meaning
-//! is a relation (`specs/Sessions.antt`); the house serves its core so.
+//! `Conversation` is what a connection does with its bytes, one message after another (`specs/Conversations.antt`),
+//! for whoever drives it: the house over its core, the workers over any `Door`, whose meaning is a relation.
+//! `Session` holds its login (`specs/Sessions.antt`).
 //! Not said: time, and that memory is there; where memory was refused, the outputs name the event.
 #![tactic(auto)]
 
 pub mod answer;
 pub mod connection;
 pub mod connection_event;
+pub mod conversation;
 pub mod door;
+pub mod heard;
 pub mod house;
 pub mod laws;
 pub mod mark;
@@ -21,5 +24,6 @@ pub mod outputs;
 pub mod run_fault;
 pub mod session;
 pub mod step_result;
+pub mod stop;
 pub mod taken;
 pub mod told;

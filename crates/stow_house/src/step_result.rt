@@ -1,9 +1,12 @@
 //! What an event is answered.
-ghost use Rattle.std.specs.Prelude.{◌≡◌};
+ghost use Rattle.std.specs.Prelude.{◌≡◌, option_map};
+ghost use Rattle.stow_model.specs.Event as event;
+ghost use Rattle.stow_model.specs.Reply.{reply_of};
 ghost use Rattle.stow_house.specs.Outputs.{mark_of};
-ghost use Rattle.stow_house.specs.StepResult.{step_result_of};
+ghost use Rattle.stow_house.specs.StepResult.{step_result_of, served_so, CanAnswerOn};
 
 use crate::mark::Mark;
+use crate::stop::Stop;
 use std::alloc::{Allocator, Global};
 use stow_model::refusal::Refusal;
 use stow_model::reply::Reply;
@@ -31,6 +34,21 @@ pub enum StepResult<A: Allocator = Global> {
 }
 
 impl<A: Allocator> StepResult<A> {
+    /// What a Serve led to by which the connection is told this, and goes no further than so.
+    pub fn of(told: Option<Reply<A>>, stop: Option<Stop>) -> StepResult<A>
+        ensures value { step_result_of result ≡ served_so (option_map reply_of told) stop }
+        ensures possible { CanAnswerOn event.Serve (step_result_of result) }
+    {
+        match stop {
+            Some(Stop::More) => StepResult::More,
+            Some(Stop::NoMemory) => StepResult::NoMemory,
+            None | Some(Stop::Quit | Stop::Faulted(_)) => match told {
+                Some(reply) => StepResult::Answered(reply),
+                None => StepResult::Blank,
+            },
+        }
+    }
+
     /// Whether memory was refused to the event, or to the request that it served.
     pub fn mark(&self) -> Mark
         ensures { result ≡ mark_of (step_result_of self.now) }

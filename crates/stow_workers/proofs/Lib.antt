@@ -1,5 +1,4 @@
 pub mod Sending
-pub mod Passing
 pub mod Turning
 pub mod Pieces
 pub mod OneConnection

@@ -3,74 +3,45 @@ use Rattle.std.proofs.Common.{◌≡◌, ℕ, eqb, Bool, true, false, List, [], 
 use Rattle.std.proofs.lemmas.Bool.{cond-true, eq-eqb}
 use Rattle.std.specs.Prelude.{◌==◌, option_map, if◌then◌else◌}
 use Rattle.stow_model.specs.Login.{Entry, quota_of}
-use Rattle.stow_model.specs.Message.{Message}
-use Rattle.stow_model.specs.Message as message
-use Rattle.stow_model.specs.Command.{Kind, Login, Quit, Malformed, ForStore, kind_of}
 use Rattle.stow_model.specs.Reply.{Reply}
 use Rattle.stow_model.specs.Store.{Asked, store_after, empty_store, answer_with, with_reply, is_out_of_memory}
-use Rattle.stow_model.specs.History.{At, ConnectionStep, Plain, Service, part_of, request_as, request_of, kind_reply, served_as, with_service, service_of, line_of, told_by, told_at, reply_in_line, Telling, telling_of, with_telling, tellings, is_tenant, answers_to, Follows, IsStep, IsHistory}
+use Rattle.stow_model.specs.History.{At, ConnectionStep, Plain, Service, part_of, request_of, served_as, with_service, service_of, line_of, told_by, told_at, reply_in_line, Telling, telling_of, with_telling, tellings, is_tenant, answers_to, Follows, IsStep, IsHistory}
 use Rattle.stow_core.specs.State.{CoreState, store_of, IsNewCore, Calls}
 use Rattle.stow_house.specs.Seen.{IsServedTenant}
-use Rattle.stow_house.specs.Connections.{moved, reply_in_core}
+use Rattle.stow_house.specs.Conversations.{Exchange, step_of, reply_in, words_of, IsAsked}
+use Rattle.stow_house.specs.Connections.{moved}
 use Rattle.stow_house.proofs.Tenants.{served_tenant}
-use Rattle.stow_house.proofs.Here.{answered_by, moves_own}
+use Rattle.stow_house.proofs.Here.{IsShaped, did, same_tenants}
 use Rattle.stow_house.proofs.Stood.{one_more}
-use Rattle.stow_workers.specs.Exchanges.{Exchange, Read, Served, Faulted, Call, step_of, steps_of, AllFollow, reply_in, words_of, with_call, calls_in, LeadTo, told_in}
+use Rattle.stow_workers.specs.Exchanges.{Call, steps_of, AllFollow, with_call, calls_in, LeadTo, told_in}
 use Rattle.stow_workers.specs.Laws.{history_of, calls_of, asked_by, IsOneHistory, OneConnection}
 
 -- ---- one step
 
--- a request was answered by the core, or none was made
-abbrev IsCall : Option Service → Reply → CoreState → CoreState → Type 0
-IsCall None r old new = new ≡ old
-IsCall (Some service) r old new = Calls old service.tenant (words_of service.event) r new
-
--- the core before the newest call
-before : {D : Type 0} (answers : D → ℕ → List (List ℕ) → Reply → D → Type 0) (request : Option Service) (r : Reply) (calls : List Call) (old new : D) → LeadTo answers old (with_call request r calls) new → D
+-- the core before the newest exchange, and what that did to it
+last_call : (request : Option Service) (r : Reply) (calls : List Call) (old new : CoreState) → LeadTo Calls old (with_call request r calls) new → (mid : CoreState) × LeadTo Calls old calls mid × IsAsked Calls request r mid new
 unfolding LeadTo
-before answers None r calls old new leads = new
-before answers (Some service) r calls old new leads = leads.0
-
-leads_before : (request : Option Service) (r : Reply) (calls : List Call) (old new : CoreState) (leads : LeadTo Calls old (with_call request r calls) new) → LeadTo Calls old calls (before Calls request r calls old new leads)
-unfolding LeadTo before
-leads_before None r calls old new leads = leads
-leads_before (Some service) r calls old new leads = leads.1
-
-is_call : (request : Option Service) (r : Reply) (calls : List Call) (old new : CoreState) (leads : LeadTo Calls old (with_call request r calls) new) → IsCall request r (before Calls request r calls old new leads) new
-unfolding LeadTo before
-is_call None r calls old new leads = refl
-is_call (Some service) r calls old new leads = leads.2
-
--- what a step does to the core, and what it is told there
-record Done (request : Option Service) (told told_there : Option Reply) (r : Reply) (old new : CoreState) : Type 0 where
-  pub replies : (t c : ℕ) (calls : List Call) (tellings : List Telling) → map (λ call. call.reply) (calls_of t calls) ≡ answers_to t tellings
-      → map (λ call. call.reply) (calls_of t (with_call request r calls)) ≡ answers_to t (with_telling (option_map (λ y. record { connection = c; tenant = option_map (λ s. s.tenant) request; reply = y }) told) tellings)
-  pub entries : new.entries ≡ old.entries
-  pub stores : (t : ℕ) → store_of new t ≡ moved t request (store_of old t)
-  pub says : told ≡ told_there
-  pub asks : (t : ℕ) (calls : List Call) → map asked_by (calls_of t (with_call request r calls)) ≡ with_service t request (map asked_by (calls_of t calls))
+last_call None r calls old new led = (new, led, refl)
+last_call (Some service) r calls old new led = led
 
 -- what is told to nobody's request is in no tenant's replies
 no_one : (o : Option Reply) (t c : ℕ) (told : List Telling) → answers_to t (with_telling (option_map (λ y. record { connection = c; tenant = None; reply = y }) o) told) ≡ answers_to t told
 no_one None t c told = refl
 no_one (Some r) t c told = refl
 
-nothing_done : (told : Option Reply) (r : Reply) (old new : CoreState) → new ≡ old → Done None told told r old new
-nothing_done told r old new same = record {
-  entries = ap (λ c. c.entries) same;
-  stores = λ t. ap (λ c. store_of c t) same;
-  says = refl;
-  asks = λ t calls. refl;
-  replies = λ t c calls tellings same. same ∙ sym (no_one told t c tellings);
-}
-
-one_asked : (t tenant : ℕ) (words : List (List ℕ)) (r : Reply) (calls : List Call)
-    → map asked_by (calls_of t (with_call (request_as ForStore words (is_out_of_memory r) (Some tenant)) r calls)) ≡ with_service t (request_as ForStore words (is_out_of_memory r) (Some tenant)) (map asked_by (calls_of t calls))
-one_asked t tenant words r calls = by_test (tenant == t)
+-- a call is its tenant's request, and its reply what that is told
+one_call : (t : ℕ) (service : Service) (r : Reply) (calls : List Call) → service.event ≡ Asked (record { words = words_of service.event; is_refused = is_out_of_memory r })
+    → map asked_by (calls_of t (with_call (Some service) r calls)) ≡ with_service t (Some service) (map asked_by (calls_of t calls))
+one_call t service r calls is = by_test (service.tenant == t)
   where
-    by_test : (b : Bool) → map asked_by (if b then (record { tenant = tenant; words = words; reply = r }) ∷ calls_of t calls else calls_of t calls) ≡ (if b then Asked (record { words = words; is_refused = is_out_of_memory r }) ∷ map asked_by (calls_of t calls) else map asked_by (calls_of t calls))
-    by_test true = refl
+    by_test : (b : Bool) → map asked_by (if b then (record { tenant = service.tenant; words = words_of service.event; reply = r }) ∷ calls_of t calls else calls_of t calls)
+        ≡ (if b then service.event ∷ map asked_by (calls_of t calls) else map asked_by (calls_of t calls))
+    by_test true = ap (λ e. e ∷ map asked_by (calls_of t calls)) (sym is)
     by_test false = refl
+
+called : (t : ℕ) (request : Option Service) (told : Option Reply) (r : Reply) (calls : List Call) → IsShaped request told r → map asked_by (calls_of t (with_call request r calls)) ≡ with_service t request (map asked_by (calls_of t calls))
+called t None told r calls shape = refl
+called t (Some service) told r calls shape = one_call t service r calls shape.0
 
 one_replied : (t tenant c : ℕ) (words : List (List ℕ)) (r : Reply) (calls : List Call) (told : List Telling) → map (λ call. call.reply) (calls_of t calls) ≡ answers_to t told
     → map (λ call. call.reply) (calls_of t ((record { tenant = tenant; words = words; reply = r }) ∷ calls)) ≡ answers_to t ((record { connection = c; tenant = Some tenant; reply = r }) ∷ told)
@@ -81,30 +52,11 @@ one_replied t tenant c words r calls told same = by_test (tenant == t)
     by_test true = ap (λ replies. r ∷ replies) same
     by_test false = same
 
-kind_done : (entries : List Entry) (kind : Kind) (words : List (List ℕ)) (who : Option ℕ) (r : Reply) (old new : CoreState) → IsServedTenant old.entries who → IsCall (request_as kind words (is_out_of_memory r) who) r old new
-    → Done (request_as kind words (is_out_of_memory r) who) (Some (kind_reply entries kind who (λ tenant. r))) (Some (kind_reply entries kind who (reply_in_core old (is_out_of_memory r) words))) r old new
-kind_done entries (Login name password) words who r old new is called = nothing_done _ r old new called
-kind_done entries Quit words who r old new is called = nothing_done _ r old new called
-kind_done entries Malformed words who r old new is called = nothing_done _ r old new called
-kind_done entries ForStore words None r old new is called = nothing_done _ r old new called
-kind_done entries ForStore words (Some tenant) r old new is called =
-    let b = is_out_of_memory r in
-    let answer = answered_by old new tenant words r b refl (called.own (is tenant refl)) in
-    record {
-      entries = called.entries;
-      stores = moves_own old new tenant words b r answer.alone called.others;
-      says = ap (λ a. Some a.1) answer.alone;
-      asks = λ t calls. one_asked t tenant words r calls;
-      replies = λ t c calls tellings same. one_replied t tenant c words r calls tellings same;
-    }
-
-step_done : (entries : List Entry) (x : Exchange) (who : Option ℕ) (old new : CoreState) → IsServedTenant old.entries who → IsCall (request_of (step_of x) who) (reply_in x) old new
-    → Done (request_of (step_of x) who) (told_by entries (step_of x) who (λ is_refused words tenant. reply_in x)) (told_by entries (step_of x) who (reply_in_core old)) (reply_in x) old new
-step_done entries (Read bytes) who old new is called = nothing_done None _ old new called
-step_done entries (Served (message.Words words) r) who old new is called = kind_done entries (kind_of words) words who r old new is called
-step_done entries (Served message.Quoted r) who old new is called = nothing_done _ r old new called
-step_done entries (Served message.Blank r) who old new is called = nothing_done _ r old new called
-step_done entries (Faulted fault) who old new is called = nothing_done _ _ old new called
+replied : (t c : ℕ) (request : Option Service) (told : Option Reply) (r : Reply) (calls : List Call) (tellings : List Telling) → IsShaped request told r → map (λ call. call.reply) (calls_of t calls) ≡ answers_to t tellings
+    → map (λ call. call.reply) (calls_of t (with_call request r calls)) ≡ answers_to t (with_telling (option_map (λ y. record { connection = c; tenant = option_map (λ s. s.tenant) request; reply = y }) told) tellings)
+replied t c None told r calls tellings shape same = same ∙ sym (no_one told t c tellings)
+replied t c (Some service) told r calls tellings shape same =
+    one_replied t service.tenant c (words_of service.event) r calls tellings same ∙ ap (λ o. answers_to t (with_telling (option_map (λ y. record { connection = c; tenant = Some service.tenant; reply = y }) o) tellings)) (sym shape.1)
 
 -- ---- the history
 
@@ -143,24 +95,24 @@ goes c entries old is_new same (x ∷ xs) new follow leads =
     let request = request_of (step_of x) who in
     let r = reply_in x in
     let calls = calls_in entries xs in
-    let mid = before Calls request r calls old new leads in
-    let ih = goes c entries old is_new same xs mid follow.1 (leads_before request r calls old new leads) in
+    let (mid, led, asked_here) = last_call request r calls old new leads in
+    let ih = goes c entries old is_new same xs mid follow.1 led in
     let is_part : part_of c h ≡ steps_of xs = part c (steps_of xs) in
     let served : IsServedTenant mid.entries who = subst (λ es. IsServedTenant es who) (sym ih.1) (served_tenant entries (steps_of xs)) in
-    let d = step_done entries x who mid new served (is_call request r calls old new leads) in
+    let d = did entries x who mid new served asked_here in
     let asked : service_of entries (At c (step_of x)) h ≡ request = ap (λ p. request_of (step_of x) (served_as entries p)) is_part in
     let said : told_by entries (step_of x) who (λ is_refused words tenant. r) ≡ told_at entries c (step_of x) h =
     d.says ∙ (λ i. told_by entries (step_of x) (served_as entries (sym is_part i)) (λ is_refused words tenant. (answer_with (ih.0.stores tenant i) (record { words = words; is_refused = is_refused })).1)) in (
       record {
         is_history = is_history c entries (step_of x ∷ steps_of xs) follow;
-        calls = λ t. d.asks t calls ∙ ap (with_service t request) (ih.0.calls t) ∙ ap (λ s. with_service t s (line_of entries t h)) (sym asked);
-        replies = λ t. d.replies t c calls (tellings entries h) (ih.0.replies t)
+        calls = λ t. called t request _ r calls d.shape ∙ ap (with_service t request) (ih.0.calls t) ∙ ap (λ s. with_service t s (line_of entries t h)) (sym asked);
+        replies = λ t. replied t c request _ r calls (tellings entries h) d.shape (ih.0.replies t)
             ∙ (λ i. answers_to t (with_telling (option_map (λ y. record { connection = c; tenant = option_map (λ s. s.tenant) (sym asked i); reply = y }) (said i)) (tellings entries h)));
         output = ap (λ o. with_reply o (told_in entries xs)) said ∙ ap (with_reply (told_at entries c (step_of x) h)) ih.0.output
             ∙ sym (one_told c (option_map (λ s. s.tenant) (service_of entries (At c (step_of x)) h)) (told_at entries c (step_of x) h) (tellings entries h));
         stores = λ t. d.stores t ∙ ap (moved t request) (ih.0.stores t) ∙ one_more t (quota_of entries t) request (line_of entries t h) ∙ ap (λ s. store_after (quota_of entries t) (with_service t s (line_of entries t h))) (sym asked);
       },
-      d.entries ∙ ih.1,
+      same_tenants request r mid new asked_here ∙ ih.1,
     )
 
 pub one_connection_lem : OneConnection

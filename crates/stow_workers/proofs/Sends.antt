@@ -4,7 +4,6 @@ use denote.RattleType.{RattleType}
 use denote.Param.Send.{IsSend, IsSync, Frees, sendable, struct_sync}
 use denote.Struct.Declared.{shape}
 use Rattle.crossbeam_channel.proofs.channel.Receiver.TheSendSync as receiver
-use Rattle.std.proofs.Crossing as at_heap
 use Rattle.std.proofs.net.tcp.TcpStream.TheSendSync as stream
 use Rattle.std.specs.declared.alloc.Allocator.{Ghosts}
 use Rattle.stow_shared.specs.declared.journal.Journal as journal

@@ -7,7 +7,7 @@ use Rattle.stow_shared.specs.Seats.{SeatState, SeatCalls}
 use Rattle.stow_workers.specs.Exchanges.{Call, LeadTo}
 use Rattle.stow_workers.specs.Pools.{HasCalled, AreEach, IsIdleOf}
 use Rattle.stow_workers.specs.declared.worker.Worker.{Worker}
-use Rattle.stow_workers.specs.Talks.{DoorCall}
+use Rattle.stow_house.specs.Conversations.{DoorCall}
 
 -- ---- calls
 

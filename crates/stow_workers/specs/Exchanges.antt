@@ -1,27 +1,11 @@
 -- What went on between one connection, its door and its stream, told newest first.
 use Rattle.std.specs.Prelude.{◌≡◌, ℕ, List, [], ◌∷◌, ◌++◌, Option, Some, None}
-use Rattle.stow_model.specs.declared.stream_fault.StreamFault.{StreamFault}
-use Rattle.stow_model.specs.Message.{Message}
 use Rattle.stow_model.specs.Event as event
 use Rattle.stow_model.specs.Reply.{Reply, encoding}
-use Rattle.stow_model.specs.Reply as reply
 use Rattle.stow_model.specs.Login.{Entry}
-use Rattle.stow_model.specs.Store.{OwnEvent, Asked, GivenQuota, with_reply, is_out_of_memory}
-use Rattle.stow_model.specs.History.{ConnectionStep, Plain, Took, Broke, Service, request_of, served_as, told_by, Follows}
-
-pub data Exchange : Type 0 where
-  -- these bytes were read
-  Read : List ℕ → Exchange
-  -- this message was taken from them, and this is what the door replied, where it was asked
-  Served : Message → Reply → Exchange
-  -- this fault was met
-  Faulted : StreamFault → Exchange
-
--- the connection's step: memory was refused to a request where the door's reply says so
-abbrev pub step_of : Exchange → ConnectionStep
-step_of (Read bytes) = Plain (event.Piece bytes)
-step_of (Served m r) = Took m (is_out_of_memory r)
-step_of (Faulted fault) = Broke fault
+use Rattle.stow_model.specs.Store.{with_reply}
+use Rattle.stow_model.specs.History.{ConnectionStep, Plain, Service, request_of, served_as, told_by, Follows}
+use Rattle.stow_house.specs.Conversations.{Exchange, step_of, reply_in, words_of}
 
 -- the connection's part of a history: it was opened, and then these
 unfoldable pub steps_of : List Exchange → List ConnectionStep
@@ -33,12 +17,6 @@ unfoldable pub AllFollow : List Entry → List ConnectionStep → Type 0
 AllFollow entries [] = Unit {0}
 AllFollow entries (newest ∷ earlier) = Follows entries newest earlier × AllFollow entries earlier
 
--- what the door replied, where it was asked
-abbrev pub reply_in : Exchange → Reply
-reply_in (Read bytes) = reply.Null
-reply_in (Served m r) = r
-reply_in (Faulted fault) = reply.Null
-
 -- ---- the door
 
 -- a call of a door, and its reply
@@ -46,11 +24,6 @@ pub record Call : Type 0 where
   pub tenant : ℕ
   pub words : List (List ℕ)
   pub reply : Reply
-
--- the words of a request; a quota has none, and comes on no connection
-abbrev pub words_of : OwnEvent → List (List ℕ)
-words_of (Asked request) = request.words
-words_of (GivenQuota quota) = []
 
 abbrev pub with_call : Option Service → Reply → List Call → List Call
 with_call None r calls = calls

@@ -3,6 +3,6 @@ pub mod Counted
 pub mod Exchanges
 pub mod Sent
 pub mod Talks
-pub mod Answered
+pub mod Turns
 pub mod Laws
 pub mod Pools

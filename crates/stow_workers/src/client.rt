@@ -1,48 +1,41 @@
 //! A connection that is being served.
-ghost use Rattle.std.specs.Prelude.{◌≡◌, [], None, false, option_map, IfSome};
+ghost use Rattle.std.specs.Prelude.{◌≡◌, [], None, Some, false, option_map, IfSome};
 ghost use Rattle.stow_model.specs.Reply.{reply_of};
-ghost use Rattle.stow_house.specs.Sessions.{Finished, Serves, arrival_of};
-ghost use Rattle.stow_workers.specs.Answered.{IsAnswered};
-ghost use Rattle.stow_workers.specs.Talks.{Turns, Shortens, ServesAll, ServesPiece, CanEndPiece, outcome_of, state_of};
+ghost use Rattle.stow_house.specs.Conversations.{talk_of};
+ghost use Rattle.stow_workers.specs.Turns.{Turns, Shortens, GoesTo, ServesPiece, CanEndPiece, outcome_of, state_of};
 
 use crate::gate::Gate;
 use crate::place::Place;
 use crate::replies::Replies;
 use crate::served::Served;
 use crate::sink::Sink;
-use crate::stop::Stop;
-use crate::turn::Turn;
 use std::alloc::{Allocator, Global};
-use stow_house::answer::Answer;
+use stow_house::conversation::Conversation;
 use stow_house::door::Door;
-use stow_house::session::Session;
-use stow_house::taken::Taken;
+use stow_house::heard::Heard;
+use stow_house::stop::Stop;
 use stow_login::tenants::Tenants;
 use stow_model::reply::Reply;
-use stow_resp::input::Input;
-use stow_resp::next::Next;
 
-/// A connection that is being served: what came on it, whom it is served as, and the replies that wait.
+/// A conversation that is being served, and the replies that wait.
 #[derive(Drop)]
 pub struct Client<A: Allocator = Global> {
     alloc: A,
-    input: Input<A>,
-    session: Session,
+    conversation: Conversation<A>,
     replies: Replies<A>,
 }
 
 impl<A: Allocator + Copy> Client<A> {
     /// Nothing has come, and nobody is logged in.
     pub fn new(alloc: A) -> Client<A>
-        ensures input { result.input ≡ [] }
-        ensures session { result.session ≡ None }
+        ensures unread { (talk_of result.conversation).unread ≡ [] }
+        ensures tenant { (talk_of result.conversation).tenant ≡ None }
         ensures waiting { result.replies.bytes.items ≡ [] }
         ensures failed { result.replies.has_failed ≡ false }
     {
         Client {
             alloc,
-            input: Input::new(alloc),
-            session: Session::new(),
+            conversation: Conversation::new(alloc),
             replies: Replies::new(alloc),
         }
     }
@@ -63,7 +56,7 @@ impl<A: Allocator + Copy> Client<A> {
             (state_of door.new (W.contents writer.new) (W.failures writer.new) self.new) }
         ensures same_borrow { W.borrow writer.new ≡ W.borrow writer.old }
     {
-        if self.input.feed(piece).is_err() {
+        if self.conversation.feed(piece).is_err() {
             return Some(Served::NoMemory);
         }
         let stop = self.serve_all(writer, tenants, door, gate);
@@ -71,126 +64,84 @@ impl<A: Allocator + Copy> Client<A> {
         outcome(stop, self.replies.has_failed())
     }
 
-    /// Serves all messages that are whole. `None` where the next one isn't whole yet.
+    /// Serves messages until the conversation goes no further.
     fn serve_all<W: Sink, D: Door<A>, G: Gate>(
         &mut self,
         writer: &mut W,
         tenants: &Tenants<A>,
         door: &mut D,
         gate: &G,
-    ) -> Option<Stop>
-        ensures serves { ServesAll D.answers tenants.now result
+    ) -> Stop
+        ensures goes { GoesTo D.answers tenants.now (Some result)
             (state_of door.old (W.contents writer.old) (W.failures writer.old) self.old)
             (state_of door.new (W.contents writer.new) (W.failures writer.new) self.new) }
         ensures same_borrow { W.borrow writer.new ≡ W.borrow writer.old }
     {
         loop {
-            match self.serve_next(writer, tenants, door, gate) {
-                Turn::GoesOn => {}
-                Turn::Waits => return None,
-                Turn::Ends(stop) => return Some(stop),
+            if let Some(stop) = self.serve_next(writer, tenants, door, gate) {
+                return stop;
             }
         }
     }
 
-    /// Serves the next message, if it is whole.
+    /// Serves the next message, if it is whole. `None` where the conversation goes on.
     fn serve_next<W: Sink, D: Door<A>, G: Gate>(
         &mut self,
         writer: &mut W,
         tenants: &Tenants<A>,
         door: &mut D,
         gate: &G,
-    ) -> Turn
-        ensures shorter { Shortens result self.old.input self.new.input }
-        ensures turns { Turns D.answers tenants.now result
+    ) -> Option<Stop>
+        ensures shorter { Shortens result (talk_of self.old.conversation)
+            (talk_of self.new.conversation) }
+        ensures goes { GoesTo D.answers tenants.now result
             (state_of door.old (W.contents writer.old) (W.failures writer.old) self.old)
             (state_of door.new (W.contents writer.new) (W.failures writer.new) self.new) }
         ensures same_borrow { W.borrow writer.new ≡ W.borrow writer.old }
     {
-        match self.input.next(self.alloc) {
-            Next::More => Turn::Waits,
-            Next::NoMemory => Turn::Ends(Stop::NoMemory),
-            Next::Fault(fault) => {
-                let stop = Stop::Faulted(fault);
-                self.answer(writer, tenants, door, gate, Next::Fault(fault), stop)
-            }
-            next => self.answer(writer, tenants, door, gate, next, Stop::Quit),
+        let (reply, stop) = self.turn(tenants, door, gate);
+        match self.replies.add(writer, &reply) {
+            Ok(()) => stop,
+            Err(_) => Some(Stop::NoMemory),
         }
     }
 
-    /// Answers what came next. Where the connection ends with that, it ends so.
-    fn answer<W: Sink, D: Door<A>, G: Gate>(
-        &mut self,
-        writer: &mut W,
-        tenants: &Tenants<A>,
-        door: &mut D,
-        gate: &G,
-        next: Next<A>,
-        stop: Stop,
-    ) -> Turn
-        ensures answered { IsAnswered D.answers tenants.now next stop result
-            (state_of door.old (W.contents writer.old) (W.failures writer.old) self.old)
-            (state_of door.new (W.contents writer.new) (W.failures writer.new) self.new) }
-        ensures same_borrow { W.borrow writer.new ≡ W.borrow writer.old }
-    {
-        let (reply, ends) = self.hear(tenants, door, gate, next);
-        if self.replies.add(writer, &reply).is_err() {
-            return Turn::Ends(Stop::NoMemory);
-        }
-        if ends { Turn::Ends(stop) } else { Turn::GoesOn }
-    }
-
-    /// What is told of what came next, and whether the connection ends with it. Used words serve the next message.
-    fn hear<D: Door<A>, G: Gate>(
+    /// Hears what comes next, and asks the door where that is a request: what is told, and why the conversation goes no
+    /// further, if it doesn't. The gate is passed before the call and after it.
+    fn turn<D: Door<A>, G: Gate>(
         &mut self,
         tenants: &Tenants<A>,
         door: &mut D,
         gate: &G,
-        next: Next<A>,
-    ) -> (Option<Reply<A>>, bool)
-        ensures serves { Serves D.answers tenants.now self.old.session self.new.session door.old
-            (arrival_of next) (option_map reply_of result.0) result.1 door.new }
-        ensures unread { self.new.input ≡ self.old.input }
+    ) -> (Option<Reply<A>>, Option<Stop>)
+        ensures shorter { Shortens result.1 (talk_of self.old.conversation)
+            (talk_of self.new.conversation) }
+        ensures turns { Turns D.answers tenants.now (option_map reply_of result.0) result.1
+            door.old (talk_of self.old.conversation) door.new (talk_of self.new.conversation) }
         ensures replies { self.new.replies ≡ self.old.replies }
     {
-        let taken = self.session.take(tenants, next);
-        let Answer { reply, ends, used } = ask(self.alloc, door, gate, taken);
-        if let Some(words) = used {
-            self.input.reuse(words);
+        match self.conversation.hear(self.alloc, tenants) {
+            Heard::Told(told, stop) => (told, stop),
+            Heard::Request(tenant, words) => {
+                gate.pass(Place::BeforeCall);
+                let reply = door.call(self.alloc, tenant, &words);
+                gate.pass(Place::Replied);
+                self.conversation.reuse(words);
+                (Some(reply), None)
+            }
         }
-        (reply, ends)
     }
 }
 
 /// How a piece ended, once its replies were written or a write has failed.
-fn outcome(stop: Option<Stop>, has_failed: bool) -> Option<Served>
+fn outcome(stop: Stop, has_failed: bool) -> Option<Served>
     ensures { result ≡ outcome_of stop has_failed }
 {
     match stop {
-        Some(Stop::NoMemory) => Some(Served::NoMemory),
+        Stop::NoMemory => Some(Served::NoMemory),
         _ if has_failed => Some(Served::WriteFailed),
-        Some(Stop::Quit) => Some(Served::Quit),
-        Some(Stop::Faulted(fault)) => Some(Served::Faulted(fault)),
-        None => None,
-    }
-}
-
-/// Asks the door where it is to be asked, and passes the gate before and after.
-fn ask<A: Allocator + Copy, D: Door<A>, G: Gate>(
-    alloc: A,
-    door: &mut D,
-    gate: &G,
-    taken: Taken<A>,
-) -> Answer<A>
-    ensures { Finished D.answers taken door.old result door.new }
-{
-    match taken {
-        Taken::Told(answer) => answer,
-        Taken::ForStoreOf(..) => {
-            gate.pass(Place::BeforeCall);
-            let answer = taken.finish(alloc, door);
-            gate.pass(Place::Replied);
-            answer
-        }
+        Stop::More => None,
+        Stop::Quit => Some(Served::Quit),
+        Stop::Faulted(fault) => Some(Served::Faulted(fault)),
     }
 }

@@ -54,10 +54,8 @@ pub mod served;
 pub mod serving;
 pub mod sink;
 pub mod source;
-mod stop;
 #[cfg(test)]
 mod tests;
-mod turn;
 pub mod worker;
 pub mod workplace;
 pub mod writing;

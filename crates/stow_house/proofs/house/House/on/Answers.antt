@@ -3,7 +3,7 @@ use Rattle.stow_model.specs.History.{IsOpen, Unused}
 use Rattle.stow_house.specs.Seen.{Seen, seen, seen_at, never_opened}
 use Rattle.stow_house.specs.StepResult.{step_result_of, Refused}
 use Rattle.stow_house.specs.Connections.{meaning, Happens}
-use Rattle.stow_house.proofs.Here.{refused_unused}
+use Rattle.stow_house.proofs.Here.{refused}
 use Rattle.stow_house.proofs.Stood.{at_connection}
 use Rattle.stow_house.proofs.house.House.on.Goals as goal
 
@@ -28,5 +28,5 @@ returns-in-None-clause-steps g c =
     let same : (d : ℕ) → seen_at new d ≡ seen_at old d = search rules in
     let was : never_opened ≡ seen_at old c.args.c = ap seen c.in-None.ensures.value in
     at_connection _ _ c.args.c e Refused
-    (subst (λ s. Happens e Refused (seen_at old c.args.c) s core core) (sym (same c.args.c)) (refused_unused c.args.event (seen_at old c.args.c) core (sym (ap (λ s. s.status) was))))
+    (subst (λ s. Happens e Refused (seen_at old c.args.c) s core core) (sym (same c.args.c)) (refused c.args.event (seen_at old c.args.c) core (λ opened. let bad : Unused ≡ IsOpen = ap (λ s. s.status) was ∙ opened in cc)))
     (λ d differ. same d)

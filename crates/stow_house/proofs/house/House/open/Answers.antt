@@ -5,7 +5,7 @@ use Rattle.stow_model.specs.Event as event
 use Rattle.stow_model.specs.History.{opened}
 use Rattle.stow_house.specs.Seen.{seen_at, never_opened}
 use Rattle.stow_house.specs.StepResult.{Done, Refused, NoMemory, when_unused}
-use Rattle.stow_house.proofs.Here.{plain, refused, used, unused}
+use Rattle.stow_house.proofs.Here.{plain, opened_twice, used, unused}
 use Rattle.stow_house.proofs.Stood.{at_connection}
 use Rattle.stow_house.proofs.house.House.open.Goals as goal
 
@@ -13,7 +13,7 @@ pub returns-then-contains_key-clause-steps : goal.returns-then-contains_key-clau
 returns-then-contains_key-clause-steps g c =
     let old = c.args.self.now.connections in
     at_connection _ _ c.args.c event.Open Refused
-    (refused event.Open (seen_at old c.args.c) c.args.self.now.core (used (get nat_cmp old c.args.c) (sym c.contains_key.ensures ∙ c.if-contains_key.true)))
+    (opened_twice (seen_at old c.args.c) c.args.self.now.core (used (get nat_cmp old c.args.c) (sym c.contains_key.ensures ∙ c.if-contains_key.true)))
     (λ d differ. refl)
 
 pub open_at-requires : goal.open_at-requires
