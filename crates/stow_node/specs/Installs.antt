@@ -1,5 +1,5 @@
 -- Where the result of a flush job can be installed.
-use Rattle.std.specs.Prelude.{◌≡◌, ℕ, List, [], ◌∷◌, Contains, if◌then◌else◌}
+use Rattle.std.specs.Prelude.{◌≡◌, ℕ, List, [], ◌∷◌, Contains, IsSome, None, if◌then◌else◌}
 use Rattle.std.specs.Ordering.{is_lt}
 use Rattle.stow_bytes.specs.Bytes.{bytes_cmp}
 use Rattle.stow_leaf.specs.Intervals.{top_key, NoneOutside}
@@ -9,6 +9,7 @@ use Rattle.stow_merge.specs.Pins.{pins_in}
 use Rattle.stow_merge.specs.declared.flush_job.FlushJob.{FlushJob}
 use Rattle.stow_message.specs.Rising.{AreOldest}
 use Rattle.stow_tree_model.specs.Agreement.{TenantPins}
+use Rattle.stow_tree_model.specs.Messages.{ops_in}
 use Rattle.stow_tree_model.specs.TreeMessage.{TreeMessage}
 use Rattle.stow_node.specs.Subtree.{Subtree, right_above_leaves}
 
@@ -29,3 +30,8 @@ pub record CanInstall {A : Type 0} (t : Subtree) (job : FlushJob A)
       (next_fence top_key t.leaves job.target.low_fence) job.batch.messages
   pub oldest : AreOldest job.batch.messages (right_above_leaves t)
   pub covered : Covers (pins_in job.pins) pins job.page job.batch.messages
+
+-- no message of the batch is left in the buffers right above the leaves
+abbrev pub BatchIsGone : List TreeMessage → Subtree → Type 0
+BatchIsGone batch t = (key : List ℕ) (n : ℕ) → IsSome (ops_in batch key n)
+    → ops_in (right_above_leaves t) key n ≡ None

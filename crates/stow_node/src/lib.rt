@@ -34,6 +34,7 @@ pub mod child;
 mod coming;
 mod counting;
 mod fence;
+pub mod installed;
 mod moving;
 pub mod node;
 mod planning;

@@ -1,10 +1,12 @@
 //! The tree.
-ghost use Rattle.std.specs.Prelude.{◌≡◌, ◌↔◌, ◌<◌, ◌≤◌, ◌^◌, [], length, map, None, option_map, IfOk, IfSome, OnOk, OnErr, Err};
+ghost use Rattle.std.specs.Prelude.{◌≡◌, ◌↔◌, ◌<◌, ◌≤◌, ◌^◌, [], length, map, None, option_map, IfOk, IfErr, IfSome, OnOk, OnErr, Err};
 ghost use Rattle.std.specs.FinMap as finite;
 ghost use Rattle.stow_flush.specs.Rooms.{FitsSqueezed};
 ghost use Rattle.stow_leaf_cache.specs.Cache.{cache_resized};
 ghost use Rattle.stow_merge.specs.Pins.{pins_in};
+ghost use Rattle.stow_node.specs.Installs.{BatchIsGone, CanInstall};
 ghost use Rattle.stow_node.specs.Moves.{IsSqueezed, StaysInMeaning};
+ghost use Rattle.stow_node.specs.declared.installed.Installed.TheVariants as installed;
 ghost use Rattle.stow_node.specs.Plans.{IsPlanned, Plans};
 ghost use Rattle.stow_node.specs.Subtree.{buffered};
 ghost use Rattle.stow_read.specs.Found.{found_value};
@@ -32,8 +34,10 @@ use stow_flush::room::make_room;
 use stow_leaf::leaf::Leaf;
 use stow_leaf_cache::leaf_cache::LeafCache;
 use stow_merge::flush_job::FlushJob;
+use stow_merge::flush_result::FlushResult;
 use stow_merge::pins::Pins;
 use stow_message::head::size;
+use stow_node::installed::Installed;
 use stow_node::node::Node;
 use stow_raw::raw_buf::RawBuf;
 use stow_read::found::Found;
@@ -169,6 +173,29 @@ impl<A: Allocator + Copy> Tree<A> {
             (Plans self.old.root.height self.old.root self.new.root)) }
     {
         self.root.plan(alloc, pins)
+    }
+
+    /// Puts the pages of a job's result in its leaf's place, and takes the job's batch out of the buffer above: the tree means the
+    /// same under the present pins. Where it can't come any more the result is stale. Where memory is refused it comes back,
+    /// and no message has moved.
+    pub fn install(
+        &mut self,
+        alloc: A,
+        merge: FlushResult<A>,
+        pins: &Pins<A>,
+    ) -> Result<Installed, (FlushResult<A>, AllocError)>
+        ensures agrees { AgreeUnder (pins_in pins.now) (tree_messages self.old)
+            (tree_messages self.new) }
+        ensures stale { IfOk result (λ r. r ≡ installed.Stale
+            ↔ ¬ CanInstall self.old.root merge.job (pins_in pins.now)) }
+        ensures unmoved { IfOk result (λ r. r ≡ installed.Stale → self.new ≡ self.old) }
+        ensures done { IfOk result (λ r. r ≡ installed.Done
+            → BatchIsGone merge.job.batch.messages self.new.root) }
+        ensures err { IfErr result (λ e. (e.0 ≡ merge) × IsRead self.old self.new) }
+        ensures shape { self.new.root.shape ≡ self.old.root.shape }
+        ensures limit { self.new.cache.limit ≡ self.old.cache.limit }
+    {
+        Err((merge, AllocError))
     }
 
     /// All versions of the key, from the oldest: at each number the newest one up to it has what the key has there. A
