@@ -1,13 +1,10 @@
-//! Worked rows and random calls beside sorted vectors, with every request for memory refused but those of making.
+//! Worked rows of buffers, with every request for memory refused but those of making.
 use crate::keys::Keys;
 use std::alloc::{AllocError, Allocator};
 use std::test::Fail;
-use stow_message::head::size;
 use stow_message::message_buf::MessageBuf;
-use stow_message::newest::Newest;
 use stow_raw::raw_buf::RawBuf;
 use stow_refusing::{Plan, Refusing};
-use stow_testing::random::Random;
 use stow_tree_model::message::Message;
 use stow_tree_model::op::Op;
 use stow_tree_model::plain::message;
@@ -20,9 +17,6 @@ type Put = (usize, u64, u8);
 /// The keys from a place on and below another.
 type Places = (usize, usize);
 
-/// Behind all messages.
-const LAST: usize = 12;
-
 fn value_of(put: Put) -> &'static [u8] {
     match put.2 {
         0 => b"",
@@ -34,216 +28,81 @@ fn value_of(put: Put) -> &'static [u8] {
     }
 }
 
-/// How many bytes the put's message takes.
-fn size_of(put: Put) -> usize {
-    22 + value_of(put).len()
+/// A call of one of three buffers, of which the third is the batch.
+#[derive(Clone, Copy)]
+enum Call {
+    PutLeft(Put),
+    PutRight(Put),
+    PutBatch(Put),
+    MoveRight(Places),
+    DropRight(Places),
+    Oldest,
+    Take,
+    Squeeze,
+    ResetLeft,
+    ResetBatch,
 }
 
-fn is_within(put: Put, (from, to): Places) -> bool {
-    from <= put.0 && put.0 < to
+/// A call, whether it was carried out or what it told, and then how many messages and bytes in use the left buffer has,
+/// and the right one.
+type Row = (Call, bool, [usize; 4]);
+
+/// Calls of buffers of 40 bytes and of none: one message is taken, and neither it nor another then.
+const TIGHT: [Row; 4] = [
+    (Call::PutLeft((0, 1, 1)), true, [1, 23, 0, 0]),
+    (Call::PutLeft((0, 1, 1)), false, [1, 23, 0, 0]),
+    (Call::PutLeft((1, 2, 0)), false, [1, 23, 0, 0]),
+    (Call::PutRight((0, 1, 1)), false, [1, 23, 0, 0]),
+];
+
+/// Calls of buffers of 200 bytes: four messages of two tenants; a batch that is not all there, one that is and has not the
+/// oldest, and one that has; an interval that moves and is dropped.
+const WORKED: [Row; 25] = [
+    (Call::PutLeft((4, 1, 2)), true, [1, 24, 0, 0]),
+    (Call::PutLeft((1, 3, 3)), true, [2, 49, 0, 0]),
+    (Call::PutLeft((0, 2, 2)), true, [3, 73, 0, 0]),
+    (Call::PutLeft((1, 1, 5)), true, [4, 98, 0, 0]),
+    (Call::Squeeze, true, [4, 98, 0, 0]),
+    (Call::PutBatch((1, 3, 4)), true, [4, 98, 0, 0]),
+    (Call::PutBatch((0, 2, 2)), true, [4, 98, 0, 0]),
+    (Call::Oldest, false, [4, 98, 0, 0]),
+    (Call::Take, false, [4, 98, 0, 0]),
+    (Call::ResetBatch, true, [4, 98, 0, 0]),
+    (Call::PutBatch((1, 3, 3)), true, [4, 98, 0, 0]),
+    (Call::PutBatch((0, 2, 2)), true, [4, 98, 0, 0]),
+    (Call::Oldest, false, [4, 98, 0, 0]),
+    (Call::Take, true, [2, 90, 0, 0]),
+    (Call::PutLeft((1, 3, 3)), true, [3, 115, 0, 0]),
+    (Call::ResetBatch, true, [3, 115, 0, 0]),
+    (Call::PutBatch((1, 1, 5)), true, [3, 115, 0, 0]),
+    (Call::Oldest, true, [3, 115, 0, 0]),
+    (Call::Take, true, [2, 111, 0, 0]),
+    (Call::PutLeft((1, 1, 5)), true, [3, 136, 0, 0]),
+    (Call::MoveRight((1, 4)), true, [1, 128, 2, 50]),
+    (Call::DropRight((1, 4)), true, [1, 128, 0, 42]),
+    (Call::Squeeze, true, [1, 24, 0, 0]),
+    (Call::ResetLeft, true, [0, 0, 0, 0]),
+    (Call::PutLeft((2, 9, 3)), true, [1, 25, 0, 0]),
+];
+
+/// Puts a message, where it fits and is new. Whether it did.
+pub(crate) fn pushed<A: Allocator>(buf: &mut MessageBuf<A>, made: Message<'_>) -> bool {
+    let may_push = buf.fits(made) && buf.is_new(made);
+    if may_push {
+        buf.push(made);
+    }
+    may_push
 }
 
-/// Whether the message is the put.
-fn is_of(message: Message<'_>, put: Put, key: TenantKey<'_>) -> bool {
-    message.key.bytes == key.bytes
-        && message.number == put.1
-        && matches!(message.op, Op::Put(_))
-        && message.op.carried() == value_of(put)
-        && size(message) == size_of(put)
-}
-
-/// A buffer of a capacity, and beside it a sorted vector of its messages.
-#[derive(Drop)]
-struct Both<A: Allocator, B: Allocator> {
-    buf: MessageBuf<A>,
-    plain: Vec<Put, B>,
-    capacity: u16,
-}
-
-impl<A: Allocator + Copy, B: Allocator + Copy> Both<A, B> {
-    fn new(heap: A, alloc: B, capacity: u16) -> Result<Both<A, B>, AllocError> {
-        Ok(Both {
-            buf: MessageBuf::with_capacity(heap, usize::from(capacity))?,
-            plain: Vec::new(alloc),
-            capacity,
-        })
-    }
-
-    /// Whether a message of the put's key and number is there.
-    fn has_place(&self, put: Put) -> bool {
-        let mut has = false;
-        for one in self.plain.as_slice() {
-            has = has || (one.0 == put.0 && one.1 == put.1);
-        }
-        has
-    }
-
-    /// Puts a message into both, where it fits and is new. Whether the buffer tells that as the vector does.
-    fn put(&mut self, keys: &Keys<B>, put: Put) -> Result<bool, AllocError> {
-        let has_room = self.buf.used().saturating_add(size_of(put)) <= usize::from(self.capacity);
-        let is_unknown = !self.has_place(put);
-        let Some(made) = message(keys.at(put.0), put.1, Op::Put(value_of(put))) else {
-            return Ok(false);
-        };
-        let (fits, is_new) = (self.buf.fits(made), self.buf.is_new(made));
-        if fits && is_new {
-            self.buf.push(made);
-            self.plain.push(put)?;
-            self.plain.sort()?;
-        }
-        Ok(fits == has_room && is_new == is_unknown)
-    }
-
-    /// The bytes of an interval's messages, by the vector.
-    fn bytes_within(&self, places: Places) -> usize {
-        let mut bytes = 0usize;
-        for put in self.plain.as_slice() {
-            if is_within(*put, places) {
-                bytes = bytes.saturating_add(size_of(*put));
-            }
-        }
-        bytes
-    }
-
-    /// Whether none of an interval's messages has a place of another's.
-    fn are_new_to(&self, places: Places, other: &Both<A, B>) -> bool {
-        let mut are_new = true;
-        for put in self.plain.as_slice() {
-            are_new = are_new && !(is_within(*put, places) && other.has_place(*put));
-        }
-        are_new
-    }
-
-    /// Drops an interval's messages from the vector.
-    fn forget(&mut self, places: Places) {
-        self.plain.retain(|put| !is_within(*put, places));
-    }
-
-    /// Moves an interval's messages of the vector into another.
-    fn move_plain(&mut self, places: Places, into: &mut Both<A, B>) -> Result<(), AllocError> {
-        for put in self.plain.as_slice() {
-            if is_within(*put, places) {
-                into.plain.push(*put)?;
-            }
-        }
-        self.forget(places);
-        into.plain.sort()
-    }
-
-    /// Moves an interval's messages, where they fit and are new. Whether the buffers tell that as the vectors do.
-    fn move_into(
-        &mut self,
-        keys: &Keys<B>,
-        places: Places,
-        into: &mut Both<A, B>,
-    ) -> Result<bool, AllocError> {
-        let has_room = self.bytes_within(places)
-            <= usize::from(into.capacity).saturating_sub(into.buf.used());
-        let may_move = has_room && self.are_new_to(places, into);
-        let (from, to) = (keys.at(places.0), keys.at(places.1));
-        if moves(&mut self.buf, (from, to), &mut into.buf) {
-            self.move_plain(places, into)?;
-            return Ok(may_move);
-        }
-        Ok(!may_move)
-    }
-
-    /// Drops an interval's messages.
-    fn drop_within(&mut self, keys: &Keys<B>, places: Places) {
-        self.buf.drop_range(keys.at(places.0), keys.at(places.1));
-        self.forget(places);
-    }
-
-    /// Whether all messages of a batch are there.
-    fn has_all(&self, batch: &Both<A, B>) -> bool {
-        let mut has = true;
-        for put in batch.plain.as_slice() {
-            has = has && self.plain.contains(put);
-        }
-        has
-    }
-
-    /// Whether of each key of a batch the messages that are there up to the batch's newest are the batch's.
-    fn has_oldest(&self, batch: &Both<A, B>) -> bool {
-        let mut has = self.has_all(batch);
-        for one in batch.plain.as_slice() {
-            for put in self.plain.as_slice() {
-                has = has && (put.0 != one.0 || put.1 > one.1 || batch.plain.contains(put));
-            }
-        }
-        has
-    }
-
-    /// Takes a batch's messages out, where all of them are there. Whether the buffers tell that, and whether they are the oldest,
-    /// as the vectors do.
-    fn take(&mut self, batch: &Both<A, B>) -> bool {
-        let told = self.buf.holds_oldest(&batch.buf) == self.has_oldest(batch);
-        let is_held = self.has_all(batch);
-        if is_held {
-            self.plain.retain(|put| !batch.plain.contains(put));
-        }
-        self.buf.take_out(&batch.buf) == is_held && told
-    }
-
-    /// Drops all messages.
-    fn reset(&mut self) -> bool {
-        self.buf.reset();
-        self.plain.clear();
-        self.buf.used() == 0
-    }
-
-    /// Drops the dead bytes. Whether none is left.
-    fn squeeze(&mut self, spare: &mut RawBuf<A>) -> bool {
-        if self.buf.capacity() <= spare.capacity() {
-            self.buf.squeeze(spare);
-        }
-        self.buf.used() == self.bytes_within((0, LAST))
-    }
-
-    /// Whether the buffer lends and counts an interval's messages as the vector does.
-    fn lends(&self, keys: &Keys<B>, places: Places) -> bool {
-        let (from, to) = (keys.at(places.0), keys.at(places.1));
-        let run = self.buf.in_range(from, to);
-        let mut at = 0usize;
-        for put in self.plain.as_slice() {
-            if is_within(*put, places) {
-                if at >= run.len() || !is_of(run.get(at), *put, keys.at(put.0)) {
-                    return false;
-                }
-                at = at.saturating_add(1);
-            }
-        }
-        at == run.len() && self.buf.range_bytes(from, to) == self.bytes_within(places)
-    }
-
-    /// Whether these are the messages of a key, from the newest on.
-    fn are_newest(&self, newest: &Newest<'_, A>, key: TenantKey<'_>, place: usize) -> bool {
-        let mut left = newest.len();
-        for put in self.plain.as_slice() {
-            if put.0 == place {
-                if left == 0 || left > newest.len() || !is_of(newest.get(left - 1), *put, key) {
-                    return false;
-                }
-                left -= 1;
-            }
-        }
-        left == 0
-    }
-
-    /// Whether the buffer lends the messages of a key as the vector does, with a guess of its place and without.
-    fn lends_key(&self, keys: &Keys<B>, (place, guess): Places) -> bool {
-        let key = keys.at(place);
-        self.are_newest(&self.buf.of_key(key), key, place)
-            && self.are_newest(&self.buf.of_key_near(key, guess), key, place)
-    }
-
-    /// Whether the buffer tells what the vector does: of all, an interval, and its first key.
-    fn agrees(&self, keys: &Keys<B>, places: Places) -> bool {
-        self.lends(keys, (0, LAST))
-            && self.lends(keys, places)
-            && self.lends_key(keys, places)
-            && self.buf.len() == self.plain.len()
-            && self.buf.capacity() == usize::from(self.capacity)
+/// Puts a message, where it fits and is new. Whether it did.
+fn put<A: Allocator, B: Allocator + Copy>(
+    buf: &mut MessageBuf<A>,
+    keys: &Keys<B>,
+    put: Put,
+) -> bool {
+    match message(keys.at(put.0), put.1, Op::Put(value_of(put))) {
+        Some(made) => pushed(buf, made),
+        None => false,
     }
 }
 
@@ -261,65 +120,21 @@ fn moves<A: Allocator>(
     may_move
 }
 
-/// A call of one of three buffers, of which the third is the batch.
-#[derive(Clone, Copy)]
-enum Call {
-    PutLeft(Put),
-    PutRight(Put),
-    PutBatch(Put),
-    MoveRight(Places),
-    MoveLeft(Places),
-    DropRight(Places),
-    Take,
-    Squeeze,
-    ResetLeft,
-    ResetBatch,
+/// Drops the dead bytes, where the spare block is large enough.
+fn squeezed<A: Allocator>(buf: &mut MessageBuf<A>, spare: &mut RawBuf<A>) -> bool {
+    let may_squeeze = buf.capacity() <= spare.capacity();
+    if may_squeeze {
+        buf.squeeze(spare);
+    }
+    may_squeeze
 }
 
-/// A call, and then how many messages and bytes in use the left buffer has, and the right one.
-type Row = (Call, [usize; 4]);
-
-/// Calls of buffers of 40 bytes and of none: one message is taken, and neither it nor another then.
-const TIGHT: [Row; 4] = [
-    (Call::PutLeft((0, 1, 1)), [1, 23, 0, 0]),
-    (Call::PutLeft((0, 1, 1)), [1, 23, 0, 0]),
-    (Call::PutLeft((1, 2, 0)), [1, 23, 0, 0]),
-    (Call::PutRight((0, 1, 1)), [1, 23, 0, 0]),
-];
-
-/// Calls of buffers of 200 bytes: four messages of two tenants; a batch that is not all there, and one that is; an
-/// interval that moves and is dropped.
-const WORKED: [Row; 22] = [
-    (Call::PutLeft((4, 1, 2)), [1, 24, 0, 0]),
-    (Call::PutLeft((1, 3, 3)), [2, 49, 0, 0]),
-    (Call::PutLeft((0, 2, 2)), [3, 73, 0, 0]),
-    (Call::PutLeft((1, 1, 5)), [4, 98, 0, 0]),
-    (Call::Squeeze, [4, 98, 0, 0]),
-    (Call::PutBatch((1, 3, 4)), [4, 98, 0, 0]),
-    (Call::PutBatch((0, 2, 2)), [4, 98, 0, 0]),
-    (Call::Take, [4, 98, 0, 0]),
-    (Call::ResetBatch, [4, 98, 0, 0]),
-    (Call::PutBatch((1, 3, 3)), [4, 98, 0, 0]),
-    (Call::PutBatch((0, 2, 2)), [4, 98, 0, 0]),
-    (Call::Take, [2, 90, 0, 0]),
-    (Call::PutLeft((1, 3, 3)), [3, 115, 0, 0]),
-    (Call::ResetBatch, [3, 115, 0, 0]),
-    (Call::PutBatch((1, 1, 5)), [3, 115, 0, 0]),
-    (Call::Take, [2, 111, 0, 0]),
-    (Call::PutLeft((1, 1, 5)), [3, 136, 0, 0]),
-    (Call::MoveRight((1, 4)), [1, 128, 2, 50]),
-    (Call::DropRight((1, 4)), [1, 128, 0, 42]),
-    (Call::Squeeze, [1, 24, 0, 0]),
-    (Call::ResetLeft, [0, 0, 0, 0]),
-    (Call::PutLeft((2, 9, 3)), [1, 25, 0, 0]),
-];
-
-/// Two buffers, a batch and a spare block, each beside its vector.
+/// Two buffers, a batch and a spare block.
 #[derive(Drop)]
 struct All<A: Allocator, B: Allocator> {
-    left: Both<A, B>,
-    right: Both<A, B>,
-    batch: Both<A, B>,
+    left: MessageBuf<A>,
+    right: MessageBuf<A>,
+    batch: MessageBuf<A>,
     spare: RawBuf<A>,
     keys: Keys<B>,
 }
@@ -327,138 +142,103 @@ struct All<A: Allocator, B: Allocator> {
 impl<A: Allocator + Copy, B: Allocator + Copy> All<A, B> {
     fn new(heap: A, alloc: B, (left, right): (u16, u16)) -> Result<All<A, B>, AllocError> {
         Ok(All {
-            left: Both::new(heap, alloc, left)?,
-            right: Both::new(heap, alloc, right)?,
-            batch: Both::new(heap, alloc, 60)?,
+            left: MessageBuf::with_capacity(heap, usize::from(left))?,
+            right: MessageBuf::with_capacity(heap, usize::from(right))?,
+            batch: MessageBuf::with_capacity(heap, 60)?,
             spare: RawBuf::with_capacity(heap, usize::from(left))?,
             keys: Keys::new(alloc, 4, b"abcd")?,
         })
     }
 
-    /// Carries out a call. Whether the buffers tell of it as the vectors do.
-    fn call(&mut self, call: Call) -> Result<bool, AllocError> {
-        let keys = &self.keys;
+    /// Carries out a call. Whether it could be carried out, or what it told.
+    fn call(&mut self, call: Call) -> bool {
         match call {
-            Call::PutLeft(put) => self.left.put(keys, put),
-            Call::PutRight(put) => self.right.put(keys, put),
-            Call::PutBatch(put) => self.batch.put(keys, put),
-            Call::MoveRight(places) => self.left.move_into(keys, places, &mut self.right),
-            Call::MoveLeft(places) => self.right.move_into(keys, places, &mut self.left),
-            Call::DropRight(places) => {
-                self.right.drop_within(keys, places);
-                Ok(true)
+            Call::PutLeft(one) => put(&mut self.left, &self.keys, one),
+            Call::PutRight(one) => put(&mut self.right, &self.keys, one),
+            Call::PutBatch(one) => put(&mut self.batch, &self.keys, one),
+            Call::MoveRight((from, to)) => {
+                let interval = (self.keys.at(from), self.keys.at(to));
+                moves(&mut self.left, interval, &mut self.right)
             }
-            Call::Take => Ok(self.left.take(&self.batch)),
-            Call::Squeeze => Ok(self.squeeze()),
-            Call::ResetLeft => Ok(self.left.reset()),
-            Call::ResetBatch => Ok(self.batch.reset()),
+            Call::Oldest => self.left.holds_oldest(&self.batch),
+            Call::Take => self.left.take_out(&self.batch),
+            Call::Squeeze => {
+                squeezed(&mut self.left, &mut self.spare)
+                    && squeezed(&mut self.right, &mut self.spare)
+            }
+            Call::DropRight(places) => self.drop_right(places),
+            Call::ResetLeft => self.reset_left(),
+            Call::ResetBatch => self.reset_batch(),
         }
     }
 
-    fn squeeze(&mut self) -> bool {
-        self.left.squeeze(&mut self.spare) && self.right.squeeze(&mut self.spare)
+    fn drop_right(&mut self, (from, to): Places) -> bool {
+        self.right.drop_range(self.keys.at(from), self.keys.at(to));
+        true
     }
 
-    fn agrees(&self, places: Places) -> bool {
-        self.left.agrees(&self.keys, places) && self.right.agrees(&self.keys, places)
+    fn reset_left(&mut self) -> bool {
+        self.left.reset();
+        true
+    }
+
+    fn reset_batch(&mut self) -> bool {
+        self.batch.reset();
+        true
     }
 
     /// How many rows come before the first that does not hold.
-    fn work(&mut self, rows: &[Row]) -> Result<usize, AllocError> {
+    fn work(&mut self, rows: &[Row]) -> usize {
         for i in 0..rows.len() {
-            let (call, sizes) = rows[i];
-            let told = self.call(call)?;
-            if !told || !self.agrees((1, 4)) || self.sizes() != sizes {
-                return Ok(i);
+            let (call, told, sizes) = rows[i];
+            if self.call(call) != told || self.sizes() != sizes {
+                return i;
             }
         }
-        Ok(rows.len())
+        rows.len()
     }
 
     fn sizes(&self) -> [usize; 4] {
-        let (left, right) = (&self.left.buf, &self.right.buf);
+        let (left, right) = (&self.left, &self.right);
         [left.len(), left.used(), right.len(), right.used()]
     }
 
-    /// How many of so many random calls come before the first after which they differ.
-    fn go_on(&mut self, random: &mut Random, calls: u32) -> Result<u32, AllocError> {
-        for turn in 0..calls {
-            let places = random_places(random);
-            let call = self.random_call(random, places);
-            if !self.call(call)? || !self.agrees(places) {
-                return Ok(turn);
-            }
-        }
-        Ok(calls)
-    }
-
-    /// A call of a random kind. A batch is filled with a random put and one that is there.
-    fn random_call(&self, random: &mut Random, places: Places) -> Call {
-        let number = u64::from(random.below(19)) + 1;
-        let put = (places.0, number, random.below(6) as u8);
-        match random.below(13) {
-            0 => Call::MoveRight(places),
-            1 => Call::MoveLeft(places),
-            2 => Call::Squeeze,
-            3 | 4 => Call::Take,
-            5 => Call::ResetBatch,
-            6 => Call::PutBatch(put),
-            7 => Call::PutBatch(self.middle(put)),
-            8 => Call::PutRight(put),
-            _ => Call::PutLeft(put),
-        }
-    }
-
-    /// The left vector's put in the middle, or this one.
-    fn middle(&self, put: Put) -> Put {
-        match self.left.plain.get(self.left.plain.len() / 2) {
-            Some(middle) => *middle,
-            None => put,
-        }
+    /// Whether the left buffer lends its one message, by its key and by an interval.
+    fn lends_one(&self) -> bool {
+        let (from, to) = (self.keys.at(2), self.keys.at(3));
+        let run = self.left.in_range(from, to);
+        run.len() == 1
+            && run.get(0).number == 9
+            && run.get(0).op.carried() == b"new".as_slice()
+            && self.left.range_bytes(from, to) == 25
+            && self.left.of_key_near(from, 0).len() == 1
     }
 }
 
-fn random_places(random: &mut Random) -> Places {
-    (random.below(12) as usize, random.below(13) as usize)
-}
-
-/// How many rows and then how many of so many random calls hold in buffers of these capacities, whether both buffers have
-/// many messages then, and how many requests all that makes.
+/// How many rows hold in buffers of these capacities, whether the left one lends one message then, and how many requests that
+/// makes.
 fn held<A: Allocator + Copy, B: Allocator + Copy, C: Allocator>(
     heap: &Refusing<C>,
     (lent, alloc): (A, B),
     capacities: (u16, u16),
-    (rows, calls): (&[Row], u32),
-) -> Result<(usize, u32, bool, u64), AllocError> {
+    rows: &[Row],
+) -> Result<(usize, bool, u64), AllocError> {
     heap.set(Plan::Grant);
     let mut all = All::new(lent, alloc, capacities)?;
     heap.set(Plan::RefuseAll);
-    let worked = all.work(rows)?;
-    let turns = all.go_on(&mut Random::new(7), calls)?;
-    let are_many = all.left.plain.len() > 20 && all.right.plain.len() > 20;
-    Ok((worked, turns, are_many, heap.asked()))
+    let worked = all.work(rows);
+    Ok((worked, all.lends_one(), heap.asked()))
 }
 
 #[test]
-fn calls_beside_sorted_vectors(rt: HostRuntime) -> Result<(), Fail> {
+fn worked_calls(rt: HostRuntime) -> Result<(), Fail> {
     let heap = Refusing::new(rt.alloc());
     let lent = (&heap, rt.alloc());
-    let tight = held(&heap, lent, (40, 0), (&TIGHT, 0))?;
-    assert_eq!(rt; tight, (TIGHT.len(), 0, false, 0));
-    let worked = held(&heap, lent, (200, 200), (&WORKED, 0))?;
-    assert_eq!(rt; worked, (WORKED.len(), 0, false, 0));
-    let random = held(&heap, lent, (9_000, 9_000), (&[], 600))?;
-    assert_eq!(rt; random, (0, 600, true, 0));
+    let tight = held(&heap, lent, (40, 0), &TIGHT)?;
+    assert_eq!(rt; tight, (TIGHT.len(), false, 0));
+    let worked = held(&heap, lent, (200, 200), &WORKED)?;
+    assert_eq!(rt; worked, (WORKED.len(), true, 0));
     Ok(())
-}
-
-/// Puts a message, where it fits and is new. Whether it did.
-pub(crate) fn pushed<A: Allocator>(buf: &mut MessageBuf<A>, made: Message<'_>) -> bool {
-    let may_push = buf.fits(made) && buf.is_new(made);
-    if may_push {
-        buf.push(made);
-    }
-    may_push
 }
 
 /// Puts the key of this number.

@@ -1,9 +1,8 @@
-//! Worked rows and random calls beside two plain vectors, with every request for memory refused but those of making.
+//! Worked rows, with every request for memory refused but those of making.
 use std::alloc::{AllocError, Allocator};
 use std::test::Fail;
 use stow_raw::raw_buf::RawBuf;
 use stow_refusing::{Plan, Refusing};
-use stow_testing::random::Random;
 
 /// A call of a block. A place comes first, then a slot or how many there are.
 #[derive(Clone, Copy)]
@@ -19,192 +18,79 @@ enum Call {
     Reset,
 }
 
-/// Calls of a block of 16 bytes, each with the room that is left then.
-const WORKED: [(Call, usize); 12] = [
-    (Call::Push(b'h', 5), 11),
-    (Call::Insert(0, 7), 7),
-    (Call::Insert(0, u32::MAX), 3),
-    (Call::Push(b'y', 3), 0),
-    (Call::Set(0, 258), 0),
-    (Call::RemoveOne(1), 4),
-    (Call::Reset, 16),
-    (Call::Add(4), 0),
-    (Call::Remove(1, 2), 8),
-    (Call::Push(b'a', 4), 4),
-    (Call::ClearFront, 8),
-    (Call::Set(1, u32::MAX), 8),
+/// Calls of a block of 16 bytes, each with the room that is left then, and the last slot, or 0.
+const WORKED: [(Call, usize, u32); 13] = [
+    (Call::Push(b'h', 5), 11, 0),
+    (Call::Insert(0, 7), 7, 7),
+    (Call::Insert(0, u32::MAX), 3, 7),
+    (Call::Push(b'y', 3), 0, 7),
+    (Call::Set(0, 258), 0, 7),
+    (Call::RemoveOne(1), 4, 258),
+    (Call::Reset, 16, 0),
+    (Call::Add(4), 0, 0),
+    (Call::Remove(1, 2), 8, 0),
+    (Call::Push(b'a', 4), 4, 0),
+    (Call::ClearFront, 8, 0),
+    (Call::Set(1, u32::MAX), 8, u32::MAX),
+    (Call::Push(b'p', 3), 5, u32::MAX),
 ];
 
-/// A block, and beside it what it is to hold.
-#[derive(Drop)]
-struct Both<A: Allocator, B: Allocator> {
-    buf: RawBuf<A>,
-    front: Vec<u8, B>,
-    slots: Vec<u32, B>,
-}
-
-impl<A: Allocator + Copy, B: Allocator + Copy> Both<A, B> {
-    fn new(heap: A, alloc: B, capacity: usize) -> Result<Both<A, B>, AllocError> {
-        Ok(Both {
-            buf: RawBuf::with_capacity(heap, capacity)?,
-            front: Vec::new(alloc),
-            slots: Vec::new(alloc),
-        })
-    }
-
-    /// Carries out a call on both, where it may be.
-    fn call(&mut self, call: Call) -> Result<(), AllocError> {
-        match call {
-            Call::Push(first, count) => return self.push(first, count),
-            Call::Insert(at, slot) => return self.insert(at, slot),
-            Call::Set(at, slot) => self.set(at, slot),
-            Call::Add(count) => return self.add(count),
-            Call::RemoveOne(at) => self.remove_one(at),
-            Call::Remove(at, count) => self.remove(at, count),
-            Call::ClearFront => {
-                self.buf.clear_front();
-                self.front.clear();
-            }
-            Call::Reset => {
-                self.buf.reset();
-                self.front.clear();
-                self.slots.clear();
-            }
-        }
-        Ok(())
-    }
-
-    fn push(&mut self, first: u8, count: u8) -> Result<(), AllocError> {
-        for i in 0..count {
-            if self.buf.room() > 0 {
-                self.buf.push_front(&[first.wrapping_add(i)]);
-                self.front.push(first.wrapping_add(i))?;
-            }
-        }
-        Ok(())
-    }
-
-    fn insert(&mut self, at: usize, slot: u32) -> Result<(), AllocError> {
-        if self.buf.room() >= 4 && at <= self.buf.slot_count() && at <= self.slots.len() {
-            self.buf.insert_slot(at, slot);
-            self.slots.insert(at, slot)?;
-        }
-        Ok(())
-    }
-
-    fn set(&mut self, at: usize, slot: u32) {
-        if at < self.buf.slot_count() && at < self.slots.len() {
-            self.buf.set_slot(at, slot);
-            self.slots[at] = slot;
-        }
-    }
-
-    fn add(&mut self, count: usize) -> Result<(), AllocError> {
-        if count <= self.buf.room() / 4 {
-            self.buf.add_slots(count);
-            self.slots
-                .resize(self.slots.len().saturating_add(count), 0)?;
-        }
-        Ok(())
-    }
-
-    fn remove_one(&mut self, at: usize) {
-        if at < self.buf.slot_count() && at < self.slots.len() {
-            self.buf.remove_slot(at);
-            self.slots.remove(at);
-        }
-    }
-
-    fn remove(&mut self, at: usize, count: usize) {
-        let end = at.saturating_add(count);
-        if end <= self.buf.slot_count() && end <= self.slots.len() && at <= end {
-            self.buf.remove_slots(at, end - at);
-            self.slots.drain(at..end);
-        }
-    }
-
-    /// Whether the block has its bytes, all and from the third on, its slots, and the room beside them.
-    fn holds(&self) -> bool {
-        let len = self.buf.front_len();
-        let from = len.min(3);
-        if self.buf.bytes(0, len) != self.front.as_slice()
-            || self.buf.bytes(from, len - from) != &self.front[self.front.len().min(3)..]
-        {
-            return false;
-        }
-        self.holds_slots() && self.is_counted()
-    }
-
-    /// Whether the room that is left is what bytes and slots leave.
-    fn is_counted(&self) -> bool {
-        let (capacity, room) = (self.buf.capacity(), self.buf.room());
-        room + self.buf.front_len() + 4 * self.buf.slot_count() == capacity
-    }
-
-    fn holds_slots(&self) -> bool {
-        let mut same = self.buf.slot_count() == self.slots.len();
-        for i in 0..self.slots.len() {
-            same = same && i < self.buf.slot_count() && self.buf.slot(i) == self.slots[i];
-        }
-        same
-    }
-
-    /// How many of the worked rows come before the first that does not hold.
-    fn work(&mut self) -> Result<usize, AllocError> {
-        for i in 0..WORKED.len() {
-            let (call, room) = WORKED[i];
-            self.call(call)?;
-            if self.buf.room() != room || !self.holds() {
-                return Ok(i);
-            }
-        }
-        Ok(WORKED.len())
-    }
-
-    /// How many of so many random calls come before the first after which they differ.
-    fn go_on(&mut self, random: &mut Random, calls: u32) -> Result<u32, AllocError> {
-        for turn in 0..calls {
-            self.call(random_call(random))?;
-            if self.buf.room() < 4 {
-                self.call(Call::Reset)?;
-            }
-            if !self.holds() {
-                return Ok(turn);
-            }
-        }
-        Ok(calls)
+/// Carries out a call, where it may be.
+fn carry_out<A: Allocator>(buf: &mut RawBuf<A>, call: Call) {
+    let count = buf.slot_count();
+    match call {
+        Call::Push(first, count) => push(buf, first, count),
+        Call::ClearFront => buf.clear_front(),
+        Call::Insert(at, slot) if buf.room() >= 4 && at <= count => buf.insert_slot(at, slot),
+        Call::Set(at, slot) if at < count => buf.set_slot(at, slot),
+        Call::Add(more) if more <= buf.room() / 4 => buf.add_slots(more),
+        Call::RemoveOne(at) if at < count => buf.remove_slot(at),
+        Call::Remove(at, some) if at <= count && some <= count - at => buf.remove_slots(at, some),
+        Call::Reset => buf.reset(),
+        _ => {}
     }
 }
 
-fn random_call(random: &mut Random) -> Call {
-    let at = random.below(51) as usize;
-    match random.below(6) {
-        0 => Call::Push(random.below(256) as u8, 4),
-        1 | 2 => Call::Insert(at, random.below(u32::MAX)),
-        3 => Call::Set(at, random.below(u32::MAX)),
-        4 => Call::Remove(at, random.below(9) as usize),
-        _ => Call::RemoveOne(at),
+fn push<A: Allocator>(buf: &mut RawBuf<A>, first: u8, count: u8) {
+    for i in 0..count {
+        if buf.room() > 0 {
+            buf.push_front(&[first.wrapping_add(i)]);
+        }
     }
 }
 
-/// How far the worked rows and random calls hold, with every request for memory refused that is not for making.
-fn calls_held<A: Allocator + Copy, B: Allocator + Copy, C: Allocator>(
-    heap: &Refusing<C>,
-    (lent, alloc): (A, B),
-) -> Result<(usize, u32, u64), AllocError> {
-    let mut small = Both::new(lent, alloc, 16)?;
-    let mut large = Both::new(lent, alloc, 200)?;
+fn last_slot<A: Allocator>(buf: &RawBuf<A>) -> u32 {
+    match buf.slot_count() {
+        0 => 0,
+        count => buf.slot(count - 1),
+    }
+}
+
+/// How many of the worked rows come before the first that does not hold, whether the block has the last bytes then, and how
+/// many requests for memory the calls made.
+fn worked<A: Allocator, B: Allocator>(
+    heap: &Refusing<B>,
+    alloc: A,
+) -> Result<(usize, bool, u64), AllocError> {
+    let mut buf = RawBuf::with_capacity(alloc, 16)?;
     heap.set(Plan::RefuseAll);
-    let worked = small.work()?;
-    let turns = large.go_on(&mut Random::new(1), 4_000)?;
-    Ok((worked, turns, heap.asked()))
+    let mut held = 0usize;
+    for i in 0..WORKED.len() {
+        let (made, room, last) = WORKED[i];
+        carry_out(&mut buf, made);
+        if held == i && buf.room() == room && last_slot(&buf) == last {
+            held = held.saturating_add(1);
+        }
+    }
+    let is_filled = buf.front_len() == 3 && buf.bytes(1, 2) == b"qr".as_slice();
+    Ok((held, is_filled, heap.asked()))
 }
 
 #[test]
-fn calls_beside_vectors(rt: HostRuntime) -> Result<(), Fail> {
+fn worked_calls(rt: HostRuntime) -> Result<(), Fail> {
     let heap = Refusing::new(rt.alloc());
-    let held = calls_held(&heap, (&heap, rt.alloc()))?;
-    assert_eq!(rt; held, (WORKED.len(), 4_000, 0));
+    let held = worked(&heap, &heap)?;
+    assert_eq!(rt; held, (WORKED.len(), true, 0));
     Ok(())
 }
 

@@ -3,9 +3,6 @@ use crate::page::plain::first_fault;
 use crate::page::{fault_of, pushed, rows_of};
 use std::alloc::{AllocError, Allocator};
 use std::test::Fail;
-use stow_page::rows::Rows;
-use stow_tree_model::tenant_key::TenantKey;
-use stow_tree_model::tenant_key_buf::TenantKeyBuf;
 
 /// The next number of a fixed row of numbers that looks random.
 fn random(state: &mut u64) -> u64 {
@@ -15,9 +12,6 @@ fn random(state: &mut u64) -> u64 {
     let value = *state;
     value / 8_589_934_592
 }
-
-/// The letters of the keys of a page that has many.
-const MANY: &[u8] = b"abcdefghijklmnopqrstuvwxyz";
 
 /// A page of versions that rise: tenants 1 to 3, keys of one of these letters, and of each some numbers.
 fn random_page<A: Allocator + Copy>(
@@ -98,72 +92,6 @@ fn random_pages_are_read_as_by_the_plain_reader(rt: HostRuntime) -> Result<(), F
     let mut state = 11u64;
     for _ in 0..30 {
         assert!(rt; is_read_plainly(rt.alloc(), &mut state)?);
-    }
-    Ok(())
-}
-
-/// The number of the last version of a key up to a number, by a walk over all.
-fn walked<A: Allocator>(rows: &Rows<A>, key: TenantKey<'_>, number: u64) -> Option<u64> {
-    let mut found = None;
-    for i in 0..rows.len() {
-        let version = rows.get(i);
-        if version.key.bytes == key.bytes && version.number <= number {
-            found = Some(version.number);
-        }
-    }
-    found
-}
-
-/// Whether a random look-up, from wherever it begins and without a guess, finds what a walk does.
-fn is_found<A: Allocator + Copy>(
-    alloc: A,
-    rows: &Rows<A>,
-    state: &mut u64,
-) -> Result<bool, AllocError> {
-    let letter = [b'a' + (random(state) % 27) as u8];
-    let key = TenantKeyBuf::new(alloc, (random(state) % 5) as u32, &letter)?;
-    let number = random(state) % 5;
-    let guess = (random(state) % 16) as usize;
-    let found = rows.version_at(key.as_key(), number, guess);
-    let hinted = rows.version_at(key.as_key(), number, usize::MAX);
-    let wanted = walked(rows, key.as_key(), number);
-    Ok(
-        found.map(|version| version.number) == wanted
-            && hinted.map(|version| version.number) == wanted,
-    )
-}
-
-/// Whether so many random look-ups in a random page do.
-fn are_found<A: Allocator + Copy>(
-    alloc: A,
-    letters: &[u8],
-    state: &mut u64,
-    count: u32,
-) -> Result<bool, AllocError> {
-    let page = random_page(alloc, letters, state)?;
-    let Some(rows) = rows_of(alloc, page.as_slice())? else {
-        return Ok(false);
-    };
-    for _ in 0..count {
-        if !is_found(alloc, &rows, state)? {
-            return Ok(false);
-        }
-    }
-    Ok(true)
-}
-
-#[test]
-fn random_look_ups(rt: HostRuntime) -> Result<(), Fail> {
-    let mut state = 5u64;
-    for turn in 0..20u32 {
-        assert!(rt;
-            are_found(rt.alloc(), b"abc", &mut state, 300)?,
-            "page {turn}"
-        );
-        assert!(rt;
-            are_found(rt.alloc(), MANY, &mut state, 200)?,
-            "page {turn}"
-        );
     }
     Ok(())
 }
