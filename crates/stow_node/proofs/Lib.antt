@@ -24,6 +24,9 @@ pub mod Rising
 pub mod Ways
 pub mod Deepest
 pub mod Fences
+pub mod Nearest
+pub mod Installable
+pub mod Batches
 pub mod Planned
 pub mod Mergeable
 pub mod PlanSteps

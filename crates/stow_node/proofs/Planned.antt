@@ -33,10 +33,11 @@ use Rattle.stow_node.specs.declared.shape.Shape.{Shape}
 use Rattle.stow_node.specs.Installs.{next_fence, CanInstall}
 use Rattle.stow_node.specs.Nodes.{part_of, node_part, leaf_part, parts_of, nearest_of, nearest_in, subtree_of, IsBelow, IsNode, AreChildren}
 use Rattle.stow_node.specs.Parts.{Part, low_or, end_of, high_of, IsTile, TiledTo, messages_in, leaves_in}
-use Rattle.stow_node.specs.Plans.{AreAmong, IsPlanned}
+use Rattle.stow_node.specs.Plans.{IsPlanned}
 use Rattle.stow_node.specs.Subtree.{Subtree, buffered, nearest_at, right_above_leaves}
 use Rattle.stow_node.proofs.Cut.{some_cond}
 use Rattle.stow_node.proofs.Fences.{next_of_part, leaf_of_part, fence_within, within_both}
+use Rattle.stow_node.proofs.Nearest.{in_own, out_of_own, none_nearest}
 use Rattle.stow_node.proofs.Row.{message_taken, messages_apart, at_part, low_below, tile_at}
 use Rattle.stow_node.proofs.Stayed.{part_at, level_at}
 use Rattle.stow_node.proofs.Ways.{are_children}
@@ -54,24 +55,10 @@ contained_there (x ∷ ms) m c = ⊎_elim
 pub key_within : (low high : List ℕ) (ms : List TreeMessage) (key : List ℕ) (n : ℕ) → NoneOutside low high ms → IsSome (ops_in ms key n) → spans low high key ≡ true
 key_within low high ms key n w s = by_test (spans low high key) (λ e. e) (λ e. absurd (none_some (ops_in ms key n) (w.outside key n e) s))
 
-in_own : (low high : List ℕ) (ms : List TreeMessage) (key : List ℕ) (n : ℕ) → spans low high key ≡ true → ops_in (in_range low high ms) key n ≡ ops_in ms key n
-in_own low high ms key n s = ops-in_range low high ms key n ∙ ap (λ b. cond b (ops_in ms key n) None) s
-
-out_of_own : (low high : List ℕ) (ms : List TreeMessage) (key : List ℕ) (n : ℕ) → spans low high key ≡ false → ops_in (in_range low high ms) key n ≡ None
-out_of_own low high ms key n s = ops-in_range low high ms key n ∙ ap (λ b. cond b (ops_in ms key n) None) s
-
 pub range_within : (low high : List ℕ) (ms : List TreeMessage) → NoneOutside low high (in_range low high ms)
 range_within low high ms = record { outside = λ key n o. out_of_own low high ms key n o }
 
 -- ---- the messages right above the leaves
-
-none_nearest : {A : Type 0} (cs : List (Child A)) (key : List ℕ) (n : ℕ) → TiledTo top_key (parts_of cs) → lt key (low_or top_key (parts_of cs)) ≡ true → ops_in (nearest_in cs) key n ≡ None
-none_nearest [] key n t l = refl
-none_nearest (c ∷ cs) key n t l =
-    ops-append (in_range (part_of c).low (low_or top_key (parts_of cs)) (nearest_of c)) (nearest_in cs) key n
-    ∙ both_none (ops_in (in_range (part_of c).low (low_or top_key (parts_of cs)) (nearest_of c)) key n) (ops_in (nearest_in cs) key n)
-    (out_of_own (part_of c).low (low_or top_key (parts_of cs)) (nearest_of c) key n (under (part_of c).low (low_or top_key (parts_of cs)) key l))
-    (none_nearest cs key n t.1 (lt_trans key (part_of c).low (low_or top_key (parts_of cs)) l (ap is_lt t.0.ordered)))
 
 -- of a key they are those of the child that it belongs to
 nearest_at_child : {A : Type 0} (cs : List (Child A)) (i : ℕ) (c : Child A) (key : List ℕ) (n : ℕ) → TiledTo top_key (parts_of cs) → slice_get cs i ≡ Some c → spans (part_of c).low (high_of (parts_of cs) i) key ≡ true → ops_in (nearest_in cs) key n ≡ ops_in (nearest_of c) key n

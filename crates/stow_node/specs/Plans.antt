@@ -14,7 +14,7 @@ use Rattle.stow_node.specs.declared.child.Child.TheVariants as in_child
 use Rattle.stow_node.specs.declared.shape.Shape.{Shape}
 use Rattle.stow_node.specs.Installs.{CanInstall}
 use Rattle.stow_node.specs.Moves.{IsSqueezed, HandsDown}
-use Rattle.stow_node.specs.Nodes.{part_of, parts_of, leaves_of, deepest_of, deepest_in, AreChildren}
+use Rattle.stow_node.specs.Nodes.{AreAmong, part_of, parts_of, leaves_of, deepest_of, deepest_in, AreChildren}
 use Rattle.stow_node.specs.Parts.{Part, high_of, messages_in}
 use Rattle.stow_node.specs.Subtree.{Subtree, buffered, deepest_buffer}
 use Rattle.stow_node.specs.Ways.{Heaviest}
@@ -25,10 +25,6 @@ IsLeafTarget target = (LEAST_LEAF_TARGET ≤ target) × (target ≤ GREATEST_LEA
 
 abbrev pub HasLeafTarget : Shape → Type 0
 HasLeafTarget shape = IsLeafTarget shape.leaf
-
--- each message of the batch is one of a node's buffered messages
-abbrev pub AreAmong : List TreeMessage → List TreeMessage → Type 0
-AreAmong batch ms = (key : List ℕ) (n : ℕ) → IsSome (ops_in batch key n) → IsSome (ops_in ms key n)
 
 -- the job has messages, all of them the node's, and the pins, and could be installed as it is
 pub record IsPlanned {A : Type 0} (under : TenantPins) (t : Subtree) (job : FlushJob A)

@@ -35,6 +35,7 @@ mod coming;
 mod counting;
 mod fence;
 pub mod installed;
+mod installing;
 mod moving;
 pub mod node;
 mod planning;
