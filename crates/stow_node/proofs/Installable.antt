@@ -21,16 +21,18 @@ use Rattle.stow_leaf.specs.declared.leaf.Leaf.{Leaf}
 use Rattle.stow_leaf.proofs.Intervals.{lt, by_test, lt_self, lt_le, le_le, lt_not, span_low, span_high, spanned}
 use Rattle.stow_node.specs.declared.child.Child.{Child}
 use Rattle.stow_node.specs.declared.child.Child.TheVariants as in_child
+use Rattle.stow_node.specs.declared.node.Node.TheInside.{Inside}
 use Rattle.stow_node.specs.declared.shape.Shape.{Shape}
 use Rattle.stow_node.specs.Installs.{next_fence, CanInstall, IsAsPlanned}
-use Rattle.stow_node.specs.Nodes.{part_of, node_part, leaf_part, parts_of, AreChildren}
+use Rattle.stow_node.specs.Nodes.{part_of, node_part, leaf_part, parts_of, AreChildren, subtree_of, IsNode}
 use Rattle.stow_node.specs.Parts.{Part, low_or, end_of, high_of, IsFor, IsTile, TiledTo, leaves_in}
 use Rattle.stow_node.specs.Subtree.{Subtree}
 use Rattle.stow_node.proofs.Entered.{child_at}
 use Rattle.stow_node.proofs.Fences.{fence_within}
 use Rattle.stow_node.proofs.Lowered.{end_at_most}
-use Rattle.stow_node.proofs.Planned.{contained_there, keys_of_child, nearest_lowest, AtPlace, at_place, AtFence, at_fence, leaf_next, installs_above, installs_here}
-use Rattle.stow_node.proofs.Raised.{row_fences}
+use Rattle.stow_node.proofs.Planned.{contained_there, keys_of_child, AtPlace, at_place, AtFence, at_fence, leaf_next, installs_above, installs_here}
+use Rattle.stow_node.proofs.Nearest.{nearest_lowest}
+use Rattle.stow_node.proofs.Raised.{row_fences, whole_tile}
 use Rattle.stow_node.proofs.Row.{message_taken, messages_apart, low_below}
 use Rattle.stow_node.proofs.Stayed.{part_at}
 
@@ -53,7 +55,7 @@ leaf_in_part high (p ∷ q ∷ qs) (suc i) d leaf t l s c = ⊎_elim
     from = le_le q.low (get_or (q ∷ qs) i d).low leaf.0 (low_below message_taken high q qs i d (messages_apart high (q ∷ qs) t.1) (omega (arith, l))) (span_low (get_or (q ∷ qs) i d).low (end_of high (q ∷ qs) i) leaf.0 s)
 
 -- the next fence is not above the end
-next_at_most : (low high f : List ℕ) (ls : List LeafRows) → AllByRecursion (λ (l : LeafRows). spans low high l.0 ≡ true) ls → lt high (next_fence high ls f) ≡ false
+pub next_at_most : (low high f : List ℕ) (ls : List LeafRows) → AllByRecursion (λ (l : LeafRows). spans low high l.0 ≡ true) ls → lt high (next_fence high ls f) ≡ false
 next_at_most low high f [] a = lt_self high
 next_at_most low high f (l ∷ ls) a = by_test (lt f l.0)
     (λ e. ap (λ t. lt high (if t then l.0 else next_fence high ls f)) e ∙ lt_not l.0 high (span_high low high l.0 a.0))
@@ -115,12 +117,12 @@ installs_below {A} t cs i z job pins stand at own can = record {
 
 -- ---- a node right above leaves
 
-pub record InstallsHere {A : Type 0} (t : Subtree) (high : List ℕ) (leaf : Leaf A) (job : FlushJob A) (pins : TenantPins) : Type 0 where
+pub record InstallsHere {A : Type 0} (t : Subtree) (high : List ℕ) (leaf : Leaf A) (job : FlushJob A) : Type 0 where
   pub is : ◌≡◌ {A = LeafRows} (leaf_rows leaf) (job.target.low_fence, job.page)
   pub within : NoneOutside job.target.low_fence high job.batch.messages
   pub oldest : AreOldest job.batch.messages t.buffer.messages
 
-pub installs_at : {A : Type 0} (t : Subtree) (cs : List (Child A)) (i : ℕ) (leaf : Leaf A) (job : FlushJob A) (pins : TenantPins) → AreChildren t cs → slice_get cs i ≡ Some (in_child.Leaf leaf) → spans leaf.low (high_of (parts_of cs) i) job.target.low_fence ≡ true → CanInstall t job pins → InstallsHere t (high_of (parts_of cs) i) leaf job pins
+pub installs_at : {A : Type 0} (t : Subtree) (cs : List (Child A)) (i : ℕ) (leaf : Leaf A) (job : FlushJob A) (pins : TenantPins) → AreChildren t cs → slice_get cs i ≡ Some (in_child.Leaf leaf) → spans leaf.low (high_of (parts_of cs) i) job.target.low_fence ≡ true → CanInstall t job pins → InstallsHere t (high_of (parts_of cs) i) leaf job
 installs_at {A} t cs i leaf job pins stand at own can = record {
   is = is;
   within = subst (λ h. NoneOutside job.target.low_fence h job.batch.messages) (leaf_next t cs i leaf job.target.low_fence stand at (ap (λ (l : LeafRows). l.0) is)) can.inside;
@@ -197,3 +199,7 @@ lower_node {A} t cs i z f stand is at = record {
 
     own : spans z.low (high_of (parts_of cs) i) f ≡ true
     own = fence_at_child cs i (in_child.Node z) f is at
+
+-- the fence is of one of the node's children
+pub fence_inside : {A : Type 0} (a : Inside A) (job : FlushJob A) (pins : TenantPins) → IsNode a → CanInstall (subtree_of a) job pins → spans (low_or top_key (parts_of a.children.items)) top_key job.target.low_fence ≡ true
+fence_inside a job pins node can = ap (λ low. spans low top_key job.target.low_fence) node.first ∙ fence_held (subtree_of a) (job.target.low_fence, job.page) (whole_tile a node) can.leaf

@@ -27,6 +27,9 @@ pub mod Fences
 pub mod Nearest
 pub mod Installable
 pub mod Batches
+pub mod PagesIn
+pub mod Through
+pub mod Raising
 pub mod Planned
 pub mod Mergeable
 pub mod PlanSteps

@@ -37,7 +37,7 @@ use Rattle.stow_node.specs.Plans.{IsPlanned}
 use Rattle.stow_node.specs.Subtree.{Subtree, buffered, nearest_at, right_above_leaves}
 use Rattle.stow_node.proofs.Cut.{some_cond}
 use Rattle.stow_node.proofs.Fences.{next_of_part, leaf_of_part, fence_within, within_both}
-use Rattle.stow_node.proofs.Nearest.{in_own, out_of_own, none_nearest}
+use Rattle.stow_node.proofs.Nearest.{in_own, out_of_own, none_nearest, nearest_up, nearest_lowest}
 use Rattle.stow_node.proofs.Row.{message_taken, messages_apart, at_part, low_below, tile_at}
 use Rattle.stow_node.proofs.Stayed.{part_at, level_at}
 use Rattle.stow_node.proofs.Ways.{are_children}
@@ -93,14 +93,6 @@ nearest_at_child {A} (x ∷ cs) (suc i) c key n t e s =
         inside_parts d ds zero f = omega arith
         inside_parts d [] (suc j) f = absurd cc
         inside_parts d (x ∷ ds) (suc j) f = let r = inside_parts x ds j f in omega (arith, r)
-
-pub nearest_up : (height : ℕ) (own below : List TreeMessage) → 2 ≤ height → nearest_at height own below ≡ below
-nearest_up zero own below l = refl
-nearest_up (suc zero) own below l = absurd (omega (arith, l))
-nearest_up (suc (suc height)) own below l = refl
-
-pub nearest_lowest : (height : ℕ) (own below : List TreeMessage) → height ≡ 1 → nearest_at height own below ≡ own
-nearest_lowest height own below e = ap (λ h. nearest_at h own below) e
 
 -- ---- a node above the one that a job could be installed at
 

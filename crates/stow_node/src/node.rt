@@ -482,7 +482,6 @@ impl<A: Allocator + Copy> Node<A> {
             cache.old cache.new) }
         ensures kept { OnErr result (Forgets self.old.leaves self.old.leaves cache.old cache.new) }
     {
-        let _known = self.buffer.len();
         let _known = merge.job.batch.len();
         let fence = merge.job.target.low_fence.as_key();
         let index = child_for(self.children.as_slice(), fence);
