@@ -1,6 +1,6 @@
 -- The keys of a batch, and rows that are the same.
-use Rattle.std.proofs.Common.{zero, suc, ◌≡◌, ℕ, ◌+◌, true, false, cond, List, [], ◌∷◌, length, take, Option, Some, None, refl, sym, ap, ◌∙◌, subst, arith}
-use Rattle.std.specs.Prelude.{IsSome, not, slice_get}
+use Rattle.std.proofs.Common.{zero, suc, ◌≡◌, ℕ, ◌+◌, cond, List, [], ◌∷◌, length, take, Some, None, refl, sym, ap, ◌∙◌, arith}
+use Rattle.std.specs.Prelude.{not, slice_get}
 use Rattle.std.proofs.lemmas.List.Filters.{length-filter_both}
 use Rattle.stow_message.specs.Rising.{is_between, in_range, out_of_range}
 use Rattle.stow_tree_model.specs.Messages.{ops_in}

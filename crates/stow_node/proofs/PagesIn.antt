@@ -1,7 +1,7 @@
 -- A node right above leaves, in which the pages of a job's result are in its leaf's place.
-use Rattle.std.proofs.Common.{zero, suc, ◌≡◌, ◌≢◌, ℕ, ◌+◌, ◌*◌, ◌<◌, ◌≤◌, true, false, List, [], ◌∷◌, ◌++◌, length, map, Some, None, refl, sym, ap, ◌∙◌, subst, arith, ⊎_elim}
+use Rattle.std.proofs.Common.{◌≡◌, ◌≢◌, ℕ, ◌+◌, ◌*◌, ◌<◌, ◌≤◌, true, false, List, [], ◌∷◌, ◌++◌, length, map, Some, refl, sym, ap, ◌∙◌, subst, arith, ⊎_elim}
 use Rattle.std.specs.Prelude.{Contains, IsSome, slice_get, not, if◌then◌else◌}
-use Rattle.std.specs.List.{All, AllByRecursion, filter}
+use Rattle.std.specs.List.{AllByRecursion, filter}
 use Rattle.std.specs.Ordering.{is_eq, eq_by_cmp}
 use Rattle.std.specs.declared.vec.Vec.{Vec}
 use Rattle.std.proofs.lemmas.List.{length-map}
@@ -25,9 +25,8 @@ use Rattle.stow_leaf.specs.Intervals.{top_key, spans, NoneOutside}
 use Rattle.stow_leaf.specs.LeafRows.{LeafRows, leaf_rows, row_messages, IsLeafTile, LeavesTo}
 use Rattle.stow_leaf.specs.Replacements.{AreThere, IsLeafSize, MeanTheSame}
 use Rattle.stow_leaf.specs.declared.leaf.Leaf.{Leaf}
-use Rattle.stow_leaf.proofs.Found.{none_some, none_unless, some_or, some_left, some_right}
+use Rattle.stow_leaf.proofs.Found.{none_some, none_unless, some_or, some_left}
 use Rattle.stow_leaf.proofs.Intervals.{by_test}
-use Rattle.stow_leaf.proofs.Ops.{ops-append}
 use Rattle.stow_leaf.proofs.Over.{above_same, or_none_left}
 use Rattle.stow_leaves.specs.Absorbs.{fence_at, ops_above, BatchGoes, CanPutPages, PutsPages, StandsFor}
 use Rattle.stow_leaves.proofs.Fences.{fence_is}
@@ -35,17 +34,15 @@ use Rattle.stow_leaves.proofs.Parted.{batch_goes}
 use Rattle.stow_node.specs.declared.child.Child.{Child}
 use Rattle.stow_node.specs.declared.child.Child.TheVariants as in_child
 use Rattle.stow_node.specs.declared.node.Node.TheInside.{Inside}
-use Rattle.stow_node.specs.declared.shape.Shape.{Shape}
 use Rattle.stow_node.specs.Flushes.{KeepsMeaning}
 use Rattle.stow_node.specs.Installs.{AreGone, CanInstall, CoversAll}
-use Rattle.stow_node.specs.Nodes.{part_of, node_part, parts_of, leaves_of, nearest_in, AreLeaves, AreNewer, subtree_of, IsNode}
-use Rattle.stow_node.specs.Parts.{Part, high_of, IsFor, IsTile, messages_in, weight_in}
+use Rattle.stow_node.specs.Nodes.{part_of, node_part, parts_of, leaves_of, nearest_in, AreLeaves, subtree_of, IsNode}
+use Rattle.stow_node.specs.Parts.{high_of, IsFor, IsTile}
 use Rattle.stow_node.specs.Regroups.{Grows}
 use Rattle.stow_node.specs.Subtree.{Subtree, messages_of, right_above_leaves}
 use Rattle.stow_node.proofs.Entered.{child_at}
 use Rattle.stow_node.proofs.Installable.{InstallsHere, installs_at, fence_at_child}
-use Rattle.stow_node.proofs.Leaves.{AreRow, row, own, one_tile, children_are_leaves, leaf_end, leaf_there, no_node_there, newer_than_rows}
-use Rattle.stow_node.proofs.Nearest.{nearest_lowest}
+use Rattle.stow_node.proofs.Leaves.{AreRow, row, own, one_tile, children_are_leaves, leaf_there, newer_than_rows}
 use Rattle.stow_node.proofs.Planned.{AtPlace, at_place, key_within}
 use Rattle.stow_node.proofs.Raised.{whole_tile}
 use Rattle.stow_node.proofs.Standing.{outside_tile, stands}

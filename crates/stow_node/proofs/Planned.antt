@@ -1,7 +1,6 @@
 -- A job that could be installed at a child could be at its node.
-use Rattle.std.proofs.Common.{zero, suc, ◌≡◌, ◌≢◌, ℕ, ◌+◌, ◌<◌, ◌≤◌, true, false, cond, List, [], ◌∷◌, ◌++◌, map, length, get_or, Option, Some, None, refl, sym, ap, ◌∙◌, subst, arith, inl, ◌⊎◌, ⊎_elim}
+use Rattle.std.proofs.Common.{zero, suc, ◌≡◌, ◌≢◌, ℕ, ◌<◌, ◌≤◌, true, false, List, [], ◌∷◌, length, get_or, Option, Some, sym, ap, ◌∙◌, subst, arith, inl, ◌⊎◌, ⊎_elim}
 use Rattle.std.specs.Prelude.{Contains, IsSome, slice_get, is_some, if◌then◌else◌}
-use Rattle.std.specs.Ordering.{is_lt}
 use Rattle.std.proofs.lemmas.List.{length-map}
 use Rattle.stow_merge.proofs.Lists.{all_from_members}
 use Rattle.stow_merge.specs.Covering.{Covers, IsCovered}
@@ -11,7 +10,6 @@ use Rattle.stow_message.specs.Rising.{in_range, AreOldest}
 use Rattle.stow_message.proofs.RisingLists.{no_path}
 use Rattle.stow_tree_model.specs.Agreement.{TenantPins}
 use Rattle.stow_tree_model.specs.Messages.{ops_in}
-use Rattle.stow_tree_model.specs.Op.{Op}
 use Rattle.stow_tree_model.specs.Keys.{tenant_of}
 use Rattle.stow_tree_model.specs.TreeMessage.{TreeMessage}
 use Rattle.stow_tree_model.specs.Version.{Version}
@@ -20,10 +18,9 @@ use Rattle.stow_tree_model.proofs.Histories.{ops_in-at}
 use Rattle.stow_tree_model.proofs.Latest.{contains_cases}
 use Rattle.stow_tree_model.proofs.Pruning.{contains_here, none_in_nothing}
 use Rattle.stow_leaf.specs.Intervals.{top_key, spans, NoneOutside}
-use Rattle.stow_leaf.specs.LeafRows.{LeafRows, leaf_rows}
 use Rattle.stow_leaf.specs.declared.leaf.Leaf.{Leaf}
-use Rattle.stow_leaf.proofs.Found.{none_some, none_unless, none_or, or_none, both_none, some_left, some_right, first_stays}
-use Rattle.stow_leaf.proofs.Intervals.{lt, by_test, lt_self, lt_trans, le_le, span_low, span_high, spanned, not_spanned, under, beyond}
+use Rattle.stow_leaf.proofs.Found.{none_some, none_unless, none_or, or_none, some_left, some_right, first_stays}
+use Rattle.stow_leaf.proofs.Intervals.{lt, by_test, lt_self, le_le, span_low, span_high, spanned, not_spanned, under, beyond}
 use Rattle.stow_leaf.proofs.Ops.{ops-append, ops-in_range}
 use Rattle.stow_leaf.proofs.Steps.{inside_of}
 use Rattle.stow_node.specs.declared.child.Child.{Child}
@@ -32,9 +29,9 @@ use Rattle.stow_node.specs.declared.node.Node.TheInside.{Inside}
 use Rattle.stow_node.specs.declared.shape.Shape.{Shape}
 use Rattle.stow_node.specs.Installs.{next_fence, CanInstall}
 use Rattle.stow_node.specs.Nodes.{part_of, node_part, leaf_part, parts_of, nearest_of, nearest_in, subtree_of, IsBelow, IsNode, AreChildren}
-use Rattle.stow_node.specs.Parts.{Part, low_or, end_of, high_of, IsTile, TiledTo, messages_in, leaves_in}
+use Rattle.stow_node.specs.Parts.{Part, low_or, high_of, IsTile, TiledTo, messages_in, leaves_in}
 use Rattle.stow_node.specs.Plans.{IsPlanned}
-use Rattle.stow_node.specs.Subtree.{Subtree, buffered, nearest_at, right_above_leaves}
+use Rattle.stow_node.specs.Subtree.{Subtree, buffered, right_above_leaves}
 use Rattle.stow_node.proofs.Cut.{some_cond}
 use Rattle.stow_node.proofs.Fences.{next_of_part, leaf_of_part, fence_within, within_both}
 use Rattle.stow_node.proofs.Nearest.{in_own, out_of_own, none_nearest, nearest_up, nearest_lowest}

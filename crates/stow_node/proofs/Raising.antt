@@ -1,13 +1,14 @@
 -- A root that becomes higher, as a job's pages came below it.
-use Rattle.std.proofs.Common.{◌≡◌, ℕ, ◌+◌, ◌<◌, ◌≤◌, true, List, [], ◌∷◌, ◌++◌, length, None, refl, sym, ap, ◌∙◌, subst, arith}
-use Rattle.std.specs.Prelude.{IsSome}
+use Rattle.std.proofs.Common.{◌≡◌, ℕ, ◌+◌, ◌<◌, ◌≤◌, true, List, [], ◌∷◌, ◌++◌, length, refl, sym, ap, ◌∙◌, subst, arith}
 use Rattle.stow_leaf.specs.Intervals.{top_key, spans}
 use Rattle.stow_leaf_cache.specs.Cache.{Cache}
 use Rattle.stow_leaves.specs.Forgets.{Forgets}
 use Rattle.stow_merge.specs.declared.flush_job.FlushJob.{FlushJob}
 use Rattle.stow_tree_model.specs.Agreement.{TenantPins}
+use Rattle.stow_tree_model.specs.Keys.{tenant_of}
 use Rattle.stow_tree_model.specs.Messages.{ops_in}
 use Rattle.stow_leaf.proofs.Found.{none_unless, none_some}
+use Rattle.stow_leaf.proofs.Over.{same_itself}
 use Rattle.stow_node.specs.declared.child.Child.{Child}
 use Rattle.stow_node.specs.declared.child.Child.TheVariants as in_child
 use Rattle.stow_node.specs.declared.room.Room.{Room}
@@ -18,7 +19,7 @@ use Rattle.stow_node.specs.Nodes.{leaves_of, nearest_in, node_part, AreAmong}
 use Rattle.stow_node.specs.Parts.{IsTile}
 use Rattle.stow_node.specs.Regroups.{AreBehind, StandAsOne, StepsAsOne, ForgetsCame}
 use Rattle.stow_node.specs.Rooms.{HasRoom}
-use Rattle.stow_node.specs.Subtree.{Subtree, right_above_leaves}
+use Rattle.stow_node.specs.Subtree.{Subtree, messages_of}
 use Rattle.stow_node.proofs.Installable.{fence_held, next_at_most, none_wider}
 use Rattle.stow_node.proofs.Nearest.{none_alone}
 use Rattle.stow_node.proofs.Planned.{keys_of_child}
@@ -96,3 +97,13 @@ raising_gone {A} job old now room cache cache' i none key n s = none_alone A now
   own = ap (λ l. spans l top_key key) (stands_alone i.can.pins old now room.came.items i.tile (i.stands i.can.pins can.covered) none).low
       ∙ keys_of_child old.low fence top_key key job.batch.messages n (fence_held old (fence, job.page) i.tile can.leaf)
       (none_wider fence (next_fence top_key old.leaves fence) top_key job.batch.messages (next_at_most old.low top_key fence old.leaves i.tile.fences) can.inside) s
+
+-- a root that is as it was keeps what it means
+pub root_stays : (pins : TenantPins) (x y : Subtree) → y ≡ x → x.width ≤ x.shape.fan_out → KeepsRoot pins x y
+root_stays pins x y e few = subst (KeepsRoot pins x) (sym e) (record {
+  low = refl;
+  shape = refl;
+  capacity = refl;
+  few = few;
+  means = λ key. same_itself (pins (tenant_of key)) (ops_in (messages_of x) key);
+})

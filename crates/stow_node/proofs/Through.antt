@@ -1,14 +1,13 @@
 -- A node above nodes, into a child of which a job's pages came.
-use Rattle.std.proofs.Common.{zero, suc, ◌≡◌, ℕ, ◌+◌, ◌*◌, ◌<◌, ◌≤◌, true, false, List, [], ◌∷◌, ◌++◌, length, take, drop, set, None, Option, Some, refl, sym, ap, ◌∙◌, subst, arith}
-use Rattle.std.specs.Prelude.{IsSome, slice_get}
+use Rattle.std.proofs.Common.{zero, suc, ◌≡◌, ℕ, ◌+◌, ◌*◌, ◌<◌, ◌≤◌, true, List, [], ◌∷◌, ◌++◌, length, take, drop, set, Option, Some, refl, sym, ap, ◌∙◌, subst, arith}
+use Rattle.std.specs.Prelude.{slice_get}
 use Rattle.std.specs.List.{AllByRecursion}
 use Rattle.std.specs.declared.vec.Vec.{Vec}
 use Rattle.std.proofs.lemmas.List.{drop-map}
 use Rattle.stow_merge.specs.declared.flush_job.FlushJob.{FlushJob}
 use Rattle.stow_tree_model.specs.Agreement.{TenantPins}
 use Rattle.stow_tree_model.specs.Messages.{ops_in}
-use Rattle.stow_tree_model.specs.TreeMessage.{TreeMessage}
-use Rattle.stow_leaf.specs.Intervals.{top_key, spans, NoneOutside}
+use Rattle.stow_leaf.specs.Intervals.{top_key, spans}
 use Rattle.stow_leaf.specs.LeafRows.{row_messages}
 use Rattle.stow_leaf.specs.declared.leaf.Leaf.{Leaf}
 use Rattle.stow_leaf.proofs.Intervals.{lt, span_low, span_high}
@@ -16,17 +15,15 @@ use Rattle.stow_leaf.proofs.Steps.{inside_of}
 use Rattle.stow_node.specs.declared.child.Child.{Child}
 use Rattle.stow_node.specs.declared.child.Child.TheVariants as in_child
 use Rattle.stow_node.specs.declared.node.Node.TheInside.{Inside}
-use Rattle.stow_node.specs.declared.shape.Shape.{Shape}
 use Rattle.stow_node.specs.Installs.{AreGone, CanInstall}
-use Rattle.stow_node.specs.Nodes.{part_of, node_part, parts_of, nearest_in, deepest_in, AreNewer, AreLeafSizes, IsBelow, subtree_of, IsNode}
+use Rattle.stow_node.specs.Nodes.{part_of, parts_of, nearest_in, deepest_in, AreNewer, AreLeafSizes, IsBelow, subtree_of, IsNode}
 use Rattle.stow_node.specs.Parts.{Part, low_or, end_of, high_of, IsFor, TiledTo, messages_in, leaves_in, weight_in}
 use Rattle.stow_node.specs.Regroups.{StepsAsOne}
 use Rattle.stow_node.specs.Subtree.{Subtree, right_above_leaves}
-use Rattle.stow_node.proofs.Entered.{child_at}
 use Rattle.stow_node.proofs.Installable.{InstallsBelow, installs_below, fence_at_child}
 use Rattle.stow_node.proofs.Nearest.{nearest_up, nearest_front, nearest_behind, rest_tiled}
 use Rattle.stow_node.proofs.Planned.{AtPlace, at_place, keys_of_child}
-use Rattle.stow_node.proofs.Stepping.{Stepped, behind_set}
+use Rattle.stow_node.proofs.Stepping.{behind_set}
 use Rattle.stow_node.proofs.Ways.{are_children}
 
 -- the child that a job's fence belongs to, of a node above nodes

@@ -1,4 +1,4 @@
-use Rattle.std.proofs.Common.{rules, ◌≡◌, ℕ, ◌<◌, ap, ◌∙◌, sym, subst, arith}
+use Rattle.std.proofs.Common.{rules, ◌≡◌, ℕ, ◌<◌, ◌∙◌, sym, subst}
 use Rattle.std.specs.Prelude.{slice_get, Some, IsTrue}
 use Rattle.stow_message.proofs.RisingLists.{no_path}
 use Rattle.stow_leaf.specs.Intervals.{top_key, spans, NoneOutside}

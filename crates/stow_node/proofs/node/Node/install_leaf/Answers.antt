@@ -1,7 +1,6 @@
-use Rattle.std.proofs.Common.{◌≡◌, ◌+◌, ◌-◌, ◌<◌, ◌≤◌, List, length, refl, sym, ap, ◌∙◌, subst, arith}
+use Rattle.std.proofs.Common.{◌≡◌, ◌+◌, ◌-◌, ◌≤◌, List, length, refl, sym, ap, ◌∙◌, subst, arith}
 use Rattle.std.proofs.lemmas.List.{length-map}
 use Rattle.stow_leaf.specs.Intervals.{top_key, spans}
-use Rattle.stow_leaf.specs.LeafRows.{LeavesTo}
 use Rattle.stow_leaves.specs.Absorbs.{CanPutPages, PutsPages}
 use Rattle.stow_leaves.specs.Forgets.{Forgets}
 use Rattle.stow_message.proofs.Oldest.{oldest_are_held}
