@@ -1,5 +1,5 @@
 -- A tree into which a job's result came.
-use Rattle.std.proofs.Common.{◌≡◌, Result, Ok, Err}
+use Rattle.std.proofs.Common.{Result, Ok, Err}
 use Rattle.std.specs.Prelude.{IfErr}
 use Rattle.stow_flush.specs.Rooms.{RootStands}
 use Rattle.stow_node.specs.Flushes.{KeepsRoot}

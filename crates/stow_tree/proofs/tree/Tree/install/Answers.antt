@@ -3,7 +3,6 @@ use Rattle.std.specs.Prelude.{IfOk}
 use Rattle.stow_leaf.proofs.Steps.{if_ok}
 use Rattle.stow_merge.specs.Pins.{pins_in}
 use Rattle.stow_node.specs.Installs.{CanInstall}
-use Rattle.stow_node.specs.Subtree.{Subtree}
 use Rattle.stow_node.specs.declared.installed.Installed.TheVariants as installed
 use Rattle.stow_tree.specs.TreeState.{TreeState}
 use Rattle.stow_tree.proofs.Made.{room_kept, room_agrees}
