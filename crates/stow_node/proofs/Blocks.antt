@@ -25,6 +25,8 @@ halves_squeezed old lower upper lower' upper' h l u =
       messages = h.messages;
       count = h.count;
       weight = h.weight;
+      lower_nearest = h.lower_nearest;
+      upper_nearest = h.upper_nearest;
       below = h.below;
       above = h.above;
     }))

@@ -27,11 +27,12 @@ use Rattle.stow_node.specs.declared.child.Child.{Child}
 use Rattle.stow_node.specs.declared.node.Node.TheInside.{Inside}
 use Rattle.stow_node.specs.Parts.{Part, low_or, IsTile, TiledTo, messages_in, leaves_in, weight_in}
 use Rattle.stow_leaf.specs.Replacements.{IsLeafSize}
-use Rattle.stow_node.specs.Nodes.{part_of, parts_of, AreLeafSizes, IsBelow, subtree_of, IsNode}
+use Rattle.stow_node.specs.Nodes.{part_of, parts_of, nearest_in, AreLeafSizes, IsBelow, subtree_of, IsNode}
 use Rattle.stow_node.specs.Halves.{AreHalves}
 use Rattle.stow_node.proofs.Accepted.{length-all_placed}
 use Rattle.std.proofs.lemmas.List.Filters.{length-filter_both}
 use Rattle.stow_node.proofs.Lowered.{rows_by_part, row_messages-append}
+use Rattle.stow_node.proofs.Nearest.{nearest_front, nearest_behind, nearest_same}
 use Rattle.stow_node.proofs.Raised.{wider, row_fences, first_of_row, whole_tile}
 use Rattle.stow_leaf.proofs.Found.{both_none, or_none, some_left, some_right}
 use Rattle.stow_node.proofs.Row.{message_taken, row_taken, messages_apart, rows_apart, none_before, none_from, row_out, low_at_most}
@@ -194,6 +195,14 @@ cut {A} a v w low node e some more is rise = record {
         let h : a.height * length ms ≡ a.height * length (out_of_range low top_key ms) + a.height * length (all_placed (in_range low top_key ms) []) =
         ap (λ c. a.height * c) (sym split) ∙ ap (λ c. a.height * (c + length (out_of_range low top_key ms))) (sym q) ∙ grind arith in
         omega (arith, m, h);
+    lower_nearest = λ key n l. nearest_same a.height (out_of_range low top_key ms) ms (nearest_in v.items) (nearest_in a.children.items) key n
+        (ops-out_of_range low top_key ms key n ∙ ap (λ s. cond (not s) (ops_in ms key n) None) (under low top_key key l))
+        (sym (ap (λ cs. ops_in (nearest_in cs) key n) e ∙ nearest_front v.items w.items key n tiled (ap (lt key) (sym is) ∙ l)));
+    upper_nearest = λ key n l. nearest_same a.height (all_placed (in_range low top_key ms) []) ms (nearest_in w.items) (nearest_in a.children.items) key n
+        (upper_ops key n ∙ by_test (lt key top_key)
+        (λ t. ap (λ s. cond s (ops_in ms key n) None) (spanned low top_key key l t))
+        (λ t. let gone = node.from.outside key n (beyond a.low top_key key t) in none_cond (spans low top_key key) (ops_in ms key n) gone ∙ sym gone))
+        (sym (ap (λ cs. ops_in (nearest_in cs) key n) e ∙ nearest_behind v.items w.items key n tiled (ap (lt key) (sym is) ∙ l)));
     above = whole_tile (upper_of a w low) upper_node;
     below = record {
       fences = subst (λ from. AllByRecursion (λ leaf. spans from low leaf.0 ≡ true) (leaves_in ps)) begins (row_fences low ps left);
@@ -226,6 +235,9 @@ cut {A} a v w low node e some more is rise = record {
 
     parts : parts_of a.children.items ≡ ps ++ qs
     parts = ap parts_of e ∙ map-append part_of v.items w.items
+
+    tiled : TiledTo top_key (parts_of (v.items ++ w.items))
+    tiled = subst (λ cs. TiledTo top_key (parts_of cs)) e node.tiled
 
     right : TiledTo top_key qs
     right = tiled-right top_key ps qs (subst (TiledTo top_key) parts node.tiled)

@@ -23,7 +23,7 @@ not_leaf children i d x n at here is = other x n (sym (get_or_from_slice_get chi
 pub inside_lent : {A : Type 0} (cs lent : List (Child A)) (b : MessageList) (i : ℕ) → lent ≡ cs → IsHeaviest (parts_of lent) b i → i < length cs
 inside_lent cs lent b i e h = let l = h.inside in let n = length-map lent part_of in let m = ap length e in omega (arith, l, n, m)
 
-child_at : {X : Type 0} (xs : List X) (i : ℕ) → i < length xs → (x : X) × (slice_get xs i ≡ Some x)
+pub child_at : {X : Type 0} (xs : List X) (i : ℕ) → i < length xs → (x : X) × (slice_get xs i ≡ Some x)
 child_at [] i l = absurd (omega arith)
 child_at (x ∷ xs) zero l = (x, refl)
 child_at (x ∷ xs) (suc i) l = child_at xs i (omega arith)

@@ -8,10 +8,10 @@ use Rattle.stow_tree_model.proofs.Pruning.{contains_here, contains_there, none_i
 use Rattle.stow_tree_model.specs.TreeMessage.{TreeMessage}
 use Rattle.stow_leaf.specs.Intervals.{top_key, spans, NoneOutside}
 use Rattle.stow_leaf.specs.LeafRows.{LeafRows, first_fence}
-use Rattle.stow_leaf.proofs.Intervals.{lt, by_test, lt_self, lt_not, lt_le, le_le, span_low, span_high, not_spanned, under, beyond}
+use Rattle.stow_leaf.proofs.Intervals.{lt, by_test, lt_self, lt_not, lt_le, le_le, span_low, span_high}
 use Rattle.stow_message.proofs.RisingLists.{no_path}
 use Rattle.stow_node.specs.Installs.{next_fence}
-use Rattle.stow_node.specs.Parts.{Part, low_or, end_of, IsTile, TiledTo, leaves_in}
+use Rattle.stow_node.specs.Parts.{Part, low_or, end_of, TiledTo, leaves_in}
 use Rattle.stow_node.proofs.Row.{message_taken, messages_apart, low_below}
 
 next_append : (high : List ℕ) (xs ys : List LeafRows) (f : List ℕ) → next_fence high (xs ++ ys) f ≡ next_fence (next_fence high ys f) xs f

@@ -56,29 +56,29 @@ leaf_tile l high t = record {
   rows = record { outside = λ key n o. ap (λ ms. ops_in ms key n) (append-nil (map row_message l.rows)) ∙ t.rows.outside key n o };
 }
 
-one_tile : {A : Type 0} (l : Leaf A) (high : List ℕ) → IsTile (leaf_part l) high → IsLeafTile (leaf_rows l) high
+pub one_tile : {A : Type 0} (l : Leaf A) (high : List ℕ) → IsTile (leaf_part l) high → IsLeafTile (leaf_rows l) high
 one_tile l high t = record {
   ordered = t.ordered;
   rows = record { outside = λ key n o. ap (λ ms. ops_in ms key n) (sym (append-nil (map row_message l.rows))) ∙ t.rows.outside key n o };
 }
 
 -- what leaves are as children
-record AreRow {A : Type 0} (cs : List (Child A)) : Type 0 where
-  count : length cs ≡ length (leaves_of cs)
-  buffered : messages_in (parts_of cs) ≡ []
-  weight : weight_in (parts_of cs) ≡ 0
-  low : (high : List ℕ) → low_or high (parts_of cs) ≡ first_fence high (leaves_of cs)
-  tiled : (high : List ℕ) → TiledTo high (parts_of cs) → LeavesTo high (leaves_of cs)
-  tiles : (high : List ℕ) → LeavesTo high (leaves_of cs) → TiledTo high (parts_of cs)
-  level : (h : ℕ) (shape : Shape) → h ≡ 1 → AllByRecursion (IsBelow {A = A} h shape) cs
-  fence : (i : ℕ) (d : Part) → i < length cs → (get_or (parts_of cs) i d).low ≡ fence_at (leaves_of cs) i
-  end : (i : ℕ) → high_of (parts_of cs) i ≡ fence_at (leaves_of cs) (i + 1)
+pub record AreRow {A : Type 0} (cs : List (Child A)) : Type 0 where
+  pub count : length cs ≡ length (leaves_of cs)
+  pub buffered : messages_in (parts_of cs) ≡ []
+  pub weight : weight_in (parts_of cs) ≡ 0
+  pub low : (high : List ℕ) → low_or high (parts_of cs) ≡ first_fence high (leaves_of cs)
+  pub tiled : (high : List ℕ) → TiledTo high (parts_of cs) → LeavesTo high (leaves_of cs)
+  pub tiles : (high : List ℕ) → LeavesTo high (leaves_of cs) → TiledTo high (parts_of cs)
+  pub level : (h : ℕ) (shape : Shape) → h ≡ 1 → AllByRecursion (IsBelow {A = A} h shape) cs
+  pub fence : (i : ℕ) (d : Part) → i < length cs → (get_or (parts_of cs) i d).low ≡ fence_at (leaves_of cs) i
+  pub end : (i : ℕ) → high_of (parts_of cs) i ≡ fence_at (leaves_of cs) (i + 1)
 
 none : (i : ℕ) → top_key ≡ fence_at [] (i + 1)
 none zero = refl
 none (suc i) = let e : suc (i + 1) ≡ suc i + 1 = omega arith in ap (fence_at []) e
 
-row : {A : Type 0} (cs : List (Child A)) → AreLeaves cs → AreRow cs
+pub row : {A : Type 0} (cs : List (Child A)) → AreLeaves cs → AreRow cs
 row {A} cs h = subst (λ (l : List (Child A)). AreRow l) (sym h.are) (by_leaves h.leaves) where
   by_leaves : (ls : List (Leaf A)) → AreRow (map {B = Child A} in_child.Leaf ls)
   by_leaves [] = record { count = refl; buffered = refl; weight = refl; low = λ high. refl; tiled = λ high t. tt; tiles = λ high t. tt; level = λ h shape e. tt; fence = λ i d l. absurd (omega (arith, l)); end = none }
@@ -179,7 +179,7 @@ rows_of leaves cs e = leaves_are leaves ∙ ap leaves_of (sym e)
 -- ---- what a node right above leaves has
 
 -- what its own messages and its leaves have of a key
-own : {A : Type 0} (a : Inside A) → AreRow a.children.items → (key : List ℕ) → ops_in (messages_of (subtree_of a)) key ≡ ops_above a.buffer.messages (leaves_of a.children.items) key
+pub own : {A : Type 0} (a : Inside A) → AreRow a.children.items → (key : List ℕ) → ops_in (messages_of (subtree_of a)) key ≡ ops_above a.buffer.messages (leaves_of a.children.items) key
 own a r key = λ j n. (whole_ops a key n ∙ ap (λ ms. or_else (ops_in a.buffer.messages key n) (ops_in (ms ++ row_messages (leaves_of a.children.items)) key n)) r.buffered) j
 
 pub can_absorb : {A : Type 0} (a : Inside A) (i : ℕ) → IsNode a → a.height ≡ 1 → IsHeaviest (parts_of a.children.items) a.buffer i → 0 < length a.buffer.messages → AreShort (messages_of (subtree_of a)) → CanAbsorb (leaves_of a.children.items) i a.buffer.messages a.shape.leaf

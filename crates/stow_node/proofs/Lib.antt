@@ -24,6 +24,12 @@ pub mod Rising
 pub mod Ways
 pub mod Deepest
 pub mod Fences
+pub mod Nearest
+pub mod Installable
+pub mod Batches
+pub mod PagesIn
+pub mod Through
+pub mod Raising
 pub mod Planned
 pub mod Mergeable
 pub mod PlanSteps

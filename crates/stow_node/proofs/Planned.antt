@@ -1,7 +1,6 @@
 -- A job that could be installed at a child could be at its node.
-use Rattle.std.proofs.Common.{zero, suc, ◌≡◌, ◌≢◌, ℕ, ◌+◌, ◌<◌, ◌≤◌, true, false, cond, List, [], ◌∷◌, ◌++◌, map, length, get_or, Option, Some, None, refl, sym, ap, ◌∙◌, subst, arith, inl, ◌⊎◌, ⊎_elim}
+use Rattle.std.proofs.Common.{zero, suc, ◌≡◌, ◌≢◌, ℕ, ◌<◌, ◌≤◌, true, false, List, [], ◌∷◌, length, get_or, Option, Some, sym, ap, ◌∙◌, subst, arith, inl, ◌⊎◌, ⊎_elim}
 use Rattle.std.specs.Prelude.{Contains, IsSome, slice_get, is_some, if◌then◌else◌}
-use Rattle.std.specs.Ordering.{is_lt}
 use Rattle.std.proofs.lemmas.List.{length-map}
 use Rattle.stow_merge.proofs.Lists.{all_from_members}
 use Rattle.stow_merge.specs.Covering.{Covers, IsCovered}
@@ -11,7 +10,6 @@ use Rattle.stow_message.specs.Rising.{in_range, AreOldest}
 use Rattle.stow_message.proofs.RisingLists.{no_path}
 use Rattle.stow_tree_model.specs.Agreement.{TenantPins}
 use Rattle.stow_tree_model.specs.Messages.{ops_in}
-use Rattle.stow_tree_model.specs.Op.{Op}
 use Rattle.stow_tree_model.specs.Keys.{tenant_of}
 use Rattle.stow_tree_model.specs.TreeMessage.{TreeMessage}
 use Rattle.stow_tree_model.specs.Version.{Version}
@@ -20,10 +18,9 @@ use Rattle.stow_tree_model.proofs.Histories.{ops_in-at}
 use Rattle.stow_tree_model.proofs.Latest.{contains_cases}
 use Rattle.stow_tree_model.proofs.Pruning.{contains_here, none_in_nothing}
 use Rattle.stow_leaf.specs.Intervals.{top_key, spans, NoneOutside}
-use Rattle.stow_leaf.specs.LeafRows.{LeafRows, leaf_rows}
 use Rattle.stow_leaf.specs.declared.leaf.Leaf.{Leaf}
-use Rattle.stow_leaf.proofs.Found.{none_some, none_unless, none_or, or_none, both_none, some_left, some_right, first_stays}
-use Rattle.stow_leaf.proofs.Intervals.{lt, by_test, lt_self, lt_trans, le_le, span_low, span_high, spanned, not_spanned, under, beyond}
+use Rattle.stow_leaf.proofs.Found.{none_some, none_unless, none_or, or_none, some_left, some_right, first_stays}
+use Rattle.stow_leaf.proofs.Intervals.{lt, by_test, lt_self, le_le, span_low, span_high, spanned, not_spanned, under, beyond}
 use Rattle.stow_leaf.proofs.Ops.{ops-append, ops-in_range}
 use Rattle.stow_leaf.proofs.Steps.{inside_of}
 use Rattle.stow_node.specs.declared.child.Child.{Child}
@@ -32,11 +29,12 @@ use Rattle.stow_node.specs.declared.node.Node.TheInside.{Inside}
 use Rattle.stow_node.specs.declared.shape.Shape.{Shape}
 use Rattle.stow_node.specs.Installs.{next_fence, CanInstall}
 use Rattle.stow_node.specs.Nodes.{part_of, node_part, leaf_part, parts_of, nearest_of, nearest_in, subtree_of, IsBelow, IsNode, AreChildren}
-use Rattle.stow_node.specs.Parts.{Part, low_or, end_of, high_of, IsTile, TiledTo, messages_in, leaves_in}
-use Rattle.stow_node.specs.Plans.{AreAmong, IsPlanned}
-use Rattle.stow_node.specs.Subtree.{Subtree, buffered, nearest_at, right_above_leaves}
+use Rattle.stow_node.specs.Parts.{Part, low_or, high_of, IsTile, TiledTo, messages_in, leaves_in}
+use Rattle.stow_node.specs.Plans.{IsPlanned}
+use Rattle.stow_node.specs.Subtree.{Subtree, buffered, right_above_leaves}
 use Rattle.stow_node.proofs.Cut.{some_cond}
 use Rattle.stow_node.proofs.Fences.{next_of_part, leaf_of_part, fence_within, within_both}
+use Rattle.stow_node.proofs.Nearest.{in_own, out_of_own, none_nearest, nearest_up, nearest_lowest}
 use Rattle.stow_node.proofs.Row.{message_taken, messages_apart, at_part, low_below, tile_at}
 use Rattle.stow_node.proofs.Stayed.{part_at, level_at}
 use Rattle.stow_node.proofs.Ways.{are_children}
@@ -54,24 +52,10 @@ contained_there (x ∷ ms) m c = ⊎_elim
 pub key_within : (low high : List ℕ) (ms : List TreeMessage) (key : List ℕ) (n : ℕ) → NoneOutside low high ms → IsSome (ops_in ms key n) → spans low high key ≡ true
 key_within low high ms key n w s = by_test (spans low high key) (λ e. e) (λ e. absurd (none_some (ops_in ms key n) (w.outside key n e) s))
 
-in_own : (low high : List ℕ) (ms : List TreeMessage) (key : List ℕ) (n : ℕ) → spans low high key ≡ true → ops_in (in_range low high ms) key n ≡ ops_in ms key n
-in_own low high ms key n s = ops-in_range low high ms key n ∙ ap (λ b. cond b (ops_in ms key n) None) s
-
-out_of_own : (low high : List ℕ) (ms : List TreeMessage) (key : List ℕ) (n : ℕ) → spans low high key ≡ false → ops_in (in_range low high ms) key n ≡ None
-out_of_own low high ms key n s = ops-in_range low high ms key n ∙ ap (λ b. cond b (ops_in ms key n) None) s
-
 pub range_within : (low high : List ℕ) (ms : List TreeMessage) → NoneOutside low high (in_range low high ms)
 range_within low high ms = record { outside = λ key n o. out_of_own low high ms key n o }
 
 -- ---- the messages right above the leaves
-
-none_nearest : {A : Type 0} (cs : List (Child A)) (key : List ℕ) (n : ℕ) → TiledTo top_key (parts_of cs) → lt key (low_or top_key (parts_of cs)) ≡ true → ops_in (nearest_in cs) key n ≡ None
-none_nearest [] key n t l = refl
-none_nearest (c ∷ cs) key n t l =
-    ops-append (in_range (part_of c).low (low_or top_key (parts_of cs)) (nearest_of c)) (nearest_in cs) key n
-    ∙ both_none (ops_in (in_range (part_of c).low (low_or top_key (parts_of cs)) (nearest_of c)) key n) (ops_in (nearest_in cs) key n)
-    (out_of_own (part_of c).low (low_or top_key (parts_of cs)) (nearest_of c) key n (under (part_of c).low (low_or top_key (parts_of cs)) key l))
-    (none_nearest cs key n t.1 (lt_trans key (part_of c).low (low_or top_key (parts_of cs)) l (ap is_lt t.0.ordered)))
 
 -- of a key they are those of the child that it belongs to
 nearest_at_child : {A : Type 0} (cs : List (Child A)) (i : ℕ) (c : Child A) (key : List ℕ) (n : ℕ) → TiledTo top_key (parts_of cs) → slice_get cs i ≡ Some c → spans (part_of c).low (high_of (parts_of cs) i) key ≡ true → ops_in (nearest_in cs) key n ≡ ops_in (nearest_of c) key n
@@ -106,14 +90,6 @@ nearest_at_child {A} (x ∷ cs) (suc i) c key n t e s =
         inside_parts d ds zero f = omega arith
         inside_parts d [] (suc j) f = absurd cc
         inside_parts d (x ∷ ds) (suc j) f = let r = inside_parts x ds j f in omega (arith, r)
-
-pub nearest_up : (height : ℕ) (own below : List TreeMessage) → 2 ≤ height → nearest_at height own below ≡ below
-nearest_up zero own below l = refl
-nearest_up (suc zero) own below l = absurd (omega (arith, l))
-nearest_up (suc (suc height)) own below l = refl
-
-pub nearest_lowest : (height : ℕ) (own below : List TreeMessage) → height ≡ 1 → nearest_at height own below ≡ own
-nearest_lowest height own below e = ap (λ h. nearest_at h own below) e
 
 -- ---- a node above the one that a job could be installed at
 

@@ -1,6 +1,8 @@
 -- A node that is cut into several, and a root above several.
 use Rattle.std.proofs.Common.{suc, ◌≡◌, ℕ, ◌+◌, ◌-◌, ◌*◌, ◌<◌, ◌≤◌, List, [], ◌∷◌, ◌++◌, length, refl, sym, ap, ◌∙◌, subst, arith, append_assoc, append-nil, true}
 use Rattle.std.specs.List.{AllByRecursion}
+use Rattle.std.specs.Ordering.{is_lt}
+use Rattle.std.specs.Prelude.{IsSome}
 use Rattle.std.specs.declared.vec.Vec.{Vec}
 use Rattle.std.proofs.lemmas.List.Sums.{sum_by-cons}
 use Rattle.stow_bytes.specs.Bytes.{bytes_cmp}
@@ -25,15 +27,16 @@ use Rattle.std.specs.Vec.{vec_capacity}
 use Rattle.stow_leaf.specs.Replacements.{MeanTheSame}
 use Rattle.stow_node.specs.Flushes.{KeepsMeaning}
 use Rattle.stow_node.specs.Halves.{IsLike, AreHalves}
-use Rattle.stow_node.specs.Nodes.{leaves_of}
+use Rattle.stow_node.specs.Nodes.{leaves_of, nearest_in, AreAmong}
 use Rattle.stow_node.specs.Nodes.{node_part, parts_of, AreLeafSizes, IsBelow, subtree_of, IsNode}
 use Rattle.stow_node.specs.Parts.{Part, low_or, IsTile, TiledTo, messages_in, leaves_in, weight_in}
 use Rattle.stow_node.specs.Regroups.{nodes, run_parts, run_messages, TakePlace, AreFew, Grows, StandAsOne, StepsAsOne, AreBehind}
-use Rattle.stow_node.specs.Subtree.{Subtree, buffered, messages_of}
+use Rattle.stow_node.specs.Subtree.{Subtree, buffered, messages_of, right_above_leaves}
 use Rattle.stow_node.proofs.Cut.{below_end}
 use Rattle.stow_groups.proofs.Counts.{groups_few, groups_hold}
 use Rattle.stow_node.proofs.Lowered.{rows_by_part}
 use Rattle.stow_leaf.proofs.Over.{same_pointwise, same_then}
+use Rattle.stow_node.proofs.Nearest.{nearest_halves, nearest_alone, nearest_up}
 use Rattle.stow_node.proofs.Raised.{row_fences, first_of_row, above_leaves}
 use Rattle.stow_node.proofs.Row.{message_taken, row_taken, messages_apart, rows_apart, row_out}
 use Rattle.stow_node.proofs.Spliced.{one_takes_place, halves_take_place, row_ops_are}
@@ -63,9 +66,11 @@ pub record Settling {A : Type 0} (pins : TenantPins) (old now : Subtree) (came :
   pub few : AreFew run
   pub weight : weight_in (run_parts (now ∷ run)) ≡ old.weight
   pub leaves : leaves_in (run_parts (now ∷ run)) ≡ old.leaves
+  pub whole : IsTile (node_part old) top_key
+  pub nearest : AreAmong (nearest_in (nodes A (now ∷ run))) (right_above_leaves old)
 
-pub settling_first : (A : Type 0) (pins : TenantPins) (x : Subtree) → AreLeafSizes x.shape.leaf x.leaves → Settling {A = A} pins x x []
-settling_first A pins x sizes = record {
+pub settling_first : (A : Type 0) (pins : TenantPins) (x : Subtree) → AreLeafSizes x.shape.leaf x.leaves → IsTile (node_part x) top_key → Settling {A = A} pins x x []
+settling_first A pins x sizes whole = record {
   run = [];
   are = refl;
   like = (record { height = refl; shape = refl; capacity = refl }, tt);
@@ -81,7 +86,13 @@ settling_first A pins x sizes = record {
   few = tt;
   weight = let one = sum_by-cons (λ (p : Part). p.weight) (node_part x) [] in omega (arith, one);
   leaves = append-nil x.leaves;
+  whole = whole;
+  nearest = nearest_alone A x;
 }
+
+pub parts_of_nodes : (A : Type 0) (ts : List Subtree) → parts_of (nodes A ts) ≡ run_parts ts
+parts_of_nodes A [] = refl
+parts_of_nodes A (t ∷ ts) = ap (λ ps. node_part t ∷ ps) (parts_of_nodes A ts)
 
 pub settling_next : {A : Type 0} (pins : TenantPins) (old now lower upper : Subtree) (came : List (Child A)) → Settling pins old now came → AreHalves now lower upper → upper.width ≤ upper.shape.fan_out → Settling pins old lower (in_child.Node upper ∷ came)
 settling_next {A} pins old now lower upper came s h fits = record {
@@ -111,6 +122,8 @@ settling_next {A} pins old now lower upper came s h fits = record {
       let three = sum_by-cons (λ (p : Part). p.weight) (node_part upper) (run_parts s.run) in
       omega (arith, w, e, one, two, three);
   leaves = leaves_are ∙ s.leaves;
+  whole = s.whole;
+  nearest = λ key n there. s.nearest key n (nearest_halves now lower upper (nodes A s.run) h below_rest key n there);
 }
   where
     leaves_are : leaves_in (run_parts (lower ∷ upper ∷ s.run)) ≡ leaves_in (run_parts (now ∷ s.run))
@@ -121,6 +134,12 @@ settling_next {A} pins old now lower upper came s h fits = record {
       front : (xs ys : List LeafRows) → AreLeafSizes old.shape.leaf (xs ++ ys) → AreLeafSizes old.shape.leaf xs
       front [] ys a = tt
       front (x ∷ xs) ys a = (a.0, front xs ys a.1)
+
+    below_rest : lt upper.low (low_or top_key (parts_of (nodes A s.run))) ≡ true
+    below_rest =
+        let all = s.place.tiled top_key s.whole in
+        let two = (halves_take_place pins now lower upper own h).tiled (low_or top_key (run_parts s.run)) all.0.0 in
+        ap (λ ps. lt upper.low (low_or top_key ps)) (parts_of_nodes A s.run) ∙ ap is_lt two.0.1.0.ordered
 
     buffers : (key : List ℕ) (n : ℕ) → ops_in (messages_in (run_parts (lower ∷ upper ∷ s.run))) key n ≡ ops_in (messages_in (run_parts (now ∷ s.run))) key n
     buffers key n =
@@ -136,7 +155,7 @@ settling_next {A} pins old now lower upper came s h fits = record {
         ∙ sym (row_ops_are (run_parts (now ∷ s.run)) key n)
 
 pub settled : {A : Type 0} (pins : TenantPins) (old now : Subtree) (came : List (Child A)) → Settling pins old now came → now.width ≤ now.shape.fan_out → Grows pins old now came
-settled pins old now came s fits = record { run = s.run; are = s.are; like = s.like; place = s.place; few = (fits, s.few); weight = s.weight; leaves = s.leaves }
+settled pins old now came s fits = record { run = s.run; are = s.are; like = s.like; place = s.place; few = (fits, s.few); weight = s.weight; leaves = s.leaves; nearest = s.nearest }
 
 -- how far the code is: so many nodes are still to be one
 pub record IsSettling {A : Type 0} (old : Subtree) (room : Room A) (now : Subtree) (room' : Room A) (left : ℕ) : Type 0 where
@@ -150,9 +169,9 @@ pub record IsSettling {A : Type 0} (old : Subtree) (room : Room A) (now : Subtre
   pub wides : room'.wides ≡ room.wides
   pub shells : (rest : ℕ) → AreShells ((groups old.shape.fan_out old.width - 1) + rest) old.shape room.shells.items → AreShells ((left - 1) + rest) old.shape room'.shells.items
 
-pub settling_begins : {A : Type 0} (x : Subtree) (room : Room A) (left : ℕ) → AreLeafSizes x.shape.leaf x.leaves → 1 ≤ x.shape.fan_out → 1 ≤ x.width → room.came.items ≡ [] → left ≡ groups x.shape.fan_out x.width → IsSettling x room x room left
-settling_begins {A} x room left sizes fan some none e = subst (IsSettling x room x room) (sym e) (record {
-  settling = λ pins. subst (Settling pins x x) (sym none) (settling_first A pins x sizes);
+pub settling_begins : {A : Type 0} (x : Subtree) (room : Room A) (left : ℕ) → AreLeafSizes x.shape.leaf x.leaves → IsTile (node_part x) top_key → 1 ≤ x.shape.fan_out → 1 ≤ x.width → room.came.items ≡ [] → left ≡ groups x.shape.fan_out x.width → IsSettling x room x room left
+settling_begins {A} x room left sizes whole fan some none e = subst (IsSettling x room x room) (sym e) (record {
+  settling = λ pins. subst (Settling pins x x) (sym none) (settling_first A pins x sizes whole);
   shape = refl;
   some = omega arith;
   few = groups_few x.shape.fan_out x.width some;
@@ -230,10 +249,7 @@ steps {A} pins x y z came k less g few = record {
 
 -- the leaves of what grew
 pub grown_leaves : {A : Type 0} (pins : TenantPins) (y z : Subtree) (came : List (Child A)) → Grows pins y z came → z.leaves ++ leaves_of came ≡ y.leaves
-grown_leaves {A} pins y z came g = ap (λ (l : List (Child A)). z.leaves ++ leaves_of l) g.are ∙ ap (λ l. z.leaves ++ leaves_in l) (parts_of_run A g.run) ∙ g.leaves where
-  parts_of_run : (A : Type 0) (ts : List Subtree) → parts_of (nodes A ts) ≡ run_parts ts
-  parts_of_run A [] = refl
-  parts_of_run A (t ∷ ts) = ap (λ ps. node_part t ∷ ps) (parts_of_run A ts)
+grown_leaves {A} pins y z came g = ap (λ (l : List (Child A)). z.leaves ++ leaves_of l) g.are ∙ ap (λ l. z.leaves ++ leaves_in l) (parts_of_nodes A g.run) ∙ g.leaves
 
 -- ---- a root above several nodes
 
@@ -262,6 +278,7 @@ pub record Rooted {A : Type 0} (a : Inside A) (v : Vec (Child A) A) (came : List
   pub is_node : IsNode (root_above a v (message_list [] 0 a.shape.buffer))
   pub stands : (pins : TenantPins) (x z : Subtree) (came' : List (Child A)) → StandAsOne pins x (subtree_of a) came → Grows pins (subtree_of (root_above a v (message_list [] 0 a.shape.buffer))) z came' → StandAsOne pins x z came'
   pub leaves : leaves_in (parts_of v.items) ≡ (subtree_of a).leaves ++ leaves_of came
+  pub nearest : (pins : TenantPins) (z : Subtree) (came' : List (Child A)) → Grows pins (subtree_of (root_above a v (message_list [] 0 a.shape.buffer))) z came' → AreAmong (nearest_in (in_child.Node z ∷ came')) (nearest_in (in_child.Node (subtree_of a) ∷ came))
 
 pub rooted : {A : Type 0} (a : Inside A) (v : Vec (Child A) A) (came : List (Child A)) → IsNode a → AreBehind (subtree_of a) came → v.items ≡ in_child.Node (subtree_of a) ∷ came → Rooted a v came
 rooted {A} a v came node b items = record {
@@ -280,14 +297,13 @@ rooted {A} a v came node b items = record {
   };
   stands = λ pins x z came' s g. above pins x z came' s g;
   leaves = ap (λ (l : List (Child A)). leaves_in (parts_of l)) items;
+  nearest = λ pins z came' g key n there.
+      subst (λ ms. IsSome (ops_in ms key n)) (nearest_up (a.height + 1) [] (nearest_in v.items) (let l = above_leaves a node in omega (arith, l)) ∙ ap nearest_in items)
+      (g.nearest key n (subst (λ (l : List (Child A)). IsSome (ops_in (nearest_in (in_child.Node z ∷ l)) key n)) g.are there));
 }
   where
-    own_parts : (ts : List Subtree) → parts_of (nodes A ts) ≡ run_parts ts
-    own_parts [] = refl
-    own_parts (t ∷ ts) = ap (λ ps. node_part t ∷ ps) (own_parts ts)
-
     parts_by : (run : List Subtree) → came ≡ nodes A run → parts_of v.items ≡ run_parts (subtree_of a ∷ run)
-    parts_by run e = ap parts_of (items ∙ ap (λ l. in_child.Node (subtree_of a) ∷ l) e) ∙ ap (λ ps. node_part (subtree_of a) ∷ ps) (own_parts run)
+    parts_by run e = ap parts_of (items ∙ ap (λ l. in_child.Node (subtree_of a) ∷ l) e) ∙ ap (λ ps. node_part (subtree_of a) ∷ ps) (parts_of_nodes A run)
 
     parts : parts_of v.items ≡ run_parts (subtree_of a ∷ b.stands.run)
     parts = parts_by b.stands.run b.stands.are

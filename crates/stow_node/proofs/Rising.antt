@@ -11,7 +11,7 @@ use Rattle.stow_node.specs.declared.child.Child.{Child}
 use Rattle.stow_node.specs.declared.room.Room.{Room}
 use Rattle.stow_node.specs.declared.shape.Shape.{Shape}
 use Rattle.stow_leaf.specs.Replacements.{MeanTheSame}
-use Rattle.stow_node.specs.Flushes.{Flushes}
+use Rattle.stow_node.specs.Flushes.{Flushes, KeepsRoot}
 use Rattle.stow_leaves.specs.Forgets.{Forgets}
 use Rattle.stow_node.specs.Nodes.{leaves_of}
 use Rattle.stow_node.specs.Nodes.{node_part}
@@ -71,31 +71,44 @@ none_of : {A : Type 0} (came : List (Child A)) (run : List Subtree) → length c
 none_of came [] l e = refl
 none_of came (t ∷ run) l e = absurd (let n = ap length e in omega (arith, n, l))
 
+-- a root with none behind it keeps what it means
+pub stands_alone : {A : Type 0} (pins : TenantPins) (old now : Subtree) (came : List (Child A)) → IsTile (node_part old) top_key → StandAsOne pins old now came → length came ≡ 0 → KeepsRoot pins old now
+stands_alone {A} pins old now came tile s none = record {
+  low = (s.place.tiled top_key tile).1;
+  shape = s.shape;
+  capacity = s.capacity;
+  few = s.few.0;
+  means = λ key. subst (MeanTheSame (pins (tenant_of key)) (ops_in (messages_of old) key)) (λ j n. ap (λ ms. ops_in ms key n) whole j) (s.place.means key);
+}
+  where
+    whole : run_messages (now ∷ s.run) ≡ messages_of now
+    whole = ap (λ run. run_messages (now ∷ run)) (none_of came s.run none s.are) ∙ (λ j. append-nil (buffered now) j ++ row_messages (append-nil now.leaves j))
+
 pub rising_ends : {A : Type 0} (pins : TenantPins) (old now : Subtree) (room : Room A) (cache cache' : Cache) → IsRising pins old now room cache cache' → length room.came.items ≡ 0 → Flushes pins old now
 rising_ends {A} pins old now room cache cache' i none = record {
-  low = (i.stands.place.tiled top_key i.tile).1;
-  shape = i.stands.shape;
-  capacity = i.stands.capacity;
-  few = i.stands.few.0;
-  means = λ key. subst (MeanTheSame (pins (tenant_of key)) (ops_in (messages_of old) key)) (λ j n. ap (λ ms. ops_in ms key n) whole j) (i.stands.place.means key);
+  low = alone.low;
+  shape = alone.shape;
+  capacity = alone.capacity;
+  few = alone.few;
+  means = alone.means;
   lighter =
       let l = i.stands.lighter in
       let one = sum_by-cons (λ (p : Part). p.weight) (node_part now) (run_parts i.stands.run) in
       omega (arith, l, one);
 }
   where
-    alone : i.stands.run ≡ []
-    alone = none_of room.came.items i.stands.run none i.stands.are
-
-    whole : run_messages (now ∷ i.stands.run) ≡ messages_of now
-    whole = ap (λ run. run_messages (now ∷ run)) alone ∙ (λ j. append-nil (buffered now) j ++ row_messages (append-nil now.leaves j))
+    alone : KeepsRoot pins old now
+    alone = stands_alone pins old now room.came.items i.tile i.stands none
 
 no_leaves : {A : Type 0} (came : List (Child A)) → length came ≡ 0 → leaves_of came ≡ []
 no_leaves [] l = refl
 no_leaves (c ∷ came) l = absurd (omega arith)
 
+pub alone_forgets : {A : Type 0} (old now : Subtree) (came : List (Child A)) (cache cache' : Cache) → ForgetsCame old now came cache cache' → length came ≡ 0 → Forgets old.leaves now.leaves cache cache'
+alone_forgets old now came cache cache' f none = subst (λ ls. Forgets old.leaves ls cache cache') (ap (λ ls. now.leaves ++ ls) (no_leaves came none) ∙ append-nil now.leaves) f
+
 pub rising_forgets : {A : Type 0} (pins : TenantPins) (old now : Subtree) (room : Room A) (cache cache' : Cache) → IsRising pins old now room cache cache' → length room.came.items ≡ 0 → Forgets old.leaves now.leaves cache cache'
-rising_forgets pins old now room cache cache' i none = subst (λ ls. Forgets old.leaves ls cache cache') (ap (λ ls. now.leaves ++ ls) (no_leaves room.came.items none) ∙ append-nil now.leaves) i.forgets
+rising_forgets pins old now room cache cache' i none = alone_forgets old now room.came.items cache cache' i.forgets none
 
 pub rising_down : {A : Type 0} (pins : TenantPins) (old now : Subtree) (room : Room A) (cache cache' : Cache) → IsRising pins old now room cache cache' → length room.came.items ≡ 0 → StepsDown A pins old now cache cache'
 rising_down {A} pins old now room cache cache' i none = record {

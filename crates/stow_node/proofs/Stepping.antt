@@ -161,40 +161,54 @@ pub record Stepped {A : Type 0} (a : Inside A) (v : Vec (Child A) A) (pins : Ten
   pub keeps : KeepsMeaning pins (subtree_of a) (subtree_of (record a { children = v }))
   pub lighter : (subtree_of (record a { children = v })).weight < (subtree_of a).weight
 
-pub stepped : {A : Type 0} (a : Inside A) (v : Vec (Child A) A) (i bytes : ℕ) (x y z : Subtree) (came : List (Child A)) (pins : TenantPins) → IsNode a → IsNext a i bytes x → IsSqueezed x y → StepsAsOne pins y z came → v.items ≡ take (i + 1) (set a.children.items i (in_child.Node z)) ++ (came ++ drop (i + 1) (set a.children.items i (in_child.Node z))) → Stepped a v pins
-stepped {A} a v i bytes x y z came pins node n q s items = record {
+-- a step of a node that another stays in the place of
+pub steps_from : {A : Type 0} (pins : TenantPins) (x y z : Subtree) (came : List (Child A)) → StaysInMeaning x y → y.weight ≡ x.weight → StepsAsOne pins y z came → StepsAsOne pins x z came
+steps_from pins x y z came st weight s = record {
+  stands = record {
+    run = s.stands.run;
+    are = s.stands.are;
+    shape = s.stands.shape ∙ st.shape;
+    capacity = s.stands.capacity ∙ st.capacity;
+    like = s.stands.like;
+    place = place_of_stayed pins x y (z ∷ s.stands.run) st s.stands.place;
+    few = s.stands.few;
+    lighter = let l = s.stands.lighter in omega (arith, l, weight);
+  };
+  height = s.height ∙ st.height;
+  counted = s.counted;
+}
+
+-- the child stepped, and what came behind it stands there
+pub came_in : {A : Type 0} (a : Inside A) (v : Vec (Child A) A) (i : ℕ) (x z : Subtree) (came : List (Child A)) (pins : TenantPins) → IsNode a → slice_get a.children.items i ≡ Some (in_child.Node x) → StepsAsOne pins x z came → v.items ≡ take (i + 1) (set a.children.items i (in_child.Node z)) ++ (came ++ drop (i + 1) (set a.children.items i (in_child.Node z))) → Stepped a v pins
+came_in {A} a v i x z came pins node at s items = record {
   is_node = whole.is_node;
   keeps = whole.keeps;
-  lighter = let w = whole.weight in let l = s.stands.lighter in let e = (squeezed_same x y q).1 in omega (arith, w, l, e);
+  lighter = let w = whole.weight in let l = s.stands.lighter in omega (arith, w, l);
 }
   where
-    st : StaysInMeaning x y
-    st = (squeezed_same x y q).0
-
     like_x : IsLike x z
-    like_x = record { height = s.height ∙ st.height; shape = s.stands.shape ∙ st.shape; capacity = s.stands.capacity ∙ st.capacity }
+    like_x = record { height = s.height; shape = s.stands.shape; capacity = s.stands.capacity }
 
     all_like : (ts : List Subtree) → AllByRecursion (IsLike z) ts → AllByRecursion (IsLike x) ts
     all_like [] h = tt
     all_like (t ∷ ts) h = (record { height = h.0.height ∙ like_x.height; shape = h.0.shape ∙ like_x.shape; capacity = h.0.capacity ∙ like_x.capacity }, all_like ts h.1)
 
     whole : Spliced a v x (z ∷ s.stands.run) pins
-    whole = spliced a v i x (z ∷ s.stands.run) pins node n.at (place_of_stayed pins x y (z ∷ s.stands.run) st s.stands.place) (like_x, all_like s.stands.run s.stands.like) s.stands.few (omega arith)
+    whole = spliced a v i x (z ∷ s.stands.run) pins node at s.stands.place (like_x, all_like s.stands.run s.stands.like) s.stands.few (omega arith)
         (items ∙ ap (λ (l : List (Child A)). take (i + 1) (set a.children.items i (in_child.Node z)) ++ (l ++ drop (i + 1) (set a.children.items i (in_child.Node z)))) s.stands.are
-        ∙ behind_set a.children.items i (in_child.Node z) (nodes A s.stands.run) (inside_of a.children.items i (in_child.Node x) n.at))
+        ∙ behind_set a.children.items i (in_child.Node z) (nodes A s.stands.run) (inside_of a.children.items i (in_child.Node x) at))
 
--- the leaves that went with a child, the cache lost
-pub stepped_forgets : {A : Type 0} (a : Inside A) (v : Vec (Child A) A) (i bytes : ℕ) (x y z : Subtree) (came : List (Child A)) (pins : TenantPins) (cache cache' : Cache) → IsNode a → IsNext a i bytes x → IsSqueezed x y → StepsAsOne pins y z came → v.items ≡ take (i + 1) (set a.children.items i (in_child.Node z)) ++ (came ++ drop (i + 1) (set a.children.items i (in_child.Node z)))
-    → ForgetsCame y z came cache cache' → Forgets (leaves_in (parts_of a.children.items)) (leaves_in (parts_of v.items)) cache cache'
-stepped_forgets {A} a v i bytes x y z came pins cache cache' node n q s items f =
-    forgets_within (leaves_in (before_of a i)) x.leaves (z.leaves ++ leaves_of came) (leaves_in (after_of a i)) (leaves_in (parts_of a.children.items)) (leaves_in (parts_of v.items)) cache cache'
-    (subst (λ ls. Forgets ls (z.leaves ++ leaves_of came) cache cache') (squeezed_same x y q).0.leaves f)
-    (ap leaves_in (old_parts a i (in_child.Node x) n.at) ∙ flat_map-append (λ (p : Part). p.leaves) (before_of a i) (node_part x ∷ after_of a i))
+-- the leaves that went with the child, the cache lost
+pub came_forgets : {A : Type 0} (a : Inside A) (v : Vec (Child A) A) (i : ℕ) (x z : Subtree) (came : List (Child A)) (cache cache' : Cache) → slice_get a.children.items i ≡ Some (in_child.Node x) → v.items ≡ take (i + 1) (set a.children.items i (in_child.Node z)) ++ (came ++ drop (i + 1) (set a.children.items i (in_child.Node z)))
+    → ForgetsCame x z came cache cache' → Forgets (leaves_in (parts_of a.children.items)) (leaves_in (parts_of v.items)) cache cache'
+came_forgets {A} a v i x z came cache cache' at items f =
+    forgets_within (leaves_in (before_of a i)) x.leaves (z.leaves ++ leaves_of came) (leaves_in (after_of a i)) (leaves_in (parts_of a.children.items)) (leaves_in (parts_of v.items)) cache cache' f
+    (ap leaves_in (old_parts a i (in_child.Node x) at) ∙ flat_map-append (λ (p : Part). p.leaves) (before_of a i) (node_part x ∷ after_of a i))
     are
   where
     parts : parts_of v.items ≡ before_of a i ++ ((node_part z ∷ parts_of came) ++ after_of a i)
     parts =
-        ap parts_of (items ∙ behind_set a.children.items i (in_child.Node z) came (inside_of a.children.items i (in_child.Node x) n.at))
+        ap parts_of (items ∙ behind_set a.children.items i (in_child.Node z) came (inside_of a.children.items i (in_child.Node x) at))
         ∙ map-append part_of (take i a.children.items) ((in_child.Node z ∷ came) ++ drop (i + 1) a.children.items)
         ∙ (λ j. sym (take-map part_of i a.children.items) j ++ (map-append part_of (in_child.Node z ∷ came) (drop (i + 1) a.children.items) ∙ (λ k. (node_part z ∷ parts_of came) ++ sym (drop-map part_of (i + 1) a.children.items) k)) j)
 
@@ -202,6 +216,14 @@ stepped_forgets {A} a v i bytes x y z came pins cache cache' node n q s items f 
     are =
         ap leaves_in parts ∙ flat_map-append (λ (p : Part). p.leaves) (before_of a i) ((node_part z ∷ parts_of came) ++ after_of a i)
         ∙ ap (λ l. leaves_in (before_of a i) ++ l) (flat_map-append (λ (p : Part). p.leaves) (node_part z ∷ parts_of came) (after_of a i))
+
+pub stepped : {A : Type 0} (a : Inside A) (v : Vec (Child A) A) (i bytes : ℕ) (x y z : Subtree) (came : List (Child A)) (pins : TenantPins) → IsNode a → IsNext a i bytes x → IsSqueezed x y → StepsAsOne pins y z came → v.items ≡ take (i + 1) (set a.children.items i (in_child.Node z)) ++ (came ++ drop (i + 1) (set a.children.items i (in_child.Node z))) → Stepped a v pins
+stepped a v i bytes x y z came pins node n q s items = let st = squeezed_same x y q in came_in a v i x z came pins node n.at (steps_from pins x y z came st.0 st.1 s) items
+
+pub stepped_forgets : {A : Type 0} (a : Inside A) (v : Vec (Child A) A) (i bytes : ℕ) (x y z : Subtree) (came : List (Child A)) (pins : TenantPins) (cache cache' : Cache) → IsNode a → IsNext a i bytes x → IsSqueezed x y → StepsAsOne pins y z came → v.items ≡ take (i + 1) (set a.children.items i (in_child.Node z)) ++ (came ++ drop (i + 1) (set a.children.items i (in_child.Node z)))
+    → ForgetsCame y z came cache cache' → Forgets (leaves_in (parts_of a.children.items)) (leaves_in (parts_of v.items)) cache cache'
+stepped_forgets a v i bytes x y z came pins cache cache' node n q s items f =
+    came_forgets a v i x z came cache cache' n.at items (subst (λ ls. Forgets ls (z.leaves ++ leaves_of came) cache cache') (squeezed_same x y q).0.leaves f)
 
 -- ---- results
 

@@ -24,8 +24,16 @@ pub record KeepsMeaning (pins : TenantPins) (old new : Subtree) : Type 0 where
   pub means : (key : List ℕ) → MeanTheSame (pins (tenant_of key))
       (ops_in (messages_of old) key) (ops_in (messages_of new) key)
 
--- a root means the same under the pins, whatever height it has, and its messages are fewer, or
--- nearer to the leaves
+-- a root means the same under the pins, whatever height it has
+pub record KeepsRoot (pins : TenantPins) (old new : Subtree) : Type 0 where
+  pub low : new.low ≡ old.low
+  pub shape : new.shape ≡ old.shape
+  pub capacity : new.buffer.capacity ≡ old.buffer.capacity
+  pub few : new.width ≤ new.shape.fan_out
+  pub means : (key : List ℕ) → MeanTheSame (pins (tenant_of key))
+      (ops_in (messages_of old) key) (ops_in (messages_of new) key)
+
+-- and its messages are fewer, or nearer to the leaves
 pub record Flushes (pins : TenantPins) (old new : Subtree) : Type 0 where
   pub low : new.low ≡ old.low
   pub shape : new.shape ≡ old.shape

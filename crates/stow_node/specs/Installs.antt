@@ -4,6 +4,7 @@ use Rattle.std.specs.Ordering.{is_lt}
 use Rattle.stow_bytes.specs.Bytes.{bytes_cmp}
 use Rattle.stow_leaf.specs.Intervals.{top_key, NoneOutside}
 use Rattle.stow_leaf.specs.LeafRows.{LeafRows}
+use Rattle.stow_leaf.specs.declared.leaf.Leaf.{Leaf}
 use Rattle.stow_merge.specs.Covering.{Covers}
 use Rattle.stow_merge.specs.Pins.{pins_in}
 use Rattle.stow_merge.specs.declared.flush_job.FlushJob.{FlushJob}
@@ -31,7 +32,29 @@ pub record CanInstall {A : Type 0} (t : Subtree) (job : FlushJob A)
   pub oldest : AreOldest job.batch.messages (right_above_leaves t)
   pub covered : Covers (pins_in job.pins) pins job.page job.batch.messages
 
+-- the job's merge keeps all that these pins show
+abbrev pub CoversAll : {A : Type 0} → FlushJob A → TenantPins → Type 0
+CoversAll job pins = Covers (pins_in job.pins) pins job.page job.batch.messages
+
+-- the leaf has the job's fence and page
+abbrev pub IsLeafOf : {A : Type 0} → Leaf A → FlushJob A → Type 0
+IsLeafOf leaf job = (leaf.low ≡ job.target.low_fence) × (leaf.rows ≡ job.page)
+
+-- the leaf is the job's, of a node right above it that can take the batch out
+abbrev pub IsAsPlanned : {A : Type 0} → Leaf A → Subtree → FlushJob A → TenantPins → Type 0
+IsAsPlanned leaf t job pins = IsLeafOf leaf job × ((job.target.leaf_target ≡ t.shape.leaf)
+    × (AreOldest job.batch.messages t.buffer.messages × CoversAll job pins))
+
+-- no message of the batch is among these
+abbrev pub AreGone : List TreeMessage → List TreeMessage → Type 0
+AreGone batch ms = (key : List ℕ) (n : ℕ) → IsSome (ops_in batch key n)
+    → ops_in ms key n ≡ None
+
 -- no message of the batch is left in the buffers right above the leaves
 abbrev pub BatchIsGone : List TreeMessage → Subtree → Type 0
-BatchIsGone batch t = (key : List ℕ) (n : ℕ) → IsSome (ops_in batch key n)
-    → ops_in (right_above_leaves t) key n ≡ None
+BatchIsGone batch t = AreGone batch (right_above_leaves t)
+
+-- under some pins the result can be installed
+pub record CanComeIn {A : Type 0} (t : Subtree) (job : FlushJob A) : Type 0 where
+  pub pins : TenantPins
+  pub can : CanInstall t job pins

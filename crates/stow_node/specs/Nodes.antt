@@ -76,6 +76,11 @@ pub record AreNewer (upper lower : List TreeMessage) : Type 0 where
   pub above : (key : List ℕ) (n k : ℕ) → IsSome (ops_in upper key n) → IsSome (ops_in lower key k)
       → k < n
 
+-- each of the messages is one of the others
+abbrev pub AreAmong : List TreeMessage → List TreeMessage → Type 0
+AreAmong ms others = (key : List ℕ) (n : ℕ) → IsSome (ops_in ms key n)
+    → IsSome (ops_in others key n)
+
 -- each leaf is within the target or of one key
 abbrev pub AreLeafSizes : ℕ → List LeafRows → Type 0
 AreLeafSizes target leaves = AllByRecursion (λ leaf. IsLeafSize target leaf.1) leaves

@@ -1,21 +1,19 @@
 -- The way of a plan: which buffer it takes, and where its messages go.
-use Rattle.std.specs.Prelude.{◌≡◌, ◌≢◌, ◌⊎◌, ℕ, ◌≤◌, zero, suc, List, [], slice_get, slice_set, Some, None, Option, IsSome}
+use Rattle.std.specs.Prelude.{◌≡◌, ◌≢◌, ◌⊎◌, ℕ, ◌≤◌, zero, suc, List, [], slice_get, slice_set, Some, None, Option}
 use Rattle.stow_leaf.specs.LeafRows.{LeafRows}
 use Rattle.stow_merge.specs.Pins.{pins_in}
 use Rattle.stow_merge.specs.declared.flush_job.FlushJob.{FlushJob}
 use Rattle.stow_merge.specs.declared.flush_target.TheConstants.{LEAST_LEAF_TARGET, GREATEST_LEAF_TARGET}
-use Rattle.stow_message.specs.MessageBuf.{MessageList}
 use Rattle.stow_message.specs.Rising.{in_range}
 use Rattle.stow_tree_model.specs.Agreement.{TenantPins}
-use Rattle.stow_tree_model.specs.Messages.{ops_in}
 use Rattle.stow_tree_model.specs.TreeMessage.{TreeMessage}
 use Rattle.stow_node.specs.declared.child.Child.{Child}
 use Rattle.stow_node.specs.declared.child.Child.TheVariants as in_child
 use Rattle.stow_node.specs.declared.shape.Shape.{Shape}
 use Rattle.stow_node.specs.Installs.{CanInstall}
 use Rattle.stow_node.specs.Moves.{IsSqueezed, HandsDown}
-use Rattle.stow_node.specs.Nodes.{part_of, parts_of, leaves_of, deepest_of, deepest_in, AreChildren}
-use Rattle.stow_node.specs.Parts.{Part, high_of, messages_in}
+use Rattle.stow_node.specs.Nodes.{AreAmong, part_of, parts_of, leaves_of, deepest_of, deepest_in, AreChildren}
+use Rattle.stow_node.specs.Parts.{high_of, messages_in}
 use Rattle.stow_node.specs.Subtree.{Subtree, buffered, deepest_buffer}
 use Rattle.stow_node.specs.Ways.{Heaviest}
 
@@ -25,10 +23,6 @@ IsLeafTarget target = (LEAST_LEAF_TARGET ≤ target) × (target ≤ GREATEST_LEA
 
 abbrev pub HasLeafTarget : Shape → Type 0
 HasLeafTarget shape = IsLeafTarget shape.leaf
-
--- each message of the batch is one of a node's buffered messages
-abbrev pub AreAmong : List TreeMessage → List TreeMessage → Type 0
-AreAmong batch ms = (key : List ℕ) (n : ℕ) → IsSome (ops_in batch key n) → IsSome (ops_in ms key n)
 
 -- the job has messages, all of them the node's, and the pins, and could be installed as it is
 pub record IsPlanned {A : Type 0} (under : TenantPins) (t : Subtree) (job : FlushJob A)

@@ -13,9 +13,9 @@ use Rattle.stow_node.specs.declared.child.Child.{Child}
 use Rattle.stow_node.specs.declared.child.Child.TheVariants as in_child
 use Rattle.stow_leaf.specs.Replacements.{MeanTheSame}
 use Rattle.stow_node.specs.Halves.{IsLike}
-use Rattle.stow_node.specs.Nodes.{node_part, leaves_of, AreLeafSizes}
+use Rattle.stow_node.specs.Nodes.{node_part, leaves_of, nearest_in, AreAmong, AreLeafSizes}
 use Rattle.stow_node.specs.Parts.{Part, low_or, IsTile, TiledTo, messages_in, leaves_in, weight_in}
-use Rattle.stow_node.specs.Subtree.{Subtree, messages_of}
+use Rattle.stow_node.specs.Subtree.{Subtree, messages_of, right_above_leaves}
 
 abbrev pub nodes : (A : Type 0) → List Subtree → List (Child A)
 nodes A run = map in_child.Node run
@@ -49,6 +49,7 @@ pub record Grows {A : Type 0} (pins : TenantPins) (old new : Subtree)
   pub few : AreFew (new ∷ run)
   pub weight : weight_in (run_parts (new ∷ run)) ≡ old.weight
   pub leaves : leaves_in (run_parts (new ∷ run)) ≡ old.leaves
+  pub nearest : AreAmong (nearest_in (nodes A (new ∷ run))) (right_above_leaves old)
 
 -- a node and others that came behind it mean what one node meant, and weigh less
 pub record StandAsOne {A : Type 0} (pins : TenantPins) (old new : Subtree)

@@ -2,7 +2,9 @@
 ghost use Rattle.std.specs.Prelude.{◌≡◌, ◌≤◌, [], map, IfOk, OnErr};
 ghost use Rattle.std.specs.Vec.{vec_len, vec_capacity};
 ghost use Rattle.stow_merge.specs.Pins.{pins_in};
-ghost use Rattle.stow_leaves.specs.Absorbs.{left_above, CanAbsorb, Merges, StandsFor};
+ghost use Rattle.stow_leaf.specs.Intervals.{top_key};
+ghost use Rattle.stow_leaf.specs.LeafRows.{LeavesTo};
+ghost use Rattle.stow_leaves.specs.Absorbs.{left_above, CanAbsorb, CanPutPages, Merges, PutsPages, StandsFor};
 ghost use Rattle.stow_leaves.specs.Forgets.{Forgets};
 ghost use Rattle.stow_node.specs.Nodes.{AreLeaves, leaves_of};
 ghost use Rattle.stow_node.specs.declared.child.Child.TheVariants as in_child;
@@ -12,6 +14,7 @@ use std::alloc::{AllocError, Allocator};
 use stow_leaf::leaf::Leaf;
 use stow_leaf_cache::leaf_cache::LeafCache;
 use stow_leaves::absorbing;
+use stow_merge::flush_result::FlushResult;
 use stow_merge::pins::Pins;
 use stow_message::message_buf::MessageBuf;
 
@@ -75,6 +78,32 @@ pub(crate) fn merged<A: Allocator + Copy>(
 {
     let leaves = shared(alloc, children)?;
     let fresh = absorbing::merged(alloc, leaves, index, buffer, pins, target, cache)?;
+    let into = Vec::with_capacity(alloc, fresh.len())?;
+    Ok(as_children(fresh, into))
+}
+
+/// The leaves with the pages of a job's result in the place of the one at `index`, and small leaves joined
+/// (`stow_leaves::absorbing::installed`). The leaves themselves stay as they are.
+pub(crate) fn installed<A: Allocator + Copy>(
+    alloc: A,
+    children: &[Child<A>],
+    index: usize,
+    merge: &FlushResult<A>,
+    cache: &mut LeafCache<A>,
+) -> Result<Vec<Child<A>, A>, AllocError>
+    requires can { CanPutPages (leaves_of children.now) index merge.now.job }
+    requires leaves { AreLeaves children.now }
+    ensures leaves { IfOk result (λ fresh. AreLeaves fresh.items) }
+    ensures puts { IfOk result (λ fresh. PutsPages (leaves_of children.now) index
+        merge.now.job (leaves_of fresh.items)) }
+    ensures tiled { IfOk result (λ fresh. LeavesTo top_key (leaves_of fresh.items)) }
+    ensures cache { IfOk result (λ fresh. Forgets (leaves_of children.now) (leaves_of fresh.items)
+        cache.old cache.new) }
+    ensures err { OnErr result (Forgets (leaves_of children.now) (leaves_of children.now)
+        cache.old cache.new) }
+{
+    let leaves = shared(alloc, children)?;
+    let fresh = absorbing::installed(alloc, leaves, index, merge, cache)?;
     let into = Vec::with_capacity(alloc, fresh.len())?;
     Ok(as_children(fresh, into))
 }

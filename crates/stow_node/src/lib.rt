@@ -18,14 +18,19 @@
 //! nodes; all messages for one leaf are copied (`specs/Plans.antt`). `CanInstall` (`specs/Installs.antt`) is that none of the
 //! causes is there for which a job's result is stale, and a job is planned so. What the node means stays, also after an `Err`.
 //!
+//! `install` puts a job's pages in its leaf's place and takes its batch out of the buffer right above the leaf, or answers that the
+//! result is stale: that exactly where `CanInstall` doesn't hold, and then nothing changes. Of each key newer messages stay.
+//! Then nodes regroup as after a step. The root means the same under the present pins (`KeepsRoot`), and no message of the
+//! batch is left right above the leaves (`BatchIsGone`). Where memory is refused the result comes back, and the node is as it was.
+//!
 //! Which way a step goes stands in `specs/Ways.antt`, and `step` promises it (`StepsDown`): to the child for which most
 //! bytes are buffered, the leftmost of equals. A node gets all its messages, or, where it lacks room, the step is its
 //! own. A leaf has all its messages merged, no two neighbours are left under its node that are to become one, and the
 //! cache loses this leaf and those that were joined, and no other. A root gets others above it only where nodes come
 //! behind it, at most one for each. A merged leaf within the leaf target is one leaf. Leaves under two nodes stay
 //! apart. How evenly children are shared out stands in the contract of `share_of_last` of `stow_groups` alone. After an
-//! `Err` the cache may have lost more. A body of `first`, `step` or `plan` that always answers `AllocError` meets its contract:
-//! tests call each with ample memory and with each request refused. `step` answers `AllocError` too where there are
+//! `Err` the cache may have lost more. A body of `first`, `step`, `plan` or `install` that always answers `AllocError` meets its contract:
+//! tests call each with ample memory and with each request refused. `step` and `install` answer `AllocError` too where there are
 //! more than 2^63 levels, or where more than 2^32 nodes would come: no memory holds them.
 #![tactic(auto)]
 
@@ -35,6 +40,7 @@ mod coming;
 mod counting;
 mod fence;
 pub mod installed;
+mod installing;
 mod moving;
 pub mod node;
 mod planning;

@@ -1,5 +1,5 @@
 //! Inner nodes.
-ghost use Rattle.std.specs.Prelude.{◌≡◌, ◌≢◌, ◌↔◌, ◌+◌, ◌-◌, ◌^◌, ◌<◌, ◌≤◌, ◌++◌, ℕ, IsTrue, [], ◌∷◌, length, true, false, None, IfOk, IfSome, OnOk, OnErr};
+ghost use Rattle.std.specs.Prelude.{◌≡◌, ◌≢◌, ◌↔◌, ◌+◌, ◌-◌, ◌^◌, ◌<◌, ◌≤◌, ◌++◌, ℕ, IsTrue, [], ◌∷◌, length, true, false, None, IfOk, IfErr, IfSome, OnOk, OnErr};
 ghost use Rattle.std.specs.List.{sum_by};
 ghost use Rattle.std.specs.Vec.{vec_capacity};
 ghost use Rattle.stow_groups.specs.Groups.{groups};
@@ -10,10 +10,11 @@ ghost use Rattle.stow_message.specs.Packed.{message_size};
 ghost use Rattle.stow_message.specs.Rising.{in_range};
 ghost use Rattle.stow_tree_model.specs.Agreement.{TenantPins};
 ghost use Rattle.stow_tree_model.specs.TreeMessage.{message_of};
-ghost use Rattle.stow_node.specs.Flushes.{AreShort, Flushes};
+ghost use Rattle.stow_node.specs.Flushes.{AreShort, Flushes, KeepsRoot};
 ghost use Rattle.stow_node.specs.Halves.{AreHalves};
+ghost use Rattle.stow_node.specs.Installs.{AreGone, BatchIsGone, CanComeIn, CanInstall, CoversAll};
 ghost use Rattle.stow_node.specs.Moves.{accepted, CanAccept, IsSqueezed, StaysInMeaning};
-ghost use Rattle.stow_node.specs.Nodes.{AreChildren, AreLeafSizes, leaves_of, node_part};
+ghost use Rattle.stow_node.specs.Nodes.{AreAmong, AreChildren, AreLeafSizes, leaves_of, nearest_in, node_part};
 ghost use Rattle.stow_leaf.specs.Intervals.{top_key};
 ghost use Rattle.stow_node.specs.Parts.{IsTile};
 ghost use Rattle.stow_node.specs.Plans.{HasLeafTarget, IsPlanned, Plans, TakesLeaf, TakesOwn};
@@ -21,12 +22,16 @@ ghost use Rattle.stow_node.specs.Regroups.{Grows, StepsAsOne, StandAsOne, AreBeh
 ghost use Rattle.stow_node.specs.Rooms.{AreShells, HasRoom};
 ghost use Rattle.stow_node.specs.Subtree.{Subtree, buffered, first_subtree, messages_of};
 ghost use Rattle.stow_node.specs.Ways.{Goes, StepsDown};
+ghost use Rattle.stow_node.specs.declared.child.Child.TheVariants as in_child;
+ghost use Rattle.stow_node.specs.declared.installed.Installed.TheVariants as installed;
 
-use crate::absorbing::merged;
-use crate::child::{Child, high_after};
+use crate::absorbing::{installed, merged};
+use crate::child::{Child, child_for, high_after};
 use crate::coming::{moved_from, take_in};
 use crate::counting::room_for;
 use crate::fence::Fence;
+use crate::installed::Installed;
+use crate::installing::can_install;
 use crate::moving::{bytes_for, hand_down, heaviest};
 use crate::planning::{deepest_child, is_drained, job_for};
 use crate::room::Room;
@@ -40,6 +45,7 @@ use stow_leaf::ends::top_key;
 use stow_leaf::leaf::Leaf;
 use stow_leaf_cache::leaf_cache::LeafCache;
 use stow_merge::flush_job::FlushJob;
+use stow_merge::flush_result::FlushResult;
 use stow_merge::pins::Pins;
 use stow_message::message_buf::MessageBuf;
 use stow_page::packed_rows::PackedRows;
@@ -304,6 +310,8 @@ impl<A: Allocator + Copy> Node<A> {
             → StandAsOne pins x self.new room.new.came.items }
         ensures leaves { self.new.leaves ++ leaves_of room.new.came.items
             ≡ self.old.leaves ++ leaves_of room.old.came.items }
+        ensures nearest { AreAmong (nearest_in (in_child.Node self.new ∷ room.new.came.items))
+            (nearest_in (in_child.Node self.old ∷ room.old.came.items)) }
         ensures fewer { length room.new.came.items < length room.old.came.items }
         ensures room { HasRoom self.old.shape [] room.new }
         ensures height { self.new.height ≡ self.old.height + 1 }
@@ -447,6 +455,148 @@ impl<A: Allocator + Copy> Node<A> {
             return Ok(None);
         }
         Ok(Some(self.plan_below(alloc, pins)?))
+    }
+}
+
+impl<A: Allocator + Copy> Node<A> {
+    /// Puts the pages of a job's result in its leaf's place, of a node right above leaves, and takes the job's batch out of its
+    /// own buffer. Where memory is refused nothing has changed.
+    fn install_leaf(
+        &mut self,
+        alloc: A,
+        merge: &FlushResult<A>,
+        cache: &mut LeafCache<A>,
+        above: &[usize],
+    ) -> Result<Room<A>, AllocError>
+        requires level { self.old.height ≡ 1 }
+        requires some { merge.now.job.batch.messages ≢ [] }
+        requires fan_out { 1 ≤ self.old.shape.fan_out }
+        requires can { CanComeIn self.old merge.now.job }
+        ensures ok { IfOk result (λ room. (pins : TenantPins) → CoversAll merge.now.job pins
+            → StepsAsOne pins self.old self.new room.came.items) }
+        ensures gone { IfOk result (λ room. AreGone merge.now.job.batch.messages
+            (nearest_in (in_child.Node self.new ∷ room.came.items))) }
+        ensures room { IfOk result (HasRoom self.old.shape above.now) }
+        ensures err { OnErr result (self.new ≡ self.old) }
+        ensures cache { IfOk result (λ room. ForgetsCame self.old self.new room.came.items
+            cache.old cache.new) }
+        ensures kept { OnErr result (Forgets self.old.leaves self.old.leaves cache.old cache.new) }
+    {
+        let _known = merge.job.batch.len();
+        let fence = merge.job.target.low_fence.as_key();
+        let index = child_for(self.children.as_slice(), fence);
+        let fresh = installed(alloc, self.children.as_slice(), index, merge, cache)?;
+        let mut room = room_for(alloc, self.shape, fresh.len(), above)?;
+        let full = self.children.len() - index == 1;
+        let _taken = self.buffer.take_out(&merge.job.batch);
+        self.children = fresh;
+        self.settle(&mut room, full);
+        Ok(room)
+    }
+
+    /// Puts the pages of a job's result in its leaf's place, and takes the job's batch out of the buffer right above it. The
+    /// nodes that are to stand behind this one come with the room for more above it, where nodes of the widths in `above`
+    /// stand. Where memory is refused nothing has changed.
+    fn install_below(
+        &mut self,
+        alloc: A,
+        merge: &FlushResult<A>,
+        cache: &mut LeafCache<A>,
+        above: &mut Vec<usize, A>,
+    ) -> Result<Room<A>, AllocError>
+        requires some { merge.now.job.batch.messages ≢ [] }
+        requires few { self.old.width ≤ self.old.shape.fan_out }
+        requires fan_out { 4 ≤ self.old.shape.fan_out }
+        requires can { CanComeIn self.old merge.now.job }
+        ensures ok { IfOk result (λ room. (pins : TenantPins) → CoversAll merge.now.job pins
+            → StepsAsOne pins self.old self.new room.came.items) }
+        ensures gone { IfOk result (λ room. AreGone merge.now.job.batch.messages
+            (nearest_in (in_child.Node self.new ∷ room.came.items))) }
+        ensures room { IfOk result (HasRoom self.old.shape above.old.items) }
+        ensures err { OnErr result (self.new ≡ self.old) }
+        ensures cache { IfOk result (λ room. ForgetsCame self.old self.new room.came.items
+            cache.old cache.new) }
+        ensures kept { OnErr result (Forgets self.old.leaves self.old.leaves cache.old cache.new) }
+    {
+        if self.height == 1 {
+            return self.install_leaf(alloc, merge, cache, above.as_slice());
+        }
+        let fence = merge.job.target.low_fence.as_key();
+        let index = child_for(self.children.as_slice(), fence);
+        let full = self.children.len() - index == 1;
+        above.insert(0, self.children.len())?;
+        match &mut self.children[index] {
+            Child::Leaf(_) => unreachable!(),
+            Child::Node(node) => {
+                let mut room = node.install_below(alloc, merge, cache, above)?;
+                take_in(&mut self.children, index, &mut room);
+                self.settle(&mut room, full);
+                Ok(room)
+            }
+        }
+    }
+
+    /// Puts the pages of a job's result in its leaf's place, of a root (`install_below`). Where nodes come behind it, it becomes
+    /// higher. A job of no message leaves all as it is. Where memory is refused nothing has changed.
+    fn install_result(
+        &mut self,
+        alloc: A,
+        merge: &FlushResult<A>,
+        cache: &mut LeafCache<A>,
+    ) -> Result<(), AllocError>
+        requires few { self.old.width ≤ self.old.shape.fan_out }
+        requires fan_out { 4 ≤ self.old.shape.fan_out }
+        requires can { CanComeIn self.old merge.now.job }
+        ensures ok { OnOk result ((pins : TenantPins) → CoversAll merge.now.job pins
+            → KeepsRoot pins self.old self.new) }
+        ensures gone { OnOk result (BatchIsGone merge.now.job.batch.messages self.new) }
+        ensures err { OnErr result (self.new ≡ self.old) }
+        ensures cache { Forgets self.old.leaves self.new.leaves cache.old cache.new }
+    {
+        let _known = self.shape();
+        if self.height() > MOST_HEIGHT {
+            return Err(AllocError);
+        }
+        if merge.job.batch.len() == 0 {
+            return Ok(());
+        }
+        let mut above = Vec::new(alloc);
+        let mut room = self.install_below(alloc, merge, cache, &mut above)?;
+        while !room.came.is_empty() {
+            self.rise(&mut room);
+        }
+        Ok(())
+    }
+
+    /// Puts the pages of a job's result in its leaf's place, of a root, and takes the job's batch out of the buffer right above the
+    /// leaf: the root means the same under the pins. Where it can't come any more the result is stale, and nothing changes.
+    /// Where memory is refused the result comes back, and no message has moved.
+    pub fn install(
+        &mut self,
+        alloc: A,
+        merge: FlushResult<A>,
+        pins: &Pins<A>,
+        cache: &mut LeafCache<A>,
+    ) -> Result<Installed, (FlushResult<A>, AllocError)>
+        requires few { self.old.width ≤ self.old.shape.fan_out }
+        requires fan_out { 4 ≤ self.old.shape.fan_out }
+        ensures root { KeepsRoot (pins_in pins.now) self.old self.new }
+        ensures stale { IfOk result (λ r. r ≡ installed.Stale
+            ↔ ¬ CanInstall self.old merge.job (pins_in pins.now)) }
+        ensures unmoved { IfOk result (λ r. r ≡ installed.Stale
+            → (self.new ≡ self.old) × (cache.new ≡ cache.old)) }
+        ensures done { IfOk result (λ r. r ≡ installed.Done
+            → BatchIsGone merge.job.batch.messages self.new) }
+        ensures err { IfErr result (λ e. (e.0 ≡ merge) × (self.new ≡ self.old)) }
+        ensures cache { Forgets self.old.leaves self.new.leaves cache.old cache.new }
+    {
+        if !can_install(self, &merge.job, pins) {
+            return Ok(Installed::Stale);
+        }
+        match self.install_result(alloc, &merge, cache) {
+            Ok(()) => Ok(Installed::Done),
+            Err(refused) => Err((merge, refused)),
+        }
     }
 }
 

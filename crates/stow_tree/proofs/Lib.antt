@@ -9,3 +9,4 @@ pub mod Made
 pub mod Read
 pub mod Sends
 pub mod Planned
+pub mod PagesIn

@@ -1,8 +1,8 @@
 -- A tree of which messages moved towards the leaves.
-use Rattle.std.proofs.Common.{◌≡◌, ℕ, List, refl, ap, ◌∙◌, sym, subst, arith}
-use Rattle.stow_leaf.specs.LeafRows.{LeafRows, row_messages}
+use Rattle.std.proofs.Common.{◌≡◌, ap, ◌∙◌, sym, subst, arith}
+use Rattle.stow_leaf.specs.LeafRows.{row_messages}
 use Rattle.stow_node.specs.Moves.{StaysInMeaning}
-use Rattle.stow_node.specs.Subtree.{Subtree, messages_of}
+use Rattle.stow_node.specs.Subtree.{Subtree}
 use Rattle.stow_node.specs.declared.shape.Shape.{Shape}
 use Rattle.stow_node.proofs.PlanSteps.{stays_short}
 use Rattle.stow_node.proofs.Standing.{parts_ops}

@@ -11,7 +11,11 @@
 //! which most bytes are buffered move down first, into empty buffers (`Plans`). The tree means what it did. The job's batch
 //! is not empty, and its result could be installed as the tree is then (`CanInstall`, the causes for which one is stale).
 //!
-//! A body of `reserve`, of `plan` or of a read that always answers `AllocError` meets its contract, and so does a cache that holds
+//! `install` puts a job's result into the tree, whatever happened since its plan: the pages come in the leaf's place, and the batch
+//! leaves the buffer above it. The tree means the same under the present pins. The result is stale exactly where `CanInstall`
+//! doesn't hold, and then nothing changes; where memory is refused it comes back.
+//!
+//! A body of `reserve`, of `plan`, of `install` or of a read that always answers `AllocError` meets its contract, and so does a cache that holds
 //! nothing, as where `offer` does nothing: tests call each with ample memory, and with each request refused, and look at what
 //! the cache holds. How much work a call does stands in no contract, so a body of `versions` or of `range` that reads twice
 //! and answers what it read last meets it too: it answers the same.

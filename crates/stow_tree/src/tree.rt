@@ -195,7 +195,7 @@ impl<A: Allocator + Copy> Tree<A> {
         ensures shape { self.new.root.shape ≡ self.old.root.shape }
         ensures limit { self.new.cache.limit ≡ self.old.cache.limit }
     {
-        Err((merge, AllocError))
+        self.root.install(alloc, merge, pins, &mut self.cache)
     }
 
     /// All versions of the key, from the oldest: at each number the newest one up to it has what the key has there. A

@@ -6,7 +6,7 @@ use Rattle.stow_tree_model.specs.Agreement.{TenantPins}
 use Rattle.stow_node.specs.declared.child.Child.{Child}
 use Rattle.stow_node.specs.declared.child.Child.TheVariants as in_child
 use Rattle.stow_node.specs.declared.shape.Shape.{Shape}
-use Rattle.stow_node.specs.Nodes.{leaves_of}
+use Rattle.stow_node.specs.Nodes.{leaves_of, nearest_in, AreAmong}
 use Rattle.stow_node.specs.Nodes.{subtree_of}
 use Rattle.stow_node.specs.Regroups.{Grows, StandAsOne, AreBehind}
 use Rattle.stow_groups.specs.Groups.{groups}
@@ -144,6 +144,15 @@ returns-clause-rises g c = λ pins x s.
     let block = empty_block g (goal.at.returns-clause-rises g c).After-take_in in
     let stands : (pins : TenantPins) (x z : Subtree) (came' : List (Child g.row.A.Denot)) → StandAsOne pins x (subtree_of c.self.inside) c.args.room.now.came.items → Grows pins (subtree_of (record { low = c.replace.new.dest; height = c.self.inside.height + 1; shape = c.self.inside.shape; buffer = c.replace-2.new.dest; children = c.take_in.new.children })) z came' → StandAsOne pins x z came' = rw (low, block) done.stands in
     stands pins x c.settle.new.self c.settle.new.room.came.items (subst (λ (t : Subtree). StandAsOne pins x t c.args.room.now.came.items) (sym c.self.view_is) s) (c.settle.ensures.settles pins)
+
+pub returns-clause-nearest : goal.returns-clause-nearest
+returns-clause-nearest g c =
+    let done = is_rooted g (goal.at.returns-clause-nearest g c).After-take_in in
+    let low = same_low g (goal.at.returns-clause-nearest g c).After-take_in in
+    let block = empty_block g (goal.at.returns-clause-nearest g c).After-take_in in
+    let nearest : (pins : TenantPins) (z : Subtree) (came' : List (Child g.row.A.Denot)) → Grows pins (subtree_of (record { low = c.replace.new.dest; height = c.self.inside.height + 1; shape = c.self.inside.shape; buffer = c.replace-2.new.dest; children = c.take_in.new.children })) z came' → AreAmong (nearest_in (in_child.Node z ∷ came')) (nearest_in (in_child.Node (subtree_of c.self.inside) ∷ c.args.room.now.came.items)) = rw (low, block) done.nearest in
+    subst (λ (t : Subtree). AreAmong (nearest_in (in_child.Node c.settle.new.self ∷ c.settle.new.room.came.items)) (nearest_in (in_child.Node t ∷ c.args.room.now.came.items))) c.self.view_is
+    (nearest c.requires.are.pins c.settle.new.self c.settle.new.room.came.items (c.settle.ensures.settles c.requires.are.pins))
 
 pub returns-clause-leaves : goal.returns-clause-leaves
 returns-clause-leaves g c =

@@ -9,7 +9,7 @@ use Rattle.stow_node.proofs.node.Node.settle.Goals as goal
 pub loop-groups-init : goal.loop-groups-init
 loop-groups-init g c =
     let some : 1 ≤ c.args.self.now.width = let s = c.width.ensures.some in let w = c.width.ensures.width in omega (arith, s, w) in
-    settling_begins c.args.self.now c.args.room.now c.groups-groups.result c.shape-fan_out.ensures.sizes c.requires.fan_out some c.requires.none
+    settling_begins c.args.self.now c.args.room.now c.groups-groups.result c.shape-fan_out.ensures.sizes c.shape-fan_out.ensures.tile c.requires.fan_out some c.requires.none
     (c.groups-groups.ensures ∙ (λ i. groups (ap (λ (s : Shape). s.fan_out) c.shape-fan_out.ensures.shape i) (c.width.ensures.width i)))
 
 pub cut_last-node-requires-clause-inside : goal.cut_last-node-requires-clause-inside

@@ -1,8 +1,7 @@
 use Rattle.std.proofs.Common.{Option, ap, sym, ◌∙◌, subst}
 use Rattle.stow_tree_model.specs.Operations.{NumberedValue, Operations, latest, value_in}
 use Rattle.stow_tree_model.specs.Value.{IsValue}
-use Rattle.stow_tree.specs.TreeState.{TreeState, tree_messages}
-use Rattle.stow_tree_model.specs.Messages.{ops_of}
+use Rattle.stow_tree.specs.TreeState.{TreeState}
 use Rattle.stow_tree.proofs.Read.{root_ops}
 use Rattle.stow_tree.proofs.tree.Tree.get.Goals as goal
 
