@@ -178,7 +178,7 @@ fn is_call(entry: &Entry, tenant: u32, line: &str, want: &Reply) -> bool {
                 && are_words_of(words, line)
                 && same_reply(reply, want)
         }
-        Step::Resize(_) | Step::Quota(_, _) => false,
+        Step::Resize(_) | Step::Quota(_, _) | Step::Plan(_) | Step::Install(_) => false,
     }
 }
 
