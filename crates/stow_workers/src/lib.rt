@@ -41,6 +41,8 @@
 mod accepting;
 mod client;
 pub mod counted;
+pub mod flush_promise;
+pub mod flushing;
 pub mod gate;
 pub mod laws;
 pub mod open_gate;
@@ -50,12 +52,16 @@ pub mod pool;
 pub mod pool_fault;
 mod replies;
 pub mod seat_promise;
+mod senders;
 pub mod served;
 pub mod serving;
 pub mod sink;
 pub mod source;
 #[cfg(test)]
 mod tests;
+pub mod wake;
+pub mod waker;
+pub mod waking_desk;
 pub mod worker;
 pub mod workplace;
 pub mod writing;
