@@ -4,17 +4,15 @@ ghost use Rattle.std.specs.Prelude.{◌≡◌, ◌-◌, ◌<◌, ◌≤◌, vec_
 ghost use Rattle.stow_workers.specs.Pools.{AreEach, AreEachUpTo, ComeBack, GivesBack, IsFlusherOf, IsWorkerOf};
 
 use crate::accepting::accept;
-use crate::flush_promise::FlushPromise;
 use crate::gate::Gate;
 use crate::pool_fault::PoolFault;
-use crate::seat_promise::SeatPromise;
 use crate::senders::Senders;
+use crate::starting::start;
 use crate::worker::Worker;
 use crate::workplace::Workplace;
 use crossbeam_channel::bounded;
 use std::alloc::Allocator;
 use std::net::TcpListener;
-use std::snapshot::Snapshot;
 use std::sync::Wait;
 use std::thread;
 use std::thread::{Scope, Threads};
@@ -123,74 +121,10 @@ where
     ensures count { vec_len result ≡ vec_len seats }
 {
     for seat in seats {
-        let worker = if workers.len() < count {
-            start_worker(scope, place, seat, senders)
-        } else {
-            start_flusher(scope, place, seat, senders)
-        };
+        let worker = start(scope, place, workers.len() < count, seat, senders);
         workers.push_reserved(worker);
     }
     workers
-}
-
-/// A worker, with a thread where there are senders. Where the thread is refused they are dropped.
-fn start_worker<'s, E, R, J, G, A>(
-    scope: &Scope<'s, E>,
-    place: &'s Workplace<'s, R, J, G, A>,
-    seat: Seat<J, A>,
-    senders: &mut Option<Senders<A>>,
-) -> Worker<J, A>
-where
-    R: Threads + Wait + Sync,
-    J: Journal + Send + Sync,
-    G: Gate + Sync,
-    A: Allocator + Copy + Send + Sync,
-    ensures { IsWorkerOf J.keeps seat result }
-{
-    let waker = match senders {
-        Some(senders) => senders.waker(),
-        None => return Worker::Idle(seat),
-    };
-    let promise = SeatPromise {
-        seat: Snapshot::of(&seat),
-    };
-    match scope.spawn_with(promise, move || place.work(seat, waker)) {
-        Ok(thread) => Worker::Serving(thread),
-        Err(refused) => {
-            *senders = None;
-            Worker::Idle((refused.value)())
-        }
-    }
-}
-
-/// A flusher, with a thread where there are senders. Where the thread is refused they are dropped, so that the workers
-/// end, and no wake is waited for.
-fn start_flusher<'s, E, R, J, G, A>(
-    scope: &Scope<'s, E>,
-    place: &'s Workplace<'s, R, J, G, A>,
-    seat: Seat<J, A>,
-    senders: &mut Option<Senders<A>>,
-) -> Worker<J, A>
-where
-    R: Threads + Wait + Sync,
-    J: Journal + Send + Sync,
-    G: Gate + Sync,
-    A: Allocator + Copy + Send + Sync,
-    ensures { IsFlusherOf J.keeps seat result }
-{
-    if senders.is_none() {
-        return Worker::Idle(seat);
-    }
-    let promise = FlushPromise {
-        seat: Snapshot::of(&seat),
-    };
-    match scope.spawn_with(promise, move || place.flush(seat)) {
-        Ok(thread) => Worker::Flushing(thread),
-        Err(refused) => {
-            *senders = None;
-            Worker::Idle((refused.value)())
-        }
-    }
 }
 
 /// The seats, once the threads of all workers have ended.
