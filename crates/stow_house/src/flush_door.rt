@@ -1,5 +1,5 @@
 //! What plans flushes and installs their results.
-ghost use Rattle.std.specs.Prelude.{◌≡◌, IfErr};
+ghost use Rattle.std.specs.Prelude.{◌≡◌, IsSome, None, OnErr, OnOk};
 ghost use Rattle.stow_house.specs.FlushDoors.{Flushing, planned, installed};
 
 use std::alloc::{AllocError, Allocator};
@@ -16,12 +16,15 @@ pub trait FlushDoor<A: Allocator> {
     fn plan(&mut self, alloc: A) -> Result<Option<FlushJob<A>>, AllocError>
         ensures { flushes self.old (planned result) self.new };
 
-    /// Puts a job's pages in its leaf's place, or tells that they are stale. Where memory is refused they come back.
+    /// Puts the pages of the result of a job, which is taken, in their leaf's place, or tells that they are stale. Where memory
+    /// is refused the result stays.
     fn install(
         &mut self,
         alloc: A,
-        merge: FlushResult<A>,
-    ) -> Result<Installed, (FlushResult<A>, AllocError)>
+        merge: &mut Option<FlushResult<A>>,
+    ) -> Result<Installed, AllocError>
+        requires { IsSome merge.old }
         ensures installs { flushes self.old (installed result) self.new }
-        ensures back { IfErr result (λ e. e.0 ≡ merge) };
+        ensures taken { OnOk result (merge.new ≡ None) }
+        ensures back { OnErr result (merge.new ≡ merge.old) };
 }

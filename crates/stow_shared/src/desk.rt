@@ -1,5 +1,5 @@
 //! A seat's doors.
-ghost use Rattle.std.specs.Prelude.{◌≡◌, IfErr};
+ghost use Rattle.std.specs.Prelude.{◌≡◌, IsSome, None, OnErr, OnOk};
 ghost use Rattle.stow_house.specs.FlushDoors.{planned, installed};
 ghost use Rattle.stow_model.specs.Reply.{reply_of};
 ghost use Rattle.stow_shared.specs.Seats.{SeatCalls, SeatFlushes};
@@ -56,12 +56,21 @@ impl<'a, R: Wait, J: Journal, A: Allocator + Copy> FlushDoor<A> for Desk<'a, R, 
     fn install(
         &mut self,
         alloc: A,
-        merge: FlushResult<A>,
-    ) -> Result<Installed, (FlushResult<A>, AllocError)>
+        merge: &mut Option<FlushResult<A>>,
+    ) -> Result<Installed, AllocError>
+        requires { IsSome merge.old }
         ensures installs { (self.new.seat.ghost_name ≡ self.old.seat.ghost_name)
             × SeatFlushes J.keeps self.old.seat.now (installed result) self.new.seat.now }
-        ensures back { IfErr result (λ e. e.0 ≡ merge) }
+        ensures taken { OnOk result (merge.new ≡ None) }
+        ensures back { OnErr result (merge.new ≡ merge.old) }
     {
-        self.shared.install(self.rt, alloc, self.seat, merge)
+        let lent = merge.take().unwrap();
+        match self.shared.install(self.rt, alloc, self.seat, lent) {
+            Ok(told) => Ok(told),
+            Err((back, refused)) => {
+                *merge = Some(back);
+                Err(refused)
+            }
+        }
     }
 }

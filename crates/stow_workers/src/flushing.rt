@@ -50,5 +50,5 @@ fn flush<D: FlushDoor<A>, G: Gate, A: Allocator + Copy>(alloc: A, door: &mut D, 
     let Ok(merge) = job.merge(alloc) else {
         return false;
     };
-    door.install(alloc, merge).is_ok()
+    door.install(alloc, &mut Some(merge)).is_ok()
 }

@@ -64,10 +64,7 @@ impl Pool {
         let Ok((waking, wakes)) = bounded(alloc, WAITING) else {
             return (seats, Some(PoolFault::Refused));
         };
-        let senders = Senders {
-            streams: sender,
-            wakes: if flushers > 0 { Some(waking) } else { None },
-        };
+        let senders = Senders::new(sender, waking, flushers);
         let place = Workplace {
             rt,
             alloc,

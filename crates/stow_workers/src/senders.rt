@@ -13,6 +13,16 @@ pub(crate) struct Senders<A: Allocator = Global> {
 }
 
 impl<A: Allocator> Senders<A> {
+    /// The ends of a pool with so many flushers: without one, wakes are sent to nobody.
+    pub(crate) fn new(
+        streams: Sender<TcpStream, A>,
+        wakes: Sender<Wake, A>,
+        flushers: usize,
+    ) -> Senders<A> {
+        let wakes = if flushers > 0 { Some(wakes) } else { None };
+        Senders { streams, wakes }
+    }
+
     /// A waker for one more worker. Where the system holds no more ends it wakes nobody.
     pub(crate) fn waker(&self) -> Waker<A> {
         match &self.wakes {

@@ -1,5 +1,5 @@
 //! One wake over a door that gives so many jobs, all of whose results are stale, and refuses memory where it is to.
-ghost use Rattle.std.specs.Prelude.{◌≡◌, IfErr};
+ghost use Rattle.std.specs.Prelude.{◌≡◌, IsSome, None, OnErr, OnOk};
 
 use crate::flushing::serve_wake;
 use crate::open_gate::OpenGate;
@@ -43,15 +43,18 @@ impl FlushDoor<Global> for Waiting<'_> {
     fn install(
         &mut self,
         _alloc: Global,
-        merge: FlushResult<Global>,
-    ) -> Result<Installed, (FlushResult<Global>, AllocError)>
+        merge: &mut Option<FlushResult<Global>>,
+    ) -> Result<Installed, AllocError>
+        requires { IsSome merge.old }
         ensures installs { Unit {0} }
-        ensures back { IfErr result (λ e. e.0 ≡ merge) }
+        ensures taken { OnOk result (merge.new ≡ None) }
+        ensures back { OnErr result (merge.new ≡ merge.old) }
     {
         self.installs = self.installs.saturating_add(1);
         if self.installs == self.refused.1 {
-            return Err((merge, AllocError));
+            return Err(AllocError);
         }
+        *merge = None;
         Ok(Installed::Stale)
     }
 }

@@ -8,4 +8,3 @@ use Rattle.stow_shared.proofs.book.Book.install.Goals as goal
 
 pub invariant_of-self : goal.invariant_of-self
 invariant_of-self g c = book_same g.J.Journal.keeps (entries_of c.self.inside.journal.items) c.self.inside.core c.install.new.self c.install.ensures.keeps c.self.invariant
-

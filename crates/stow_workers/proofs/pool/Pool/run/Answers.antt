@@ -10,3 +10,6 @@ returns-in_default-with_capacity g c = same_up_to _ _ _ (no_calls _) (none_flush
 
 pub returns-in_default-bounded : goal.returns-in_default-bounded
 returns-in_default-bounded g c = same_up_to _ _ _ (no_calls _) (none_flushed _) _
+
+pub returns-in_default-bounded-2 : goal.returns-in_default-bounded-2
+returns-in_default-bounded-2 g c = same_up_to _ _ _ (no_calls _) (none_flushed _) _
