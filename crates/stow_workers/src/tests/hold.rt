@@ -8,33 +8,35 @@ use std::time::Clock;
 /// After so many replies a merge must have begun.
 const REPLIES: u64 = 100_000;
 
-/// Holds the first call until a reply after it, and the first merge until ten more.
+/// Holds the first call until a reply after it, and, where there is a flusher, the first merge until ten more.
 #[derive(Drop)]
 pub struct Hold<'a, R: Clock> {
     rt: &'a R,
     replies: AtomicU64,
     call: Held,
     merge: Held,
+    has_flusher: bool,
 }
 
 impl<'a, R: Clock> Hold<'a, R> {
-    pub fn new(rt: &'a R) -> Hold<'a, R> {
+    pub fn new(rt: &'a R, has_flusher: bool) -> Hold<'a, R> {
         Hold {
             rt,
             replies: AtomicU64::new(0),
             call: Held::until(1),
             merge: Held::until(10),
+            has_flusher,
         }
     }
 
     /// Whether nothing is held any more, or no merge comes.
     pub fn is_over(&self) -> bool {
         let is_late = self.replies.load(Ordering::SeqCst) >= REPLIES && !self.merge.is_passed();
-        is_late || self.call.is_over() && self.merge.is_over()
+        is_late || self.call.is_over() && (self.merge.is_over() || !self.has_flusher)
     }
 
     pub fn were_answered(&self) -> bool {
-        self.call.was_answered() && self.merge.was_answered()
+        self.call.was_answered() && (self.merge.was_answered() || !self.has_flusher)
     }
 }
 

@@ -100,15 +100,38 @@ fn write_until_over<R: Net<Stream = TcpStream> + Clock + Wait>(
     Ok(is_right)
 }
 
-// One thread that serves all connections can't answer while it holds a call, and nobody can where the lock is held for a
-// merge.
+// One thread that serves all connections can't answer while it holds a call.
+#[test]
+fn one_thread_serves_all(rt: HostRuntime) -> Result<(), Fail> {
+    let alloc = rt.alloc();
+    let (shared, seats) = opened::<Unkept, Global>(alloc, alloc, 2)?;
+    let listener = TcpListener::bind(&rt, "127.0.0.1:0")?;
+    let address = listener.local_addr()?;
+    let hold = Hold::new(&rt, false);
+    let ((one, other), (_, fault)) = join(
+        &rt,
+        || {
+            join(
+                &rt,
+                || write_until_over(&rt, address, alloc, &hold),
+                || write_until_over(&rt, address, alloc, &hold),
+            )
+        },
+        || Pool::run(&rt, alloc, &listener, &shared, seats, 0, 2, &hold),
+    );
+    assert!(rt; fault.is_none() && one? && other?);
+    assert!(rt; hold.were_answered());
+    Ok(())
+}
+
+// Nobody can answer where the lock is held for a call that is read, or for a merge.
 #[test]
 fn lock_held_while_reading_or_merging(rt: HostRuntime) -> Result<(), Fail> {
     let alloc = rt.alloc();
     let (shared, seats) = opened::<Unkept, Global>(alloc, alloc, 3)?;
     let listener = TcpListener::bind(&rt, "127.0.0.1:0")?;
     let address = listener.local_addr()?;
-    let hold = Hold::new(&rt);
+    let hold = Hold::new(&rt, true);
     let ((one, other), (_, fault)) = join(
         &rt,
         || {
