@@ -65,8 +65,8 @@ const SIZES: [Count; 4] = [
     },
 ];
 
-/// How many connections are served.
-const SERVING: [Count; 2] = [
+/// How many connections are served, and how many threads flush.
+const SERVING: [Count; 3] = [
     Count {
         name: "workers",
         value: "COUNT",
@@ -74,6 +74,14 @@ const SERVING: [Count; 2] = [
         usual: "4",
         least: 1,
         most: 256,
+    },
+    Count {
+        name: "flushers",
+        value: "COUNT",
+        help: "How many threads move changes into leaves beside the requests; 0 for none",
+        usual: "1",
+        least: 0,
+        most: 16,
     },
     Count {
         name: "connections",
@@ -295,6 +303,7 @@ fn serving_of(matches: &ArgMatches<'_>) -> Option<Result<Serving, Failure<'stati
 {
     let listen = matches.get_str("listen")?;
     let workers = matches.get_one::<u32>("workers")?;
+    let flushers = matches.get_one::<u32>("flushers")?;
     let connections = matches.get_one::<u32>("connections")?;
     let Ok(listen) = listen.parse() else {
         return Some(Err(Failure::BadAddress));
@@ -302,6 +311,7 @@ fn serving_of(matches: &ArgMatches<'_>) -> Option<Result<Serving, Failure<'stati
     Some(Ok(Serving {
         listen,
         workers,
+        flushers,
         connections: u64::from(connections),
         notices: matches.get_flag("notices"),
     }))

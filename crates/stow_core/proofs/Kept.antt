@@ -72,17 +72,24 @@ module _ {A : Type 0} (core : CoreState) (pins : Pins A) (is_core : IsCore core 
   pub keeps_agreed : AgreeUnder (held.pins_in pins) (tree_messages core.tree) (tree_messages tree') → Keeps core new
   keeps_agreed agrees = record { stores = stays (way agrees); entries = refl; gives_way = record { sound = is_core.sound; step = way agrees } }
 
-  -- only what is held of the leaves changed
-  rooted : tree'.root ≡ core.tree.root → AgreeUnder (held.pins_in pins) (tree_messages core.tree) (tree_messages tree')
-  rooted same bound has key =
-      subst (λ (m : Messages). Agree (tree_messages core.tree) m (held.pins_in pins) bound) (sym (same_messages core.tree tree' same))
+  -- where the tree means the same set
+  means_same : tree_messages tree' ≡ tree_messages core.tree → AgreeUnder (held.pins_in pins) (tree_messages core.tree) (tree_messages tree')
+  means_same same bound has key =
+      subst (λ (m : Messages). Agree (tree_messages core.tree) m (held.pins_in pins) bound) (sym same)
       (λ k. record { at_pins = λ p c. refl; from_bound = λ n l. refl; left_below = has k; right_below = has k }) key
 
+  pub core_same : tree_messages tree' ≡ tree_messages core.tree → tree'.root.shape ≡ core.tree.root.shape → IsCore new pins
+  core_same same = core_agrees (means_same same)
+
+  pub keeps_same : tree_messages tree' ≡ tree_messages core.tree → Keeps core new
+  keeps_same same = keeps_agreed (means_same same)
+
+  -- only what is held of the leaves changed
   pub core_rooted : tree'.root ≡ core.tree.root → IsCore new pins
-  core_rooted same = core_agrees (rooted same) (ap (λ (r : Subtree). r.shape) same)
+  core_rooted same = core_same (same_messages core.tree tree' same) (ap (λ (r : Subtree). r.shape) same)
 
   pub keeps_rooted : tree'.root ≡ core.tree.root → Keeps core new
-  keeps_rooted same = keeps_agreed (rooted same)
+  keeps_rooted same = keeps_same (same_messages core.tree tree' same)
 
 -- ---- pins with other room
 

@@ -22,4 +22,5 @@ pub mod Legality
 pub mod Answered
 pub mod Deletions
 pub mod Shown
+pub mod Jobs
 pub mod Sends

@@ -6,3 +6,5 @@ pub mod Taken
 pub mod Legal
 pub mod Ends
 pub mod Prepared
+pub mod Flushing
+pub mod Jobs

@@ -52,6 +52,7 @@ mod changing;
 mod charging;
 mod committing;
 mod deleting;
+mod flushing;
 pub mod given;
 mod interval;
 mod keys;

@@ -7,3 +7,4 @@ pub mod Connections
 pub mod Steps
 pub mod Outputs
 pub mod Runs
+pub mod FlushDoors

@@ -7,7 +7,8 @@
 //! (`specs/Runs.antt`).
 //! `Conversation` is what a connection does with its bytes, one message after another (`specs/Conversations.antt`),
 //! for whoever drives it: the house over its core, the workers over any `Door`, whose meaning is a relation.
-//! `Session` holds its login (`specs/Sessions.antt`).
+//! `Session` holds its login (`specs/Sessions.antt`). `FlushDoor` is what a flusher plans and installs at, whose meaning is
+//! a relation too (`specs/FlushDoors.antt`).
 //! Not said: time, and that memory is there; where memory was refused, the outputs name the event.
 #![tactic(auto)]
 
@@ -16,6 +17,7 @@ pub mod connection;
 pub mod connection_event;
 pub mod conversation;
 pub mod door;
+pub mod flush_door;
 pub mod heard;
 pub mod house;
 pub mod laws;

@@ -1,4 +1,4 @@
-//! Connections over TCP, each served by a thread.
+//! Connections over TCP, each served by a thread, beside threads that flush.
 ghost use Rattle.std.specs.Prelude.{◌≡◌, IfErr};
 ghost use Rattle.stow_program.specs.Outcomes.{EndsServing};
 
@@ -44,19 +44,22 @@ where
 {
     let tenants = Arc::new(alloc, tenants).map_err(AllocError::from)?;
     let core = new_core(alloc, tenants, shape)?;
-    let Ok((shared, seats)) = Shared::<Unkept, A>::open(alloc, core, serving.workers) else {
+    let count = serving.workers.saturating_add(serving.flushers);
+    let Ok((shared, seats)) = Shared::<Unkept, A>::open(alloc, core, count) else {
         return Err(Failure::Memory);
     };
     let address = Endpoint::Network.check(listener.local_addr())?;
     tell_address(alloc, address, output)?;
     notice(serving, "start", errors);
+    // At least one seat is a worker's.
+    let flushers = (serving.flushers as usize).min(seats.len() - 1);
     let (_, fault) = Pool::run(
         rt,
         alloc,
         listener,
         &shared,
         seats,
-        0,
+        flushers,
         serving.connections,
         &OpenGate,
     );

@@ -8,6 +8,8 @@ pub struct Serving {
     pub listen: SocketAddr,
     /// How many connections are served at once: 1 to 256.
     pub workers: u32,
+    /// How many threads flush beside them: 0 to 16.
+    pub flushers: u32,
     /// After how many connections the program ends; 0 for no end.
     pub connections: u64,
     /// Whether start and end are told on standard error.

@@ -14,8 +14,9 @@ use Rattle.stow_state.specs.State.{SharedState, IsSound}
 use Rattle.stow_state.specs.Steps.{Call, Maintenance}
 use Rattle.stow_state.proofs.Steps.{step_is_there_law, stays_sound_law}
 use Rattle.stow_state.specs.Steps as in_state
-use Rattle.stow_shared.specs.Entries.{Entry, call_entry, resize_entry, quota_entry}
-use Rattle.stow_shared.specs.Journals.{line_in, told_in, RefusesStrangers, IsLegal, with_entry}
+use Rattle.stow_node.specs.declared.installed.Installed.{Installed}
+use Rattle.stow_shared.specs.Entries.{Entry, Step, Resize, Plan, Install, call_entry, resize_entry, quota_entry, plan_entry, install_entry}
+use Rattle.stow_shared.specs.Journals.{line_in, told_in, with_request, with_told, RefusesStrangers, IsLegal, with_entry}
 use Rattle.stow_shared.specs.Books.{IsJournalKept, IsBook, ServesCall}
 
 -- an index is a tenant's, or none's
@@ -83,22 +84,37 @@ book_same keeps es old new same book = record {
   kept = λ is. legal_same es old new same (book.kept is);
 }
 
--- ---- a change of the cache's size
+-- ---- what comes to no tenant's store
 
-legal_resize : (n leaves : ℕ) (es : List Entry) (core : CoreState) → IsLegal es core → IsLegal (resize_entry n leaves ∷ es) core
+-- the step is in no tenant's line, and tells no tenant anything
+record IsSilent (entries : List login.Entry) (step : Step) : Type 0 where
+  pub line : (tenant : ℕ) (line : List OwnEvent) → with_request tenant step line ≡ line
+  pub told : (tenant : ℕ) (replies : List Reply) → with_told tenant step replies ≡ replies
+  pub strangers : RefusesStrangers entries step
+
+legal_silent : (n : ℕ) (step : Step) (es : List Entry) (core : CoreState) → IsSilent core.entries step → IsLegal es core → IsLegal ((record { seat = n; step = step }) ∷ es) core
 unfolding line_in told_in
-legal_resize n leaves es core legal = record {
-  told = legal.told;
-  stores = legal.stores;
-  answered = (tt, legal.answered);
+legal_silent n step es core silent legal = record {
+  told = λ tenant is. silent.told tenant (told_in tenant es) ∙ legal.told tenant is ∙ ap (replies_after (quota_of core.entries tenant)) (sym (silent.line tenant (line_in tenant es)));
+  stores = λ tenant is. legal.stores tenant is ∙ ap (store_after (quota_of core.entries tenant)) (sym (silent.line tenant (line_in tenant es)));
+  answered = (silent.strangers, legal.answered);
 }
 
-kept_resize : (keeps : Bool) (n leaves : ℕ) (es : List Entry) (core : CoreState) → IsJournalKept keeps es core → IsJournalKept keeps (with_entry keeps (resize_entry n leaves) es) core
-kept_resize true n leaves es core kept is = legal_resize n leaves es core (kept is)
-kept_resize false n leaves es core kept is = kept is
+kept_silent : (keeps : Bool) (n : ℕ) (step : Step) (es : List Entry) (core : CoreState) → IsSilent core.entries step → IsJournalKept keeps es core → IsJournalKept keeps (with_entry keeps (record { seat = n; step = step }) es) core
+kept_silent true n step es core silent kept is = legal_silent n step es core silent (kept is)
+kept_silent false n step es core silent kept is = kept is
+
+book_silent : (keeps : Bool) (n : ℕ) (step : Step) (es : List Entry) (core : CoreState) → IsSilent core.entries step → IsBook keeps es core → IsBook keeps (with_entry keeps (record { seat = n; step = step }) es) core
+book_silent keeps n step es core silent book = record { sound = book.sound; kept = kept_silent keeps n step es core silent book.kept }
 
 pub book_resize : (keeps : Bool) (n leaves : ℕ) (es : List Entry) (core : CoreState) → IsBook keeps es core → IsBook keeps (with_entry keeps (resize_entry n leaves) es) core
-book_resize keeps n leaves es core book = record { sound = book.sound; kept = kept_resize keeps n leaves es core book.kept }
+book_resize keeps n leaves es core book = book_silent keeps n (Resize leaves) es core (record { line = λ t l. refl; told = λ t r. refl; strangers = tt }) book
+
+pub book_plan : (keeps : Bool) (n : ℕ) (has_job : Bool) (es : List Entry) (core : CoreState) → IsBook keeps es core → IsBook keeps (with_entry keeps (plan_entry n has_job) es) core
+book_plan keeps n has_job es core book = book_silent keeps n (Plan has_job) es core (record { line = λ t l. refl; told = λ t r. refl; strangers = tt }) book
+
+pub book_install : (keeps : Bool) (n : ℕ) (told : Installed) (es : List Entry) (core : CoreState) → IsBook keeps es core → IsBook keeps (with_entry keeps (install_entry n told) es) core
+book_install keeps n told es core book = book_silent keeps n (Install told) es core (record { line = λ t l. refl; told = λ t r. refl; strangers = tt }) book
 
 -- ---- a call
 

@@ -1,4 +1,5 @@
 pub mod Legal
+pub mod Added
 pub mod Steps
 pub mod Receipts
 pub mod Sums

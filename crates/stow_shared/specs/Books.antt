@@ -1,12 +1,17 @@
 -- What stands under the lock, and its steps.
-use Rattle.std.specs.Prelude.{◌≡◌, ℕ, Bool, true, false, List, ◌⊎◌}
+use Rattle.std.specs.Prelude.{◌≡◌, ◌↔◌, ℕ, Bool, true, false, List, Option, None, IfSome, is_some, ◌⊎◌}
 use Rattle.stow_model.specs.declared.refusal.Refusal.TheVariants as refusal
 use Rattle.stow_model.specs.Login.{IsTenant}
 use Rattle.stow_model.specs.Reply.{Reply}
 use Rattle.stow_model.specs.Reply as reply
+use Rattle.stow_merge.specs.declared.flush_job.FlushJob.{FlushJob}
+use Rattle.stow_node.specs.Installs.{BatchIsGone}
+use Rattle.stow_node.specs.declared.installed.Installed.{Installed}
+use Rattle.stow_node.specs.declared.installed.Installed.TheVariants as installed
+use Rattle.stow_core.specs.Flushing.{IsDrained, IsPlannedFrom, TakesResultOf}
 use Rattle.stow_core.specs.State.{CoreState, shared_of, AnswersRequest, RefusesCall, GivesQuota, Keeps, OthersStay, Resized}
 use Rattle.stow_state.specs.State.{IsSound}
-use Rattle.stow_shared.specs.Entries.{Entry, call_entry, resize_entry, quota_entry}
+use Rattle.stow_shared.specs.Entries.{Entry, call_entry, resize_entry, quota_entry, plan_entry, install_entry}
 use Rattle.stow_shared.specs.Journals.{with_entry, IsLegal}
 use Rattle.stow_shared.specs.Seats.{SeatState, with_receipt, with_refusal}
 
@@ -82,3 +87,31 @@ pub record Orders (keeps : Bool) (old : BookState) (seat : SeatState) (tenant qu
     (new : BookState) (seat' : SeatState) : Type 0 where
   pub core : GivesQuota old.core tenant quota new.core
   pub adds : Adds keeps (quota_entry seat.number tenant quota) old.entries seat new.entries seat'
+
+-- A flush was planned: no store moved, and there is no job just where no buffer holds a message.
+pub record PlansFlush {A : Type 0} (old : CoreState) (job : Option (FlushJob A)) (new : CoreState)
+    : Type 0 where
+  pub keeps : Keeps old new
+  pub none : job ≡ None ↔ IsDrained old
+  pub planned : IfSome job (IsPlannedFrom new)
+
+-- The result of a job came: no store moved. It is stale just where it can't be installed, and then
+-- nothing changed; else its batch is gone from the buffers.
+pub record TakesResult {A : Type 0} (old : CoreState) (job : FlushJob A) (told : Installed)
+    (new : CoreState) : Type 0 where
+  pub keeps : Keeps old new
+  pub stale : told ≡ installed.Stale ↔ ¬ (TakesResultOf old job)
+  pub unmoved : told ≡ installed.Stale → new ≡ old
+  pub gone : told ≡ installed.Done → BatchIsGone job.batch.messages new.tree.root
+
+-- the step of a flush that is planned, with its one entry and receipt
+pub record Plans {A : Type 0} (keeps : Bool) (old : BookState) (seat : SeatState)
+    (job : Option (FlushJob A)) (new : BookState) (seat' : SeatState) : Type 0 where
+  pub core : PlansFlush old.core job new.core
+  pub adds : Adds keeps (plan_entry seat.number (is_some job)) old.entries seat new.entries seat'
+
+-- the step of a job's result, with its one entry and receipt
+pub record Installs {A : Type 0} (keeps : Bool) (old : BookState) (seat : SeatState)
+    (job : FlushJob A) (told : Installed) (new : BookState) (seat' : SeatState) : Type 0 where
+  pub core : TakesResult old.core job told new.core
+  pub adds : Adds keeps (install_entry seat.number told) old.entries seat new.entries seat'

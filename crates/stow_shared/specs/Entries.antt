@@ -1,6 +1,7 @@
 -- What a journal tells: which seat took a step, and what it did.
-use Rattle.std.specs.Prelude.{ℕ, List, map, reverse}
+use Rattle.std.specs.Prelude.{ℕ, Bool, List, map, reverse}
 use Rattle.stow_model.specs.Reply.{Reply, reply_of}
+use Rattle.stow_node.specs.declared.installed.Installed.{Installed}
 use Rattle.stow_shared.specs.declared.step.Step as coded_step
 use Rattle.stow_shared.specs.declared.step.Step.TheVariants as in_code
 use Rattle.stow_shared.specs.declared.entry.Entry as coded_entry
@@ -13,6 +14,10 @@ pub data Step : Type 0 where
   Resize : ℕ → Step
   -- the operator gave the tenant of this index this quota
   Quota : ℕ → ℕ → Step
+  -- a flush was planned, and whether there is a job for it
+  Plan : Bool → Step
+  -- the result of a job came, and this became of it
+  Install : Installed → Step
 
 pub record Entry : Type 0 where
   pub seat : ℕ
@@ -30,11 +35,21 @@ resize_entry seat leaves = record { seat = seat; step = Resize leaves }
 abbrev pub quota_entry : ℕ → ℕ → ℕ → Entry
 quota_entry seat tenant quota = record { seat = seat; step = Quota tenant quota }
 
+-- a planned flush in an entry
+abbrev pub plan_entry : ℕ → Bool → Entry
+plan_entry seat has_job = record { seat = seat; step = Plan has_job }
+
+-- a job's result in an entry
+abbrev pub install_entry : ℕ → Installed → Entry
+install_entry seat told = record { seat = seat; step = Install told }
+
 -- what the code's types stand for, whatever allocator they have their memory from
 abbrev pub step_of : {A : Type 0} → coded_step.Step A → Step
 step_of (in_code.Call tenant words told) = Call tenant words (reply_of told)
 step_of (in_code.Resize leaves) = Resize leaves
 step_of (in_code.Quota tenant quota) = Quota tenant quota
+step_of (in_code.Plan has_job) = Plan has_job
+step_of (in_code.Install told) = Install told
 
 abbrev pub entry_of : {A : Type 0} → coded_entry.Entry A → Entry
 entry_of entry = record { seat = entry.seat; step = step_of entry.step }

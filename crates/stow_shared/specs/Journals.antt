@@ -8,7 +8,7 @@ use Rattle.stow_model.specs.Reply.{Reply}
 use Rattle.stow_model.specs.Reply as reply
 use Rattle.stow_model.specs.Store.{OwnEvent, Asked, GivenQuota, store_after, replies_after}
 use Rattle.stow_core.specs.State.{CoreState, store_of}
-use Rattle.stow_shared.specs.Entries.{Step, Call, Resize, Quota, Entry}
+use Rattle.stow_shared.specs.Entries.{Step, Call, Resize, Quota, Plan, Install, Entry}
 
 -- the journal, or a seat's receipts, with an entry more where entries are kept
 abbrev pub with_entry : Bool → Entry → List Entry → List Entry
@@ -24,6 +24,8 @@ with_request tenant (Call index words told) line =
 with_request tenant (Resize leaves) line = line
 with_request tenant (Quota index quota) line =
     if index == tenant then GivenQuota quota ∷ line else line
+with_request tenant (Plan has_job) line = line
+with_request tenant (Install told) line = line
 
 -- the tenant's line: its calls, over all seats, to none of which memory was refused, and the quotas
 -- that it was given
@@ -36,6 +38,8 @@ with_told tenant (Call index words told) replies =
     if index == tenant then told ∷ replies else replies
 with_told tenant (Resize leaves) replies = replies
 with_told tenant (Quota index quota) replies = replies
+with_told tenant (Plan has_job) replies = replies
+with_told tenant (Install told) replies = replies
 
 -- what the tenant was told
 unfoldable pub told_in : ℕ → List Entry → List Reply
@@ -48,9 +52,12 @@ RefusesStrangers tenants (Call index words told) = ¬ (IsTenant tenants index)
     → told ≡ reply.Error refusal.NotAuthenticated
 RefusesStrangers tenants (Resize leaves) = Unit {0}
 RefusesStrangers tenants (Quota index quota) = Unit {0}
+RefusesStrangers tenants (Plan has_job) = Unit {0}
+RefusesStrangers tenants (Install told) = Unit {0}
 
 -- the journal leads from empty stores to the core: each tenant was told what its own run over its
--- line tells, and its store is the last of that run; a change of the cache's size changes no store
+-- line tells, and its store is the last of that run; a change of the cache's size and a flush change
+-- no store
 pub record IsLegal (journal : List Entry) (core : CoreState) : Type 0 where
   pub told : (tenant : ℕ) → IsTenant core.entries tenant
       → told_in tenant journal

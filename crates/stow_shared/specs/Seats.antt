@@ -1,8 +1,9 @@
 -- A seat: what it was told under the lock.
 use Rattle.std.specs.Prelude.{◌≡◌, ℕ, Bool, List, [], if◌then◌else◌}
+use Rattle.stow_house.specs.FlushDoors.{Flushing, Planned, Came, Refused}
 use Rattle.stow_model.specs.Reply.{Reply}
 use Rattle.stow_model.specs.Store.{one_more, is_out_of_memory}
-use Rattle.stow_shared.specs.Entries.{Entry, call_entry}
+use Rattle.stow_shared.specs.Entries.{Entry, call_entry, plan_entry, install_entry}
 use Rattle.stow_shared.specs.Journals.{with_entry}
 
 -- its number, the entries that it added, newest first, and how many of its calls memory was refused
@@ -33,3 +34,13 @@ after_call keeps tenant words told seat =
 
 abbrev pub SeatCalls : Bool → SeatState → ℕ → List (List ℕ) → Reply → SeatState → Type 0
 SeatCalls keeps old tenant words told new = new ≡ after_call keeps tenant words told old
+
+-- the seat after what a flusher did: its receipt, and nothing where memory was refused
+abbrev pub after_flushing : Bool → Flushing → SeatState → SeatState
+after_flushing keeps (Planned has_job) seat =
+    with_receipt keeps (plan_entry seat.number has_job) seat
+after_flushing keeps (Came told) seat = with_receipt keeps (install_entry seat.number told) seat
+after_flushing keeps Refused seat = seat
+
+abbrev pub SeatFlushes : Bool → SeatState → Flushing → SeatState → Type 0
+SeatFlushes keeps old done new = new ≡ after_flushing keeps done old

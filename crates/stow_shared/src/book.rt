@@ -1,5 +1,5 @@
 //! What the lock holds.
-ghost use Rattle.std.specs.Prelude.{◌≡◌, ◌↔◌, ◌≤◌, IsTrue, IfOk, OnOk, OnErr, [], true};
+ghost use Rattle.std.specs.Prelude.{◌≡◌, ◌↔◌, ◌≤◌, IsTrue, IfOk, IfErr, OnOk, OnErr, [], true};
 ghost use Rattle.stow_bytes.specs.Limits.{number_limit};
 ghost use Rattle.stow_core.specs.State.{IsNewCore};
 ghost use Rattle.stow_model.specs.Reply.{reply_of};
@@ -20,8 +20,11 @@ use std::marker::{Model, PhantomData};
 use stow_core::Core;
 use stow_core::prepared::Prepared;
 use stow_login::tenants::Tenants;
+use stow_merge::flush_job::FlushJob;
+use stow_merge::flush_result::FlushResult;
 use stow_model::reply::Reply;
 use stow_model::words::Words;
+use stow_node::installed::Installed;
 
 /// The core, and the journal that leads to it.
 #[derive(Drop)]
@@ -43,7 +46,7 @@ impl<J: Journal, A: Allocator + Copy> Model for Book<J, A> {
 }
 
 impl<J: Journal, A: Allocator + Copy> Book<J, A> {
-    ghost use Rattle.stow_shared.specs.Books.{CallStep, Orders, Resizes, Leaves, IsJournalKept};
+    ghost use Rattle.stow_shared.specs.Books.{CallStep, Installs, Orders, Plans, Resizes, Leaves, IsJournalKept};
 
     /// A book of a core in which every store is empty.
     pub fn new(alloc: A, core: Core<A>) -> Book<J, A>
@@ -145,6 +148,53 @@ impl<J: Journal, A: Allocator + Copy> Book<J, A> {
         keep_quota(&mut self.journal, seat, tenant, quota)?;
         self.core.set_quota(tenant, quota);
         Ok(())
+    }
+
+    /// The step of a flush that is planned: its job, if there is one. Where memory is refused, no store moves and nothing is
+    /// added.
+    pub fn plan(
+        &mut self,
+        alloc: A,
+        seat: &mut Seat<J, A>,
+    ) -> Result<Option<FlushJob<A>>, AllocError>
+        ensures ok { IfOk result (λ job.
+            Plans J.keeps self.old seat.old job self.new seat.new) }
+        ensures err { OnErr result (Leaves self.old self.new × (seat.new ≡ seat.old)) }
+    {
+        if !J::is_kept() {
+            return self.core.plan(alloc);
+        }
+        let number = seat.number();
+        self.journal.reserve(1)?;
+        let job = seat.plan(alloc, &mut self.core)?;
+        self.journal
+            .push_reserved(Entry::planned(number, job.is_some()));
+        Ok(job)
+    }
+
+    /// The step of a job's result, which is installed or stale. Where memory is refused, it comes back, no store moves and
+    /// nothing is added.
+    pub fn install(
+        &mut self,
+        alloc: A,
+        seat: &mut Seat<J, A>,
+        merge: FlushResult<A>,
+    ) -> Result<Installed, (FlushResult<A>, AllocError)>
+        ensures ok { IfOk result (λ told.
+            Installs J.keeps self.old seat.old merge.job told self.new seat.new) }
+        ensures err { OnErr result (Leaves self.old self.new × (seat.new ≡ seat.old)) }
+        ensures back { IfErr result (λ e. e.0 ≡ merge) }
+    {
+        if !J::is_kept() {
+            return self.core.install(alloc, merge);
+        }
+        let number = seat.number();
+        if let Err(refused) = self.journal.reserve(1) {
+            return Err((merge, refused));
+        }
+        let told = seat.install(alloc, &mut self.core, merge)?;
+        self.journal.push_reserved(Entry::installed(number, told));
+        Ok(told)
     }
 }
 

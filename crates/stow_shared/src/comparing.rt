@@ -80,6 +80,8 @@ fn same_step<A: Allocator>(a: &Step<A>, b: &Step<A>) -> bool
         }
         (Step::Resize(m), Step::Resize(n)) => m == n,
         (Step::Quota(t, m), Step::Quota(u, n)) => t == u && m == n,
+        (Step::Plan(x), Step::Plan(y)) => x == y,
+        (Step::Install(x), Step::Install(y)) => x == y,
         _ => false,
     }
 }

@@ -1,5 +1,5 @@
 //! A seat at the lock.
-ghost use Rattle.std.specs.Prelude.{◌≡◌, OnOk, OnErr, ◌∷◌};
+ghost use Rattle.std.specs.Prelude.{◌≡◌, true, IfOk, IfErr, OnOk, OnErr, ◌∷◌, is_some};
 ghost use Rattle.stow_model.specs.declared.refusal.Refusal.TheVariants as refusal;
 ghost use Rattle.stow_model.specs.Reply.{reply_of};
 ghost use Rattle.stow_model.specs.Reply as reply;
@@ -10,8 +10,11 @@ use std::alloc::{AllocError, Allocator, Global};
 use std::marker::{Model, PhantomData};
 use stow_bytes::limits::NUMBER_LIMIT;
 use stow_core::Core;
+use stow_merge::flush_job::FlushJob;
+use stow_merge::flush_result::FlushResult;
 use stow_model::refusal::Refusal;
 use stow_model::reply::Reply;
+use stow_node::installed::Installed;
 
 /// The right of one thread to take steps, with a receipt of each where a journal is kept, and the number of its
 /// calls that memory was refused to.
@@ -98,7 +101,9 @@ impl<J: Journal, A: Allocator> Seat<J, A> {
 impl<J: Journal, A: Allocator + Copy> Seat<J, A> {
     ghost use Rattle.stow_core.specs.State.{shared_of, Keeps, Resized};
     ghost use Rattle.stow_state.specs.State.{IsSound};
-    ghost use Rattle.stow_shared.specs.Entries.{entry_of};
+    ghost use Rattle.stow_shared.specs.Books.{PlansFlush, TakesResult};
+    ghost use Rattle.stow_shared.specs.Entries.{entry_of, plan_entry, install_entry};
+    ghost use Rattle.stow_shared.specs.Seats.{with_receipt};
 
     /// Asks the core's cache to hold so many leaves, and adds the receipt of it. An `Err` adds none.
     pub(crate) fn resize(
@@ -118,5 +123,48 @@ impl<J: Journal, A: Allocator + Copy> Seat<J, A> {
         core.resize(leaves)?;
         self.receipts.push_reserved(receipt);
         Ok(())
+    }
+    /// Plans a flush in the core, and adds the receipt of it. An `Err` adds none.
+    pub(crate) fn plan(
+        &mut self,
+        alloc: A,
+        core: &mut Core<A>,
+    ) -> Result<Option<FlushJob<A>>, AllocError>
+        requires { IsSound (shared_of core.old) }
+        ensures ok { IfOk result (λ job. self.new
+            ≡ with_receipt true (plan_entry self.old.number (is_some job)) self.old) }
+        ensures err { OnErr result (self.new ≡ self.old) }
+        ensures core { IfOk result (λ job. PlansFlush core.old job core.new) }
+        ensures keeps { Keeps core.old core.new }
+    {
+        self.receipts.reserve(1)?;
+        let job = core.plan(alloc)?;
+        self.receipts
+            .push_reserved(Entry::planned(self.number, job.is_some()));
+        Ok(job)
+    }
+
+    /// Installs a job's result in the core, and adds the receipt of it. An `Err` adds none, and gives the result back.
+    pub(crate) fn install(
+        &mut self,
+        alloc: A,
+        core: &mut Core<A>,
+        merge: FlushResult<A>,
+    ) -> Result<Installed, (FlushResult<A>, AllocError)>
+        requires { IsSound (shared_of core.old) }
+        ensures ok { IfOk result (λ told. self.new
+            ≡ with_receipt true (install_entry self.old.number told) self.old) }
+        ensures err { OnErr result (self.new ≡ self.old) }
+        ensures back { IfErr result (λ e. e.0 ≡ merge) }
+        ensures core { IfOk result (λ told. TakesResult core.old merge.job told core.new) }
+        ensures keeps { Keeps core.old core.new }
+    {
+        if let Err(refused) = self.receipts.reserve(1) {
+            return Err((merge, refused));
+        }
+        let told = core.install(alloc, merge)?;
+        self.receipts
+            .push_reserved(Entry::installed(self.number, told));
+        Ok(told)
     }
 }

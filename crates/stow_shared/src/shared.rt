@@ -1,11 +1,11 @@
 //! A core that threads share.
-ghost use Rattle.std.specs.Prelude.{◌≡◌, ◌≤◌, true, IfOk, IfErr, OnOk, OnErr};
+ghost use Rattle.std.specs.Prelude.{◌≡◌, ◌≤◌, true, is_some, IfOk, IfErr, OnOk, OnErr};
 ghost use Rattle.stow_bytes.specs.Limits.{number_limit};
 ghost use Rattle.std.specs.Arc.{arc_value};
 ghost use Rattle.stow_core.specs.State.{IsNewCore};
 ghost use Rattle.stow_model.specs.Reply.{reply_of};
 ghost use Rattle.stow_shared.specs.Closed.{Closes};
-ghost use Rattle.stow_shared.specs.Entries.{quota_entry, resize_entry};
+ghost use Rattle.stow_shared.specs.Entries.{install_entry, plan_entry, quota_entry, resize_entry};
 ghost use Rattle.stow_shared.specs.Opened.{AreNewSeats, IsFaultOf, IsSeatCount, Opens};
 ghost use Rattle.stow_shared.specs.Seats.{SeatCalls, with_receipt};
 
@@ -20,8 +20,11 @@ use std::marker::Model;
 use std::sync::{Arc, Mutex, Wait};
 use stow_core::Core;
 use stow_login::tenants::Tenants;
+use stow_merge::flush_job::FlushJob;
+use stow_merge::flush_result::FlushResult;
 use stow_model::reply::Reply;
 use stow_model::words::Words;
+use stow_node::installed::Installed;
 
 /// The most seats at one lock.
 const SEAT_LIMIT: u32 = 1024;
@@ -134,6 +137,38 @@ impl<J: Journal, A: Allocator + Copy> Shared<J, A> {
         ensures memory { OnErr result (J.keeps ≡ true) }
     {
         self.book.lock(rt).set_quota(seat, tenant, quota)
+    }
+
+    /// Plans a flush while the lock is held: its job, if there is one, to be merged outside the lock. The seat gains the receipt
+    /// of it where entries are kept. Where memory is refused it gains none.
+    pub fn plan<R: Wait>(
+        &self,
+        rt: &R,
+        alloc: A,
+        seat: &mut Seat<J, A>,
+    ) -> Result<Option<FlushJob<A>>, AllocError>
+        ensures ok { IfOk result (λ job. seat.new
+            ≡ with_receipt J.keeps (plan_entry seat.old.number (is_some job)) seat.old) }
+        ensures err { OnErr result (seat.new ≡ seat.old) }
+    {
+        self.book.lock(rt).plan(alloc, seat)
+    }
+
+    /// Installs a job's result while the lock is held, unless it is stale. The seat gains the receipt of it where entries are
+    /// kept. Where memory is refused it gains none, and the result comes back.
+    pub fn install<R: Wait>(
+        &self,
+        rt: &R,
+        alloc: A,
+        seat: &mut Seat<J, A>,
+        merge: FlushResult<A>,
+    ) -> Result<Installed, (FlushResult<A>, AllocError)>
+        ensures ok { IfOk result (λ told. seat.new
+            ≡ with_receipt J.keeps (install_entry seat.old.number told) seat.old) }
+        ensures err { OnErr result (seat.new ≡ seat.old) }
+        ensures back { IfErr result (λ e. e.0 ≡ merge) }
+    {
+        self.book.lock(rt).install(alloc, seat, merge)
     }
 
     /// Takes the core and the journal out of the lock, where all that is handed back belongs together, which is

@@ -2,6 +2,7 @@
 use std::alloc::{Allocator, Global};
 use stow_model::reply::Reply;
 use stow_model::words::Words;
+use stow_node::installed::Installed;
 
 /// A step that was taken whole while the lock was held, with its answer.
 #[derive(Drop)]
@@ -12,4 +13,8 @@ pub enum Step<A: Allocator = Global> {
     Resize(usize),
     /// The operator gave the tenant of this index this quota, in bytes.
     Quota(u32, u64),
+    /// A flush was planned, and whether there is a job for it.
+    Plan(bool),
+    /// The result of a job came, and this became of it.
+    Install(Installed),
 }

@@ -178,17 +178,18 @@ fn is_call(entry: &Entry, tenant: u32, line: &str, want: &Reply) -> bool {
                 && are_words_of(words, line)
                 && same_reply(reply, want)
         }
-        Step::Resize(_) | Step::Quota(_, _) => false,
+        Step::Resize(_) | Step::Quota(_, _) | Step::Plan(_) | Step::Install(_) => false,
     }
 }
 
-// A call, a change of the cache's size, and a call of an index that is no tenant's: three entries.
+// A call, a flush that is planned, a change of the cache's size, and a call of an index that is no tenant's: four entries.
 #[test]
 fn one_seat_has_its_entries(rt: HostRuntime) {
     let alloc: Global = rt.alloc();
     let (shared, mut seat) = opened_for_one::<_, Kept, Global>(&rt, alloc, alloc);
     let set = told(&rt, alloc, &shared, &mut seat, 1, "SET a x");
     assert!(rt; same_reply(&set, &OK));
+    assert!(rt; matches!(shared.plan(&rt, alloc, &mut seat), Ok(Some(_))));
     assert!(rt; shared.resize(&rt, &mut seat, 5).is_ok());
     let words = words_of(alloc, "GET a").expect(&rt, "memory");
     let mut desk = Desk {
@@ -197,14 +198,15 @@ fn one_seat_has_its_entries(rt: HostRuntime) {
         seat: &mut seat,
     };
     assert!(rt; same_reply(&desk.call(alloc, 4, &words), &STRANGER));
-    assert!(rt; seat.number() == 1 && seat.receipts().len() == 3 && seat.refused() == 0);
+    assert!(rt; seat.number() == 1 && seat.receipts().len() == 4 && seat.refused() == 0);
     let closed = closed_by_one(&rt, alloc, shared, seat);
     assert_eq!(rt; closed.core().tenants().count(), 3);
     let entries = closed.entries();
-    assert_eq!(rt; entries.len(), 3);
+    assert_eq!(rt; entries.len(), 4);
     assert!(rt; is_call(&entries[0], 1, "SET a x", &OK));
-    assert!(rt; entries[1].seat == 1 && matches!(&entries[1].step, Step::Resize(5)));
-    assert!(rt; is_call(&entries[2], 4, "GET a", &STRANGER));
+    assert!(rt; entries[1].seat == 1 && matches!(&entries[1].step, Step::Plan(true)));
+    assert!(rt; entries[2].seat == 1 && matches!(&entries[2].step, Step::Resize(5)));
+    assert!(rt; is_call(&entries[3], 4, "GET a", &STRANGER));
 }
 
 const LINES: [&str; 6] = [

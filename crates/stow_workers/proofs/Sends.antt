@@ -9,6 +9,7 @@ use Rattle.std.specs.declared.alloc.Allocator.{Ghosts}
 use Rattle.stow_shared.specs.declared.journal.Journal as journal
 use Rattle.stow_shared.proofs.Sends.{shared_syncs}
 use Rattle.stow_workers.specs.contracts.workplace.Workplace as workplace
+use Rattle.stow_workers.proofs.wake.Wake.TheSendSync as wake
 
 module _ (κ : NamedLft) (R K G A : RattleType) (k : journal.Ghosts K.Denot) (g : Ghosts A.Denot) where
   pub workplace_syncs : IsSync R → IsSend K → IsSync G → IsSend A → IsSync A → Frees g g.dealloc_token → IsSync (workplace.the_field κ R K G A k g).row
@@ -18,6 +19,6 @@ module _ (κ : NamedLft) (R K G A : RattleType) (k : journal.Ghosts K.Denot) (g 
         search sendable,
         (
           search sendable,
-          (search (receiver.the_sync, stream.the_send, sendable) depth 8, (search sendable, (search sendable, tt))),
+          (search (receiver.the_sync, stream.the_send, sendable) depth 8, (search (receiver.the_sync, wake.the_send, sendable) depth 8, (search sendable, (search sendable, tt)))),
         ),
       )

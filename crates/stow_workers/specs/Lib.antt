@@ -5,4 +5,5 @@ pub mod Sent
 pub mod Talks
 pub mod Turns
 pub mod Laws
+pub mod Flushes
 pub mod Pools

@@ -1,7 +1,8 @@
--- What the workers of a pool did with their seats.
-use Rattle.std.specs.Prelude.{◌≡◌, ℕ, Bool, List, [], ◌∷◌, drop}
-use Rattle.stow_shared.specs.Seats.{SeatState, SeatCalls}
+-- What the workers and flushers of a pool did with their seats.
+use Rattle.std.specs.Prelude.{◌≡◌, ℕ, Bool, List, [], ◌∷◌, take, drop}
+use Rattle.stow_shared.specs.Seats.{SeatState, SeatCalls, SeatFlushes}
 use Rattle.stow_workers.specs.Exchanges.{Call, LeadTo}
+use Rattle.stow_workers.specs.Flushes.{HasFlushed}
 use Rattle.stow_workers.specs.declared.worker.Worker.{Worker}
 use Rattle.stow_workers.specs.declared.worker.Worker.TheVariants as worker
 
@@ -20,21 +21,32 @@ AreEach R (x ∷ xs) [] = ⊥
 
 -- a worker of this seat: its thread gives the seat back after calls, or it has the seat
 abbrev pub IsWorkerOf : {J A : Type 0} → Bool → SeatState → Worker J A → Type 0
-IsWorkerOf keeps seat (worker.Running thread) = thread.promise.seat.value ≡ seat
+IsWorkerOf keeps seat (worker.Serving thread) = thread.promise.seat.value ≡ seat
+IsWorkerOf keeps seat (worker.Flushing thread) = ⊥
 IsWorkerOf keeps seat (worker.Idle handed) = HasCalled keeps seat handed
 
--- a worker without a thread, which has this seat
-abbrev pub IsIdleOf : {J A : Type 0} → SeatState → Worker J A → Type 0
-IsIdleOf seat (worker.Running thread) = ⊥
-IsIdleOf seat (worker.Idle handed) = handed ≡ seat
+-- a flusher of this seat: its thread gives the seat back after plans and installs, or it has the
+-- seat
+abbrev pub IsFlusherOf : {J A : Type 0} → Bool → SeatState → Worker J A → Type 0
+IsFlusherOf keeps seat (worker.Serving thread) = ⊥
+IsFlusherOf keeps seat (worker.Flushing thread) = thread.promise.seat.value ≡ seat
+IsFlusherOf keeps seat (worker.Idle handed) = HasFlushed (SeatFlushes keeps) seat handed
 
--- what joining a worker gives: the seat that it is a worker of, after calls, or as it was where it
--- had no thread
+-- what joining a worker or a flusher gives: its seat, after calls alone or after plans and installs
+-- alone
 pub record GivesBack {J A : Type 0} (keeps : Bool) (worker : Worker J A) (seat : SeatState) : Type 0
   where
     pub called : (first : SeatState) → IsWorkerOf keeps first worker → HasCalled keeps first seat
-    pub unused : (first : SeatState) → IsIdleOf first worker → seat ≡ first
+    pub flushed : (first : SeatState) → IsFlusherOf keeps first worker
+        → HasFlushed (SeatFlushes keeps) first seat
 
--- all but the first so many are as they were
-abbrev pub AreUnusedFrom : {X : Type 0} → ℕ → List X → List X → Type 0
-AreUnusedFrom count old new = drop count new ≡ drop count old
+-- one relation holds of the first so many at each place, and another of those behind them
+pub record AreEachUpTo {X Y : Type 0} (count : ℕ) (R S : X → Y → Type 0) (xs : List X)
+    (ys : List Y) : Type 0 where
+  pub first : AreEach R (take count xs) (take count ys)
+  pub others : AreEach S (drop count xs) (drop count ys)
+
+-- the seats come back, each in its place: the first so many after calls alone, and the others after
+-- plans and installs alone
+abbrev pub ComeBack : Bool → ℕ → List SeatState → List SeatState → Type 0
+ComeBack keeps count = AreEachUpTo count (HasCalled keeps) (HasFlushed (SeatFlushes keeps))

@@ -1,5 +1,6 @@
 //! Connections served by workers: the service of one connection, from its reader to its writer, through any door,
-//! and a pool of threads that serve the connections of a listener over a shared core.
+//! the flushes of one flusher, through any door too, and a pool of threads that serve the connections of a listener over
+//! a shared core, and flush.
 //!
 //! Promised, and proved (`serving::serve_connection`, `specs/Talks.antt`), of every reader and writer that tell
 //! their bytes:
@@ -19,21 +20,25 @@
 //!   (`laws`, whose body is empty, so no wrong body can be tried on it).
 //!
 //! - Bytes are written whole (`writing::write_all`), or a beginning of them where a call of the writer failed.
-//! - A pool (`pool::Pool`) gives each seat back in its place, at a fault too, and nothing but calls was done from it:
-//!   it gained the receipt of each, where receipts are kept, or counted that memory was refused to it
-//!   (`specs/Pools.antt`); the seats that are kept for flushers come back as they were. Whoever then closes the lock
+//! - One wake of a flusher (`flushing::serve_wake`, `specs/Flushes.antt`) is a plan and an install in turn, at most 16
+//!   times, and no fewer unless there is no job or memory is refused; its door goes from its state before to that after by
+//!   these, each in its relation.
+//! - A pool (`pool::Pool`) gives each seat back in its place, at a fault too. From a worker's nothing but calls was done:
+//!   it gained the receipt of each, where receipts are kept, or counted that memory was refused to it. From a flusher's
+//!   nothing but plans and installs was, with their receipts (`specs/Pools.antt`). Whoever then closes the lock
 //!   learns from it that these receipts are one legal journal.
 //!
-//! Only tested of the pool, over loopback: that it serves at all, that its workers do so side by side, that a client
+//! Only tested of the pool, over loopback: that it serves at all, that its workers do so side by side and while a flusher
+//! merges, that flushers are woken at all, that a client
 //! which breaks off, faults or reads nothing leaves its worker to the next one, which fault it tells, and that it
-//! ends. Nothing is said of a socket's bytes, of the channel that hands connections over, or of when a thread runs;
+//! ends. Nothing is said of a socket's bytes, of the channels that hand connections and wakes over, or of when a thread runs;
 //! a pool that serves nobody meets its contract. That a refused thread, or refused memory, gives the seats back is
 //! proved; that refused memory is told, and only then, is tested of each request that the pool makes itself. No test
 //! refuses it a thread.
 //!
 //! Only tested of a connection: that want of memory is told only where it was refused, so a body that gives up with it is right by
 //! the contracts; that replies are written before the next piece is read, and once much of them waits; that
-//! the gate is passed around each call of a door. A gate's method promises nothing. Not said: time, that a
+//! the gate is passed around each call of a door, and before each merge. A gate's method promises nothing. Not said: time, that a
 //! reader or a writer returns, and with which error a write failed, but that a `Counted` keeps the last one: so a
 //! body of `write_all` that tells another error where a write failed is right by its contract.
 #![tactic(auto)]
@@ -41,6 +46,8 @@
 mod accepting;
 mod client;
 pub mod counted;
+pub mod flush_promise;
+pub mod flushing;
 pub mod gate;
 pub mod laws;
 pub mod open_gate;
@@ -50,12 +57,17 @@ pub mod pool;
 pub mod pool_fault;
 mod replies;
 pub mod seat_promise;
+mod senders;
 pub mod served;
 pub mod serving;
 pub mod sink;
 pub mod source;
+mod starting;
 #[cfg(test)]
 mod tests;
+pub mod wake;
+pub mod waker;
+pub mod waking_desk;
 pub mod worker;
 pub mod workplace;
 pub mod writing;

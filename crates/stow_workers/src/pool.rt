@@ -1,18 +1,18 @@
-//! Threads that serve the connections of a listener.
+//! Threads that serve the connections of a listener, and flush.
 ghost use denote.Param.Send.{Frees, IsSend, IsSync};
-ghost use Rattle.std.specs.Prelude.{◌≡◌, ◌-◌, ◌<◌, ◌≤◌, drop, false, vec_len, vec_capacity, []};
-ghost use Rattle.stow_workers.specs.Pools.{AreEach, AreUnusedFrom, GivesBack, HasCalled, IsIdleOf, IsWorkerOf};
+ghost use Rattle.std.specs.Prelude.{◌≡◌, ◌-◌, ◌<◌, ◌≤◌, vec_len, vec_capacity, []};
+ghost use Rattle.stow_workers.specs.Pools.{AreEach, AreEachUpTo, ComeBack, GivesBack, IsFlusherOf, IsWorkerOf};
 
 use crate::accepting::accept;
 use crate::gate::Gate;
 use crate::pool_fault::PoolFault;
-use crate::seat_promise::SeatPromise;
+use crate::senders::Senders;
+use crate::starting::start;
 use crate::worker::Worker;
 use crate::workplace::Workplace;
-use crossbeam_channel::{Sender, bounded};
+use crossbeam_channel::bounded;
 use std::alloc::Allocator;
-use std::net::{TcpListener, TcpStream};
-use std::snapshot::Snapshot;
+use std::net::TcpListener;
 use std::sync::Wait;
 use std::thread;
 use std::thread::{Scope, Threads};
@@ -20,17 +20,18 @@ use stow_shared::journal::Journal;
 use stow_shared::seat::Seat;
 use stow_shared::shared::Shared;
 
-/// How many connections that were accepted may wait for a worker.
+/// How many connections that were accepted may wait for a worker, and how many wakes for a flusher.
 const WAITING: usize = 16;
 
-/// Threads that serve the connections of a listener, each from a seat of its own.
+/// Threads that serve the connections of a listener, and threads that flush, each from a seat of its own.
 pub struct Pool;
 
 impl Pool {
-    /// Serves the listener's connections, each by one worker from its first request to its end, and a worker for
-    /// each seat but the last `flushers`, which stay unused. Returns once so many connections were served, or never
-    /// at 0, and all its threads have ended; so does a fault, once the connections that were accepted are served.
-    /// Each seat comes back in its place, and nothing but calls was done from it.
+    /// Serves the listener's connections, each by one worker from its first request to its end, with a worker for
+    /// each seat but the last `flushers`. From each of these a flusher flushes, woken by every 64th call of a worker.
+    /// Returns once so many connections were served, or never at 0, and all its threads have ended; so does a fault,
+    /// once the connections that were accepted are served. Each seat comes back in its place. Nothing but calls was
+    /// done from a worker's, and nothing but plans and installs from a flusher's.
     pub fn run<
         'a,
         R: Threads + Wait + Sync,
@@ -48,8 +49,7 @@ impl Pool {
         gate: &'a G,
     ) -> (Vec<Seat<J, A>, A>, Option<PoolFault>)
         requires { flushers < vec_len seats }
-        ensures each { AreEach (HasCalled J.keeps) seats.items result.0.items }
-        ensures unused { AreUnusedFrom (vec_len seats - flushers) seats.items result.0.items }
+        ensures { ComeBack J.keeps (vec_len seats - flushers) seats.items result.0.items }
     {
         let count = seats.len() - flushers;
         let Ok(workers) = Vec::with_capacity(alloc, seats.len()) else {
@@ -61,10 +61,15 @@ impl Pool {
         let Ok((sender, receiver)) = bounded(alloc, WAITING) else {
             return (seats, Some(PoolFault::Refused));
         };
+        let Ok((waking, wakes)) = bounded(alloc, WAITING) else {
+            return (seats, Some(PoolFault::Refused));
+        };
+        let senders = Senders::new(sender, waking, flushers);
         let place = Workplace {
             rt,
             alloc,
             streams: &receiver,
+            wakes: &wakes,
             shared,
             gate,
         };
@@ -77,30 +82,29 @@ impl Pool {
                     × IsSend J.row × IsSend A.row × Frees A.Allocator A.dealloc_token
                     × (workers.items ≡ []) × (vec_len seats ≤ vec_capacity workers)
                     × (returned.items ≡ []) × (vec_len seats ≤ vec_capacity returned) }
-                ensures each { AreEach (HasCalled J.keeps) seats.items result.0.items }
-                ensures unused { AreUnusedFrom count seats.items result.0.items }
+                ensures { ComeBack J.keeps count seats.items result.0.items }
             {
-                let mut sender = Some(sender);
-                let workers = start_all(scope, place, count, seats, &mut sender, workers);
-                let fault = match &sender {
-                    Some(sender) => accept(rt, listener, sender, connections),
+                let mut senders = Some(senders);
+                let workers = start_all(scope, place, count, seats, &mut senders, workers);
+                let fault = match &senders {
+                    Some(senders) => accept(rt, listener, &senders.streams, connections),
                     None => Some(PoolFault::Refused),
                 };
-                drop(sender);
+                drop(senders);
                 (join_all(rt, workers, returned), fault)
             },
         )
     }
 }
 
-/// A worker for each seat, of which the first `count` have a thread. Where a thread is refused the sender is
-/// dropped, so that no worker waits for a connection, and no more threads are started.
+/// A worker for each of the first `count` seats, and a flusher for each of the others. Where a thread is refused the
+/// senders are dropped, so that nobody waits for a connection or a wake, and no more threads are started.
 fn start_all<'s, E, R, J, G, A>(
     scope: &Scope<'s, E>,
     place: &'s Workplace<'s, R, J, G, A>,
     count: usize,
     seats: Vec<Seat<J, A>, A>,
-    sender: &mut Option<Sender<TcpStream, A>>,
+    senders: &mut Option<Senders<A>>,
     mut workers: Vec<Worker<J, A>, A>,
 ) -> Vec<Worker<J, A>, A>
 where
@@ -109,47 +113,15 @@ where
     G: Gate + Sync,
     A: Allocator + Copy + Send + Sync,
     requires { (workers.items ≡ []) × (vec_len seats ≤ vec_capacity workers) }
-    ensures each { AreEach (IsWorkerOf J.keeps) seats.items result.items }
-    ensures idle { AreEach IsIdleOf (drop count seats.items) (drop count result.items) }
+    ensures each { AreEachUpTo count (IsWorkerOf J.keeps) (IsFlusherOf J.keeps) seats.items
+        result.items }
     ensures count { vec_len result ≡ vec_len seats }
 {
     for seat in seats {
-        let worker = start(scope, place, workers.len() < count, seat, sender);
+        let worker = start(scope, place, workers.len() < count, seat, senders);
         workers.push_reserved(worker);
     }
     workers
-}
-
-/// A worker, with a thread where it is to have one and there is a sender. Where the thread is refused the sender is
-/// dropped.
-fn start<'s, E, R, J, G, A>(
-    scope: &Scope<'s, E>,
-    place: &'s Workplace<'s, R, J, G, A>,
-    is_running: bool,
-    seat: Seat<J, A>,
-    sender: &mut Option<Sender<TcpStream, A>>,
-) -> Worker<J, A>
-where
-    R: Threads + Wait + Sync,
-    J: Journal + Send + Sync,
-    G: Gate + Sync,
-    A: Allocator + Copy + Send + Sync,
-    ensures worker { IsWorkerOf J.keeps seat result }
-    ensures idle { is_running ≡ false → IsIdleOf seat result }
-{
-    if !is_running || sender.is_none() {
-        return Worker::Idle(seat);
-    }
-    let promise = SeatPromise {
-        seat: Snapshot::of(&seat),
-    };
-    match scope.spawn_with(promise, move || place.work(seat)) {
-        Ok(thread) => Worker::Running(thread),
-        Err(refused) => {
-            *sender = None;
-            Worker::Idle((refused.value)())
-        }
-    }
 }
 
 /// The seats, once the threads of all workers have ended.

@@ -19,6 +19,8 @@ use stow_testing::tenants::THREE;
 use stow_tree::tree_shape::TreeShape;
 
 mod ends;
+mod flushes;
+mod held;
 mod hold;
 mod passes;
 mod pool;

@@ -1,16 +1,19 @@
-//! A worker of a pool.
+//! A worker or a flusher of a pool.
 ghost use Rattle.stow_workers.specs.Pools.{GivesBack};
 
+use crate::flush_promise::FlushPromise;
 use crate::seat_promise::SeatPromise;
 use std::alloc::{Allocator, Global};
 use std::thread::{PromisedHandle, Threads};
 use stow_shared::journal::Journal;
 use stow_shared::seat::Seat;
 
-/// A seat of a pool: with the thread that serves connections from it, or without one.
+/// A seat of a pool: with the thread that serves connections from it, with the one that flushes from it, or without
+/// one.
 #[derive(Drop)]
 pub enum Worker<J: Journal, A: Allocator = Global> {
-    Running(PromisedHandle<Seat<J, A>, SeatPromise<J, A>>),
+    Serving(PromisedHandle<Seat<J, A>, SeatPromise<J, A>>),
+    Flushing(PromisedHandle<Seat<J, A>, FlushPromise<J, A>>),
     Idle(Seat<J, A>),
 }
 
@@ -20,7 +23,8 @@ impl<J: Journal, A: Allocator> Worker<J, A> {
         ensures { GivesBack J.keeps self result }
     {
         match self {
-            Worker::Running(thread) => thread.join(rt),
+            Worker::Serving(thread) => thread.join(rt),
+            Worker::Flushing(thread) => thread.join(rt),
             Worker::Idle(seat) => seat,
         }
     }

@@ -1,66 +1,53 @@
-//! A gate that holds a call until another was answered.
+//! A gate that holds a call and a merge until others were answered.
 use crate::gate::Gate;
 use crate::place::Place;
+use crate::tests::held::Held;
 use std::sync::atomic::{AtomicU64, Ordering};
-use std::thread;
-use std::time::{Clock, Duration};
+use std::time::Clock;
 
-/// How many milliseconds a call is held at most.
-const TURNS: u64 = 10_000;
+/// After so many replies a merge must have begun.
+const REPLIES: u64 = 100_000;
 
-/// Holds the first call until a reply after it, or until it has waited too long.
+/// Holds the first call until a reply after it, and, where there is a flusher, the first merge until ten more.
 #[derive(Drop)]
 pub struct Hold<'a, R: Clock> {
     rt: &'a R,
-    calls: AtomicU64,
     replies: AtomicU64,
-    /// 0 while the call is held, 1 after a reply came, 2 after none did.
-    outcome: AtomicU64,
+    call: Held,
+    merge: Held,
+    has_flusher: bool,
 }
 
 impl<'a, R: Clock> Hold<'a, R> {
-    pub fn new(rt: &'a R) -> Hold<'a, R> {
+    pub fn new(rt: &'a R, has_flusher: bool) -> Hold<'a, R> {
         Hold {
             rt,
-            calls: AtomicU64::new(0),
             replies: AtomicU64::new(0),
-            outcome: AtomicU64::new(0),
+            call: Held::until(1),
+            merge: Held::until(10),
+            has_flusher,
         }
     }
 
+    /// Whether nothing is held any more, or no merge comes.
     pub fn is_over(&self) -> bool {
-        self.outcome.load(Ordering::SeqCst) != 0
+        let is_late = self.replies.load(Ordering::SeqCst) >= REPLIES && !self.merge.is_passed();
+        is_late || self.call.is_over() && (self.merge.is_over() || !self.has_flusher)
     }
 
-    pub fn was_answered(&self) -> bool {
-        self.outcome.load(Ordering::SeqCst) == 1
-    }
-
-    fn hold(&self) {
-        let before = self.replies.load(Ordering::SeqCst);
-        for _ in 0..TURNS {
-            if self.replies.load(Ordering::SeqCst) != before {
-                self.outcome.store(1, Ordering::SeqCst);
-                return;
-            }
-            thread::sleep(self.rt, Duration::from_millis(1));
-        }
-        self.outcome.store(2, Ordering::SeqCst);
+    pub fn were_answered(&self) -> bool {
+        self.call.was_answered() && (self.merge.was_answered() || !self.has_flusher)
     }
 }
 
 impl<R: Clock> Gate for Hold<'_, R> {
     fn pass(&self, place: Place) {
         match place {
-            Place::BeforeCall => {
-                if self.calls.fetch_add(1, Ordering::SeqCst) == 0 {
-                    self.hold();
-                }
-            }
+            Place::BeforeCall => self.call.pass(self.rt, &self.replies),
             Place::Replied => {
                 self.replies.fetch_add(1, Ordering::SeqCst);
             }
-            Place::BeforeMerge => {}
+            Place::BeforeMerge => self.merge.pass(self.rt, &self.replies),
         }
     }
 }

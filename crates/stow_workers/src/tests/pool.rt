@@ -82,7 +82,7 @@ fn is_told(alloc: Global, stream: &TcpStream, line: &str, want: &str) -> io::Res
     Ok(told.as_slice() == want.as_bytes())
 }
 
-/// Writes one key again and again until the held call is over.
+/// Writes one key again and again until nothing is held.
 fn write_until_over<R: Net<Stream = TcpStream> + Clock + Wait>(
     rt: &R,
     address: SocketAddr,
@@ -107,7 +107,7 @@ fn one_thread_serves_all(rt: HostRuntime) -> Result<(), Fail> {
     let (shared, seats) = opened::<Unkept, Global>(alloc, alloc, 2)?;
     let listener = TcpListener::bind(&rt, "127.0.0.1:0")?;
     let address = listener.local_addr()?;
-    let hold = Hold::new(&rt);
+    let hold = Hold::new(&rt, false);
     let ((one, other), (_, fault)) = join(
         &rt,
         || {
@@ -120,7 +120,31 @@ fn one_thread_serves_all(rt: HostRuntime) -> Result<(), Fail> {
         || Pool::run(&rt, alloc, &listener, &shared, seats, 0, 2, &hold),
     );
     assert!(rt; fault.is_none() && one? && other?);
-    assert!(rt; hold.was_answered());
+    assert!(rt; hold.were_answered());
+    Ok(())
+}
+
+// Nobody can answer where the lock is held for a call that is read, or for a merge.
+#[test]
+fn lock_held_while_reading_or_merging(rt: HostRuntime) -> Result<(), Fail> {
+    let alloc = rt.alloc();
+    let (shared, seats) = opened::<Unkept, Global>(alloc, alloc, 3)?;
+    let listener = TcpListener::bind(&rt, "127.0.0.1:0")?;
+    let address = listener.local_addr()?;
+    let hold = Hold::new(&rt, true);
+    let ((one, other), (_, fault)) = join(
+        &rt,
+        || {
+            join(
+                &rt,
+                || write_until_over(&rt, address, alloc, &hold),
+                || write_until_over(&rt, address, alloc, &hold),
+            )
+        },
+        || Pool::run(&rt, alloc, &listener, &shared, seats, 1, 2, &hold),
+    );
+    assert!(rt; fault.is_none() && one? && other?);
+    assert!(rt; hold.were_answered());
     Ok(())
 }
 
@@ -372,7 +396,7 @@ fn are_three<J: Journal, A: Allocator>(seats: &[Seat<J, A>]) -> bool {
     seats.iter().map(|seat| seat.number()).eq([1, 2, 3])
 }
 
-// At a fault all seats come back, the unused ones too.
+// At a fault all seats come back, the flusher's too.
 #[test]
 fn seats_come_back_at_a_fault(rt: HostRuntime) -> Result<(), Fail> {
     let alloc = rt.alloc();

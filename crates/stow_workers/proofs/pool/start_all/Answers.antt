@@ -1,19 +1,18 @@
-use Rattle.std.proofs.Common.{rules, ◌≡◌, [], ◌∷◌, ◌++◌, ◌∙◌, refl, sym, ap, subst, length, drop, arith, append_assoc, append-nil}
+use Rattle.std.proofs.Common.{rules, ◌≡◌, [], ◌∷◌, ◌++◌, ◌∙◌, refl, sym, ap, subst, length, arith, append_assoc, append-nil}
 use Rattle.std.proofs.lemmas.List.{length_push}
 use Rattle.std.specs.Vec.Iter.{into_iter_items}
-use Rattle.stow_workers.specs.Pools.{AreEach, IsIdleOf, IsWorkerOf}
-use Rattle.stow_workers.proofs.Workers.{each_later, each_more, each_none, none_idle, nothing_left}
+use Rattle.stow_workers.specs.Pools.{AreEachUpTo, IsFlusherOf, IsWorkerOf}
+use Rattle.stow_workers.proofs.Workers.{none_up_to, nothing_left, one_more_up_to}
 use Rattle.stow_workers.proofs.pool.start_all.Goals as goal
 
 pub loop-seat-init : goal.loop-seat-init
 loop-seat-init g c = (
   refl,
-  subst (λ items. AreEach (IsWorkerOf g.J.Journal.keeps) [] items) (sym c.requires.0) (each_none (IsWorkerOf g.J.Journal.keeps)),
+  subst (λ items. AreEachUpTo c.args.count (IsWorkerOf g.J.Journal.keeps) (IsFlusherOf g.J.Journal.keeps) [] items) (sym c.requires.0) (none_up_to c.args.count (IsWorkerOf g.J.Journal.keeps) (IsFlusherOf g.J.Journal.keeps)),
   search rules,
   search rules,
   search rules,
   search rules,
-  none_idle c.args.count c.args.workers.items c.requires.0,
 )
 
 pub loop-seat-preserved : goal.loop-seat-preserved
@@ -22,7 +21,8 @@ loop-seat-preserved g c =
     let x = c.in-Some.seat in
     let steps : into_iter_items at.seat-iterator ≡ x ∷ into_iter_items c.next.new.self = c.in-Some.ensures.steps.0 in (
       append_assoc at.yielded (x ∷ []) _ ∙ rw (← steps) at.invariant.0,
-      subst (λ items. AreEach (IsWorkerOf g.J.Journal.keeps) (at.yielded ++ x ∷ []) items) (sym c.push_reserved.ensures.items) (each_more (IsWorkerOf g.J.Journal.keeps) _ _ _ _ at.invariant.1 c.start-worker.ensures.worker),
+      subst (λ items. AreEachUpTo c.args.count (IsWorkerOf g.J.Journal.keeps) (IsFlusherOf g.J.Journal.keeps) (at.yielded ++ x ∷ []) items) (sym c.push_reserved.ensures.items)
+          (one_more_up_to c.args.count (IsWorkerOf g.J.Journal.keeps) (IsFlusherOf g.J.Journal.keeps) _ _ _ _ (sym at.invariant.5) at.invariant.1 (λ lt. c.start-worker.ensures.worker (search rules)) (λ le. c.start-worker.ensures.flusher (search rules))),
       let was = at.invariant.2 in
           let gone = c.in-Some.ensures.steps.1 in
           let short = ap length steps in
@@ -39,8 +39,6 @@ loop-seat-preserved g c =
           let second = length_push at.workers.items c.start-worker.result in
           let more = length_push at.yielded x in
           omega arith,
-      subst (λ items. AreEach IsIdleOf (drop c.args.count (at.yielded ++ x ∷ [])) (drop c.args.count items)) (sym c.push_reserved.ensures.items)
-          (each_later IsIdleOf c.args.count _ _ _ _ (sym at.invariant.5) at.invariant.6 (λ le. c.start-worker.ensures.idle (search rules))),
     )
 
 pub returns : goal.returns
@@ -51,7 +49,6 @@ returns g c =
     let all = sym (append-nil at.yielded) ∙ rw empty at at.invariant.0 ∙ c.into_iter-seat-iterator.ensures.into_iter_gives.0 in
     let began = c.into_iter-seat-iterator.ensures.into_iter_gives in
     record {
-      each = subst (λ l. AreEach (IsWorkerOf g.J.Journal.keeps) l at.workers.items) all at.invariant.1;
-      idle = subst (λ l. AreEach IsIdleOf (drop c.args.count l) (drop c.args.count at.workers.items)) all at.invariant.6;
+      each = subst (λ l. AreEachUpTo c.args.count (IsWorkerOf g.J.Journal.keeps) (IsFlusherOf g.J.Journal.keeps) l at.workers.items) all at.invariant.1;
       count = omega (arith, at.invariant.3, none.0, began.1);
     }

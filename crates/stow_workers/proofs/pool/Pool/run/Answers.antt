@@ -1,13 +1,15 @@
-use Rattle.stow_workers.specs.Pools.{HasCalled}
-use Rattle.stow_workers.proofs.Workers.{each_same, no_calls}
+use Rattle.stow_workers.proofs.Flushed.{none_flushed}
+use Rattle.stow_workers.proofs.Workers.{same_up_to, no_calls}
 use Rattle.stow_workers.proofs.pool.Pool.run.Goals as goal
 
-pub returns-in_default-clause-each : goal.returns-in_default-clause-each
-returns-in_default-clause-each g c = each_same (HasCalled g.J.Journal.keeps) (no_calls _) _
+pub returns-in_default : goal.returns-in_default
+returns-in_default g c = same_up_to _ _ _ (no_calls _) (none_flushed _) _
 
-pub returns-in_default-with_capacity-clause-each :
-    goal.returns-in_default-with_capacity-clause-each
-returns-in_default-with_capacity-clause-each g c = each_same (HasCalled g.J.Journal.keeps) (no_calls _) _
+pub returns-in_default-with_capacity : goal.returns-in_default-with_capacity
+returns-in_default-with_capacity g c = same_up_to _ _ _ (no_calls _) (none_flushed _) _
 
-pub returns-in_default-bounded-clause-each : goal.returns-in_default-bounded-clause-each
-returns-in_default-bounded-clause-each g c = each_same (HasCalled g.J.Journal.keeps) (no_calls _) _
+pub returns-in_default-bounded : goal.returns-in_default-bounded
+returns-in_default-bounded g c = same_up_to _ _ _ (no_calls _) (none_flushed _) _
+
+pub returns-in_default-bounded-2 : goal.returns-in_default-bounded-2
+returns-in_default-bounded-2 g c = same_up_to _ _ _ (no_calls _) (none_flushed _) _

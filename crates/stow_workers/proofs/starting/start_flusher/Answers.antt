@@ -1,12 +1,12 @@
 use denote.Param.Send.{sendable}
 use denote.Ref.{NamedLft}
 use Rattle.stow_shared.proofs.seat.Seat.TheSendSync as seat
+use Rattle.stow_workers.proofs.Flushed.{none_flushed}
 use Rattle.stow_workers.proofs.Sends.{workplace_syncs}
-use Rattle.stow_workers.proofs.Workers.{no_calls}
-use Rattle.stow_workers.proofs.pool.start.Goals as goal
+use Rattle.stow_workers.proofs.starting.start_flusher.Goals as goal
 
-pub returns-then-not-is_running-clause-worker : goal.returns-then-not-is_running-clause-worker
-returns-then-not-is_running-clause-worker g c = no_calls _ _
+pub returns-then-is_none : goal.returns-then-is_none
+returns-then-is_none g c = none_flushed _ _
 
 pub spawn_with-requires-send-F : goal.spawn_with-requires-send-F
 spawn_with-requires-send-F g c κs within =

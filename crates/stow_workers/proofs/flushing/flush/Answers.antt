@@ -1,0 +1,15 @@
+use Rattle.std.proofs.Common.{Ok, ap, ◌∙◌, rules}
+use Rattle.stow_workers.proofs.Flushed.{unplanned, unmerged, merged}
+use Rattle.stow_workers.proofs.flushing.flush.Goals as goal
+
+pub returns-in_default : goal.returns-in_default
+returns-in_default g c = unplanned _ _ _ _ c.plan.ensures (λ job at. search rules)
+
+pub returns-in_default-2 : goal.returns-in_default-2
+returns-in_default-2 g c = unplanned _ _ _ _ c.plan.ensures (λ job at. search rules)
+
+pub returns-in_default-merge : goal.returns-in_default-merge
+returns-in_default-merge g c = unmerged _ _ _ _ c.in-Ok-Some.job (c.in-Ok-Some.is ∙ ap Ok c.in-Ok-Some.field-0-is) c.plan.ensures
+
+pub returns : goal.returns
+returns g c = merged _ _ _ _ _ c.in-Ok-Some.job _ _ (c.in-Ok-Some.is ∙ ap Ok c.in-Ok-Some.field-0-is) c.plan.ensures c.install.ensures.installs c.is_ok.ensures.value

@@ -1,0 +1,54 @@
+//! Flushes of a flusher, wake by wake.
+ghost use Rattle.stow_workers.specs.Flushes.{FlushesOnce, HasFlushed, WakesOnce};
+
+use crate::gate::Gate;
+use crate::place::Place;
+use crate::wake::Wake;
+use crossbeam_channel::Receiver;
+use std::alloc::Allocator;
+use std::sync::Wait;
+use stow_house::flush_door::FlushDoor;
+
+/// The most flushes of one wake.
+const FLUSHES: u32 = 16;
+
+/// Serves one wake after another, until no more can come.
+pub fn flush_loop<R: Wait, D: FlushDoor<A>, G: Gate, A: Allocator + Copy>(
+    rt: &R,
+    alloc: A,
+    wakes: &Receiver<Wake, A>,
+    door: &mut D,
+    gate: &G,
+)
+    ensures { HasFlushed D.flushes door.old door.new }
+{
+    for _ in wakes.iter(rt) {
+        serve_wake(alloc, door, gate);
+    }
+}
+
+/// Plans, merges and installs up to 16 flushes, one after the other, until there is none or memory is refused.
+pub fn serve_wake<D: FlushDoor<A>, G: Gate, A: Allocator + Copy>(alloc: A, door: &mut D, gate: &G)
+    ensures { WakesOnce D.flushes door.old door.new }
+{
+    for _ in 0..FLUSHES {
+        if !flush(alloc, door, gate) {
+            return;
+        }
+    }
+}
+
+/// Plans, merges and installs one flush. `false` where there is none, or memory is refused. A result that is stale
+/// is dropped. The gate is passed before the merge.
+fn flush<D: FlushDoor<A>, G: Gate, A: Allocator + Copy>(alloc: A, door: &mut D, gate: &G) -> bool
+    ensures { FlushesOnce D.flushes door.old result door.new }
+{
+    let Ok(Some(job)) = door.plan(alloc) else {
+        return false;
+    };
+    gate.pass(Place::BeforeMerge);
+    let Ok(merge) = job.merge(alloc) else {
+        return false;
+    };
+    door.install(alloc, &mut Some(merge)).is_ok()
+}

@@ -1,0 +1,91 @@
+//! One wake over a door that gives so many jobs, all of whose results are stale, and refuses memory where it is to.
+ghost use Rattle.std.specs.Prelude.{◌≡◌, IsSome, None, OnErr, OnOk};
+
+use crate::flushing::serve_wake;
+use crate::open_gate::OpenGate;
+use crate::tests::Service;
+use std::alloc::{AllocError, Global};
+use std::test::Fail;
+use stow_core::Core;
+use stow_house::flush_door::FlushDoor;
+use stow_merge::flush_job::FlushJob;
+use stow_merge::flush_result::FlushResult;
+use stow_node::installed::Installed;
+use stow_testing::lines::words_of;
+
+/// A door over a core whose rows wait in a buffer.
+#[derive(Drop)]
+struct Waiting<'a> {
+    core: &'a mut Core<Global>,
+    jobs: usize,
+    /// The plan, and the install, that memory is refused to, counted from 1.
+    refused: (usize, usize),
+    plans: usize,
+    installs: usize,
+}
+
+impl FlushDoor<Global> for Waiting<'_> {
+    ghost flushes = { λ old done new. Unit {0} };
+
+    fn plan(&mut self, alloc: Global) -> Result<Option<FlushJob<Global>>, AllocError>
+        ensures { Unit {0} }
+    {
+        self.plans = self.plans.saturating_add(1);
+        if self.plans == self.refused.0 {
+            return Err(AllocError);
+        }
+        if self.plans > self.jobs {
+            return Ok(None);
+        }
+        self.core.plan(alloc)
+    }
+
+    fn install(
+        &mut self,
+        _alloc: Global,
+        merge: &mut Option<FlushResult<Global>>,
+    ) -> Result<Installed, AllocError>
+        requires { IsSome merge.old }
+        ensures installs { Unit {0} }
+        ensures taken { OnOk result (merge.new ≡ None) }
+        ensures back { OnErr result (merge.new ≡ merge.old) }
+    {
+        self.installs = self.installs.saturating_add(1);
+        if self.installs == self.refused.1 {
+            return Err(AllocError);
+        }
+        *merge = None;
+        Ok(Installed::Stale)
+    }
+}
+
+// How many jobs there are, to which plan and install memory is refused, and how many of both there are.
+const WAKES: [(usize, (usize, usize), (usize, usize)); 6] = [
+    (0, (0, 0), (1, 0)),
+    (3, (0, 0), (4, 3)),
+    (16, (0, 0), (16, 16)),
+    (1_000, (0, 0), (16, 16)),
+    (1_000, (3, 0), (3, 2)),
+    (1_000, (0, 3), (3, 3)),
+];
+
+#[test]
+fn a_wake_ends(rt: HostRuntime) -> Result<(), Fail> {
+    let alloc = rt.alloc();
+    for (jobs, refused, want) in WAKES {
+        let mut service = Service::new(alloc, alloc)?;
+        let words = words_of(alloc, "SET k v")?;
+        let _told = service.core.call(alloc, 1, &words);
+        let mut door = Waiting {
+            core: &mut service.core,
+            jobs,
+            refused,
+            plans: 0,
+            installs: 0,
+        };
+        serve_wake(alloc, &mut door, &OpenGate);
+        let found = (door.plans, door.installs);
+        assert!(rt; found == want, "{jobs} jobs: {found:?}");
+    }
+    Ok(())
+}
