@@ -3,3 +3,4 @@ pub mod Stood
 pub mod Hearing
 pub mod Here
 pub mod Runs
+pub mod Flushed

@@ -22,7 +22,7 @@ use Rattle.stow_model.proofs.Refused.{want_of_memory_lem}
 use Rattle.stow_core.specs.State.{store_of}
 use Rattle.stow_house.specs.declared.mark.Mark.{Mark}
 use Rattle.stow_house.specs.declared.mark.Mark.TheVariants as mark
-use Rattle.stow_house.specs.StepResult.{StepResult, Done, More, answer_to_event, answer_to_own, answer_to_order, CanAnswer, answered, when_open, when_unused, MayAnswer, IsAnswer}
+use Rattle.stow_house.specs.StepResult.{StepResult, Done, More, Job, NoJob, Installed, Stale, Refused, NoMemory, answer_to_event, answer_to_own, answer_to_order, CanAnswer, answered, when_open, when_unused, MayAnswer, IsAnswer}
 use Rattle.stow_house.specs.Steps.{HouseState, Stands, IsStepOf}
 use Rattle.stow_house.specs.Outputs.{Told, replies_to, to_connection, told_of, mark_of, mark_if, IsFlusherMark, IsMark, AreMarks, connection_of, told_in_history}
 use Rattle.stow_house.specs.Runs.{Shows, StepsThrough, RunsOver, told_in_run, OneRun}
@@ -56,9 +56,20 @@ record Quiet (e : FlusherEvent) (r : StepResult) : Type 0 where
   pub mark : IsFlusherMark e (mark_of r)
 
 quiet : (e : FlusherEvent) (r : StepResult) → MayAnswer e r → Quiet e r
-quiet (event.Plan f) r may = subst (Quiet (event.Plan f)) (sym may) (record { told = refl; mark = refl })
-quiet (event.Merge f) r may = subst (Quiet (event.Merge f)) (sym may) (record { told = refl; mark = refl })
-quiet (event.Install f) r may = subst (Quiet (event.Install f)) (sym may) (record { told = refl; mark = refl })
+quiet (event.Plan f) Job may = record { told = refl; mark = inl refl }
+quiet (event.Plan f) NoJob may = record { told = refl; mark = inl refl }
+quiet (event.Plan f) Refused may = record { told = refl; mark = inl refl }
+quiet (event.Plan f) NoMemory may = record { told = refl; mark = inr refl }
+quiet (event.Plan f) _ may = absurd may
+quiet (event.Merge f) Done may = record { told = refl; mark = inl refl }
+quiet (event.Merge f) Refused may = record { told = refl; mark = inl refl }
+quiet (event.Merge f) NoMemory may = record { told = refl; mark = inr refl }
+quiet (event.Merge f) _ may = absurd may
+quiet (event.Install f) Installed may = record { told = refl; mark = inl refl }
+quiet (event.Install f) Stale may = record { told = refl; mark = inl refl }
+quiet (event.Install f) Refused may = record { told = refl; mark = inl refl }
+quiet (event.Install f) NoMemory may = record { told = refl; mark = inr refl }
+quiet (event.Install f) _ may = absurd may
 quiet (event.Resize n) r (inl (few, inl done)) = subst (Quiet (event.Resize n)) (sym done) (record { told = refl; mark = inl refl })
 quiet (event.Resize n) r (inl (few, inr void)) = subst (Quiet (event.Resize n)) (sym void) (record { told = refl; mark = inr (few, refl) })
 quiet (event.Resize n) r (inr (many, refused)) = subst (Quiet (event.Resize n)) (sym refused) (record { told = refl; mark = inl refl })
@@ -252,9 +263,12 @@ void-marks entries (s ∷ earlier) [] p are = absurd are
 void-marks entries (s ∷ earlier) (m ∷ marks) p are = λ i. void-mark entries s earlier m p.0 are.0 i ∷ void-marks entries earlier marks p.1 are.1 i
 
 flusher-unrefused : (e : FlusherEvent) (m : Mark) → IsFlusherMark e m → false ≡ says_refused m
-flusher-unrefused (event.Plan f) m is = ap says_refused (sym is)
-flusher-unrefused (event.Merge f) m is = ap says_refused (sym is)
-flusher-unrefused (event.Install f) m is = ap says_refused (sym is)
+flusher-unrefused (event.Plan f) m (inl kept) = ap says_refused (sym kept)
+flusher-unrefused (event.Plan f) m (inr void) = ap says_refused (sym void)
+flusher-unrefused (event.Merge f) m (inl kept) = ap says_refused (sym kept)
+flusher-unrefused (event.Merge f) m (inr void) = ap says_refused (sym void)
+flusher-unrefused (event.Install f) m (inl kept) = ap says_refused (sym kept)
+flusher-unrefused (event.Install f) m (inr void) = ap says_refused (sym void)
 flusher-unrefused (event.Resize n) m (inl kept) = ap says_refused (sym kept)
 flusher-unrefused (event.Resize n) m (inr (few, void)) = ap says_refused (sym void)
 

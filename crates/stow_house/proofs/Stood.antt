@@ -13,7 +13,7 @@ use Rattle.stow_model.specs.Event as event
 use Rattle.stow_model.specs.Wire.{SpellsAll}
 use Rattle.stow_model.specs.Store.{OwnEvent, GivenQuota, answer_with, empty_store, store_after}
 use Rattle.stow_model.specs.History.{Step, Void, At, Flushed, Ordered, ConnectionStep, Plain, Took, Broke, Status, Unused, IsOpen, Closed, with_own, part_of, status_of, status_after, served_as, served_after, taken_by, taken_after, stream_of, stream_after, stream_with, stream_after_event, Service, request_of, may_be_given, given_to, with_service, service_of, line_of, told_by, reply_in_line, told_at, CanLead, MayTakeNothing, CanBeVoid, MayBeVoid, Follows, IsStep, IsHistory}
-use Rattle.stow_core.specs.State.{CoreState, store_of, shared_of, IsNewCore}
+use Rattle.stow_core.specs.State.{CoreState, store_of, shared_of, IsNewCore, Keeps}
 use Rattle.stow_core.specs.State as in_core
 use Rattle.stow_state.specs.State.{SharedState, IsSound, new_state}
 use Rattle.stow_state.specs.Steps.{SharedStep, SharedRun, ToldEvent, Maintenance}
@@ -24,7 +24,7 @@ use Rattle.stow_house.specs.Seen.{Seen, IsServedTenant, never_opened}
 use Rattle.stow_house.specs.StepResult.{StepResult, Done, Refused, NoMemory, answer_to_own, answer_to_order, MayAnswer, IsAnswer}
 use Rattle.stow_house.specs.Conversations.{Reads, CanWait, Can}
 use Rattle.stow_house.specs.Connections.{moved, reply_in_core, MovesConnection, Leads, AsksMemory, IsVoid, Happens}
-use Rattle.stow_house.specs.Steps.{HouseState, StandsAt, Stands, GoesOn, TreeBy, IsStepOf}
+use Rattle.stow_house.specs.Steps.{HouseState, StandsAt, Stands, GoesOn, FlusherBy, IsStepOf}
 use Rattle.stow_house.proofs.Here.{moves_by}
 use Rattle.stow_house.proofs.Tenants.{served_tenant}
 
@@ -182,14 +182,14 @@ voided entries old new c e r history v others s = record {
 
 -- what happened at its own connection is a step of the house
 pub at_connection : (old new : HouseState) (c : ℕ) (e : ConnectionEvent) (r : StepResult) → Happens e r (old.seen c) (new.seen c) old.core new.core
-    → ((d : ℕ) → d ≢ c → new.seen d ≡ old.seen d) → IsStepOf old (event.On c e) r new
-at_connection old new c e r happens others =
+    → ((d : ℕ) → d ≢ c → new.seen d ≡ old.seen d) → ((f : ℕ) → new.flusher f ≡ old.flusher f) → IsStepOf old (event.On c e) r new
+at_connection old new c e r happens others flushers =
     ⊎_elim
     (λ (v : IsVoid e r (old.seen c) (new.seen c) old.core new.core). record {
       step = Void (event.On c e);
       is_event = refl;
       goes_on = λ entries history s. voided entries old new c e r history v others s;
-      tree = tt;
+      flushers = flushers;
       tenants = ap (λ x. x.entries) v.core;
     })
     (λ (l : Leads e r (old.seen c) (new.seen c) old.core new.core). record {
@@ -198,32 +198,43 @@ at_connection old new c e r happens others =
       goes_on = λ entries history s.
           subst (λ es. Stands es old history → GoesOn es (At c l.own) history r new) s.tenants
           (λ own. led old new c l.own r history l.entries (l.moves (subst (λ o. IsServedTenant old.core.entries o) (sym (own.connections c).tenant) (served_tenant old.core.entries (part_of c history)))) others own) s;
-      tree = tt;
+      flushers = flushers;
       tenants = l.entries;
     })
     happens
 
+-- nothing is a step of maintenance
+idle : (core : CoreState) → IsSound (shared_of core) → SharedStep (shared_of core) Maintenance None (shared_of core)
+unfolding in_state.moved in_state.reply_to
+idle core sound = step_is_there_law (shared_of core) Maintenance sound tt
+
+-- no store moved, and what did is a step of maintenance
+pub record IsKept (before after : CoreState) : Type 0 where
+  pub entries : after.entries ≡ before.entries
+  pub stores : (t : ℕ) → store_of after t ≡ store_of before t
+  pub way : IsSound (shared_of before) → SharedStep (shared_of before) Maintenance None (shared_of after)
+
+pub kept_by : (before after : CoreState) → Keeps before after → IsKept before after
+kept_by before after keeps = record { entries = keeps.entries; stores = keeps.stores; way = λ _. keeps.gives_way.step }
+
+pub kept_as : (before after : CoreState) → after ≡ before → IsKept before after
+kept_as before after same = subst (IsKept before) (sym same) (record { entries = refl; stores = λ t. refl; way = idle before })
+
 -- an event of a flusher changes no connection and no store
 pub flushed : (old new : HouseState) (e : FlusherEvent) (r : StepResult) → MayAnswer e r → ((d : ℕ) → new.seen d ≡ old.seen d)
-    → new.core.entries ≡ old.core.entries → ((t : ℕ) → store_of new.core t ≡ store_of old.core t)
-    → (IsSound (shared_of old.core) → SharedStep (shared_of old.core) Maintenance None (shared_of new.core)) → TreeBy e r old.core new.core → IsStepOf old (event.By e) r new
+    → IsKept old.core new.core → FlusherBy e r old new → IsStepOf old (event.By e) r new
 unfolding IsStep IsAnswer part_of line_of service_of shared_steps
-flushed old new e r may seen tenants stores way tree = record {
+flushed old new e r may seen kept flushers = record {
   step = Flushed e;
   is_event = refl;
   goes_on = λ entries history s. record {
-    stands = stayed entries old new (Flushed e) history s seen tenants stores tt (λ d. refl) (λ t. refl)
-        (shared_of old.core, s.shared, way (run_sound (quota_of entries) (shared_steps entries history) (shared_of old.core) s.shared));
+    stands = stayed entries old new (Flushed e) history s seen kept.entries kept.stores tt (λ d. refl) (λ t. refl)
+        (shared_of old.core, s.shared, kept.way (run_sound (quota_of entries) (shared_steps entries history) (shared_of old.core) s.shared));
     answer = may;
   };
-  tree = tree;
-  tenants = tenants;
+  flushers = flushers;
+  tenants = kept.entries;
 }
-
--- nothing is a step of maintenance
-pub idle : (core : CoreState) → IsSound (shared_of core) → SharedStep (shared_of core) Maintenance None (shared_of core)
-unfolding in_state.moved in_state.reply_to
-idle core sound = step_is_there_law (shared_of core) Maintenance sound tt
 
 -- ---- a quota
 
@@ -277,13 +288,13 @@ unordered entries house tenant quota history may s =
     }
 
 -- a tenant was given a quota
-pub given : (old new : HouseState) (tenant quota : ℕ) → may_be_given old.core.entries tenant quota ≡ true → ((d : ℕ) → new.seen d ≡ old.seen d)
+pub given : (old new : HouseState) (tenant quota : ℕ) → may_be_given old.core.entries tenant quota ≡ true → ((d : ℕ) → new.seen d ≡ old.seen d) → ((f : ℕ) → new.flusher f ≡ old.flusher f)
     → in_core.Moves old.core tenant (record (store_of old.core tenant) { quota = quota }) new.core → IsStepOf old (event.SetQuota tenant quota) Done new
-given old new tenant quota may seen m = record {
+given old new tenant quota may seen flushers m = record {
   step = Ordered tenant quota;
   is_event = refl;
   goes_on = λ entries history s. subst (λ es. Stands es old history → GoesOn es (Ordered tenant quota) history Done new) s.tenants (ordered old new tenant quota history may seen m) s;
-  tree = tt;
+  flushers = flushers;
   tenants = m.entries;
 }
 
@@ -293,7 +304,7 @@ not_given house tenant quota may = record {
   step = Ordered tenant quota;
   is_event = refl;
   goes_on = λ entries history s. unordered entries house tenant quota history (ap (λ es. may_be_given es tenant quota) (sym s.tenants) ∙ may) s;
-  tree = tt;
+  flushers = λ f. refl;
   tenants = refl;
 }
 

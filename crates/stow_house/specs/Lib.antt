@@ -1,6 +1,7 @@
 pub mod Seen
 pub mod Conversations
 pub mod StepResult
+pub mod Flushers
 pub mod Sessions
 pub mod SharedRuns
 pub mod Connections

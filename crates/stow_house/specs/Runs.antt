@@ -10,14 +10,17 @@ use Rattle.stow_core.specs.State.{store_of, IsNewCore}
 use Rattle.stow_house.specs.declared.mark.Mark.{Mark}
 use Rattle.stow_house.specs.declared.house.House.{House}
 use Rattle.stow_house.specs.declared.outputs.Outputs.{Outputs}
+use Rattle.stow_house.specs.Flushers.{Free}
 use Rattle.stow_house.specs.Seen.{never_opened}
 use Rattle.stow_house.specs.Steps.{HouseState, state_of, Stands, IsStepOf}
 use Rattle.stow_house.specs.StepResult.{StepResult, CanAnswer}
 use Rattle.stow_house.specs.Outputs.{Told, told_in, marks_in, mark_of, told_in_history, AreMarks}
 
--- nothing has happened in the house yet: no connection was opened, and every store is new
+-- nothing has happened in the house yet: no connection was opened, no flusher has a job, and every
+-- store is new
 pub record IsNewHouse (house : HouseState) : Type 0 where
   pub connections : (c : ℕ) → house.seen c ≡ never_opened
+  pub flushers : (f : ℕ) → house.flusher f ≡ Free
   pub stores : IsNewCore house.core
 
 -- The events have a history at which the house stands, in which memory was refused where the marks

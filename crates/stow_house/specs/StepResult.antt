@@ -73,12 +73,35 @@ answer_to_own (Plain e) status told = answer_to_event e status
 answer_to_own (Took m is_refused) status told = answered told
 answer_to_own (Broke fault) status told = answered told
 
--- what an event of a flusher may be answered; no leaf is flushed in two steps yet, so there is
--- never a job. A cache's size above the limit is refused, and to any other memory may be
+-- what a plan may be answered
+abbrev pub MayPlan : StepResult → Type 0
+MayPlan Job = Unit {0}
+MayPlan NoJob = Unit {0}
+MayPlan Refused = Unit {0}
+MayPlan NoMemory = Unit {0}
+MayPlan _ = ⊥
+
+-- what a merge may be answered
+abbrev pub MayMerge : StepResult → Type 0
+MayMerge Done = Unit {0}
+MayMerge Refused = Unit {0}
+MayMerge NoMemory = Unit {0}
+MayMerge _ = ⊥
+
+-- what an install may be answered
+abbrev pub MayInstall : StepResult → Type 0
+MayInstall Installed = Unit {0}
+MayInstall Stale = Unit {0}
+MayInstall Refused = Unit {0}
+MayInstall NoMemory = Unit {0}
+MayInstall _ = ⊥
+
+-- what an event of a flusher may be answered; a cache's size above the limit is refused, and to any
+-- other memory may be
 abbrev pub MayAnswer : FlusherEvent → StepResult → Type 0
-MayAnswer (event.Plan f) r = r ≡ NoJob
-MayAnswer (event.Merge f) r = r ≡ Refused
-MayAnswer (event.Install f) r = r ≡ Refused
+MayAnswer (event.Plan f) r = MayPlan r
+MayAnswer (event.Merge f) r = MayMerge r
+MayAnswer (event.Install f) r = MayInstall r
 MayAnswer (event.Resize n) r = ((n ≤ cache_limit) × ((r ≡ Done) ⊎ (r ≡ NoMemory)))
     ⊎ ((cache_limit < n) × (r ≡ Refused))
 

@@ -1,5 +1,5 @@
 -- The house over its history, and one step of it.
-use Rattle.std.specs.Prelude.{◌≡◌, ℕ, List, ◌∷◌, ◌++◌}
+use Rattle.std.specs.Prelude.{◌≡◌, ◌≢◌, ℕ, List, ◌∷◌, ◌++◌}
 use Rattle.stow_model.specs.Login.{Entry, quota_of}
 use Rattle.stow_model.specs.Event.{Event, FlusherEvent}
 use Rattle.stow_model.specs.Event as event
@@ -10,18 +10,24 @@ use Rattle.stow_core.specs.State.{CoreState, store_of, shared_of, Resized}
 use Rattle.stow_house.specs.declared.house.House.{House}
 use Rattle.stow_state.specs.State.{new_state}
 use Rattle.stow_state.specs.Steps.{SharedRun}
+use Rattle.stow_house.specs.Flushers.{FlusherState, flusher_at, PlansJob, MergesJob, InstallsResult}
 use Rattle.stow_house.specs.Seen.{Seen, seen_at}
 use Rattle.stow_house.specs.SharedRuns.{shared_steps}
 use Rattle.stow_house.specs.declared.step_result.StepResult as coded
 use Rattle.stow_house.specs.StepResult.{StepResult, Done, step_result_of, IsAnswer}
 
--- what is known of each connection, and what the core keeps
+-- what is known of each connection, what each flusher has, and what the core keeps
 pub record HouseState : Type 0 where
   pub seen : ℕ → Seen
+  pub flusher : ℕ → FlusherState
   pub core : CoreState
 
 abbrev pub state_of : {A : Type 0} → House A → HouseState
-state_of house = record { seen = λ c. seen_at house.connections c; core = house.core }
+state_of house = record {
+  seen = λ c. seen_at house.connections c;
+  flusher = λ f. flusher_at house.flushers f;
+  core = house.core;
+}
 
 -- the connection is where its part of the history leaves it: the messages that were taken are the
 -- first of its stream, and the unread bytes are the rest
@@ -52,16 +58,33 @@ pub record GoesOn (entries : List Entry) (step : Step) (earlier : List Step) (r 
   pub stands : Stands entries new (step ∷ earlier)
   pub answer : IsAnswer entries step earlier r
 
--- what becomes of the tree of all rows: another size of the cache is one of the tree's, unless it
--- was refused, and no other event of a flusher changes the tree
-abbrev pub TreeBy : FlusherEvent → StepResult → CoreState → CoreState → Type 0
-TreeBy (event.Resize n) Done old new = Resized n old new
-TreeBy e r old new = new.tree ≡ old.tree
+-- no flusher but this one has anything else
+abbrev pub OtherFlushersStay : ℕ → HouseState → HouseState → Type 0
+OtherFlushersStay f old new = (g : ℕ) → g ≢ f → new.flusher g ≡ old.flusher g
 
-abbrev pub TreeAfter : Event → StepResult → CoreState → CoreState → Type 0
-TreeAfter (event.On c e) r old new = Unit {0}
-TreeAfter (event.By e) r old new = TreeBy e r old new
-TreeAfter (event.SetQuota tenant quota) r old new = Unit {0}
+-- another size of the cache is one of the tree's, unless it was refused
+abbrev pub CacheBy : ℕ → StepResult → CoreState → CoreState → Type 0
+CacheBy n Done old new = Resized n old new
+CacheBy n r old new = new.tree ≡ old.tree
+
+-- what an event that is answered so makes of its flusher, and of the tree of all rows
+abbrev pub FlusherBy : FlusherEvent → StepResult → HouseState → HouseState → Type 0
+FlusherBy (event.Plan f) r old new =
+    PlansJob r (old.flusher f) (new.flusher f) old.core new.core × OtherFlushersStay f old new
+FlusherBy (event.Merge f) r old new =
+    MergesJob r (old.flusher f) (new.flusher f) × OtherFlushersStay f old new
+    × (new.core ≡ old.core)
+FlusherBy (event.Install f) r old new =
+    InstallsResult r (old.flusher f) (new.flusher f) old.core new.core
+    × OtherFlushersStay f old new
+FlusherBy (event.Resize n) r old new =
+    CacheBy n r old.core new.core × ((f : ℕ) → new.flusher f ≡ old.flusher f)
+
+-- the same of every event: those of a connection and of the operator leave each flusher what it has
+abbrev pub FlushersAfter : Event → StepResult → HouseState → HouseState → Type 0
+FlushersAfter (event.On c e) r old new = (f : ℕ) → new.flusher f ≡ old.flusher f
+FlushersAfter (event.By e) r old new = FlusherBy e r old new
+FlushersAfter (event.SetQuota tenant quota) r old new = (f : ℕ) → new.flusher f ≡ old.flusher f
 
 -- an event is one step, by which every history of the house goes on, and the tenants stay
 pub record IsStepOf (old : HouseState) (e : Event) (r : StepResult)
@@ -70,7 +93,7 @@ pub record IsStepOf (old : HouseState) (e : Event) (r : StepResult)
   pub is_event : event_of_step step ≡ e
   pub goes_on : (entries : List Entry) (history : List Step) → Stands entries old history
       → GoesOn entries step history r new
-  pub tree : TreeAfter e r old.core new.core
+  pub flushers : FlushersAfter e r old new
   pub tenants : new.core.entries ≡ old.core.entries
 
 abbrev pub Steps : {A : Type 0} → House A → Event → coded.StepResult A → House A → Type 0

@@ -1,7 +1,10 @@
-//! The house: connections, and the store that they share.
-ghost use Rattle.std.specs.Prelude.{◌≡◌, ◌≢◌, ℕ, [], IfOk, IfErr, OnOk, OnErr, ◌<◌, length};
+//! The house: connections and flushers, and the store that they share.
+ghost use Rattle.std.specs.BTreeMap.{get};
+ghost use Rattle.std.specs.Ordering.{nat_cmp};
+ghost use Rattle.std.specs.Prelude.{◌≡◌, ◌≢◌, ℕ, [], IfOk, IfErr, IsSome, OnOk, OnErr, ◌<◌, length};
 ghost use Rattle.stow_model.specs.Event as meant;
 ghost use Rattle.stow_model.specs.Event.{event_of};
+ghost use Rattle.stow_house.specs.Flushers.{Free, flusher_at};
 ghost use Rattle.stow_house.specs.Seen.{never_opened, just_opened, seen_at};
 ghost use Rattle.stow_house.specs.StepResult.{step_result_of, MayAnswer, CanAnswer, CanAnswerOn, CanAnswerOrder};
 ghost use Rattle.stow_house.specs.Connections.{meaning};
@@ -9,6 +12,7 @@ ghost use Rattle.stow_house.specs.Outputs.{connection_of};
 
 use crate::connection::Connection;
 use crate::connection_event::ConnectionEvent;
+use crate::flusher::Flusher;
 use crate::outputs::Outputs;
 use crate::run_fault::RunFault;
 use crate::step_result::StepResult;
@@ -21,10 +25,12 @@ use stow_model::event::Event;
 /// The most leaves that the cache can be asked to hold.
 const MOST_LEAVES: usize = CACHE_LIMIT as usize;
 
-/// The connections and the store that they share.
+/// The connections, the flushers, and the store that they share.
 #[derive(Drop)]
 pub struct House<A: Allocator + Copy = Global> {
     connections: BTreeMap<u32, Connection<A>, A>,
+    /// A flusher without a place here has no job.
+    flushers: BTreeMap<u32, Flusher<A>, A>,
     core: Core<A>,
 }
 
@@ -37,10 +43,12 @@ impl<A: Allocator + Copy> House<A> {
     pub fn new(alloc: A, core: Core<A>) -> House<A>
         ensures core { (state_of result).core ≡ core }
         ensures connections { (c : ℕ) → (state_of result).seen c ≡ never_opened }
+        ensures flushers { (f : ℕ) → (state_of result).flusher f ≡ Free }
         ensures stands { IsNewCore core → Stands core.entries (state_of result) [] }
     {
         House {
             connections: BTreeMap::new(alloc),
+            flushers: BTreeMap::new(alloc),
             core,
         }
     }
@@ -81,9 +89,9 @@ impl<A: Allocator + Copy> House<A> {
             Event::Piece(c, bytes) => self.feed(alloc, *c, bytes.as_slice()),
             Event::Serve(c) => self.on(alloc, *c, ConnectionEvent::Serve),
             Event::Close(c) => self.on(alloc, *c, ConnectionEvent::Close),
-            Event::Plan(_) => StepResult::NoJob,
-            Event::Merge(_) => StepResult::Refused,
-            Event::Install(_) => StepResult::Refused,
+            Event::Plan(f) => self.plan(alloc, *f),
+            Event::Merge(f) => self.merge(alloc, *f),
+            Event::Install(f) => self.install(alloc, *f),
             Event::Resize(leaves) => self.resize(*leaves),
             Event::Quota(tenant, quota) => self.set_quota(*tenant, *quota),
         }
@@ -107,6 +115,40 @@ impl<A: Allocator + Copy> House<A> {
         match open_at(&mut self.connections, alloc, c) {
             Ok(()) => StepResult::Done,
             Err(_) => StepResult::NoMemory,
+        }
+    }
+
+    /// A flusher's plan. Its place is got before memory is asked of the core.
+    fn plan(&mut self, alloc: A, f: u32) -> StepResult<A>
+        ensures possible { MayAnswer (meant.Plan f) (step_result_of result) }
+        ensures steps { Steps self.old (meant.By (meant.Plan f)) result self.new }
+    {
+        let Ok(()) = make_place(&mut self.flushers, f) else {
+            return StepResult::NoMemory;
+        };
+        match self.flushers.get_mut(&f) {
+            Some(flusher) => flusher.plan(alloc, &mut self.core),
+            None => unreachable!(),
+        }
+    }
+
+    fn merge(&mut self, alloc: A, f: u32) -> StepResult<A>
+        ensures possible { MayAnswer (meant.Merge f) (step_result_of result) }
+        ensures steps { Steps self.old (meant.By (meant.Merge f)) result self.new }
+    {
+        match self.flushers.get_mut(&f) {
+            Some(flusher) => flusher.merge(alloc),
+            None => StepResult::Refused,
+        }
+    }
+
+    fn install(&mut self, alloc: A, f: u32) -> StepResult<A>
+        ensures possible { MayAnswer (meant.Install f) (step_result_of result) }
+        ensures steps { Steps self.old (meant.By (meant.Install f)) result self.new }
+    {
+        match self.flushers.get_mut(&f) {
+            Some(flusher) => flusher.install(alloc, &mut self.core),
+            None => StepResult::Refused,
         }
     }
 
@@ -161,6 +203,21 @@ fn open_at<A: Allocator + Copy>(
     ensures others { (d : ℕ) → d ≢ c → seen_at connections.new d ≡ seen_at connections.old d }
 {
     connections.insert(c, Connection::new(alloc))?;
+    Ok(())
+}
+
+/// Makes a place for what a flusher has, unless it has one.
+fn make_place<A: Allocator + Copy>(
+    flushers: &mut BTreeMap<u32, Flusher<A>, A>,
+    f: u32,
+) -> Result<(), AllocError>
+    ensures same { (g : ℕ) → flusher_at flushers.new g ≡ flusher_at flushers.old g }
+    ensures ok { OnOk result (IsSome (get nat_cmp flushers.new f)) }
+    ensures err { OnErr result (flusher_at flushers.old f ≡ Free) }
+{
+    if !flushers.contains_key(&f) {
+        flushers.insert(f, Flusher::Idle)?;
+    }
     Ok(())
 }
 

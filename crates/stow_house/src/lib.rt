@@ -1,4 +1,4 @@
-//! Connections over the core, in one thread: each event is one step.
+//! Connections and flushers over the core, in one thread: each event is one step.
 //!
 //! The house stands at a history (`specs/Steps.antt`): a new house at the empty one, and `House::step` gives one
 //! step of its event by which each history of the house goes on. So whoever drives `step` has the isolation
@@ -18,6 +18,7 @@ pub mod connection_event;
 pub mod conversation;
 pub mod door;
 pub mod flush_door;
+pub mod flusher;
 pub mod heard;
 pub mod house;
 pub mod laws;

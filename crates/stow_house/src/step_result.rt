@@ -14,6 +14,7 @@ use stow_model::reply::Reply;
 /// What an event led to.
 #[derive(Drop)]
 pub enum StepResult<A: Allocator = Global> {
+    /// The event took place, and gives nothing: so is a merge.
     Done,
     /// The connection is told this.
     Answered(Reply<A>),
@@ -21,15 +22,18 @@ pub enum StepResult<A: Allocator = Global> {
     More,
     /// A message that asks for nothing was taken.
     Blank,
-    /// The flusher has a job, or its job is merged.
+    /// The flusher has a job.
     Job,
+    /// No buffer holds a message, so there is none.
     NoJob,
+    /// The result of the flusher's job came into the tree, and the flusher is free.
     Installed,
+    /// The result of the flusher's job can't come into the tree any more. It is dropped, and the flusher is free.
     Stale,
-    /// The connection isn't open, its number was used, the flusher has not what the event needs, the cache can't
-    /// have this size, or the tenant isn't there or can't have this quota. Nothing changed.
+    /// The connection isn't open, its number was used, the flusher has not what the event needs or has a job already, the
+    /// cache can't have this size, or the tenant isn't there or can't have this quota. Nothing changed.
     Refused,
-    /// Memory was refused. It is as if the event had not been.
+    /// Memory was refused. It is as if the event had not been, but that messages may have moved nearer to the leaves.
     NoMemory,
 }
 

@@ -1,6 +1,7 @@
 //! A core's calls: that they succeed where there is memory, that a commit asks for none, and worked and random requests of
 //! several tenants.
 mod alone;
+mod flushes;
 mod held;
 mod refusals;
 mod skipped;

@@ -1,6 +1,7 @@
 //! Lines whose words stand for others, and what a core tells of a line.
 use std::alloc::{AllocError, Allocator};
 use stow_core::Core;
+use stow_model::reply::Reply;
 use stow_model::words::Words;
 use stow_testing::lines::{push_word, words_of};
 use stow_testing::replies::is_text;
@@ -56,7 +57,16 @@ pub(crate) fn filled_words<A: Allocator + Copy>(
     Ok(words)
 }
 
-/// Whether the tenant's words are told this, of which `U` and seven numbers stand for a usage report.
+/// Whether a reply is this, of which `U` and seven numbers stand for a usage report.
+pub(crate) fn is_reply<A: Allocator + Copy>(
+    alloc: A,
+    reply: &Reply<A>,
+    want: &str,
+) -> Result<bool, AllocError> {
+    is_text(alloc, reply, text_of(alloc, want)?.as_str())
+}
+
+/// Whether the tenant's words are told this.
 pub(crate) fn is_told<A: Allocator + Copy>(
     core: &mut Core<A>,
     alloc: A,
@@ -66,5 +76,5 @@ pub(crate) fn is_told<A: Allocator + Copy>(
 ) -> Result<bool, AllocError> {
     let words = words_of(alloc, line)?;
     let reply = core.call(alloc, tenant, &words);
-    is_text(alloc, &reply, text_of(alloc, want)?.as_str())
+    is_reply(alloc, &reply, want)
 }

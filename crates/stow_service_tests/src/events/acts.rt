@@ -1,23 +1,27 @@
-//! What happens on connections.
+//! What happens on connections, and between their requests.
 use std::alloc::{AllocError, Allocator};
 use stow_bytes::byte_string::ByteString;
 use stow_model::event::Event;
 use stow_testing::random::Random;
 use stow_testing::spelling::push_array;
 
-/// What happens on a connection. A request is a line of words.
+/// What happens on a connection, or to a flusher's job. A request is a line of words.
 #[derive(Clone, Copy)]
 pub(crate) enum Act {
     Open(u32),
     Send(u32, &'static str),
     Serve(u32),
+    Plan(u32),
+    Merge(u32),
+    Install(u32),
 }
 
 impl Act {
-    /// Its connection.
+    /// Its connection, and 0 of a flusher's.
     pub(crate) fn connection(self) -> u32 {
         match self {
             Act::Open(c) | Act::Send(c, _) | Act::Serve(c) => c,
+            Act::Plan(_) | Act::Merge(_) | Act::Install(_) => 0,
         }
     }
 }
@@ -35,6 +39,9 @@ pub(crate) fn event_of<A: Allocator + Copy>(alloc: A, act: Act) -> Result<Event<
         Act::Open(c) => Event::Open(c),
         Act::Send(c, line) => Event::Piece(c, spelled(alloc, line)?),
         Act::Serve(c) => Event::Serve(c),
+        Act::Plan(f) => Event::Plan(f),
+        Act::Merge(f) => Event::Merge(f),
+        Act::Install(f) => Event::Install(f),
     })
 }
 
@@ -139,6 +146,16 @@ const REQUESTS: [&str; 12] = [
     "HELLO 3",
 ];
 
+/// What two flushers do in turn. The second one's result is installed a turn later.
+const FLUSHES: [Act; 6] = [
+    Act::Install(2),
+    Act::Plan(1),
+    Act::Plan(2),
+    Act::Merge(2),
+    Act::Merge(1),
+    Act::Install(1),
+];
+
 /// What two tenants begin with.
 const LOGINS: [Act; 4] = [
     Act::Open(1),
@@ -161,4 +178,19 @@ pub(crate) fn random_acts<A: Allocator>(alloc: A, count: u32) -> Result<Vec<Act,
         acts.push(act)?;
     }
     Ok(acts)
+}
+
+/// The acts, and after every third one what two flushers do.
+pub(crate) fn with_flushes<A: Allocator>(
+    alloc: A,
+    acts: &[Act],
+) -> Result<Vec<Act, A>, AllocError> {
+    let mut all = Vec::new(alloc);
+    for (place, act) in acts.iter().enumerate() {
+        all.push(*act)?;
+        if place % 3 == 2 {
+            all.extend_from_slice(&FLUSHES)?;
+        }
+    }
+    Ok(all)
 }

@@ -50,6 +50,7 @@ impl<A: Allocator + Copy> Client<A> {
             }
             Act::Send(_, line) => self.send(line),
             Act::Serve(_) => self.serve(alloc, mark),
+            Act::Plan(_) | Act::Merge(_) | Act::Install(_) => Ok(()),
         }
     }
 

@@ -42,7 +42,8 @@ fn event_of<A: Allocator>(alloc: A, name: &str) -> Result<Event<A>, AllocError> 
     })
 }
 
-fn name_of<A: Allocator>(answer: &StepResult<A>) -> &'static str {
+/// The name of an answer.
+pub(crate) fn name_of<A: Allocator>(answer: &StepResult<A>) -> &'static str {
     match answer {
         StepResult::Done => "done",
         StepResult::Answered(_) => "answered",

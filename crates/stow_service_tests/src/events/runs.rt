@@ -1,5 +1,5 @@
 //! Runs of a house over two tenants' connections.
-use crate::events::acts::{ACTS, Act, acts_of, events_of, handed_over, random_acts};
+use crate::events::acts::{ACTS, Act, acts_of, events_of, handed_over, random_acts, with_flushes};
 use crate::events::clients::are_told_as_alone;
 use crate::making::{house_of, new_house};
 use std::alloc::{AllocError, Allocator, Global};
@@ -54,19 +54,23 @@ fn two_tenants_keep_their_own_rows(rt: HostRuntime) -> Result<(), Fail> {
     Ok(())
 }
 
-/// Whether many random requests are told what each tenant's own run tells.
+/// Whether many requests are told what each tenant's own run tells.
 fn are_answered_as_alone<A: Allocator + Copy>(
     alloc: A,
     global: Global,
+    acts: &[Act],
 ) -> Result<bool, AllocError> {
-    let acts = random_acts(alloc, 8_000)?;
-    let outputs = run_of(alloc, global, THREE, acts.as_slice())?;
-    Ok(outputs.told().len() > 3_600 && are_told_as_alone(alloc, acts.as_slice(), &outputs)?)
+    let outputs = run_of(alloc, global, THREE, acts)?;
+    Ok(outputs.told().len() > 3_600 && are_told_as_alone(alloc, acts, &outputs)?)
 }
 
 #[test]
 fn random_requests_are_answered_as_alone(rt: HostRuntime) -> Result<(), Fail> {
-    assert!(rt; are_answered_as_alone(rt.alloc(), rt.alloc())?);
+    let acts = random_acts(rt.alloc(), 8_000)?;
+    let flushed = with_flushes(rt.alloc(), acts.as_slice())?;
+    for acts in [acts.as_slice(), flushed.as_slice()] {
+        assert!(rt; are_answered_as_alone(rt.alloc(), rt.alloc(), acts)?);
+    }
     Ok(())
 }
 
@@ -121,17 +125,18 @@ fn a_tenant_is_told_the_same_in_another_house(rt: HostRuntime) -> Result<(), Fai
 /// Whether what a run told is what each tenant's own run tells; and whether it went to the end just where it is to.
 fn is_run_right<A: Allocator + Copy>(
     alloc: A,
+    acts: &[Act],
     ended: &Result<Outputs<A>, RunFault<A>>,
     is_whole: bool,
 ) -> Result<bool, AllocError> {
     match ended {
         Ok(outputs) => {
             let kept = outputs.marks().iter().all(|mark| *mark == Mark::Kept);
-            Ok(kept == is_whole && are_told_as_alone(alloc, &ACTS, outputs)?)
+            Ok(kept == is_whole && are_told_as_alone(alloc, acts, outputs)?)
         }
         Err(fault) => {
             let is_counted = fault.outputs.marks().len() == fault.done;
-            Ok(is_counted && are_told_as_alone(alloc, &ACTS, &fault.outputs)?)
+            Ok(is_counted && are_told_as_alone(alloc, acts, &fault.outputs)?)
         }
     }
 }
@@ -140,20 +145,37 @@ fn is_run_right<A: Allocator + Copy>(
 fn withstands<A: Allocator + Copy, B: Allocator>(
     heap: &Refusing<B>,
     (alloc, global): (A, Global),
+    acts: &[Act],
     at: u64,
 ) -> Result<Option<bool>, AllocError> {
     heap.set(Plan::Grant);
-    let events = events_of(alloc, &ACTS)?;
+    let events = events_of(alloc, acts)?;
     let mut house = new_house(alloc, global)?;
     heap.set(Plan::RefuseAt(at));
     let ended = house.run(alloc, events.as_slice());
     let is_whole = heap.asked() <= at;
     heap.set(Plan::Grant);
-    let is_right = is_run_right(alloc, &ended, is_whole)?;
+    let is_right = is_run_right(alloc, acts, &ended, is_whole)?;
     if is_whole && is_right {
         return Ok(None);
     }
     Ok(Some(is_right))
+}
+
+/// How many requests for memory a run makes, if it withstands the refusal of each.
+fn refusals<B: Allocator>(
+    heap: &Refusing<B>,
+    global: Global,
+    acts: &[Act],
+) -> Result<Option<u64>, AllocError> {
+    for at in 0..1_000u64 {
+        match withstands(heap, (heap, global), acts, at)? {
+            None => return Ok(Some(at)),
+            Some(true) => {}
+            Some(false) => return Ok(None),
+        }
+    }
+    Ok(None)
 }
 
 // Each request for memory of the run is refused in turn: the outputs say where, and all else is told as each
@@ -161,14 +183,13 @@ fn withstands<A: Allocator + Copy, B: Allocator>(
 #[test]
 fn a_run_withstands_each_refusal(rt: HostRuntime) -> Result<(), Fail> {
     let heap = Refusing::new(rt.alloc());
-    let mut refusals = 0u64;
-    for at in 0..1_000u64 {
-        match withstands(&heap, (&heap, rt.alloc()), at)? {
-            Some(is_right) => assert!(rt; is_right, "request {at}"),
-            None => break,
-        }
-        refusals = at + 1;
+    let flushed = with_flushes(rt.alloc(), &ACTS)?;
+    for acts in [ACTS.as_slice(), flushed.as_slice()] {
+        let asked = refusals(&heap, rt.alloc(), acts)?;
+        assert!(rt;
+            asked.is_some_and(|asked| asked >= 10),
+            "{asked:?} refusals"
+        );
     }
-    assert!(rt; refusals >= 10, "{refusals} refusals");
     Ok(())
 }

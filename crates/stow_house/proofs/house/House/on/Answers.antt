@@ -1,4 +1,4 @@
-use Rattle.std.proofs.Common.{rules, ◌≡◌, ◌≢◌, ℕ, Some, ap, sym, subst, ◌∙◌}
+use Rattle.std.proofs.Common.{rules, ◌≡◌, ◌≢◌, ℕ, Some, refl, ap, sym, subst, ◌∙◌}
 use Rattle.stow_model.specs.History.{IsOpen, Unused}
 use Rattle.stow_house.specs.Seen.{Seen, seen, seen_at, never_opened}
 use Rattle.stow_house.specs.StepResult.{step_result_of, Refused}
@@ -18,6 +18,7 @@ returns-in-Some-clause-steps g c =
     at_connection _ _ c.args.c e r
     (subst (λ s. Happens e r s (seen_at new c.args.c) c.args.self.now.core c.step.new.core) was (subst (λ s. Happens e r (seen (Some c.in-Some.connection.now)) s c.args.self.now.core c.step.new.core) here c.step.ensures.does))
     (search rules)
+    (λ f. refl)
 
 pub returns-in-None-clause-steps : goal.returns-in-None-clause-steps
 returns-in-None-clause-steps g c =
@@ -30,3 +31,4 @@ returns-in-None-clause-steps g c =
     at_connection _ _ c.args.c e Refused
     (subst (λ s. Happens e Refused (seen_at old c.args.c) s core core) (sym (same c.args.c)) (refused c.args.event (seen_at old c.args.c) core (λ opened. let bad : Unused ≡ IsOpen = ap (λ s. s.status) was ∙ opened in cc)))
     (λ d differ. same d)
+    (λ f. refl)

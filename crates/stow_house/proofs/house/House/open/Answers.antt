@@ -15,6 +15,7 @@ returns-then-contains_key-clause-steps g c =
     at_connection _ _ c.args.c event.Open Refused
     (opened_twice (seen_at old c.args.c) c.args.self.now.core (used (get nat_cmp old c.args.c) (sym c.contains_key.ensures ∙ c.if-contains_key.true)))
     (λ d differ. refl)
+    (λ f. refl)
 
 pub open_at-requires : goal.open_at-requires
 open_at-requires g c = unused (get nat_cmp c.args.self.now.connections c.args.c) (sym c.contains_key.ensures ∙ c.if-contains_key.false)
@@ -32,6 +33,7 @@ returns-in-Ok-clause-steps g c =
     (ap (λ s. s.unread) now ∙ ap (λ s. s.unread) (sym was))
     (ap (λ s. when_unused s.status Done) (sym was)))
     c.open_at.ensures.others
+    (λ f. refl)
 
 pub returns-in-Err-clause-steps : goal.returns-in-Err-clause-steps
 returns-in-Err-clause-steps g c =
@@ -40,3 +42,4 @@ returns-in-Err-clause-steps g c =
     at_connection _ _ c.args.c event.Open NoMemory
     (inl (record { asks = ap (λ s. s.status) was; result = refl; connection = c.in-Err.ensures.err ∙ sym was; core = refl }))
     c.open_at.ensures.others
+    (λ f. refl)

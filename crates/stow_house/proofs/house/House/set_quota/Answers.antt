@@ -18,4 +18,4 @@ returns-clause-steps g c =
     let all : c.count.result ≡ length entries = c.count.ensures.all ∙ ap length (c.deref.ensures ∙ c.tenants.ensures) in
     let least : 1 ≤ c.args.tenant = omega arith in
     let most : c.args.tenant ≤ length entries = omega arith in
-    given _ _ c.args.tenant c.args.quota (may_give entries c.args.tenant c.args.quota (least, most) (omega arith)) (λ d. refl) (c.set_quota.ensures.own (least, most))
+    given _ _ c.args.tenant c.args.quota (may_give entries c.args.tenant c.args.quota (least, most) (omega arith)) (λ d. refl) (λ f. refl) (c.set_quota.ensures.own (least, most))
