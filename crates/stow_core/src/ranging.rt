@@ -57,13 +57,24 @@ fn end_of<A: Allocator>(alloc: A, tenant: u32, to: &[u8]) -> Result<TenantKeyBuf
     }
 }
 
-/// The own keys of rows with their values, in their order.
+/// The bytes of the keys and values of rows.
+fn bytes_of<A: Allocator>(rows: &[Row<A>]) -> usize {
+    let mut total = 0usize;
+    for row in rows {
+        total = total
+            .saturating_add(row.key.as_key().bytes.len())
+            .saturating_add(row.value.len());
+    }
+    total
+}
+
+/// The own keys of rows with their values, in their order, in a block that is got once.
 fn items_of<A: Allocator + Copy>(alloc: A, rows: &[Row<A>]) -> Result<Items<A>, AllocError>
     ensures items { IfOk result (λ items. items ≡ flat_map row_bulks (map key_value rows.now)) }
     ensures keys { IfOk result (λ _. AllByRecursion IsWholeKey
         (map (λ row. row.0) (map key_value rows.now))) }
 {
-    let mut items = Items::with_capacity(alloc, 2 * rows.len(), 64 * rows.len())?;
+    let mut items = Items::with_capacity(alloc, 2 * rows.len(), bytes_of(rows))?;
     for index in 0..rows.len() {
         let row = &rows[index];
         push_row(&mut items, row.key.as_key().bytes, row.value.as_slice())?;
