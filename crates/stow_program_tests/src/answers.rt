@@ -96,9 +96,9 @@ fn worked_requests(rt: HostRuntime) -> Result<(), Fail> {
     Ok(())
 }
 
-/// Scripts, and what their lines are told. The third has two tenants with the same key; the fourth a blank, a byte with no
-/// other form, and a fault, after which the connection is closed; in the last the operator lowers cap's quota below what cap is
-/// charged, and ann's to nothing.
+/// Scripts, and what their lines are told. The third has two tenants with the same key; in the fourth two flushers have a job of
+/// the same change, and a snapshot is taken meanwhile; the fifth has a blank, a byte with no other form, and a fault, after which
+/// the connection is closed; in the last the operator lowers cap's quota below what cap is charged, and ann's to nothing.
 const SCRIPTS: &str = r"open 1
 piece 1 *3\r\n$4\r\nAUTH\r\n$3\r\nann\r\n$2\r\nbc\r\n
 serve 1
@@ -158,6 +158,46 @@ reply $1\r\nA\r\n
 reply :1\r\n
 reply $1\r\nA\r\n
 reply $-1\r\n
+====
+open 1
+piece 1 auth ann bc\r\nset a x\r\nsnapshot take\r\nset a y\r\nsnapshot get 1 a\r\nget a\r\n
+merge 1
+serve 1
+serve 1
+plan 1
+plan 1
+install 1
+merge 1
+plan 2
+serve 1
+serve 1
+merge 2
+install 1
+install 2
+install 2
+serve 1
+serve 1
+plan 64
+----
+open
+taken
+refused
+reply +OK\r\n
+reply +OK\r\n
+job
+refused
+refused
+merged
+job
+reply :1\r\n
+reply +OK\r\n
+merged
+done
+stale
+refused
+reply $1\r\nx\r\n
+reply $1\r\ny\r\n
+job
 ====
 open 7
 piece 7 *0\r\n*2\r\n$4\r\nPING\r\n$1\r\n\xE9\r\n*x

@@ -180,22 +180,23 @@ fn each_task_withstands_each_refusal(rt: HostRuntime) -> Result<(), Fail> {
         "+OK\r\n-OOM memory was refused\r\n$-1\r\n",
         "+OK\r\n+OK\r\n-OOM memory was refused\r\n",
     ];
-    let script: [&str; 3] = [
+    let script: [&str; 4] = [
         "open\nopen\nnone\nclosed\n",
+        "open\nopen\nmemory\nclosed\n",
         "memory\nopen\nnone\nclosed\n",
         "open\nmemory\nnone\nrefused\n",
     ];
     let lines: &[u8] = b"open 1\nopen 2\nplan 1\nclose 2\n";
     for (task, input, told, least) in [
-        (Task::Pipe, HELLO, pipe, 8),
-        (Task::Script, lines, script, 4),
+        (Task::Pipe, HELLO, pipe.as_slice(), 8),
+        (Task::Script, lines, script.as_slice(), 5),
     ] {
         let mut refusals = 0u64;
         for at in 0..200u64 {
             let Some((output, is_well)) = told_at(&heap, rt.alloc(), task, input, at)? else {
                 break;
             };
-            let is_told = is_one_of(output.as_slice(), is_well, &told);
+            let is_told = is_one_of(output.as_slice(), is_well, told);
             assert!(rt; is_told, "request {at}");
             refusals = at + 1;
         }

@@ -20,7 +20,7 @@ use Rattle.stow_model.specs.declared.event.Event as coded
 use Rattle.stow_model.specs.Reply.{encoding}
 use Rattle.stow_model.specs.Event as event
 use Rattle.stow_house.specs.declared.step_result.StepResult as result
-use Rattle.stow_house.specs.StepResult.{StepResult, step_result_of, Done, Answered, More, Blank, Refused, NoMemory, CanAnswer}
+use Rattle.stow_house.specs.StepResult.{StepResult, step_result_of, Done, Answered, More, Blank, Job, NoJob, Installed, Stale, Refused, NoMemory, CanAnswer}
 use Rattle.stow_house.specs.Steps.{HouseState, IsStepOf}
 use Rattle.stow_workers.specs.Failures.{CountsFailure, HasFailed}
 use Rattle.stow_workers.specs.Sent.{Begins, WritesAll, Written}
@@ -162,9 +162,20 @@ a_text (On c event.Serve) _ can = absurd can
 a_text (On c event.Close) Done can = (codes "closed", refl)
 a_text (On c event.Close) Refused can = (codes "refused", refl)
 a_text (On c event.Close) _ can = absurd can
-a_text (By (event.Plan f)) r can = subst (λ s. (text : List ℕ) × IsText (By (event.Plan f)) s text) (sym can) (codes "none", refl)
-a_text (By (event.Merge f)) r can = subst (λ s. (text : List ℕ) × IsText (By (event.Merge f)) s text) (sym can) (codes "refused", refl)
-a_text (By (event.Install f)) r can = subst (λ s. (text : List ℕ) × IsText (By (event.Install f)) s text) (sym can) (codes "refused", refl)
+a_text (By (event.Plan f)) Job can = (codes "job", refl)
+a_text (By (event.Plan f)) NoJob can = (codes "none", refl)
+a_text (By (event.Plan f)) Refused can = (codes "refused", refl)
+a_text (By (event.Plan f)) NoMemory can = (codes "memory", refl)
+a_text (By (event.Plan f)) _ can = absurd can
+a_text (By (event.Merge f)) Done can = (codes "merged", refl)
+a_text (By (event.Merge f)) Refused can = (codes "refused", refl)
+a_text (By (event.Merge f)) NoMemory can = (codes "memory", refl)
+a_text (By (event.Merge f)) _ can = absurd can
+a_text (By (event.Install f)) Installed can = (codes "done", refl)
+a_text (By (event.Install f)) Stale can = (codes "stale", refl)
+a_text (By (event.Install f)) Refused can = (codes "refused", refl)
+a_text (By (event.Install f)) NoMemory can = (codes "memory", refl)
+a_text (By (event.Install f)) _ can = absurd can
 a_text (By (event.Resize n)) r (inl (few, inl done)) = subst (λ s. (text : List ℕ) × IsText (By (event.Resize n)) s text) (sym done) (codes "resized", refl)
 a_text (By (event.Resize n)) r (inl (few, inr void)) = subst (λ s. (text : List ℕ) × IsText (By (event.Resize n)) s text) (sym void) (codes "memory", refl)
 a_text (By (event.Resize n)) r (inr refused) = subst (λ s. (text : List ℕ) × IsText (By (event.Resize n)) s text) (sym refused.1) (codes "refused", refl)

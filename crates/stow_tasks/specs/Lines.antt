@@ -7,7 +7,7 @@ use Rattle.stow_house.specs.declared.step_result.StepResult as result
 use Rattle.stow_model.specs.Event as event
 use Rattle.stow_model.specs.declared.usage.Usage.{Usage}
 use Rattle.stow_model.specs.Reply.{encoding}
-use Rattle.stow_house.specs.StepResult.{StepResult, step_result_of, Done, Answered, More, Blank, NoJob, Refused, NoMemory}
+use Rattle.stow_house.specs.StepResult.{StepResult, step_result_of, Done, Answered, More, Blank, Job, NoJob, Installed, Stale, Refused, NoMemory}
 use Rattle.stow_tree.specs.declared.shape_report.ShapeReport.{ShapeReport}
 use Rattle.stow_script.specs.Text.{text_of}
 
@@ -32,13 +32,21 @@ IsConnectionText event.Close Done text = text ≡ codes "closed"
 IsConnectionText event.Close Refused text = text ≡ codes "refused"
 IsConnectionText event.Close _ text = ⊥
 
--- the same of an event of a flusher; none has a job yet
+-- the same of an event of a flusher
 abbrev pub IsFlusherText : FlusherEvent → StepResult → List ℕ → Type 0
+IsFlusherText (event.Plan f) Job text = text ≡ codes "job"
 IsFlusherText (event.Plan f) NoJob text = text ≡ codes "none"
+IsFlusherText (event.Plan f) Refused text = text ≡ codes "refused"
+IsFlusherText (event.Plan f) NoMemory text = text ≡ codes "memory"
 IsFlusherText (event.Plan f) _ text = ⊥
+IsFlusherText (event.Merge f) Done text = text ≡ codes "merged"
 IsFlusherText (event.Merge f) Refused text = text ≡ codes "refused"
+IsFlusherText (event.Merge f) NoMemory text = text ≡ codes "memory"
 IsFlusherText (event.Merge f) _ text = ⊥
+IsFlusherText (event.Install f) Installed text = text ≡ codes "done"
+IsFlusherText (event.Install f) Stale text = text ≡ codes "stale"
 IsFlusherText (event.Install f) Refused text = text ≡ codes "refused"
+IsFlusherText (event.Install f) NoMemory text = text ≡ codes "memory"
 IsFlusherText (event.Install f) _ text = ⊥
 IsFlusherText (event.Resize n) Done text = text ≡ codes "resized"
 IsFlusherText (event.Resize n) Refused text = text ≡ codes "refused"
