@@ -1,5 +1,5 @@
 -- The deepest buffer that holds a message, child by child.
-use Rattle.std.proofs.Common.{◌≡◌, ◌≢◌, ◌↔◌, ℕ, zero, suc, ◌+◌, ◌<◌, ◌≤◌, true, false, List, [], ◌∷◌, ◌++◌, length, drop, get_or, Option, Some, None, refl, sym, ap, ◌∙◌, subst, arith, append-nil}
+use Rattle.std.proofs.Common.{◌≡◌, ◌≢◌, ◌↔◌, ℕ, suc, ◌+◌, ◌<◌, ◌≤◌, List, [], ◌∷◌, ◌++◌, length, drop, get_or, Option, Some, None, refl, sym, ap, ◌∙◌, subst, arith}
 use Rattle.std.specs.Prelude.{slice_get, nat_lt, min}
 use Rattle.std.specs.List.{AllByRecursion}
 use Rattle.std.proofs.lemmas.Bool.Decides.{nat_tests}
@@ -12,7 +12,7 @@ use Rattle.stow_node.specs.declared.child.Child.{Child}
 use Rattle.stow_node.specs.declared.child.Child.TheVariants as in_child
 use Rattle.stow_node.specs.Nodes.{part_of, parts_of, deepest_of, deepest_in, AreChildren}
 use Rattle.stow_node.specs.Parts.{messages_in}
-use Rattle.stow_node.specs.Plans.{HasDeepest, IsDeepestChild}
+use Rattle.stow_node.specs.Plans.{HasDeepest}
 use Rattle.stow_node.specs.Subtree.{Subtree, lower_height, height_of_some, buffered, deepest_buffer}
 
 -- ---- heights

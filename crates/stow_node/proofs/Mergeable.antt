@@ -1,5 +1,5 @@
 -- A leaf's messages in a buffer of their own can be merged with it.
-use Rattle.std.proofs.Common.{◌≡◌, ℕ, List, map, sym, ap, subst, ◌∙◌}
+use Rattle.std.proofs.Common.{◌≡◌, ℕ, List, map, sym, subst}
 use Rattle.std.specs.Prelude.{IsSome}
 use Rattle.stow_leaf.proofs.Ops.{ops-in_range}
 use Rattle.stow_leaf.specs.Intervals.{spans}

@@ -1,5 +1,5 @@
 -- A plan's way down: what a node is after its child's plan.
-use Rattle.std.proofs.Common.{zero, suc, ◌≡◌, ◌≢◌, ℕ, ◌+◌, ◌<◌, ◌≤◌, List, [], ◌∷◌, ◌++◌, length, get_or, set, Option, Some, refl, sym, ap, ◌∙◌, subst, arith, inl, inr}
+use Rattle.std.proofs.Common.{zero, suc, ◌≡◌, ◌≢◌, ℕ, ◌+◌, ◌<◌, ◌≤◌, List, [], ◌∷◌, length, get_or, set, Option, Some, refl, sym, ap, ◌∙◌, subst, arith, inl, inr}
 use Rattle.std.specs.Prelude.{slice_get}
 use Rattle.std.specs.List.{sum_by}
 use Rattle.std.specs.Vec.{with_item}
@@ -7,7 +7,6 @@ use Rattle.std.specs.declared.vec.Vec.{Vec}
 use Rattle.stow_leaf.proofs.Steps.{inside_of}
 use Rattle.stow_leaf.specs.LeafRows.{row_messages}
 use Rattle.stow_leaf.specs.Replacements.{HasShortValues}
-use Rattle.stow_leaf.specs.declared.leaf.Leaf.{Leaf}
 use Rattle.stow_merge.specs.declared.flush_job.FlushJob.{FlushJob}
 use Rattle.stow_message.specs.MessageBuf.{MessageList}
 use Rattle.stow_message.specs.Packed.{message_size}
@@ -15,29 +14,27 @@ use Rattle.stow_message.specs.Rising.{is_between}
 use Rattle.stow_tree_model.specs.Agreement.{TenantPins}
 use Rattle.stow_tree_model.specs.Messages.{ops_in}
 use Rattle.stow_tree_model.specs.Operations.{or_else}
-use Rattle.stow_tree_model.specs.Order.{MessagesRise}
 use Rattle.stow_tree_model.specs.TreeMessage.{TreeMessage}
 use Rattle.stow_node.specs.declared.child.Child.{Child}
 use Rattle.stow_node.specs.declared.child.Child.TheVariants as in_child
 use Rattle.stow_node.specs.declared.node.Node.TheInside.{Inside}
-use Rattle.stow_node.specs.declared.shape.Shape.{Shape}
 use Rattle.stow_node.specs.Flushes.{AreShort}
 use Rattle.stow_node.specs.Moves.{accepted, IsSqueezed, StaysInMeaning, bytes_for, IsHeaviest, HandsDown}
-use Rattle.stow_node.specs.Nodes.{part_of, node_part, parts_of, IsBelow, subtree_of, IsNode, AreChildren, deepest_of, deepest_in}
-use Rattle.stow_node.specs.Parts.{Part, high_of, messages_in}
+use Rattle.stow_node.specs.Nodes.{part_of, node_part, parts_of, IsBelow, subtree_of, IsNode, deepest_of}
+use Rattle.stow_node.specs.Parts.{high_of, messages_in}
 use Rattle.stow_node.specs.Plans.{HasLeafTarget, IsPlanned, HasDeepest, MovesDown, TakesOwn, GoesToDeepest, Plans}
 use Rattle.stow_node.specs.Subtree.{Subtree, buffered, messages_of}
 use Rattle.stow_node.proofs.Accepted.{length-all_placed}
 use Rattle.stow_node.proofs.Deepest.{append_nothing}
-use Rattle.stow_node.proofs.Down.{IsNext, node_at, get-set, squeezed_same, stays_then, MadeRoom, made_room, WentInto, went_into, some_there}
-use Rattle.stow_node.proofs.Entered.{Entered, entered, not_leaf}
+use Rattle.stow_node.proofs.Down.{IsNext, node_at, get-set, squeezed_same, MadeRoom, made_room, WentInto, some_there}
+use Rattle.stow_node.proofs.Entered.{Entered, entered}
 use Rattle.stow_node.proofs.Filled.{some_bytes}
 use Rattle.stow_node.proofs.HandedDown.{same_node}
 use Rattle.stow_node.proofs.Lowered.{for_child}
 use Rattle.stow_node.proofs.Planned.{planned_above}
 use Rattle.stow_node.proofs.Spliced.{child_short}
 use Rattle.stow_node.proofs.Standing.{parts_ops}
-use Rattle.stow_node.proofs.Stayed.{ChildStays, child_stays, level_at}
+use Rattle.stow_node.proofs.Stayed.{child_stays, level_at}
 use Rattle.stow_node.proofs.Ways.{are_children}
 
 -- what stays in meaning keeps its values within the limit

@@ -1,7 +1,5 @@
-use Rattle.std.proofs.Common.{◌≡◌, ◌+◌, ap, ◌∙◌, sym, subst, refl, Option}
-use Rattle.stow_node.specs.Subtree.{Subtree, height_of_some}
-use Rattle.stow_node.proofs.Deepest.{IsDeepestOf, none_yet, one_more, leaf_told, node_told, all_looked, NodeTold, whole_node}
-use Rattle.stow_node.proofs.planning.+deepest.Given as given
+use Rattle.std.proofs.Common.{◌+◌, ◌∙◌, sym, subst}
+use Rattle.stow_node.proofs.Deepest.{IsDeepestOf, none_yet, one_more, leaf_told, node_told, all_looked, whole_node}
 use Rattle.stow_node.proofs.planning.+deepest.Goals as goal
 use Rattle.stow_node.proofs.planning.+deepest.Goals.{in-Leaf, in-Node}
 

@@ -1,6 +1,5 @@
-use Rattle.std.proofs.Common.{◌↔◌, ◌≡◌, None, [], sym, ◌∙◌}
-use Rattle.stow_node.specs.Nodes.{part_of, deepest_of}
-use Rattle.stow_node.proofs.Deepest.{IsTold, IsLowestOf, no_lowest, is_next_lower, is_next_not_lower, lowest_none, lowest_some}
+use Rattle.std.proofs.Common.{sym, ◌∙◌}
+use Rattle.stow_node.proofs.Deepest.{IsTold, no_lowest, is_next_lower, is_next_not_lower, lowest_none, lowest_some}
 use Rattle.stow_node.proofs.planning.deepest_child.Given as given
 use Rattle.stow_node.proofs.planning.deepest_child.Goals as goal
 use Rattle.stow_node.proofs.planning.deepest_child.Goals.{Joined-is_lower, then-is_lower, else-is_lower}

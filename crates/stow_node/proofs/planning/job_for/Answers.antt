@@ -1,16 +1,8 @@
-use Rattle.std.proofs.Common.{◌≡◌, ℕ, List, map, None, sym, ap, subst, ◌∙◌}
-use Rattle.stow_leaf.proofs.Ops.{ops-in_range}
-use Rattle.stow_leaf.specs.Intervals.{spans}
-use Rattle.stow_merge.specs.Mergeable.{IsMergeable}
+use Rattle.std.proofs.Common.{ap, ◌∙◌}
 use Rattle.stow_merge.specs.Pins.{pins_in}
 use Rattle.stow_message.specs.MessageBuf.{MessageList, messages_in}
-use Rattle.stow_message.specs.Rising.{in_range, AreNew}
-use Rattle.stow_tree_model.specs.Agreement.{TenantPins}
-use Rattle.stow_tree_model.specs.Merged.{row_message, merged}
-use Rattle.stow_tree_model.specs.Messages.{ops_in}
-use Rattle.stow_tree_model.specs.TreeMessage.{TreeMessage}
+use Rattle.stow_message.specs.Rising.{in_range}
 use Rattle.stow_node.proofs.Mergeable.{mergeable}
-use Rattle.stow_node.proofs.planning.job_for.Given as given
 use Rattle.stow_node.proofs.planning.job_for.Goals as goal
 
 pub new-requires : goal.new-requires

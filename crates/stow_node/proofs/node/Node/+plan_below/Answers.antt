@@ -1,4 +1,4 @@
-use Rattle.std.proofs.Common.{rules, ℕ, ◌≡◌, ◌≢◌, ◌<◌, List, [], length, get_or, Some, refl, sym, ap, ◌∙◌, subst, arith}
+use Rattle.std.proofs.Common.{rules, ℕ, ◌≡◌, ◌≢◌, ◌<◌, List, [], length, Some, refl, sym, ap, ◌∙◌, subst, arith}
 use Rattle.std.specs.Prelude.{slice_get}
 use Rattle.std.specs.Vec.{with_item}
 use Rattle.stow_leaf.proofs.Steps.{inside_of, if_ok}
@@ -13,7 +13,7 @@ use Rattle.stow_node.specs.Subtree.{Subtree, buffered, messages_of}
 use Rattle.stow_node.proofs.Down.{node_at}
 use Rattle.stow_node.proofs.Entered.{not_leaf}
 use Rattle.stow_node.proofs.HandedDown.{same_node}
-use Rattle.stow_node.proofs.PlanSteps.{CanPlan, can_plan, child_planned, DeepestNode, deepest_node, plans_own, plans_below}
+use Rattle.stow_node.proofs.PlanSteps.{CanPlan, can_plan, child_planned, deepest_node, plans_own, plans_below}
 use Rattle.stow_node.proofs.Stayed.{ChildStays, child_stays}
 use Rattle.stow_node.proofs.node.Node.+plan_below.Given as given
 use Rattle.stow_node.proofs.node.Node.+plan_below.Goals as goal

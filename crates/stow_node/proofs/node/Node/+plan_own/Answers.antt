@@ -1,17 +1,15 @@
-use Rattle.std.proofs.Common.{rules, ℕ, ◌≡◌, ◌≢◌, ◌+◌, ◌<◌, ◌≤◌, List, [], ◌∷◌, length, get_or, set, Some, refl, sym, ap, ◌∙◌, subst, arith}
+use Rattle.std.proofs.Common.{rules, ℕ, ◌≡◌, ◌<◌, List, [], length, set, Some, refl, sym, ap, ◌∙◌, subst, arith}
 use Rattle.std.specs.Prelude.{slice_get}
 use Rattle.std.specs.Vec.{with_item, with_items}
 use Rattle.std.proofs.lemmas.List.{length-map}
-use Rattle.stow_leaf.proofs.Steps.{inside_of, if_ok}
+use Rattle.stow_leaf.proofs.Steps.{if_ok}
 use Rattle.stow_merge.specs.Pins.{pins_in}
 use Rattle.stow_node.specs.declared.child.Child.TheVariants as in_child
 use Rattle.stow_node.specs.declared.child.Child.{Child}
-use Rattle.stow_node.specs.declared.shape.Shape.{Shape}
 use Rattle.stow_node.specs.Flushes.{AreShort}
-use Rattle.stow_node.specs.Moves.{IsHeaviest, HandsDown, StaysInMeaning, bytes_for}
+use Rattle.stow_node.specs.Moves.{IsHeaviest, HandsDown, bytes_for}
 use Rattle.stow_node.specs.Nodes.{part_of, node_part, parts_of, subtree_of}
-use Rattle.stow_node.specs.Parts.{messages_in}
-use Rattle.stow_node.specs.Plans.{HasLeafTarget, IsPlanned, TakesOwn, TakesLeaf}
+use Rattle.stow_node.specs.Plans.{HasLeafTarget, TakesOwn}
 use Rattle.stow_node.specs.Subtree.{Subtree, buffered, messages_of}
 use Rattle.stow_node.proofs.Deepest.{append_nothing}
 use Rattle.stow_node.proofs.Down.{IsNext, stays_then, MadeRoom, WentInto, went_into, new_items}

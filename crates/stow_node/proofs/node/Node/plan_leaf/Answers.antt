@@ -1,4 +1,4 @@
-use Rattle.std.proofs.Common.{◌≡◌, ◌≢◌, ◌+◌, ◌<◌, List, [], length, get_or, Some, refl, sym, ap, ◌∙◌, subst, arith}
+use Rattle.std.proofs.Common.{◌≡◌, ◌<◌, List, length, get_or, Some, refl, sym, ap, ◌∙◌, subst, arith}
 use Rattle.std.specs.Prelude.{slice_get}
 use Rattle.std.proofs.lemmas.List.{length-map}
 use Rattle.std.proofs.lemmas.Option.{slice_get-get_or}
@@ -8,12 +8,11 @@ use Rattle.stow_leaf.proofs.Steps.{if_ok}
 use Rattle.stow_leaves.proofs.Replaced.{can_replace}
 use Rattle.stow_merge.specs.Pins.{pins_in}
 use Rattle.stow_message.specs.Rising.{in_range}
-use Rattle.stow_tree_model.specs.TreeMessage.{TreeMessage}
 use Rattle.stow_node.specs.Flushes.{AreShort}
 use Rattle.stow_node.specs.Moves.{IsHeaviest}
-use Rattle.stow_node.specs.Nodes.{part_of, parts_of, leaves_of, subtree_of}
+use Rattle.stow_node.specs.Nodes.{part_of, parts_of, leaves_of}
 use Rattle.stow_node.specs.Parts.{high_of}
-use Rattle.stow_node.specs.Plans.{IsPlanned, IsLeafJob, TakesLeaf}
+use Rattle.stow_node.specs.Plans.{IsPlanned, TakesLeaf}
 use Rattle.stow_node.specs.Subtree.{Subtree, messages_of}
 use Rattle.stow_node.specs.declared.child.Child.{Child}
 use Rattle.stow_node.specs.declared.child.Child.TheVariants as in_child
