@@ -2,7 +2,7 @@
 use Rattle.std.specs.Prelude.{◌≡◌, ◌≢◌, []}
 use Rattle.stow_merge.specs.declared.flush_job.FlushJob.{FlushJob}
 use Rattle.stow_node.specs.Installs.{CanInstall}
-use Rattle.stow_node.specs.Plans.{AreAmong}
+use Rattle.stow_node.specs.Nodes.{AreAmong}
 use Rattle.stow_node.specs.Subtree.{buffered}
 use Rattle.stow_state.specs.State.{pins_in}
 use Rattle.stow_core.specs.State.{CoreState, shared_of}

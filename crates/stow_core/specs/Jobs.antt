@@ -6,7 +6,7 @@ use Rattle.stow_merge.specs.Pins as held
 use Rattle.stow_merge.specs.declared.flush_job.FlushJob.{FlushJob}
 use Rattle.stow_message.specs.Rising.{AreOldest}
 use Rattle.stow_node.specs.Installs.{next_fence}
-use Rattle.stow_node.specs.Plans.{AreAmong}
+use Rattle.stow_node.specs.Nodes.{AreAmong}
 use Rattle.stow_node.specs.Subtree.{buffered, right_above_leaves}
 use Rattle.stow_state.specs.State.{pins_in}
 use Rattle.stow_tree_model.specs.Agreement.{TenantPins}
