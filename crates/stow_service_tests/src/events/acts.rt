@@ -71,7 +71,8 @@ pub(crate) fn acts_of<A: Allocator>(
     Ok(own)
 }
 
-const ANN: &str = "AUTH ann bc";
+/// The login of the first tenant.
+pub(crate) const ANN: &str = "AUTH ann bc";
 
 const BEN: &str = "AUTH ben c";
 

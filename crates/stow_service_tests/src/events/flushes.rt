@@ -1,11 +1,13 @@
 //! Flushes in two steps between a tenant's requests: what each event is answered, also where memory was refused to it once.
-use crate::events::acts::{Act, events_of};
+use crate::events::acts::{ANN, Act, events_of};
+use crate::events::clients::are_told_as_alone;
 use crate::events::each::name_of;
 use crate::making::new_house;
 use crate::text::is_reply;
 use std::alloc::{AllocError, Allocator, Global};
 use std::test::Fail;
 use stow_house::house::House;
+use stow_house::mark::Mark;
 use stow_house::step_result::StepResult;
 use stow_model::event::Event;
 use stow_model::refusal::Refusal;
@@ -131,12 +133,19 @@ struct Turn<A: Allocator> {
     want: &'static str,
 }
 
-/// A line as its events: a request is sent on connection 1, and served.
+/// Adds the acts of a line: a request is sent on connection 1, and served.
+fn push_acts<A: Allocator>(acts: &mut Vec<Act, A>, line: &'static str) -> Result<(), AllocError> {
+    match flusher_act(line) {
+        Some(act) => acts.push(act)?,
+        None => acts.extend_from_slice(&[Act::Send(1, line), Act::Serve(1)])?,
+    }
+    Ok(())
+}
+
 fn turn_of<A: Allocator + Copy>(alloc: A, (line, want): Line) -> Result<Turn<A>, AllocError> {
-    let events = match flusher_act(line) {
-        Some(act) => events_of(alloc, &[act])?,
-        None => events_of(alloc, &[Act::Send(1, line), Act::Serve(1)])?,
-    };
+    let mut acts = Vec::new(alloc);
+    push_acts(&mut acts, line)?;
+    let events = events_of(alloc, acts.as_slice())?;
     Ok(Turn { events, want })
 }
 
@@ -147,7 +156,7 @@ fn turns_of<A: Allocator + Copy>(alloc: A, lines: &[Line]) -> Result<Vec<Turn<A>
         events: events_of(alloc, &[Act::Open(1)])?,
         want: "done",
     })?;
-    all.push(turn_of(alloc, ("AUTH ann bc", "OK"))?)?;
+    all.push(turn_of(alloc, (ANN, "OK"))?)?;
     for line in lines {
         all.push(turn_of(alloc, *line)?)?;
     }
@@ -270,6 +279,40 @@ fn flushes_are_answered(rt: HostRuntime) -> Result<(), Fail> {
             asked.is_some_and(|asked| asked > 10),
             "list {number}: {asked:?}"
         );
+    }
+    Ok(())
+}
+
+/// A connection that is opened and logs in, and then the lines, as acts.
+fn acts_of<A: Allocator>(alloc: A, lines: &[Line]) -> Result<Vec<Act, A>, AllocError> {
+    let mut acts = Vec::from_slice(alloc, &[Act::Open(1)])?;
+    push_acts(&mut acts, ANN)?;
+    for (line, _) in lines {
+        push_acts(&mut acts, line)?;
+    }
+    Ok(acts)
+}
+
+/// Whether a run of a new house tells the lines' connection what the tenant's own run tells.
+fn are_told<A: Allocator + Copy>(
+    alloc: A,
+    global: Global,
+    lines: &[Line],
+) -> Result<bool, AllocError> {
+    let acts = acts_of(alloc, lines)?;
+    let events = events_of(alloc, acts.as_slice())?;
+    let mut house = new_house(alloc, global)?;
+    let Ok(outputs) = house.run(alloc, events.as_slice()) else {
+        return Ok(false);
+    };
+    let is_kept = outputs.marks().iter().all(|mark| *mark == Mark::Kept);
+    Ok(is_kept && are_told_as_alone(alloc, acts.as_slice(), &outputs)?)
+}
+
+#[test]
+fn runs_with_flushes_are_told_as_alone(rt: HostRuntime) -> Result<(), Fail> {
+    for (number, lines) in LISTS.iter().enumerate() {
+        assert!(rt; are_told(rt.alloc(), rt.alloc(), lines)?, "list {number}");
     }
     Ok(())
 }

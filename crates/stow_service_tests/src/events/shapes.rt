@@ -17,6 +17,8 @@ use stow_tree::tree_shape::TreeShape;
 struct Talk<A: Allocator> {
     events: Vec<Event<A>, A>,
     told: Vec<u8, A>,
+    /// Whether a flusher plans, merges and installs after every third request.
+    flushes: bool,
 }
 
 impl<A: Allocator + Copy> Talk<A> {
@@ -28,18 +30,24 @@ impl<A: Allocator + Copy> Talk<A> {
     }
 
     fn ask_all(&mut self, alloc: A, exchanges: &[Exchange<A>]) -> Result<(), AllocError> {
-        for exchange in exchanges {
+        for (place, exchange) in exchanges.iter().enumerate() {
             self.ask(alloc, exchange)?;
+            if self.flushes && place % 3 == 2 {
+                self.events.push(Event::Plan(1))?;
+                self.events.push(Event::Merge(1))?;
+                self.events.push(Event::Install(1))?;
+            }
         }
         Ok(())
     }
 }
 
 /// Rows that are written, and then read with each size of the cache: the first one, 0, 1 and 1000.
-fn rows_read_again<A: Allocator + Copy>(alloc: A) -> Result<Talk<A>, AllocError> {
+fn rows_read_again<A: Allocator + Copy>(alloc: A, flushes: bool) -> Result<Talk<A>, AllocError> {
     let mut talk = Talk {
         events: Vec::new(alloc),
         told: Vec::new(alloc),
+        flushes,
     };
     talk.events.push(Event::Open(1))?;
     talk.ask(alloc, &login(alloc)?)?;
@@ -68,8 +76,9 @@ fn report_of<A: Allocator + Copy>(
     alloc: A,
     global: Global,
     shape: TreeShape,
+    flushes: bool,
 ) -> Result<Option<ShapeReport>, AllocError> {
-    let talk = rows_read_again(alloc)?;
+    let talk = rows_read_again(alloc, flushes)?;
     let mut house = house_of(alloc, global, THREE, shape)?;
     let Ok(outputs) = house.run(alloc, talk.events.as_slice()) else {
         return Ok(None);
@@ -101,7 +110,7 @@ fn rows_are_read_in_each_shape(rt: HostRuntime) -> Result<(), Fail> {
                 cache,
                 ..TreeShape::SMALLEST
             };
-            let report = report_of(rt.alloc(), rt.alloc(), shape)?;
+            let report = report_of(rt.alloc(), rt.alloc(), shape, false)?;
             assert!(rt; is_right(report, true), "{report:?}");
         }
     }
@@ -109,7 +118,21 @@ fn rows_are_read_in_each_shape(rt: HostRuntime) -> Result<(), Fail> {
         buffer: 4_194_304,
         ..TreeShape::USUAL
     };
-    let report = report_of(rt.alloc(), rt.alloc(), shape)?;
+    let report = report_of(rt.alloc(), rt.alloc(), shape, false)?;
     assert!(rt; is_right(report, false), "{report:?}");
+    Ok(())
+}
+
+// The answers are the same where the messages are flushed between the requests, in steps.
+#[test]
+fn rows_are_read_between_flushes(rt: HostRuntime) -> Result<(), Fail> {
+    for cache in [0, 1000] {
+        let shape = TreeShape {
+            cache,
+            ..TreeShape::SMALLEST
+        };
+        let report = report_of(rt.alloc(), rt.alloc(), shape, true)?;
+        assert!(rt; report.is_some_and(|sizes| sizes.leaves >= 2), "{report:?}");
+    }
     Ok(())
 }
