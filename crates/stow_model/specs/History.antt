@@ -299,8 +299,8 @@ Follows entries newest earlier =
 unfoldable pub MayBeVoid : ConnectionEvent → List ConnectionStep → Type 0
 MayBeVoid e earlier = CanBeVoid e (status_of earlier) (stream_of earlier) (taken_by earlier)
 
--- the step follows from those before it; no event of a flusher asks for memory yet, nor does a
--- quota
+-- the step follows from those before it; whether memory was refused to an event of a flusher stands
+-- in its mark alone, and a quota asks for none
 unfoldable pub IsStep : List Entry → Step → List Step → Type 0
 IsStep entries (Void (event.On c e)) earlier = MayBeVoid e (part_of c earlier)
 IsStep entries (Void (event.By e)) earlier = ⊥
