@@ -13,6 +13,11 @@
 //! an id with the number of the last write, its pin: messages that a pin shows stay readable when others are merged. What
 //! a tenant is charged is kept as its changes come, and looked at before room is made.
 //!
+//! A flush can be merged outside the lock that whoever drives the core holds: `Core::plan` gives its job, under the pins, or
+//! none exactly where no buffer holds a message, and `Core::install` puts the job's result into the tree, unless it is stale
+//! (`specs/Flushing.antt`). Neither changes a tenant's store. A body of either that always answers want of memory meets its
+//! contract: tests call both with ample memory.
+//!
 //! A body of `prepare`, `prepare_command` or `prepare_change` that prepares the same twice is right too, since
 //! a prepared answer that is never carried out changes nothing.
 #![tactic(auto)]

@@ -1,5 +1,5 @@
 -- An event of a flusher that does something to a job is a step of the house.
-use Rattle.std.proofs.Common.{◌≡◌, ◌≢◌, ◌↔◌, ℕ, false, Option, Some, None, is_some, refl, sym, ◌∙◌, ⊎_elim}
+use Rattle.std.proofs.Common.{◌≡◌, ◌≢◌, ◌↔◌, ℕ, refl, sym, ◌∙◌, ⊎_elim}
 use Rattle.stow_core.specs.Flushing.{TakesResultOf}
 use Rattle.stow_core.specs.Jobs.{JobState, job_state}
 use Rattle.stow_core.specs.State.{CoreState, Keeps}
@@ -9,14 +9,13 @@ use Rattle.stow_node.specs.Installs.{BatchIsGone}
 use Rattle.stow_node.specs.declared.installed.Installed.{Installed}
 use Rattle.stow_node.specs.declared.installed.Installed.TheVariants as in_place
 use Rattle.stow_model.specs.Event as event
-use Rattle.stow_house.specs.declared.flusher.Flusher.{Flusher}
-use Rattle.stow_house.specs.Flushers.{FlusherState, Free, HasJob, HasResult, held_by, TakesResult, DropsResult, PlansJob, MergesJob, InstallsResult}
+use Rattle.stow_house.specs.Flushers.{FlusherState, Free, HasJob, HasResult, TakesResult, DropsResult, PlansJob, MergesJob, InstallsResult}
 use Rattle.stow_house.specs.StepResult as answer
 use Rattle.stow_house.specs.StepResult.{StepResult, Done, Job, NoJob, Stale, Refused, NoMemory, MayPlan, MayMerge, MayInstall}
 use Rattle.stow_house.specs.Steps.{HouseState, OtherFlushersStay, IsStepOf}
 use Rattle.stow_house.proofs.Stood.{IsKept, kept_by, kept_as, flushed}
 
--- ---- what a flusher has
+-- ---- what becomes of a result
 
 pub took_result : {A : Type 0} (before after : CoreState) (merge : FlushResult A) (x : Installed) → x ≡ in_place.Done → (x ≡ in_place.Stale ↔ ¬ (TakesResultOf before merge.job)) → (x ≡ in_place.Done → BatchIsGone merge.job.batch.messages after.tree.root) → Keeps before after
     → TakesResult (job_state merge.job) Free before after
@@ -88,12 +87,7 @@ pub install_steps : (old new : HouseState) (f : ℕ) (r : StepResult) → ((d : 
 install_steps old new f r seen others p =
     flushed old new (event.Install f) r (may_install r (old.flusher f) (new.flusher f) old.core new.core p) seen (install_keeps r (old.flusher f) (new.flusher f) old.core new.core p) (p, others)
 
--- ---- places
-
--- without a place there is no job
-pub no_place : {A : Type 0} (o : Option (Flusher A)) → is_some o ≡ false → held_by o ≡ Free
-no_place None none = refl
-no_place (Some flusher) none = absurd (cc)
+-- ---- without a place there is no job
 
 pub no_job : (s : FlusherState) → s ≡ Free → (job : JobState) → s ≢ HasJob job
 no_job s free job is = differ (sym free ∙ is) where

@@ -9,6 +9,9 @@
 //! for whoever drives it: the house over its core, the workers over any `Door`, whose meaning is a relation.
 //! `Session` holds its login (`specs/Sessions.antt`). `FlushDoor` is what a flusher plans and installs at, whose meaning is
 //! a relation too (`specs/FlushDoors.antt`).
+//! `Flusher` has no job, a job, or a job's result. By its answer each of its events says what it has then, and what became of
+//! the tree (`specs/Flushers.antt`); none changes a tenant's store or tells anybody anything, wherever it comes between the
+//! others. A body of such an event that always answers want of memory meets its contract: tests want the other answers.
 //! Not said: time, and that memory is there; where memory was refused, the outputs name the event.
 #![tactic(auto)]
 
