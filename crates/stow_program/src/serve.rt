@@ -1,5 +1,5 @@
 //! Connections over TCP, each served by a thread, beside threads that flush.
-ghost use Rattle.std.specs.Prelude.{◌≡◌, IfErr};
+ghost use Rattle.std.specs.Prelude.{◌≡◌, ◌<◌, IfErr};
 ghost use Rattle.stow_program.specs.Outcomes.{EndsServing};
 
 use log::info;
@@ -51,8 +51,7 @@ where
     let address = Endpoint::Network.check(listener.local_addr())?;
     tell_address(alloc, address, output)?;
     notice(serving, "start", errors);
-    // At least one seat is a worker's.
-    let flushers = (serving.flushers as usize).min(seats.len() - 1);
+    let flushers = flushers_among(seats.len(), serving.flushers);
     let (_, fault) = Pool::run(
         rt,
         alloc,
@@ -69,6 +68,14 @@ where
         None => notice(serving, "end", errors),
     }
     Ok(())
+}
+
+/// How many of the seats are flushers', where so many are wanted: one at least is a worker's.
+fn flushers_among(seats: usize, wanted: u32) -> usize
+    requires { 0 < seats }
+    ensures { result < seats }
+{
+    (wanted as usize).min(seats - 1)
 }
 
 fn tell_address<A: Allocator, W: Sink>(

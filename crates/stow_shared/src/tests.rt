@@ -25,6 +25,7 @@ use stow_model::refusal::Refusal;
 use stow_model::reply::Reply;
 use stow_model::simple_string::SimpleString;
 use stow_model::words::Words;
+use stow_node::installed::Installed;
 use stow_plain::plain_request::PlainRequest;
 use stow_plain::plain_store::PlainStore;
 use stow_refusing::{Plan, Refusing};
@@ -182,14 +183,31 @@ fn is_call(entry: &Entry, tenant: u32, line: &str, want: &Reply) -> bool {
     }
 }
 
-// A call, a flush that is planned, a change of the cache's size, and a call of an index that is no tenant's: four entries.
+/// Plans a flush, merges its job, and hands the result in. Whether that came into the tree.
+fn flushes<R: Wait, J: Journal, A: Allocator + Copy>(
+    rt: &R,
+    alloc: A,
+    shared: &Shared<J, A>,
+    seat: &mut Seat<J, A>,
+) -> bool {
+    let Ok(Some(job)) = shared.plan(rt, alloc, seat) else {
+        return false;
+    };
+    let Ok(merge) = job.merge(alloc) else {
+        return false;
+    };
+    matches!(shared.install(rt, alloc, seat, merge), Ok(Installed::Done))
+}
+
+// A call, a flush that is planned and one that is installed, a change of the cache's size, and a call of an index that is no
+// tenant's: five entries.
 #[test]
 fn one_seat_has_its_entries(rt: HostRuntime) {
     let alloc: Global = rt.alloc();
     let (shared, mut seat) = opened_for_one::<_, Kept, Global>(&rt, alloc, alloc);
     let set = told(&rt, alloc, &shared, &mut seat, 1, "SET a x");
     assert!(rt; same_reply(&set, &OK));
-    assert!(rt; matches!(shared.plan(&rt, alloc, &mut seat), Ok(Some(_))));
+    assert!(rt; flushes(&rt, alloc, &shared, &mut seat));
     assert!(rt; shared.resize(&rt, &mut seat, 5).is_ok());
     let words = words_of(alloc, "GET a").expect(&rt, "memory");
     let mut desk = Desk {
@@ -198,15 +216,16 @@ fn one_seat_has_its_entries(rt: HostRuntime) {
         seat: &mut seat,
     };
     assert!(rt; same_reply(&desk.call(alloc, 4, &words), &STRANGER));
-    assert!(rt; seat.number() == 1 && seat.receipts().len() == 4 && seat.refused() == 0);
+    assert!(rt; seat.number() == 1 && seat.receipts().len() == 5 && seat.refused() == 0);
     let closed = closed_by_one(&rt, alloc, shared, seat);
     assert_eq!(rt; closed.core().tenants().count(), 3);
     let entries = closed.entries();
-    assert_eq!(rt; entries.len(), 4);
+    assert_eq!(rt; entries.len(), 5);
     assert!(rt; is_call(&entries[0], 1, "SET a x", &OK));
     assert!(rt; entries[1].seat == 1 && matches!(&entries[1].step, Step::Plan(true)));
-    assert!(rt; entries[2].seat == 1 && matches!(&entries[2].step, Step::Resize(5)));
-    assert!(rt; is_call(&entries[3], 4, "GET a", &STRANGER));
+    assert!(rt; entries[2].seat == 1 && matches!(&entries[2].step, Step::Install(Installed::Done)));
+    assert!(rt; entries[3].seat == 1 && matches!(&entries[3].step, Step::Resize(5)));
+    assert!(rt; is_call(&entries[4], 4, "GET a", &STRANGER));
 }
 
 const LINES: [&str; 6] = [

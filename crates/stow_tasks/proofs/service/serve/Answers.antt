@@ -23,6 +23,7 @@ returns-in-Pipe-clause-served g c =
 pub usage-requires : goal.usage-requires
 usage-requires g c = record {
   connections = c.new-in-Usage.ensures.connections;
+  flushers = c.new-in-Usage.ensures.flushers;
   stores = subst IsNewCore (sym c.new-in-Usage.ensures.core) c.in_ok-core.ensures.empty;
 }
 
@@ -32,6 +33,7 @@ returns-clause-served g c =
     let entries = ap (λ (core : CoreState). core.entries) c.new-in-Usage.ensures.core ∙ c.in_ok-core.ensures.entries ∙ c.in_ok-clone.ensures.cases ∙ whole in
     let is_new : IsNewHouse (state_of c.new-in-Usage.result) = record {
       connections = c.new-in-Usage.ensures.connections;
+      flushers = c.new-in-Usage.ensures.flushers;
       stores = subst IsNewCore (sym c.new-in-Usage.ensures.core) c.in_ok-core.ensures.empty;
     } in
     rw c.in-Usage.is (inr (state_of c.new-in-Usage.result, state_of c.usage.new.house, is_new, entries, c.usage.ensures.used))
