@@ -1,4 +1,4 @@
-use Rattle.std.proofs.Common.{◌≡◌, true, refl, List, ◌∷◌, ap, sym, ◌∙◌, subst, rules}
+use Rattle.std.proofs.Common.{◌≡◌, true, refl, List, ap, sym, ◌∙◌, subst, rules}
 use Rattle.std.specs.Prelude.{is_some}
 use Rattle.stow_shared.specs.Entries.{Entry, plan_entry, entries_of}
 use Rattle.stow_shared.specs.Books.{IsBook}
@@ -13,3 +13,34 @@ pub returns-in_err-reserve-clause-err : goal.returns-in_err-reserve-clause-err
 returns-in_err-reserve-clause-err g c =
     err_so c.from_residual.result
     (rw (← c.self.view_is) (record { core = keeps_itself c.self.inside.core c.self.invariant.sound; journal = ap entries_of c.reserve.ensures.items }), refl)
+
+pub invariant_of-self-in_err-job : goal.invariant_of-self-in_err-job
+invariant_of-self-in_err-job g c =
+    rw (c.reserve.ensures.items)
+    (book_same g.J.Journal.keeps (entries_of c.self.inside.journal.items) c.self.inside.core c.plan-2.new.core c.plan-2.ensures.keeps c.self.invariant)
+
+pub invariant_of-self-2 : goal.invariant_of-self-2
+invariant_of-self-2 g c =
+    let keeps : g.J.Journal.keeps ≡ true = search rules in
+    let es = entries_of c.self.inside.journal.items in
+    let told = plan_entry c.args.seat.now.number (is_some c.in_ok-job.job) in
+    let says = c.planned.ensures ∙ (λ i. plan_entry (c.number-number.ensures i) (c.is_some.ensures i)) in
+    let P : List Entry → Type 0 = λ x. IsBook g.J.Journal.keeps x c.plan-2.new.core in
+    subst P (sym (one_more g.J.Journal.keeps told _ _ _ c.planned.result keeps c.reserve.ensures.items c.push_reserved.ensures.items says))
+    (book_plan g.J.Journal.keeps c.args.seat.now.number (is_some c.in_ok-job.job) es c.plan-2.new.core
+    (book_same g.J.Journal.keeps es c.self.inside.core c.plan-2.new.core c.plan-2.ensures.keeps c.self.invariant))
+
+pub returns-clause-ok : goal.returns-clause-ok
+returns-clause-ok g c =
+    let keeps : g.J.Journal.keeps ≡ true = search rules in
+    let told = plan_entry c.args.seat.now.number (is_some c.in_ok-job.job) in
+    let says = c.planned.ensures ∙ (λ i. plan_entry (c.number-number.ensures i) (c.is_some.ensures i)) in
+    let receipts = c.args.seat.now.receipts in
+    rw (← c.self.view_is)
+    (record {
+      core = c.in_ok-job.ensures.core;
+      adds = record {
+        journal = one_more g.J.Journal.keeps told _ _ _ c.planned.result keeps c.reserve.ensures.items c.push_reserved.ensures.items says;
+        receipt = c.in_ok-job.ensures.ok ∙ ap (λ es. record c.args.seat.now { receipts = es }) (is_kept g.J.Journal.keeps told told receipts keeps refl);
+      };
+    })
