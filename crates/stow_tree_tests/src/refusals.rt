@@ -48,7 +48,7 @@ const TRIALS: [(Trial, u64); 15] = [
     (Trial::Spread, 1_001),
     (Trial::Walk, 3),
     (Trial::Plan, 3),
-    (Trial::Install, 301),
+    (Trial::Install, 901),
 ];
 
 /// Whether all that it is to do is done.

@@ -105,10 +105,10 @@ impl<A: Allocator + Copy> Late<A> {
     }
 
     fn plan(&mut self, alloc: A, side: Side) -> Result<(), AllocError> {
-        match self.side(side).merged(alloc)? {
-            Some(merge) => self.waiting.push(merge),
-            None => Ok(()),
+        if let Some(merge) = self.side(side).merged(alloc)? {
+            self.waiting.push(merge)?;
         }
+        Ok(())
     }
 
     fn install(&mut self, alloc: A, place: usize) -> Result<(), AllocError> {
@@ -135,6 +135,15 @@ impl<A: Allocator + Copy> Late<A> {
         }
         Ok(true)
     }
+
+    /// How many results were done and stale, if the tree tells what the list does.
+    fn counts(&mut self, alloc: A) -> Result<Option<(u32, u32)>, AllocError> {
+        Ok(if self.here.agrees(alloc)? {
+            Some((self.done, self.stale))
+        } else {
+            None
+        })
+    }
 }
 
 /// How many results are done and stale in these calls, if the tree tells what the list does then.
@@ -145,11 +154,7 @@ fn counts<A: Allocator + Copy>(alloc: A, calls: &[Call]) -> Result<Option<(u32, 
             return Ok(None);
         }
     }
-    Ok(if late.here.agrees(alloc)? {
-        Some((late.done, late.stale))
-    } else {
-        None
-    })
+    late.counts(alloc)
 }
 
 /// A random call.
@@ -160,18 +165,17 @@ fn draw(random: &mut Random) -> Call {
         Side::There
     };
     match random.below(6) {
-        0 | 1 => Call::Random(side, 20),
+        0 | 1 => Call::Random(side, 8),
         2 | 3 => Call::Plan(side),
         _ => Call::Install(random.below(4) as usize),
     }
 }
 
-/// How many results are done and stale in so many random calls, if the tree always tells what the list does. The changes of the
-/// other tree have this number.
+/// How many results are done and stale in a hundred random calls, if both trees tell what their lists do, as these change and at
+/// the end. The changes of the other tree have this number.
 fn random_counts<A: Allocator + Copy>(
     alloc: A,
     number: u64,
-    count: u32,
 ) -> Result<Option<(u32, u32)>, AllocError> {
     let course = Course {
         letters: b"abcdefgh",
@@ -180,12 +184,20 @@ fn random_counts<A: Allocator + Copy>(
     };
     let mut late = Late::new(alloc, (course, Course { number, ..course }))?;
     let mut random = Random::new(5);
-    for _ in 0..count {
-        if !late.carry_out(alloc, draw(&mut random))? || !late.here.agrees(alloc)? {
+    for _ in 0..100 {
+        if !late.carry_out(alloc, draw(&mut random))? {
             return Ok(None);
         }
     }
-    Ok(Some((late.done, late.stale)))
+    late.counts(alloc)
+}
+
+/// Whether some are done, and some are stale.
+fn has_both(counts: Option<(u32, u32)>) -> bool {
+    match counts {
+        Some((done, stale)) => done >= 1 && stale >= 1,
+        None => false,
+    }
 }
 
 #[test]
@@ -195,8 +207,8 @@ fn results_come_late(rt: HostRuntime) -> Result<(), Fail> {
     assert_eq!(rt; counts(&heap, &SAME)?, Some((1, 0)));
     assert_eq!(rt; counts(&heap, &APPENDED)?, Some((0, 1)));
     assert_eq!(rt; counts(&heap, &PINNED)?, Some((0, 1)));
-    assert_eq!(rt; random_counts(&heap, COURSE.number, 600)?, Some((0, 0)));
-    assert_eq!(rt; random_counts(&heap, 2, 600)?, Some((0, 0)));
+    assert!(rt; has_both(random_counts(&heap, COURSE.number)?));
+    assert!(rt; has_both(random_counts(&heap, 2)?));
     Ok(())
 }
 
@@ -241,13 +253,14 @@ const AFTER: ShapeReport = ShapeReport {
     cached: 0,
 };
 
-/// Whether a tree tells what the list does, and is so large.
+/// Whether a tree is so large, and has all rows of a tenant.
 fn is<A: Allocator + Copy>(
     alloc: A,
     run: &mut Run<A>,
     report: ShapeReport,
 ) -> Result<bool, AllocError> {
-    Ok(run.tree.tree.shape() == report && run.agrees(alloc)?)
+    let at = u64::from(SPREAD);
+    Ok(run.tree.tree.shape() == report && run.rows(alloc, 2, (at, 1_000))?.len() == LETTERS.len())
 }
 
 /// Whether a result that came back is done.
