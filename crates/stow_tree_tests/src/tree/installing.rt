@@ -269,11 +269,9 @@ fn is_done<A: Allocator + Copy>(
     run: &mut Run<A>,
     merge: FlushResult<A>,
 ) -> Result<bool, AllocError> {
-    Ok(
-        is(alloc, run, BEFORE)?
-            && run.installed(alloc, merge)? == Installed::Done
-            && is(alloc, run, AFTER)?,
-    )
+    let stands = matches!(is(alloc, run, BEFORE), Ok(true));
+    let installed = run.installed(alloc, merge)?;
+    Ok(stands && installed == Installed::Done && is(alloc, run, AFTER)?)
 }
 
 /// Whether an install whose nth request is refused gives its result back, changes nothing that is told, and is done then. `None`
