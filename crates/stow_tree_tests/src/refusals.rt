@@ -16,6 +16,8 @@ enum Trial {
     Join,
     Spread,
     Walk,
+    Plan,
+    Install,
 }
 
 /// What asks for all of its memory itself.
@@ -31,7 +33,7 @@ enum Whole {
 }
 
 /// What is tried, and how many requests it makes at least.
-const TRIALS: [(Trial, u64); 13] = [
+const TRIALS: [(Trial, u64); 15] = [
     (Trial::Whole(Whole::Leaf), 10),
     (Trial::Whole(Whole::FirstNode), 6),
     (Trial::Whole(Whole::Join), 10),
@@ -45,6 +47,8 @@ const TRIALS: [(Trial, u64); 13] = [
     (Trial::Join, 11),
     (Trial::Spread, 1_001),
     (Trial::Walk, 3),
+    (Trial::Plan, 3),
+    (Trial::Install, 901),
 ];
 
 /// Whether all that it is to do is done.
@@ -88,6 +92,8 @@ fn withstands<A: Allocator + Copy, B: Allocator>(
         Trial::Join => node::withstands_join(heap, alloc, n),
         Trial::Spread => node::withstands_spread(heap, alloc, n),
         Trial::Walk => tree::walking::withstands(heap, alloc, n),
+        Trial::Plan => tree::planning::withstands(heap, alloc, n),
+        Trial::Install => tree::installing::withstands(heap, alloc, n),
     }
 }
 

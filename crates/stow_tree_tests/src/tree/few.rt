@@ -7,15 +7,18 @@ use stow_refusing::Refusing;
 use stow_tree::shape_report::ShapeReport;
 use stow_tree::tree_shape::TreeShape;
 
-/// Writes most keys and removes them, so many times, as pins come and go. How large the tree is then, if it tells what the
-/// list does.
+/// Writes most keys and removes them, so many times, as pins come and go; all jobs are installed each time, where they are to
+/// be. How large the tree is then, if it tells what the list does.
 fn shrink<A: Allocator + Copy>(
     alloc: A,
     run: &mut Run<A>,
-    rounds: u32,
+    (rounds, drains): (u32, bool),
 ) -> Result<Option<ShapeReport>, AllocError> {
     for _ in 0..rounds {
         run.remove_most(alloc)?;
+        if drains && !run.drain(alloc)? {
+            return Ok(None);
+        }
         run.move_pins()?;
     }
     Ok(if run.agrees(alloc)? {
@@ -34,7 +37,10 @@ struct Reports {
 }
 
 /// How large it is, if it tells what the plain list does.
-fn reports_of<A: Allocator + Copy>(alloc: A, fan_out: u32) -> Result<Option<Reports>, AllocError> {
+fn reports_of<A: Allocator + Copy>(
+    alloc: A,
+    (fan_out, drains): (u32, bool),
+) -> Result<Option<Reports>, AllocError> {
     let course = Course {
         shape: TreeShape {
             fan_out,
@@ -49,8 +55,10 @@ fn reports_of<A: Allocator + Copy>(alloc: A, fan_out: u32) -> Result<Option<Repo
         return Ok(None);
     }
     let grown = run.tree.tree.shape();
-    let (Some(middle), Some(last)) = (shrink(alloc, &mut run, 40)?, shrink(alloc, &mut run, 40)?)
-    else {
+    let (Some(middle), Some(last)) = (
+        shrink(alloc, &mut run, (40, drains))?,
+        shrink(alloc, &mut run, (40, drains))?,
+    ) else {
         return Ok(None);
     };
     Ok(Some(Reports {
@@ -74,15 +82,27 @@ fn are_fewer(reports: Reports) -> bool {
 
 /// Whether a tree's leaves become few. Nodes are not joined, so at a fan-out of 4 they become fewer and not few.
 fn become_few<A: Allocator + Copy>(alloc: A) -> Result<bool, AllocError> {
-    let (Some(wide), Some(narrow)) = (reports_of(alloc, 8)?, reports_of(alloc, 4)?) else {
+    let (Some(wide), Some(narrow)) = (
+        reports_of(alloc, (8, false))?,
+        reports_of(alloc, (4, false))?,
+    ) else {
         return Ok(false);
     };
     Ok(are_few(wide) && are_fewer(narrow))
+}
+
+/// Whether they become few where all jobs are installed.
+fn become_few_in_jobs<A: Allocator + Copy>(alloc: A) -> Result<bool, AllocError> {
+    Ok(match reports_of(alloc, (8, true))? {
+        Some(reports) => are_few(reports) && reports.last.buffered == 0,
+        None => false,
+    })
 }
 
 #[test]
 fn leaves_become_few_again(rt: HostRuntime) -> Result<(), Fail> {
     let heap = Refusing::new(rt.alloc());
     assert!(rt; become_few(&heap)?);
+    assert!(rt; become_few_in_jobs(&heap)?);
     Ok(())
 }

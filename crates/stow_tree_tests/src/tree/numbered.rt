@@ -9,7 +9,9 @@ ghost use Rattle.stow_tree.specs.TreeState.{tree_messages, HasBound};
 use std::alloc::{AllocError, Allocator};
 use stow_bytes::limits::VALUE_LIMIT;
 use stow_merge::flush_job::FlushJob;
+use stow_merge::flush_result::FlushResult;
 use stow_merge::pins::Pins;
+use stow_node::installed::Installed;
 use stow_read::row::Row;
 use stow_tree::tree::Tree;
 use stow_tree::tree_shape::{LEAST_BUFFER, TreeShape};
@@ -116,6 +118,16 @@ impl<A: Allocator + Copy> Numbered<A> {
         pins: &Pins<A>,
     ) -> Result<Option<FlushJob<A>>, AllocError> {
         self.tree.plan(alloc, pins)
+    }
+
+    /// The tree's `install`.
+    pub(crate) fn install(
+        &mut self,
+        alloc: A,
+        merge: FlushResult<A>,
+        pins: &Pins<A>,
+    ) -> Result<Installed, (FlushResult<A>, AllocError)> {
+        self.tree.install(alloc, merge, pins)
     }
 
     /// The tree's `versions`.

@@ -117,7 +117,7 @@ fn turns<A: Allocator + Copy>(
 
 /// Whether a plan whose nth request is refused is refused, changes nothing that is told, and then succeeds. `None` where it
 /// makes fewer.
-fn withstands<A: Allocator + Copy, B: Allocator>(
+pub(crate) fn withstands<A: Allocator + Copy, B: Allocator>(
     heap: &Refusing<B>,
     alloc: A,
     n: u64,
@@ -137,26 +137,10 @@ fn withstands<A: Allocator + Copy, B: Allocator>(
     Ok(Some(is_refused && run.agrees(alloc)? && is_planned(alloc, &mut run, true)?))
 }
 
-/// How many requests a plan makes, if it withstands that each is refused; else 0.
-fn refusals<A: Allocator + Copy, B: Allocator>(
-    heap: &Refusing<B>,
-    alloc: A,
-) -> Result<u64, AllocError> {
-    for n in 0..1_000u64 {
-        match withstands(heap, alloc, n)? {
-            None => return Ok(n),
-            Some(is_right) if is_right => {}
-            Some(_) => return Ok(0),
-        }
-    }
-    Ok(0)
-}
-
 #[test]
 fn jobs_are_planned(rt: HostRuntime) -> Result<(), Fail> {
     let heap = Refusing::new(rt.alloc());
     assert_eq!(rt; turns(&heap, COURSE, &SMALL)?, SMALL.len());
     assert_eq!(rt; turns(&heap, WIDE, &GROWING)?, GROWING.len());
-    assert!(rt; refusals(&heap, &heap)? >= 3);
     Ok(())
 }

@@ -7,7 +7,9 @@ use crate::tree::changes::{Change, Kind, messages_of};
 use crate::tree::numbered::{Interval, Numbered};
 use std::alloc::{AllocError, Allocator};
 use stow_bytes::byte_string::ByteString;
+use stow_merge::flush_result::FlushResult;
 use stow_merge::pins::Pins;
+use stow_node::installed::Installed;
 use stow_read::row::Row;
 use stow_testing::random::Random;
 use stow_tree::tree_shape::TreeShape;
@@ -228,6 +230,51 @@ impl<A: Allocator + Copy> Run<A> {
             self.pins.remove(tenant, pin);
         }
         Ok(())
+    }
+
+    /// A job's result, if a buffer holds a message.
+    pub(crate) fn merged(&mut self, alloc: A) -> Result<Option<FlushResult<A>>, AllocError> {
+        match self.tree.plan(alloc, &self.pins)? {
+            None => Ok(None),
+            Some(job) => match job.merge(alloc) {
+                Ok(merge) => Ok(Some(merge)),
+                Err((_, refused)) => Err(refused),
+            },
+        }
+    }
+
+    /// Installs a result, which comes back where memory is refused.
+    pub(crate) fn install(
+        &mut self,
+        alloc: A,
+        merge: FlushResult<A>,
+    ) -> Result<Installed, (FlushResult<A>, AllocError)> {
+        self.tree.install(alloc, merge, &self.pins)
+    }
+
+    /// Installs a result.
+    pub(crate) fn installed(
+        &mut self,
+        alloc: A,
+        merge: FlushResult<A>,
+    ) -> Result<Installed, AllocError> {
+        match self.install(alloc, merge) {
+            Ok(installed) => Ok(installed),
+            Err((_, refused)) => Err(refused),
+        }
+    }
+
+    /// Plans and installs until no buffer holds a message. Whether it comes to that, and all are installed.
+    pub(crate) fn drain(&mut self, alloc: A) -> Result<bool, AllocError> {
+        for _ in 0..10_000u32 {
+            let Some(merge) = self.merged(alloc)? else {
+                return Ok(true);
+            };
+            if self.installed(alloc, merge)? == Installed::Stale {
+                return Ok(false);
+            }
+        }
+        Ok(false)
     }
 
     /// Reads the key that was last appended to, or the rows below it.
