@@ -79,7 +79,7 @@ const SERVING: [Count; 3] = [
         name: "flushers",
         value: "COUNT",
         help: "How many threads move changes into leaves beside the requests; 0 for none",
-        usual: "1",
+        usual: "0",
         least: 0,
         most: 16,
     },
