@@ -15,8 +15,8 @@ use stow_testing::lines::words_of;
 
 /// A door over a core whose rows wait in a buffer.
 #[derive(Drop)]
-struct Waiting<'a> {
-    core: &'a mut Core<Global>,
+struct Waiting {
+    core: Core<Global>,
     jobs: usize,
     /// The plan, and the install, that memory is refused to, counted from 1.
     refused: (usize, usize),
@@ -24,7 +24,7 @@ struct Waiting<'a> {
     installs: usize,
 }
 
-impl FlushDoor<Global> for Waiting<'_> {
+impl FlushDoor<Global> for Waiting {
     ghost flushes = { λ old done new. Unit {0} };
 
     fn plan(&mut self, alloc: Global) -> Result<Option<FlushJob<Global>>, AllocError>
@@ -69,22 +69,36 @@ const WAKES: [(usize, (usize, usize), (usize, usize)); 6] = [
     (1_000, (0, 3), (3, 3)),
 ];
 
+/// How many plans and installs one wake makes, where there are so many jobs, and memory is refused to this plan and install.
+fn woken(
+    alloc: Global,
+    core: Core<Global>,
+    jobs: usize,
+    refused: (usize, usize),
+) -> (usize, usize) {
+    let mut door = Waiting {
+        core,
+        jobs,
+        refused,
+        plans: 0,
+        installs: 0,
+    };
+    serve_wake(alloc, &mut door, &OpenGate);
+    (door.plans, door.installs)
+}
+
+/// A core in which a row waits in a buffer.
+fn with_row(alloc: Global) -> Result<Core<Global>, AllocError> {
+    let mut service = Service::new(alloc, alloc)?;
+    let words = words_of(alloc, "SET k v")?;
+    let _told = service.core.call(alloc, 1, &words);
+    Ok(service.core)
+}
+
 #[test]
 fn a_wake_ends(rt: HostRuntime) -> Result<(), Fail> {
-    let alloc = rt.alloc();
     for (jobs, refused, want) in WAKES {
-        let mut service = Service::new(alloc, alloc)?;
-        let words = words_of(alloc, "SET k v")?;
-        let _told = service.core.call(alloc, 1, &words);
-        let mut door = Waiting {
-            core: &mut service.core,
-            jobs,
-            refused,
-            plans: 0,
-            installs: 0,
-        };
-        serve_wake(alloc, &mut door, &OpenGate);
-        let found = (door.plans, door.installs);
+        let found = woken(rt.alloc(), with_row(rt.alloc())?, jobs, refused);
         assert!(rt; found == want, "{jobs} jobs: {found:?}");
     }
     Ok(())
