@@ -67,10 +67,9 @@ fn are_answered_as_alone<A: Allocator + Copy>(
 #[test]
 fn random_requests_are_answered_as_alone(rt: HostRuntime) -> Result<(), Fail> {
     let acts = random_acts(rt.alloc(), 8_000)?;
+    assert!(rt; are_answered_as_alone(rt.alloc(), rt.alloc(), acts.as_slice())?);
     let flushed = with_flushes(rt.alloc(), acts.as_slice())?;
-    for acts in [acts.as_slice(), flushed.as_slice()] {
-        assert!(rt; are_answered_as_alone(rt.alloc(), rt.alloc(), acts)?);
-    }
+    assert!(rt; are_answered_as_alone(rt.alloc(), rt.alloc(), flushed.as_slice())?);
     Ok(())
 }
 
@@ -178,18 +177,22 @@ fn refusals<B: Allocator>(
     Ok(None)
 }
 
+/// Whether a run makes ten requests for memory at least, and withstands the refusal of each.
+fn is_withstood<B: Allocator>(
+    heap: &Refusing<B>,
+    global: Global,
+    acts: &[Act],
+) -> Result<bool, AllocError> {
+    Ok(refusals(heap, global, acts)?.is_some_and(|asked| asked >= 10))
+}
+
 // Each request for memory of the run is refused in turn: the outputs say where, and all else is told as each
 // tenant's own run tells it. A refused place in the outputs ends the run after the events that took place.
 #[test]
 fn a_run_withstands_each_refusal(rt: HostRuntime) -> Result<(), Fail> {
     let heap = Refusing::new(rt.alloc());
+    assert!(rt; is_withstood(&heap, rt.alloc(), &ACTS)?);
     let flushed = with_flushes(rt.alloc(), &ACTS)?;
-    for acts in [ACTS.as_slice(), flushed.as_slice()] {
-        let asked = refusals(&heap, rt.alloc(), acts)?;
-        assert!(rt;
-            asked.is_some_and(|asked| asked >= 10),
-            "{asked:?} refusals"
-        );
-    }
+    assert!(rt; is_withstood(&heap, rt.alloc(), flushed.as_slice())?);
     Ok(())
 }
