@@ -3,7 +3,7 @@
 mod rows;
 mod text;
 
-use crate::plain::rows::{LONG, LongRequest, MIXED, REFUSED, RUNS, Run};
+use crate::plain::rows::{GROWN, LONG, LongRequest, MIXED, REFUSED, RUNS, Run};
 use crate::plain::text::request_of;
 use std::alloc::{AllocError, Allocator};
 use std::test::Fail;
@@ -18,7 +18,7 @@ use stow_refusing::{Plan, Refusing};
 use stow_testing::replies::reply_text;
 
 /// The most bytes that may be charged to a tenant here.
-const QUOTA: u64 = 1_000_000;
+const QUOTA: u64 = 2_000_000;
 
 /// Whether the store reports this usage.
 fn is_reported<A: Allocator + Copy>(store: &PlainStore<A>, run: &Run) -> bool {
@@ -136,6 +136,26 @@ fn is_long_told<A: Allocator + Copy>(alloc: A, row: &LongRequest) -> Result<bool
 fn limits_of_words(rt: HostRuntime) -> Result<(), Fail> {
     for (number, row) in LONG.iter().enumerate() {
         assert!(rt; is_long_told(rt.alloc(), row)?, "row {number}");
+    }
+    Ok(())
+}
+
+/// Whether an empty store tells a long request what it is to, and then this where a byte is appended.
+fn is_grown<A: Allocator + Copy>(
+    alloc: A,
+    row: &LongRequest,
+    told: &str,
+) -> Result<bool, AllocError> {
+    let mut store = PlainStore::new(alloc, QUOTA);
+    let is_set = is_told(alloc, &mut store, &long_request(alloc, row)?, row.3)?;
+    let append = request_of(alloc, "APPEND x x")?;
+    Ok(is_set && is_told(alloc, &mut store, &append, told)?)
+}
+
+#[test]
+fn values_grow_to_their_limit(rt: HostRuntime) -> Result<(), Fail> {
+    for (number, (row, told)) in GROWN.iter().enumerate() {
+        assert!(rt; is_grown(rt.alloc(), row, told)?, "row {number}");
     }
     Ok(())
 }

@@ -23,14 +23,14 @@ fn many_rows_are_spelled(rt: HostRuntime) -> Result<(), Fail> {
     let writes = writes(alloc)?;
     let reads = reads(alloc)?;
     assert!(rt; writes.len() == 400 && reads.len() == 401);
-    let begin = b"*3\r\n$3\r\nSET\r\n$4\r\nk399\r\n$1000\r\nvvv".as_slice();
+    let begin = b"*3\r\n$3\r\nSET\r\n$4\r\nk399\r\n$10000\r\nvvv".as_slice();
     assert!(rt; writes[399].asked.as_slice().starts_with(begin));
-    assert!(rt; writes[399].asked.len() == 1_032 && reads[399].told.len() == 1_009);
+    assert!(rt; writes[399].asked.len() == 10_033 && reads[399].told.len() == 10_010);
     let last = b"*2\r\n$3\r\nGET\r\n$4\r\nk399\r\n".as_slice();
     assert!(rt; reads[399].asked.as_slice() == last);
     let all = reads[400].told.as_slice();
-    assert!(rt; all.starts_with(b"*800\r\n$4\r\nk000\r\n$1000\r\nv"));
-    assert!(rt; all.len() == 6 + 400 * 1_019);
+    assert!(rt; all.starts_with(b"*800\r\n$4\r\nk000\r\n$10000\r\nv"));
+    assert!(rt; all.len() == 6 + 400 * 10_020);
     Ok(())
 }
 

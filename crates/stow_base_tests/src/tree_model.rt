@@ -70,8 +70,8 @@ fn parts_out_of_range_make_nothing(rt: HostRuntime) -> Result<(), Fail> {
         (1, 1, 0, [true; 4]),
         (1, 9_223_372_036_854_775_807, 0, [true; 4]),
         (1, 9_223_372_036_854_775_808, 0, [false; 4]),
-        (1, 1, 65_535, [true; 4]),
-        (1, 1, 65_536, [true, false, false, false]),
+        (1, 1, 1_048_576, [true; 4]),
+        (1, 1, 1_048_577, [true, false, false, false]),
     ] {
         assert!(rt;
             made(rt.alloc(), tenant, number, len)? == want,

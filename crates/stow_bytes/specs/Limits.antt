@@ -7,7 +7,7 @@ key_limit = 1024
 
 -- bytes of a value, and of a word of a request
 abbrev pub value_limit : ℕ
-value_limit = 65535
+value_limit = 1048576
 
 -- write numbers, snapshot ids, quotas and counts
 abbrev pub number_limit : ℕ

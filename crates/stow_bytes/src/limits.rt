@@ -4,7 +4,7 @@
 pub const KEY_LIMIT: usize = 1024;
 
 /// Bytes of a value, at most.
-pub const VALUE_LIMIT: usize = 65_535;
+pub const VALUE_LIMIT: usize = 1_048_576;
 
 /// Bytes of an inline request's line, before its LF, at most.
 pub const LINE_LIMIT: usize = 65_536;

@@ -4,7 +4,6 @@ use Rattle.std.specs.Prelude.{◌⊎◌, Contains, IfOk, IfSome, Result, Ok, Err
 use Rattle.std.proofs.lemmas.List.Elements.{All-contains, Contains-get_or}
 use Rattle.stow_core.specs.State.{CoreState, shared_of, IsCore}
 use Rattle.stow_core.specs.Flushing.{TakesResultOf, IsPlannedFrom}
-use Rattle.stow_core.specs.Jobs.{job_state, CanTake, IsPlan}
 use Rattle.stow_core.proofs.Kept.{pins_held}
 use Rattle.stow_merge.specs.Covering.{Covers, IsCovered}
 use Rattle.stow_merge.specs.Pins as held
@@ -60,14 +59,3 @@ module _ {A : Type 0} (core : CoreState) (pins : Pins A) (is_core : IsCore core 
   pub install_told : {B E : Type 0} (r : Result Installed E) (job : FlushJob B) → IfOk r (λ x. x ≡ installed.Stale ↔ ¬ (CanInstall core.tree.root job (held.pins_in pins))) → IfOk r (λ x. x ≡ installed.Stale ↔ ¬ (TakesResultOf core job))
   install_told (Ok x) job is = (λ stale takes. is.0 stale (held_as_taken job takes), λ cannot. is.1 (λ can. cannot (takes_as_held job can)))
   install_told (Err e) job is = is
-
--- ---- by what a job holds
-
-pub can_take : {A : Type 0} (core : CoreState) (job : FlushJob A) → TakesResultOf core job → CanTake core (job_state job)
-can_take core job takes = record { leaf = takes.leaf; target = takes.target; inside = takes.inside; oldest = takes.oldest; covered = takes.covered }
-
-pub takes_result : {A : Type 0} (core : CoreState) (job : FlushJob A) → CanTake core (job_state job) → TakesResultOf core job
-takes_result core job can = record { leaf = can.leaf; target = can.target; inside = can.inside; oldest = can.oldest; covered = can.covered }
-
-pub is_plan : {A : Type 0} (core : CoreState) (job : FlushJob A) → IsPlannedFrom core job → IsPlan core (job_state job)
-is_plan core job planned = record { some = planned.some; among = planned.among; can = can_take core job planned.can }

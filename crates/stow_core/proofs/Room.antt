@@ -44,10 +44,10 @@ writes_are_messages t number op before (key ∷ keys) low high own are positive 
 )
 
 -- the bytes that a message takes, whose key is one of a tenant's
-pub one_write_fits : (number : ℕ) (op : Op) (key : List ℕ) (before : Option (List ℕ)) → IsTenantKey key → StaysShort op before → bytes_of (writes_of number op (key ∷ [])) ≤ 131072
+pub one_write_fits : (number : ℕ) (op : Op) (key : List ℕ) (before : Option (List ℕ)) → IsTenantKey key → StaysShort op before → bytes_of (writes_of number op (key ∷ [])) ≤ 2097152
 one_write_fits number op key before is short = let a = sum_by-cons message_size (write_of number op key) [] in let k = is.is_short in let s = carried_short op before short in omega (arith, a, k, s)
 
-removals_small : (number : ℕ) (keys : List (List ℕ)) → AllByRecursion IsTenantKey keys → bytes_of (writes_of number Gone keys) ≤ 1045 * length keys
+removals_small : (number : ℕ) (keys : List (List ℕ)) → AllByRecursion IsTenantKey keys → bytes_of (writes_of number Gone keys) ≤ 1047 * length keys
 removals_small number [] are = omega arith
 removals_small number (key ∷ keys) are =
     let a = sum_by-cons message_size (write_of number Gone key) (writes_of number Gone keys) in
@@ -55,7 +55,7 @@ removals_small number (key ∷ keys) are =
     let rest = removals_small number keys are.1 in
     omega (arith, a, k, rest)
 
-pub removals_fit : (number : ℕ) (keys : List (List ℕ)) → AllByRecursion IsTenantKey keys → length keys ≤ 64 → bytes_of (writes_of number Gone keys) ≤ 131072
+pub removals_fit : (number : ℕ) (keys : List (List ℕ)) → AllByRecursion IsTenantKey keys → length keys ≤ 64 → bytes_of (writes_of number Gone keys) ≤ 2097152
 removals_fit number keys are few = let small = removals_small number keys are in omega (arith, small, few)
 
 -- and what takes values away makes none that is too long
@@ -99,7 +99,7 @@ module _ (bound : ℕ → ℕ) (tree : TreeState) (below : HasBound (tree_messag
     writes_newer keys (later_own t key keys own) short.1,
   )
 
-  pub can_write_rows : (keys : List (List ℕ)) → AreKeysOf t keys → AreDistinct keys → AllByRecursion (λ key. StaysShort op (last_value key)) keys → bytes_of (writes_of number op keys) ≤ 131072 → CanReserve tree (writes_of number op keys)
+  pub can_write_rows : (keys : List (List ℕ)) → AreKeysOf t keys → AreDistinct keys → AllByRecursion (λ key. StaysShort op (last_value key)) keys → bytes_of (writes_of number op keys) ≤ 2097152 → CanReserve tree (writes_of number op keys)
   can_write_rows keys own distinct short fit = record {
     can = record { apart = writes_apart number op keys distinct; each = writes_newer keys own short };
     fit = (let room = sizes.buffer.0 in omega (arith, fit, room));

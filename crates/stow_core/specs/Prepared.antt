@@ -134,7 +134,7 @@ pub record CanGive (core : CoreState) (tenant : ℕ) (keys : List (List ℕ)) (o
   pub distinct : AreDistinct keys
   pub short : AllByRecursion (λ key. StaysShort op (value_in (row_at core tenant (own_key key))))
       keys
-  pub fit : bytes_of (writes_of (next_number core tenant) op keys) ≤ 131072
+  pub fit : bytes_of (writes_of (next_number core tenant) op keys) ≤ 2097152
 
 -- a write of the tenant's own keys needs no more memory, and is charged so
 pub record CanPut {A : Type 0} (core : CoreState) (tenant : ℕ) (write : Write A)

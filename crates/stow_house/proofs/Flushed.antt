@@ -1,11 +1,10 @@
 -- An event of a flusher that does something to a job is a step of the house.
 use Rattle.std.proofs.Common.{◌≡◌, ◌≢◌, ◌↔◌, ℕ, refl, sym, ◌∙◌, ⊎_elim}
 use Rattle.stow_core.specs.Flushing.{TakesResultOf}
-use Rattle.stow_core.specs.Jobs.{JobState, job_state}
 use Rattle.stow_core.specs.State.{CoreState, Keeps}
-use Rattle.stow_core.proofs.Jobs.{can_take, takes_result}
 use Rattle.stow_merge.specs.declared.flush_result.FlushResult.{FlushResult}
 use Rattle.stow_node.specs.Installs.{BatchIsGone}
+use Rattle.stow_node.specs.Jobs.{JobState, job_state}
 use Rattle.stow_node.specs.declared.installed.Installed.{Installed}
 use Rattle.stow_node.specs.declared.installed.Installed.TheVariants as in_place
 use Rattle.stow_model.specs.Event as event
@@ -20,7 +19,7 @@ use Rattle.stow_house.proofs.Stood.{IsKept, kept_by, kept_as, flushed}
 pub took_result : {A : Type 0} (before after : CoreState) (merge : FlushResult A) (x : Installed) → x ≡ in_place.Done → (x ≡ in_place.Stale ↔ ¬ (TakesResultOf before merge.job)) → (x ≡ in_place.Done → BatchIsGone merge.job.batch.messages after.tree.root) → Keeps before after
     → TakesResult (job_state merge.job) Free before after
 took_result before after merge x is stale done keeps = record {
-  fresh = λ was. apart (sym is ∙ stale.1 (λ takes. was (can_take before merge.job takes)));
+  fresh = λ was. apart (sym is ∙ stale.1 was);
   gone = done is;
   free = refl;
   keeps = keeps;
@@ -30,7 +29,7 @@ took_result before after merge x is stale done keeps = record {
     apart e = cc
 
 pub dropped_result : {A : Type 0} (before after : CoreState) (merge : FlushResult A) (x : Installed) → x ≡ in_place.Stale → (x ≡ in_place.Stale ↔ ¬ (TakesResultOf before merge.job)) → (x ≡ in_place.Stale → after ≡ before) → DropsResult (job_state merge.job) Free before after
-dropped_result before after merge x is stale unmoved = record { stale = λ can. stale.0 is (takes_result before merge.job can); free = refl; core = unmoved is }
+dropped_result before after merge x is stale unmoved = record { stale = stale.0 is; free = refl; core = unmoved is }
 
 -- ---- what may be answered
 

@@ -3,7 +3,8 @@ use Rattle.std.specs.Prelude.{◌≡◌, ◌≢◌, ◌⊎◌, ℕ, Option, Some
 use Rattle.std.specs.Ordering.{nat_cmp}
 use Rattle.std.specs.BTreeMap.{BTreeMap, get}
 use Rattle.stow_core.specs.Flushing.{IsDrained}
-use Rattle.stow_core.specs.Jobs.{JobState, job_state, IsPlan, IsStale}
+use Rattle.stow_core.specs.Jobs.{IsPlan, IsStale}
+use Rattle.stow_node.specs.Jobs.{JobState, job_state}
 use Rattle.stow_core.specs.State.{CoreState, Keeps}
 use Rattle.stow_node.specs.Installs.{BatchIsGone}
 use Rattle.stow_tree.specs.TreeState.{IsRead}

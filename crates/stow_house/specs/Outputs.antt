@@ -69,8 +69,8 @@ mark_of _ = mark.Kept
 abbrev pub marks : StepResult → List Mark
 marks r = mark_of r ∷ []
 
--- the mark of an event of a flusher. Memory may be refused to a plan, a merge and an install, and to
--- another size of the cache within its limit; either way no store changes and nobody is told
+-- the mark of an event of a flusher. Memory may be refused to a plan, a merge and an install, and
+-- to another size of the cache within its limit; either way no store changes and nobody is told
 -- anything, so a history needs no step of its own for it
 abbrev pub IsFlusherMark : FlusherEvent → Mark → Type 0
 IsFlusherMark (event.Resize n) m = (m ≡ mark.Kept) ⊎ ((n ≤ cache_limit) × (m ≡ mark.Void))

@@ -1,20 +1,19 @@
 -- Leaves of which some were joined with a neighbour.
-use Rattle.std.proofs.Common.{◌≡◌, ◌≢◌, ℕ, zero, suc, ◌+◌, ◌≤◌, true, List, [], ◌∷◌, ◌++◌, length, map, refl, sym, ap, ◌∙◌, subst, arith, ⊎_elim, inl, inr, length-append, append_assoc}
+use Rattle.std.proofs.Common.{◌≡◌, ◌≢◌, ℕ, zero, suc, ◌≤◌, true, List, [], ◌∷◌, ◌++◌, length, map, refl, sym, ap, ◌∙◌, subst, arith, ⊎_elim, inl, inr, length-append, append_assoc}
 use Rattle.std.specs.Prelude.{Contains}
 use Rattle.std.specs.List.{AllByRecursion}
 use Rattle.std.specs.List.Sorted.{IsStrictlySortedBy}
 use Rattle.std.specs.Ordering.{is_lt, ordering_then, nat_cmp}
 use Rattle.std.specs.declared.cmp.Ordering.TheVariants.{Less}
 use Rattle.std.specs.Cmp.Lexicographic.{nat_list_cmp_total}
-use Rattle.std.proofs.lemmas.Grind.{flat_map-append}
 use Rattle.std.proofs.lemmas.List.{map-append}
 use Rattle.std.proofs.lemmas.List.Elements.{Contains-append_left, Contains-append_right, Contains-append_cases}
 use Rattle.stow_bytes.specs.Bytes.{bytes_cmp}
 use Rattle.stow_merge.proofs.Lists.{all_split, all_join}
-use Rattle.stow_merge.proofs.PageLemmas.{length-page}
+use Rattle.stow_merge.proofs.Formats.{front_within}
 use Rattle.stow_merge.specs.Pages.{KeysBelow}
 use Rattle.stow_message.proofs.RisingLists.{lt_is}
-use Rattle.stow_page.specs.Format.{entry, entries, packed_page}
+use Rattle.stow_page.specs.Format.{packed_page}
 use Rattle.stow_tree_model.specs.Merged.{row_message}
 use Rattle.stow_tree_model.specs.Messages.{ops_in}
 use Rattle.stow_tree_model.specs.Order.{VersionPlace, place_cmp, version_place, VersionsRise}
@@ -31,12 +30,6 @@ use Rattle.stow_leaf.proofs.Tiles.{ops_parts}
 use Rattle.stow_leaves.specs.Joins.{AreToJoin, Joins, JoinTimes, AreJoined, NoneToJoin}
 
 -- ---- rows
-
--- the page of both has one header
-pub page_of_both : (xs ys : List Version) → length (packed_page (xs ++ ys)) + 5 ≡ length (packed_page xs) + length (packed_page ys)
-page_of_both xs ys =
-    let both : length (entries (xs ++ ys)) ≡ length (entries xs) + length (entries ys) = ap length (flat_map-append entry xs ys) ∙ length-append (entries xs) (entries ys) in
-    omega (arith, both, length-page (xs ++ ys), length-page xs, length-page ys)
 
 all_above : (v : Version) (ws : List Version) → ((w : Version) → Contains ws w → bytes_cmp v.key w.key ≡ Less) → AllByRecursion (λ (q : VersionPlace). place_cmp (version_place v) q ≡ Less) (map version_place ws)
 all_above v [] h = tt
@@ -175,13 +168,11 @@ none_to_join target leaves s new j = none j.before j.lower j.upper j.after (subs
 -- rows that are to join with more than some are to join with those
 with_fewer : (target : ℕ) (x xs ys : List Version) → AreToJoin target x (xs ++ ys) → AreToJoin target x xs
 with_fewer target x xs ys can =
-    let more = page_of_both xs ys in
-    let own = length-page ys in
-    let fewer = page_of_both x xs in
-    let all = page_of_both x (xs ++ ys) in
+    let own = front_within xs ys in
+    let both : length (packed_page (x ++ xs)) ≤ length (packed_page (x ++ (xs ++ ys))) = subst (λ vs. length (packed_page (x ++ xs)) ≤ length (packed_page vs)) (append_assoc x xs ys) (front_within (x ++ xs) ys) in
     let fits = can.1 in (
-      ⊎_elim (λ s. inl s) (λ s. inr (omega (arith, s, more, own))) can.0,
-      omega (arith, more, own, fewer, all, fits),
+      ⊎_elim (λ s. inl s) (λ s. inr (omega (arith, s, own))) can.0,
+      omega (arith, both, fits),
     )
 
 -- a last leaf that grew is no more to join with the one below it

@@ -19,11 +19,11 @@ fn is_small<A: Allocator>(rows: &Rows<A>, target: u32) -> bool
     4 * rows.page_len() < target as usize
 }
 
-/// Whether one page of both rows has at most the target's bytes: it has one header of five bytes, and their pages two.
+/// Whether one page of both rows has at most the target's bytes.
 fn fit_together<A: Allocator>(lower: &Rows<A>, upper: &Rows<A>, target: u32) -> bool
     ensures { IsTrue result ↔ length (packed_page (lower.now ++ upper.now)) ≤ target }
 {
-    lower.page_len() + upper.page_len() <= target as usize + 5
+    lower.page_len_with(upper) <= target as usize
 }
 
 /// Whether two neighbours' rows are to become one leaf's: one of them is small, and both fit the target.

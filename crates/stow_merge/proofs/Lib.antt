@@ -3,6 +3,7 @@ pub mod PinLemmas
 pub mod CutLemmas
 pub mod Lists
 pub mod KeyLemmas
+pub mod Formats
 pub mod PageLemmas
 pub mod WritingLemmas
 pub mod PagedLemmas

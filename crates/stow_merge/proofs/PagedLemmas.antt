@@ -6,7 +6,9 @@ use Rattle.std.specs.List.{AllByRecursion}
 use Rattle.std.proofs.lemmas.List.{length-map}
 use Rattle.std.proofs.Math.Seq.{take-length}
 use Rattle.std.proofs.lemmas.List.Sums.{sum-map}
-use Rattle.stow_page.specs.Format.{entries, packed_page}
+use Rattle.stow_page.proofs.Pushed.{length-packed_page}
+use Rattle.stow_page.specs.Format.{entries, format_of, packed_page}
+use Rattle.stow_page.specs.declared.format.Format.{Format}
 use Rattle.stow_tree_model.specs.Order.{VersionsRise}
 use Rattle.stow_tree_model.specs.Version.{Version}
 use Rattle.stow_merge.specs.Cuts.{size_between, ArePages}
@@ -14,8 +16,9 @@ use Rattle.stow_merge.specs.Pages.{read_in_order, HaveShortValues, AreLeafPages,
 use Rattle.stow_merge.specs.Writing.{versions_in, keys_in, AreRuns, AreSizes, AreFewAndShort, CanMerge, CanPack, pages_at, at_least_one_page}
 use Rattle.stow_merge.specs.declared.kept_version.KeptVersion as coded
 use Rattle.stow_merge.specs.declared.survey.Survey.{Survey}
+use Rattle.stow_merge.proofs.Formats.{AreToldIn, own_tells}
 use Rattle.stow_merge.proofs.KeyLemmas.{KeysRise, runs_rise, runs_read}
-use Rattle.stow_merge.proofs.PageLemmas.{AreWritten, length-page, size-read, written, keys_short, can_pack}
+use Rattle.stow_merge.proofs.PageLemmas.{AreWritten, size-read, written, keys_short, can_pack}
 
 pub if_ok : {X E : Type 0} (r : Result X E) (P Q : X → Type 0) → ((x : X) → P x → Q x) → IfOk r P → IfOk r Q
 if_ok (Ok x) P Q h p = h x p
@@ -39,16 +42,19 @@ are_keys survey kept keys rise h = subst (AreKeys (versions_in survey kept)) (of
 pub are_short : (versions : List Version) (keys : List (List Version)) → CanMerge versions → AreKeys versions keys → AllByRecursion AreFewAndShort keys
 are_short versions keys can h = keys_short versions [] keys can (sym h.are) h.rise
 
-small_of : (keys : List (List Version)) → AllByRecursion (λ size. size ≤ 4327440) (map (λ key. length (entries key)) keys) → AllByRecursion (λ key. length (entries key) ≤ 4327440) keys
-small_of [] h = tt
-small_of (key ∷ keys) h = (h.0, small_of keys h.1)
+small_of : (format : Format) (keys : List (List Version)) → AllByRecursion (λ size. size ≤ 68225235) (map (λ key. length (entries format key)) keys) → AllByRecursion (λ key. length (entries format key) ≤ 68225235) keys
+small_of format [] h = tt
+small_of format (key ∷ keys) h = (h.0, small_of format keys h.1)
 
-pub are_written : (target room : ℕ) (versions : List Version) (keys : List (List Version)) (sizes ends : List ℕ) → target < 2 ^ 32 → room ≡ target - 5 → AreKeys versions keys → AreSizes keys sizes → ArePages sizes room 0 ends (length sizes)
+pub are_written : (target room : ℕ) (versions : List Version) (keys : List (List Version)) (sizes ends : List ℕ) → target < 2 ^ 32 → room ≡ target - 5 → AreKeys versions keys → AreSizes (format_of versions) keys sizes → ArePages sizes room 0 ends (length sizes)
     → AreWritten target keys 0 (pages_at keys 0 ends)
 are_written target room versions keys sizes ends low r h s cuts =
-    written target keys ends 0 low h.rise (small_of keys (subst (AllByRecursion (λ size. size ≤ 4327440)) s.are s.are_small))
-    (subst (λ n. ArePages (map (λ key. length (entries key)) keys) n 0 ends (length keys)) r
-    (subst (λ n. ArePages (map (λ key. length (entries key)) keys) room 0 ends n) (length-map keys (λ key. length (entries key)))
+    let format : Format = format_of versions in
+    let size : List Version → ℕ = λ key. length (entries format key) in
+    written target format keys ends 0 low h.rise (small_of format keys (subst (AllByRecursion (λ size. size ≤ 68225235)) s.are s.are_small))
+    (subst (AreToldIn format) (sym h.are) (own_tells versions))
+    (subst (λ n. ArePages (map size keys) n 0 ends (length keys)) r
+    (subst (λ n. ArePages (map size keys) room 0 ends n) (length-map keys size)
     (subst (λ ss. ArePages ss room 0 ends (length ss)) s.are cuts)))
 
 pub can_write : (target : ℕ) (versions : List Version) (keys pages : List (List Version)) → CanMerge versions → AreKeys versions keys → AreWritten target keys 0 pages → AllByRecursion CanPack pages
@@ -56,11 +62,12 @@ can_write target versions keys pages can h w =
     can_pack pages w.have_room (subst VersionsRise (sym (w.are ∙ h.are)) can.rise) (subst HaveShortValues (sym (w.are ∙ h.are)) can.are_short)
 
 -- all fit one page, so there is no other
-pub one_page_of : (target room : ℕ) (versions : List Version) (keys : List (List Version)) (sizes ends : List ℕ) → room ≡ target - 5 → AreKeys versions keys → AreSizes keys sizes → (size_between sizes 0 (length sizes) ≤ room → length ends ≤ 1) → length (packed_page versions) ≤ target → length (pages_at keys 0 ends) ≤ 1
+pub one_page_of : (target room : ℕ) (versions : List Version) (keys : List (List Version)) (sizes ends : List ℕ) → room ≡ target - 5 → AreKeys versions keys → AreSizes (format_of versions) keys sizes → (size_between sizes 0 (length sizes) ≤ room → length ends ≤ 1) → length (packed_page versions) ≤ target → length (pages_at keys 0 ends) ≤ 1
 one_page_of target room versions keys sizes ends r h s one fits =
-    let all : sum sizes ≡ length (entries versions) = ap sum s.are ∙ sum-map (λ key. length (entries key)) keys ∙ sym (size-read keys) ∙ ap (λ vs. length (entries vs)) h.are in
+    let format : Format = format_of versions in
+    let all : sum sizes ≡ length (entries format versions) = ap sum s.are ∙ sum-map (λ key. length (entries format key)) keys ∙ sym (size-read format keys) ∙ ap (λ vs. length (entries format vs)) h.are in
     let whole : size_between sizes 0 (length sizes) ≡ sum sizes = ap sum (take-length sizes) in
-    let page = length-page versions in
+    let page = length-packed_page versions in
     let few = one (omega (arith, all, whole, page, fits, r)) in
     let same = as_many keys 0 ends in
     omega (arith, few, same)

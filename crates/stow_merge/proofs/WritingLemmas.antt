@@ -1,12 +1,14 @@
 -- Versions, keys and pages written one at a time.
-use Rattle.std.proofs.Common.{◌≡◌, ◌≢◌, ℕ, suc, ◌+◌, ◌<◌, ◌≤◌, List, [], ◌∷◌, ◌++◌, Option, Some, length, take, drop, get_or, map, ap, ◌∙◌, sym, subst, arith, ⊎_elim, length-append, append_assoc, drop-cons}
-use Rattle.std.specs.Prelude.{true, false}
-use Rattle.std.specs.Int.{to_be_bytes, w16}
+use Rattle.std.proofs.Common.{◌≡◌, ◌≢◌, ℕ, suc, ◌+◌, ◌<◌, ◌≤◌, List, [], ◌∷◌, ◌++◌, Option, Some, length, refl, take, drop, get_or, map, ap, ◌∙◌, sym, subst, arith, ⊎_elim, length-append, append_assoc, drop-cons}
+use Rattle.std.specs.Prelude.{true, false, ◌||◌}
 use Rattle.std.specs.List.{flat_map}
+use Rattle.std.proofs.lemmas.Bool.{or_from}
 use Rattle.std.proofs.lemmas.Grind.{flat_map-append}
 use Rattle.std.proofs.lemmas.List.{append-nil, map-append, take_more, take-append-drop, take-map, drop-map}
+use Rattle.std.proofs.lemmas.List.Folds.{list_any-append}
+use Rattle.std.proofs.Math.Bool.{or-true}
 use Rattle.stow_bytes.specs.Limits.{value_limit}
-use Rattle.stow_page.specs.Format.{entry, entries, tail}
+use Rattle.stow_page.specs.Format.{is_long, has_long}
 use Rattle.stow_tree_model.specs.Merged.{same_key}
 use Rattle.stow_tree_model.specs.Op.{op_of, bytes_in}
 use Rattle.stow_tree_model.specs.TreeMessage.{TreeMessage, message_of}
@@ -74,7 +76,7 @@ between_bytes items part from to e =
 -- a value within the limit, of which this is what the messages carry
 pub record IsCarried (value : Option (List ℕ)) (bytes : List ℕ) : Type 0 where
   pub is_short : length bytes ≤ value_limit
-  pub size : length (tail value) ≡ 3 + length bytes
+  pub is : value ≡ Some bytes
 
 pub carried_value : (items part : List messages.Message) (from to : ℕ) (start : Option ℕ) → start ≡ Some from → part ≡ drop from (take to items) → IsValue (value_between (map message_of items) start to)
     → IsCarried (value_between (map message_of items) start to) (carried (map message_of part))
@@ -84,7 +86,7 @@ carried_value items part from to start s e short =
     ap (λ f. value_between (map message_of items) f to) s ∙ ap Some (sym (between_bytes items part from to e)) in
     record {
       is_short = short.is_short bytes value;
-      size = ap (λ v. length (tail v)) value ∙ (let l = length-append (to_be_bytes w16 (length bytes)) bytes in omega arith);
+      is = value;
     }
 
 -- ---- versions
@@ -92,12 +94,19 @@ carried_value items part from to start s e short =
 pub mapped_more : {X Y : Type 0} (f : X → Y) (xs : List X) (i : ℕ) (x : X) → i < length xs → x ≡ get_or xs i x → map f (take (i + 1) xs) ≡ map f (take i xs) ++ f x ∷ []
 mapped_more f xs i x l e = ap (map f) (one_more xs i x l e) ∙ map-append f (take i xs) (x ∷ [])
 
-pub size_more : {X : Type 0} (f : X → Version) (xs : List X) (i : ℕ) (x : X) → i < length xs → x ≡ get_or xs i x → length (entries (map f (take (i + 1) xs))) ≡ length (entries (map f (take i xs))) + length (entry (f x))
-size_more f xs i x l e =
-    ap (λ vs. length (entries vs)) (mapped_more f xs i x l e)
-    ∙ ap length (flat_map-append entry (map f (take i xs)) (f x ∷ []))
-    ∙ length-append (entries (map f (take i xs))) (entries (f x ∷ []))
-    ∙ ap (λ bs. length (entries (map f (take i xs))) + length bs) (append-nil (entry (f x)))
+long_between : (before : List Version) (v : Version) (after : List Version) → is_long v.value ≡ true → has_long ((before ++ v ∷ []) ++ after) ≡ true
+long_between [] v after long = ap (λ b. b || has_long after) long
+long_between (w ∷ before) v after long = ap (λ b. is_long w.value || b) (long_between before v after long) ∙ or-true (is_long w.value)
+
+pub long_at : {X : Type 0} (f : X → Version) (xs : List X) (i : ℕ) (x : X) → i < length xs → x ≡ get_or xs i x → is_long (f x).value ≡ true → has_long (map f xs) ≡ true
+long_at f xs i x l e long = subst (λ vs. has_long vs ≡ true) (sym (ap (map f) (around xs i x l e) ∙ map-append f (take i xs ++ x ∷ []) (drop (suc i) xs) ∙ ap (λ vs. vs ++ map f (drop (suc i) xs)) (map-append f (take i xs) (x ∷ []))))
+    (long_between (map f (take i xs)) (f x) (map f (drop (suc i) xs)) long)
+
+pub long_more : {X : Type 0} (f : X → Version) (xs : List X) (i : ℕ) (x : X) → i < length xs → x ≡ get_or xs i x → has_long (map f (take i xs)) ≡ false → is_long (f x).value ≡ false → has_long (map f (take (i + 1) xs)) ≡ false
+long_more f xs i x l e before here =
+    ap has_long (mapped_more f xs i x l e)
+    ∙ list_any-append (λ v. is_long v.value) (map f (take i xs)) (f x ∷ [])
+    ∙ or_from (has_long (map f (take i xs))) (has_long (f x ∷ [])) before (or_from (is_long (f x).value) false here refl)
 
 -- a page that can be made of some versions and more can be made of them and the next
 pub pack_next : {X : Type 0} (f : X → Version) (done : List Version) (xs : List X) (i : ℕ) (x : X) → CanPack (done ++ map f xs) → i < length xs → x ≡ get_or xs i x → CanPack ((done ++ map f (take i xs)) ++ f x ∷ [])

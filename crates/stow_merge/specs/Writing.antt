@@ -3,6 +3,7 @@ use Rattle.std.specs.Prelude.{◌≡◌, ◌≢◌, ℕ, ◌<◌, ◌≤◌, ◌
 use Rattle.std.specs.Borrow.{Bor}
 use Rattle.std.specs.List.{AllByRecursion}
 use Rattle.stow_page.specs.Format.{entries, packed_page}
+use Rattle.stow_page.specs.declared.format.Format.{Format}
 use Rattle.stow_tree_model.specs.Order.{VersionsRise}
 use Rattle.stow_tree_model.specs.TreeMessage.{message_of}
 use Rattle.stow_tree_model.specs.Version.{Version}
@@ -51,10 +52,11 @@ pub record AreFewAndShort (versions : List Version) : Type 0 where
   pub few : length versions ≤ 65
   pub are_short : HaveShortValues versions
 
--- the bytes of each key's entries
-pub record AreSizes (keys : List (List Version)) (sizes : List ℕ) : Type 0 where
-  pub are : sizes ≡ map (λ key. length (entries key)) keys
-  pub are_small : AllByRecursion (λ size. size ≤ 4327440) sizes
+-- the bytes of each key's entries in this format
+pub record AreSizes (format : Format) (keys : List (List Version)) (sizes : List ℕ)
+    : Type 0 where
+  pub are : sizes ≡ map (λ key. length (entries format key)) keys
+  pub are_small : AllByRecursion (λ size. size ≤ 68225235) sizes
 
 -- the pages of keys, each from one key to before another
 abbrev pub pages_at : List (List Version) → ℕ → List ℕ → List (List Version)

@@ -3,9 +3,14 @@
 //! `merge_into_pages` merges a leaf's rows with messages that a buffer lends, and writes what stays into pages. Read in
 //! order these hold exactly what the definition of a merge keeps; no key stands in two of them, one above the leaf
 //! target holds one key, there is one alone where all fits the target, and one is empty only where nothing stays (`specs/Pages.antt`). One walk over rows and
-//! messages finds what stays (`survey_of`), one over what stays finds its sizes and the cuts, and one writes: a value
-//! that one message carries goes from there into the page, and only appends are folded before. A caller knows that the
-//! merged values are within the limit, or asks `has_short_values`.
+//! messages finds what stays (`survey_of`), two over what stays find its format, its sizes and the cuts, and one writes: a
+//! value that one message carries goes from there into the page, and only appends are folded before. A caller knows that
+//! the merged values are within the limit, or asks `has_short_values`.
+//!
+//! A page with a long value has format 2, which takes two bytes more to tell the length of a value (`stow_page`). What
+//! is merged is measured in one format, that of a page which holds all of it, and cut by these sizes. So there is one
+//! page exactly where that page is within the target, and each of more pages is no larger than it was measured: its own
+//! format is no wider.
 //!
 //! `FlushJob` is such a leaf and batch, with the pins and the target of a plan, to be merged apart from the tree: with no
 //! lock, and with nobody waiting. Its type keeps what a merge asks (`specs/Mergeable.antt`, for which `is_mergeable` is
@@ -28,6 +33,7 @@ pub mod joining;
 pub mod keeping;
 pub mod kept_version;
 mod lending;
+mod measuring;
 pub mod merging;
 mod page_sizes;
 pub mod pins;

@@ -10,9 +10,10 @@ ghost use Rattle.stow_tree_model.specs.TreeMessage.{message_of};
 use crate::cutting::cut_by;
 use crate::filling::Filling;
 use crate::lending::lent_rows;
+use crate::measuring::{format_of, sizes_of};
 use crate::pins::Pins;
 use crate::survey::{Survey, survey_of};
-use crate::writing::{by_key, sizes_of, write_pages};
+use crate::writing::{by_key, write_pages};
 use std::alloc::{AllocError, Allocator};
 use stow_page::packed_rows::PackedRows;
 use stow_page::rows::Rows;
@@ -55,7 +56,8 @@ fn paged<A: Allocator + Copy, B: Allocator + Copy>(
         IfOk result (λ pages. ArePagesOf versions target pages.items) }
 {
     let keys = by_key(alloc, survey.kept.as_slice())?;
-    let sizes = sizes_of(alloc, survey, keys.as_slice())?;
+    let format = format_of(survey);
+    let sizes = sizes_of(alloc, survey, keys.as_slice(), format)?;
     let ends = cut_by(
         alloc,
         sizes.as_slice(),

@@ -1,11 +1,9 @@
 //! KeptVersion versions in pages.
 ghost use Rattle.std.specs.Prelude.{◌≡◌, ◌≢◌, ◌+◌, ◌<◌, ◌≤◌, ◌^◌, [], ◌∷◌, ◌++◌, length, map, take, drop, IfOk, OnOk};
 ghost use Rattle.std.specs.List.{flat_map, AllByRecursion};
-ghost use Rattle.stow_bytes.specs.Limits.{value_limit};
 ghost use Rattle.stow_merge.specs.KeptVersion.{kept_version};
 ghost use Rattle.stow_merge.specs.Pages.{read_in_order};
-ghost use Rattle.stow_merge.specs.Writing.{version_in, versions_in, keys_in, IsKeyRun, AreRuns, IsFolded, CanPack, AreFewAndShort, AreSizes, pages_at};
-ghost use Rattle.stow_page.specs.Format.{entry, entries, tail};
+ghost use Rattle.stow_merge.specs.Writing.{version_in, versions_in, keys_in, IsKeyRun, AreRuns, IsFolded, CanPack, pages_at};
 ghost use Rattle.stow_tree_model.specs.Op.{bytes_in};
 ghost use Rattle.stow_tree_model.specs.TreeMessage.{message_of};
 ghost use Rattle.stow_tree_model.specs.Value.{bytes_at, IsValue};
@@ -50,69 +48,6 @@ fn run_length(key: TenantKey<'_>, kept: &[KeptVersion<'_>]) -> usize
         }
     }
     kept.len()
-}
-
-/// How many bytes the entries of each key have.
-pub(crate) fn sizes_of<A: Allocator + Copy, B: Allocator + Copy>(
-    alloc: A,
-    survey: &Survey<'_, B>,
-    keys: &[&[KeptVersion<'_>]],
-) -> Result<Vec<u32, A>, AllocError>
-    requires { AllByRecursion AreFewAndShort (keys_in survey.now keys.now) }
-    ensures { IfOk result (λ sizes. AreSizes (keys_in survey.now keys.now) sizes.items) }
-{
-    let mut sizes = Vec::new(alloc);
-    for i in 0..keys.len() {
-        sizes.push(key_size(survey, keys[i]))?;
-    }
-    Ok(sizes)
-}
-
-/// How many bytes the entries of a key's versions have.
-fn key_size<B: Allocator + Copy>(survey: &Survey<'_, B>, key: &[KeptVersion<'_>]) -> u32
-    requires { AreFewAndShort (versions_in survey.now key.now) }
-    ensures size { result ≡ length (entries (versions_in survey.now key.now)) }
-    ensures small { result ≤ 4327440 }
-{
-    let mut size = 0;
-    for i in 0..key.len() {
-        size += size_of(survey, key[i]);
-    }
-    size
-}
-
-/// How many bytes a version's entry has.
-fn size_of<B: Allocator + Copy>(survey: &Survey<'_, B>, version: KeptVersion<'_>) -> u32
-    requires { IsValue (version_in survey.now version).value }
-    ensures size { result ≡ length (entry (version_in survey.now version.entry)) }
-    ensures small { result ≤ 66576 }
-{
-    (10 + version.key.bytes.len() + tail_size(survey, version)) as u32
-}
-
-/// How many bytes the tail of a version's value has, or that of none.
-fn tail_size<B: Allocator + Copy>(survey: &Survey<'_, B>, version: KeptVersion<'_>) -> usize
-    requires { IsValue (version_in survey.now version).value }
-    ensures size { result ≡ length (tail (version_in survey.now version.entry).value) }
-    ensures small { result ≤ 65538 }
-{
-    match version.from {
-        None => 1,
-        Some(from) => 3 + carried_size(between(survey.joined.as_slice(), from, version.to)),
-    }
-}
-
-/// How many bytes messages carry, which are together within the limit of values.
-fn carried_size(messages: &[Message<'_>]) -> usize
-    requires { length (flat_map (λ m. bytes_in m.op) (map message_of messages.now)) ≤ value_limit }
-    ensures size { result ≡ length (flat_map (λ m. bytes_in m.op) (map message_of messages.now)) }
-    ensures small { result ≤ value_limit }
-{
-    let mut size = 0;
-    for i in 0..messages.len() {
-        size += messages[i].op.carried().len();
-    }
-    size
 }
 
 /// Folds a version's value into the bytes where more than one message carries it.
@@ -235,7 +170,7 @@ fn write_page<A: Allocator + Copy, B: Allocator + Copy>(
     Rows::new(alloc, packed)
 }
 
-/// The pages of keys, each up to before one of these keys. Each takes a block of its own size, by the sizes of keys.
+/// The pages of keys, each up to before one of these keys. Each takes a block of its size, by the sizes of keys.
 pub(crate) fn write_pages<A: Allocator + Copy, B: Allocator + Copy>(
     alloc: A,
     survey: &Survey<'_, B>,

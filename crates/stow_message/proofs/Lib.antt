@@ -1,7 +1,6 @@
 pub mod RisingLaws
 pub mod Marked
 pub mod Merged
-pub mod Moved
 pub mod Oldest
 pub mod Placed
 pub mod Pushed

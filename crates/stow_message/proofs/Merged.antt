@@ -16,7 +16,8 @@ use Rattle.stow_message.proofs.Placed.{itself, merged, map_merged, merged_is, me
 use Rattle.stow_message.proofs.Removed.{all_dropped, rest_rises}
 use Rattle.stow_message.proofs.RisingLists.{all_by, below_within}
 use Rattle.stow_message.proofs.Searched.{first_not_below}
-use Rattle.stow_message.proofs.Squeezed.{length-places, place_is, all_bytes-more, all_sizes, places_read, places_begin, slot_moved, taken_within}
+use Rattle.stow_slots.proofs.Moved.{slot_moved}
+use Rattle.stow_message.proofs.Squeezed.{length-places, place_is, all_bytes-more, all_sizes, places_read, places_begin, taken_within}
 use Rattle.stow_message.proofs.Taken.{from_drop}
 
 -- a list whose first part was written over is the same from a later place on

@@ -1,6 +1,6 @@
 -- A packed message is read back.
 use Rattle.std.proofs.Common.{◌≡◌, ℕ, ◌+◌, ◌<◌, ◌^◌, List, ◌++◌, length, take, drop, refl, sym, ap, ◌∙◌, arith, append_assoc, length-append, take_at, drop_at, drop-drop}
-use Rattle.std.proofs.lemmas.Nat.{from_be_bytes-to_be_bytes_2, from_be_bytes-to_be_bytes_8}
+use Rattle.std.proofs.lemmas.Nat.{from_be_bytes-to_be_bytes_2, from_be_bytes-to_be_bytes_4, from_be_bytes-to_be_bytes_8}
 use Rattle.stow_tree_model.specs.Op.{bytes_in}
 use Rattle.stow_tree_model.specs.TreeMessage.{TreeMessage}
 use Rattle.stow_message.specs.Packed.{kind_of, op_by, head_of, message_bytes, message_size, IsMessage, key_len_at, number_at, kind_at, value_len_at, message_at}
@@ -22,10 +22,10 @@ module _ (m : TreeMessage) where
     number_in_head = let fits : m.number < 2 ^ 64 = omega (arith, h.is_numbered) in from_be_bytes-to_be_bytes_8 m.number fits
 
     pub value_len_in_head : value_len_at (head_of m) ≡ length (bytes_in m.op)
-    value_len_in_head = let fits : length (bytes_in m.op) < 2 ^ 16 = omega (arith, h.is_short) in from_be_bytes-to_be_bytes_2 (length (bytes_in m.op)) fits
+    value_len_in_head = let fits : length (bytes_in m.op) < 2 ^ 32 = omega (arith, h.is_short) in from_be_bytes-to_be_bytes_4 (length (bytes_in m.op)) fits
 
 -- a head before a key and a value
-pub head_taken : (m : TreeMessage) (rest : List ℕ) → take 13 (message_bytes m ++ rest) ≡ head_of m
+pub head_taken : (m : TreeMessage) (rest : List ℕ) → take 15 (message_bytes m ++ rest) ≡ head_of m
 unfolding message_bytes
 head_taken m rest = refl
 
@@ -42,7 +42,7 @@ module _ (m : TreeMessage) (rest : List ℕ) (h : IsMessage m) where
   key_fits : key_len < 2 ^ 16
   key_fits = omega (arith, h.is_key.is_short)
 
-  value_fits : length bytes < 2 ^ 16
+  value_fits : length bytes < 2 ^ 32
   value_fits = omega (arith, h.is_short)
 
   pub key_len_read : key_len_at bs ≡ key_len
@@ -59,21 +59,21 @@ module _ (m : TreeMessage) (rest : List ℕ) (h : IsMessage m) where
 
   pub value_len_read : value_len_at bs ≡ length bytes
   unfolding message_bytes
-  value_len_read = from_be_bytes-to_be_bytes_2 (length bytes) value_fits
+  value_len_read = from_be_bytes-to_be_bytes_4 (length bytes) value_fits
 
-  past_head : drop 13 bs ≡ m.key ++ (bytes ++ rest)
+  past_head : drop 15 bs ≡ m.key ++ (bytes ++ rest)
   unfolding message_bytes
   past_head = append_assoc m.key bytes rest
 
-  pub key_read : (n : ℕ) → n ≡ key_len → take n (drop 13 bs) ≡ m.key
+  pub key_read : (n : ℕ) → n ≡ key_len → take n (drop 15 bs) ≡ m.key
   key_read n e = ap (take n) past_head ∙ take_at m.key (bytes ++ rest) n (sym e)
 
-  pub value_read : (n k : ℕ) → n ≡ length bytes → k ≡ 13 + key_len → take n (drop k bs) ≡ bytes
-  value_read n k e f = ap (λ j. take n (drop j bs)) f ∙ ap (take n) (sym (drop-drop key_len 13 bs) ∙ ap (drop key_len) past_head ∙ drop_at m.key (bytes ++ rest) key_len refl) ∙ take_at bytes rest n (sym e)
+  pub value_read : (n k : ℕ) → n ≡ length bytes → k ≡ 15 + key_len → take n (drop k bs) ≡ bytes
+  value_read n k e f = ap (λ j. take n (drop j bs)) f ∙ ap (take n) (sym (drop-drop key_len 15 bs) ∙ ap (drop key_len) past_head ∙ drop_at m.key (bytes ++ rest) key_len refl) ∙ take_at bytes rest n (sym e)
 
   pub message_read : message_at bs ≡ m
   unfolding message_at
   message_read =
-      let op : op_by (kind_at bs) (take (value_len_at bs) (drop (13 + key_len_at bs) bs)) ≡ m.op =
-      (λ i. op_by (kind_read i) (value_read (value_len_at bs) (13 + key_len_at bs) value_len_read (ap (λ k. 13 + k) key_len_read) i)) ∙ op_is m.op in
+      let op : op_by (kind_at bs) (take (value_len_at bs) (drop (15 + key_len_at bs) bs)) ≡ m.op =
+      (λ i. op_by (kind_read i) (value_read (value_len_at bs) (15 + key_len_at bs) value_len_read (ap (λ k. 15 + k) key_len_read) i)) ∙ op_is m.op in
       λ i. record { key = key_read (key_len_at bs) key_len_read i; number = number_read i; op = op i }

@@ -11,6 +11,7 @@ use Rattle.stow_message.specs.MessageBuf.{MessageList, message_list, messages_in
 use Rattle.stow_message.proofs.Reading.{length-message_bytes, message_read}
 use Rattle.stow_message.proofs.RisingLists.{all_by}
 use Rattle.stow_message.proofs.Stored.{filled_at, filled_valid, message_there, read_is}
+use Rattle.stow_slots.proofs.Moved.{slot_moved, slot_after}
 use Rattle.stow_message.proofs.Pushed.{slots_of_messages}
 
 pub length-places : (at : ℕ) (ms : List TreeMessage) → length (places_from at ms) ≡ length ms
@@ -74,17 +75,6 @@ squeezed_filled ms capacity ok up fits small = record {
   live = omega (arith, ap (sum_by message_size) (squeezed_messages ms capacity ok), squeezed_used ms capacity);
   within = (omega (arith, squeezed_used ms capacity), small);
 }
-
--- one more slot is at its new place
-pub slot_moved : (ps ss : List ℕ) (k p : ℕ) → k < length ps → k < length ss → p ≡ get_or ps k p → set (take k ps ++ drop k ss) k p ≡ take (k + 1) ps ++ drop (k + 1) ss
-slot_moved ps ss k p within lt e = let rest = drop (k + 1) ss in
-    ap (λ l. set (take k ps ++ l) k p) (drop_more ss k 0 lt) ∙ set_at (take k ps) (get_or ss k 0) rest p k (omega (arith, length-take k ps))
-    ∙ sym (append_assoc (take k ps) (p ∷ []) rest) ∙ ap (λ l. l ++ rest) (ap (λ q. take k ps ++ q ∷ []) e ∙ sym (take_more ps k p within))
-
--- a slot that comes later is still at its old place
-pub slot_after : (ps ss : List ℕ) (k i d : ℕ) → k ≤ length ps → k ≤ i → i < length ss → get_or (take k ps ++ drop k ss) i d ≡ get_or ss i d
-slot_after ps ss k i d within le lt = let at : k + (i - k) ≡ i = omega (arith, le) in
-    get_or-append_right (take k ps) (drop k ss) k i d (omega (arith, length-take k ps)) le ∙ get_or-drop k ss (i - k) d ∙ ap (λ n. get_or ss n d) at
 
 pub taken_within : (ms : List TreeMessage) (k : ℕ) → length (all_bytes (take k ms)) ≤ length (all_bytes ms)
 taken_within ms zero = omega arith

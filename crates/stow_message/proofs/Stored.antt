@@ -29,12 +29,12 @@ module _ (front : List ℕ) (at : ℕ) (b : BeginsWith (drop at front)) where
   abbrev value_len : ℕ
   value_len = length (bytes_in there.op)
 
-  pub room : at + (13 + key_len + value_len) ≤ length front
+  pub room : at + (15 + key_len + value_len) ≤ length front
   room = omega (arith, length-drop at front, ap length b.is, length-append (message_bytes there) b.rest, length-message_bytes there)
 
-  module _ (hs : List ℕ) (e : hs ≡ take 13 (drop at front)) where
+  module _ (hs : List ℕ) (e : hs ≡ take 15 (drop at front)) where
     head_is : hs ≡ head_of there
-    head_is = e ∙ ap (take 13) b.is ∙ head_taken there b.rest
+    head_is = e ∙ ap (take 15) b.is ∙ head_taken there b.rest
 
     pub key_len_is : key_len_at hs ≡ key_len
     key_len_is = ap key_len_at head_is ∙ key_len_in_head there b.is_message
@@ -48,11 +48,11 @@ module _ (front : List ℕ) (at : ℕ) (b : BeginsWith (drop at front)) where
     pub value_len_is : value_len_at hs ≡ value_len
     value_len_is = ap value_len_at head_is ∙ value_len_in_head there b.is_message
 
-  pub key_is : (p n : ℕ) → p ≡ at + 13 → n ≡ key_len → take n (drop p front) ≡ there.key
-  key_is p n e f = ap (λ k. take n (drop k front)) e ∙ ap (take n) (sym (drop-drop 13 at front) ∙ ap (drop 13) b.is) ∙ key_read there b.rest b.is_message n f
+  pub key_is : (p n : ℕ) → p ≡ at + 15 → n ≡ key_len → take n (drop p front) ≡ there.key
+  key_is p n e f = ap (λ k. take n (drop k front)) e ∙ ap (take n) (sym (drop-drop 15 at front) ∙ ap (drop 15) b.is) ∙ key_read there b.rest b.is_message n f
 
-  pub value_is : (p n : ℕ) → p ≡ at + (13 + key_len) → n ≡ value_len → take n (drop p front) ≡ bytes_in there.op
-  value_is p n e f = ap (λ k. take n (drop k front)) e ∙ ap (take n) (sym (drop-drop (13 + key_len) at front) ∙ ap (drop (13 + key_len)) b.is) ∙ value_read there b.rest b.is_message n (13 + key_len) f refl
+  pub value_is : (p n : ℕ) → p ≡ at + (15 + key_len) → n ≡ value_len → take n (drop p front) ≡ bytes_in there.op
+  value_is p n e f = ap (λ k. take n (drop k front)) e ∙ ap (take n) (sym (drop-drop (15 + key_len) at front) ∙ ap (drop (15 + key_len)) b.is) ∙ value_read there b.rest b.is_message n (15 + key_len) f refl
 
   pub read_is : message_at (drop at front) ≡ there
   read_is = ap message_at b.is ∙ message_read there b.rest b.is_message

@@ -1,8 +1,8 @@
 -- How a message lies in bytes: the length of its key in 2 bytes, its number in 8, its kind in 1,
--- the length of its value or suffix in 2, then the key and the value, all numbers with the highest
+-- the length of its value or suffix in 4, then the key and the value, all numbers with the highest
 -- byte first.
 use Rattle.std.specs.Prelude.{◌≡◌, ℕ, zero, suc, ◌+◌, ◌≤◌, List, [], ◌∷◌, ◌++◌, length, take, drop, slice_index}
-use Rattle.std.specs.Int.{w16, w64, to_be_bytes, from_be_bytes}
+use Rattle.std.specs.Int.{w16, w32, w64, to_be_bytes, from_be_bytes}
 use Rattle.stow_bytes.specs.Limits.{value_limit, number_limit}
 use Rattle.stow_tree_model.specs.Keys.{IsTenantKey, IsOfTenant}
 use Rattle.stow_tree_model.specs.Op.{Op, Put, Gone, Append, bytes_in}
@@ -22,14 +22,14 @@ op_by (suc (suc kind)) bytes = Append bytes
 
 abbrev pub head_of : TreeMessage → List ℕ
 head_of m = to_be_bytes w16 (length m.key)
-    ++ (to_be_bytes w64 m.number ++ (kind_of m.op ∷ to_be_bytes w16 (length (bytes_in m.op))))
+    ++ (to_be_bytes w64 m.number ++ (kind_of m.op ∷ to_be_bytes w32 (length (bytes_in m.op))))
 
 unfoldable pub message_bytes : TreeMessage → List ℕ
 message_bytes m = head_of m ++ (m.key ++ bytes_in m.op)
 
--- the bytes that a message takes: its head's 13, its slot's 4, its key and its value
+-- the bytes that a message takes: its head's 15, its slot's 4, its key and its value
 abbrev pub message_size : TreeMessage → ℕ
-message_size m = 17 + length m.key + length (bytes_in m.op)
+message_size m = 19 + length m.key + length (bytes_in m.op)
 
 -- a tenant's message, within the limits
 pub record IsMessage (m : TreeMessage) : Type 0 where
@@ -50,13 +50,13 @@ abbrev pub kind_at : List ℕ → ℕ
 kind_at bs = slice_index bs 10
 
 abbrev pub value_len_at : List ℕ → ℕ
-value_len_at bs = from_be_bytes w16 (take 2 (drop 11 bs))
+value_len_at bs = from_be_bytes w32 (take 4 (drop 11 bs))
 
 unfoldable pub message_at : List ℕ → TreeMessage
 message_at bs = record {
-  key = take (key_len_at bs) (drop 13 bs);
+  key = take (key_len_at bs) (drop 15 bs);
   number = number_at bs;
-  op = op_by (kind_at bs) (take (value_len_at bs) (drop (13 + key_len_at bs) bs));
+  op = op_by (kind_at bs) (take (value_len_at bs) (drop (15 + key_len_at bs) bs));
 }
 
 -- the bytes begin with a message

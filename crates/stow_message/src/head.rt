@@ -9,13 +9,13 @@ use stow_tree_model::message::Message;
 use stow_tree_model::op::Op;
 
 /// Bytes of a head.
-pub(crate) const HEAD: usize = 13;
+pub(crate) const HEAD: usize = 15;
 
 /// Bytes of a slot.
 pub(crate) const SLOT: usize = 4;
 
 /// Bytes of a message beside its key and its value: its head and its slot.
-pub(crate) const OVERHEAD: usize = 17;
+pub(crate) const OVERHEAD: usize = 19;
 
 /// What a head tells.
 #[derive(Clone, Copy)]
@@ -60,7 +60,7 @@ pub(crate) fn write_head(message: Message<'_>) -> [u8; HEAD]
 {
     let key_len = (message.key.bytes.len() as u16).to_be_bytes();
     let number = message.number.to_be_bytes();
-    let value_len = (message.op.carried().len() as u16).to_be_bytes();
+    let value_len = (message.op.carried().len() as u32).to_be_bytes();
     [
         key_len[0],
         key_len[1],
@@ -75,6 +75,8 @@ pub(crate) fn write_head(message: Message<'_>) -> [u8; HEAD]
         kind(message.op),
         value_len[0],
         value_len[1],
+        value_len[2],
+        value_len[3],
     ]
 }
 
@@ -97,7 +99,7 @@ pub(crate) fn read_number(bytes: &[u8]) -> u64
 }
 
 pub(crate) fn read_head(bytes: &[u8]) -> Head
-    requires { 13 ≤ length bytes.now }
+    requires { 15 ≤ length bytes.now }
     ensures key_len { result.key_len ≡ key_len_at bytes.now }
     ensures number { result.number ≡ number_at bytes.now }
     ensures kind { result.kind ≡ kind_at bytes.now }
@@ -107,6 +109,6 @@ pub(crate) fn read_head(bytes: &[u8]) -> Head
         key_len: read_key_len(bytes),
         number: read_number(bytes),
         kind: bytes[10],
-        value_len: u16::from_be_bytes([bytes[11], bytes[12]]) as usize,
+        value_len: u32::from_be_bytes([bytes[11], bytes[12], bytes[13], bytes[14]]) as usize,
     }
 }

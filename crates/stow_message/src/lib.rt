@@ -10,6 +10,7 @@
 
 pub mod copying;
 mod filter;
+mod guessing;
 mod hash;
 pub mod head;
 pub mod laws;

@@ -11,15 +11,17 @@ ghost use Rattle.stow_message.specs.Rising.{is_below, below, placed, IsNew, of_k
 ghost use Rattle.std.specs.List.{All, AllByRecursion, sum_by, remove_range};
 
 use crate::filter::Filter;
+use crate::guessing::guess;
 use crate::head::{HEAD, SLOT, kind, op_with, read_head, size, write_head};
 use crate::newest::Newest;
 use crate::run::Run;
-use crate::slots::{move_slots, search_between, search_from};
+use crate::slots::{search_between, search_from};
 use std::alloc::{AllocError, Allocator, Global};
 use std::cmp::Ordering;
 use std::marker::Model;
 use stow_bytes::compare::compare;
 use stow_raw::raw_buf::RawBuf;
+use stow_slots::slot_buf::SlotBuf;
 use stow_tree_model::message::Message;
 use stow_tree_model::tenant_key::TenantKey;
 
@@ -27,7 +29,7 @@ use stow_tree_model::tenant_key::TenantKey;
 /// none are short.
 #[derive(Drop)]
 pub struct MessageBuf<A: Allocator = Global> {
-    raw: RawBuf<A>,
+    raw: SlotBuf<A>,
     filter: Filter<A>,
 }
 
@@ -76,7 +78,7 @@ fn is_same(a: Message<'_>, b: Message<'_>) -> bool
 }
 
 /// The message that begins `at` bytes into the front.
-fn read_message<A: Allocator>(raw: &RawBuf<A>, at: usize) -> Message<'_>
+fn read_message<A: Allocator>(raw: &SlotBuf<A>, at: usize) -> Message<'_>
     requires begins { BeginsWith (drop at raw.now.front) }
     requires small { length raw.now.front < 2 ^ 32 }
     ensures { message_of result ≡ message_at (drop at raw.now.front) }
@@ -92,7 +94,7 @@ fn read_message<A: Allocator>(raw: &RawBuf<A>, at: usize) -> Message<'_>
 }
 
 /// The bytes of the packed message that begins `at` bytes into the front.
-fn packed_at<A: Allocator>(raw: &RawBuf<A>, at: usize) -> &[u8]
+fn packed_at<A: Allocator>(raw: &SlotBuf<A>, at: usize) -> &[u8]
     requires begins { BeginsWith (drop at raw.now.front) }
     requires small { length raw.now.front < 2 ^ 32 }
     ensures { result.now ≡ message_bytes (message_at (drop at raw.now.front)) }
@@ -102,7 +104,7 @@ fn packed_at<A: Allocator>(raw: &RawBuf<A>, at: usize) -> &[u8]
 }
 
 /// Packs the message after the bytes at the front.
-fn append<A: Allocator>(raw: &mut RawBuf<A>, message: Message<'_>)
+fn append<A: Allocator>(raw: &mut SlotBuf<A>, message: Message<'_>)
     requires { RawFits raw.old (length (message_bytes (message_of message))) }
     ensures { raw.new
         ≡ raw_lists (raw.old.front
@@ -114,7 +116,7 @@ fn append<A: Allocator>(raw: &mut RawBuf<A>, message: Message<'_>)
 }
 
 /// Copies the packed messages of a run behind the bytes at the front.
-fn append_all<A: Allocator, B: Allocator>(raw: &mut RawBuf<A>, run: &Run<'_, B>)
+fn append_all<A: Allocator, B: Allocator>(raw: &mut SlotBuf<A>, run: &Run<'_, B>)
     requires { RawFits raw.old (length (all_bytes run.now)) }
     ensures { raw.new
         ≡ raw_lists (raw.old.front ++ all_bytes run.now) raw.old.slots raw.old.capacity }
@@ -125,7 +127,7 @@ fn append_all<A: Allocator, B: Allocator>(raw: &mut RawBuf<A>, run: &Run<'_, B>)
 }
 
 /// Adds the key of each message to the filter.
-fn mark_all<A: Allocator>(raw: &RawBuf<A>, filter: &mut Filter<A>)
+fn mark_all<A: Allocator>(raw: &SlotBuf<A>, filter: &mut Filter<A>)
     requires filled { IsPackedBuffer raw.now }
     ensures { Covers filter.new (messages_in raw.now) }
 {
@@ -136,7 +138,7 @@ fn mark_all<A: Allocator>(raw: &RawBuf<A>, filter: &mut Filter<A>)
 }
 
 /// Drops the marks of keys that left, where they may be many.
-fn renew_marks<A: Allocator>(raw: &RawBuf<A>, filter: &mut Filter<A>)
+fn renew_marks<A: Allocator>(raw: &SlotBuf<A>, filter: &mut Filter<A>)
     requires filled { IsPackedBuffer raw.now }
     requires covers { Covers filter.old (messages_in raw.now) }
     ensures { Covers filter.new (messages_in raw.now) }
@@ -165,7 +167,7 @@ impl<A: Allocator + Copy> MessageBuf<A> {
         requires { capacity < 4294967296 }
         ensures { IfOk result (λ b. b ≡ message_list [] 0 capacity) }
     {
-        let raw = RawBuf::with_capacity(alloc, capacity)?;
+        let raw = SlotBuf::with_capacity(alloc, capacity)?;
         let filter = Filter::with_capacity(alloc, capacity)?;
         Ok(MessageBuf { raw, filter })
     }
@@ -248,7 +250,37 @@ impl<A: Allocator> MessageBuf<A> {
         ensures valid { All IsMessage self.now.messages }
         ensures small { length self.now.messages < 4294967296 }
     {
+        let _known = self.len();
+        if self.raw.young_count() == 0 {
+            return self.search_all(key, number);
+        }
+        let guess = guess(&self.raw, key, number);
+        if self.is_past(guess, key, number) {
+            self.search_from(guess, key, number)
+        } else {
+            self.search_all(key, number)
+        }
+    }
+
+    /// How many messages stand below the key and number, by a search among all.
+    fn search_all(&self, key: &[u8], number: u64) -> usize
+        ensures count { result ≡ below (key.now, number) self.now.messages }
+        ensures rising { MessagesRise self.now.messages }
+        ensures valid { All IsMessage self.now.messages }
+        ensures small { length self.now.messages < 4294967296 }
+    {
         search_between(&self.raw, 0, self.len(), key, number)
+    }
+
+    /// Whether so many messages at least stand below the key and number, and one at least.
+    fn is_past(&self, count: usize, key: &[u8], number: u64) -> bool
+        ensures below { IsTrue result → count ≤ below (key.now, number) self.now.messages }
+        ensures within { IsTrue result → count ≤ length self.now.messages }
+    {
+        if count == 0 || count > self.len() {
+            return false;
+        }
+        is_message_below(self.message(count - 1), key, number)
     }
 
     /// The first index from `from` on whose message doesn't stand below the key and number, in steps that double.
@@ -265,11 +297,8 @@ impl<A: Allocator> MessageBuf<A> {
         ensures rising { MessagesRise self.now.messages }
         ensures valid { All IsMessage self.now.messages }
     {
-        let len = self.len();
-        if guess == 0 || guess > len {
-            return self.search(key.bytes, number);
-        }
-        if is_message_below(self.message(guess - 1), key.bytes, number) {
+        let _known = self.len();
+        if self.is_past(guess, key.bytes, number) {
             self.search_from(guess, key.bytes, number)
         } else {
             self.search(key.bytes, number)
@@ -404,7 +433,7 @@ impl<A: Allocator> MessageBuf<A> {
             let message = run.get(new);
             let end = search_from(&self.raw, old, message.key.bytes, message.number);
             let gap = count - new;
-            move_slots(&mut self.raw, old - gap, old, end - old);
+            self.raw.move_slots(old - gap, old, end - old);
             self.raw.set_slot(end - gap, at as u32);
             at += size(message) - SLOT;
             old = end;
@@ -522,7 +551,7 @@ impl<A: Allocator> MessageBuf<A> {
         for i in 0..batch.len() {
             let gone = batch.message(i);
             let at = search_from(&self.raw, from, gone.key.bytes, gone.number);
-            move_slots(&mut self.raw, kept, from, at - from);
+            self.raw.move_slots(kept, from, at - from);
             kept += at - from;
             from = at + 1;
         }

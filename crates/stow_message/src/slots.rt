@@ -1,8 +1,6 @@
 //! Slots of a block, and the messages that they name.
-ghost use Rattle.std.specs.Prelude.{◌≡◌, ◌+◌, ◌^◌, ◌<◌, ◌≤◌, ◌++◌, length, take, drop, slice_index};
-ghost use Rattle.std.specs.List.{remove_range};
+ghost use Rattle.std.specs.Prelude.{◌≡◌, ◌+◌, ◌^◌, ◌<◌, ◌≤◌, length, drop, slice_index};
 ghost use Rattle.stow_bytes.specs.Words.{AreAlike};
-ghost use Rattle.stow_raw.specs.RawBuf.{raw_lists};
 ghost use Rattle.stow_message.specs.MessageBuf.{messages_from, named, IsFilledFrom};
 ghost use Rattle.stow_message.specs.Packed.{message_at, BeginsWith};
 ghost use Rattle.stow_message.specs.Rising.{below, is_below};
@@ -11,10 +9,10 @@ use crate::head::{HEAD, read_key_len, read_number};
 use std::alloc::Allocator;
 use std::cmp::Ordering;
 use stow_bytes::compare::compare_past;
-use stow_raw::raw_buf::RawBuf;
+use stow_slots::slot_buf::SlotBuf;
 
 /// The key of the message that begins `at` bytes into the front.
-fn key_at<A: Allocator>(raw: &RawBuf<A>, at: usize) -> &[u8]
+pub(crate) fn key_at<A: Allocator>(raw: &SlotBuf<A>, at: usize) -> &[u8]
     requires begins { BeginsWith (drop at raw.now.front) }
     requires small { length raw.now.front < 2 ^ 32 }
     ensures { result.now ≡ (message_at (drop at raw.now.front)).key }
@@ -24,7 +22,7 @@ fn key_at<A: Allocator>(raw: &RawBuf<A>, at: usize) -> &[u8]
 }
 
 /// The number of the message that begins `at` bytes into the front.
-fn number_in<A: Allocator>(raw: &RawBuf<A>, at: usize) -> u64
+pub(crate) fn number_in<A: Allocator>(raw: &SlotBuf<A>, at: usize) -> u64
     requires begins { BeginsWith (drop at raw.now.front) }
     requires small { length raw.now.front < 2 ^ 32 }
     ensures { result ≡ (message_at (drop at raw.now.front)).number }
@@ -41,7 +39,7 @@ struct Standing {
 
 /// Where the message of the slot at `index` stands to the key and number. Of the keys so many bytes are known to be the same.
 fn stand<A: Allocator>(
-    raw: &RawBuf<A>,
+    raw: &SlotBuf<A>,
     index: usize,
     key: &[u8],
     number: u64,
@@ -68,7 +66,7 @@ fn stand<A: Allocator>(
 }
 
 /// Whether the message of the slot at `index` stands below the key and number.
-fn is_slot_below<A: Allocator>(raw: &RawBuf<A>, index: usize, key: &[u8], number: u64) -> bool
+fn is_slot_below<A: Allocator>(raw: &SlotBuf<A>, index: usize, key: &[u8], number: u64) -> bool
     requires within { index < length raw.now.slots }
     requires begins { BeginsWith (drop (slice_index raw.now.slots index) raw.now.front) }
     requires small { length raw.now.front < 2 ^ 32 }
@@ -80,7 +78,7 @@ fn is_slot_below<A: Allocator>(raw: &RawBuf<A>, index: usize, key: &[u8], number
 /// The first index from `low` on whose message doesn't stand below the key and number: it is at most `high`. What the messages
 /// at both ends share with the key all between them do.
 pub(crate) fn search_between<A: Allocator>(
-    raw: &RawBuf<A>,
+    raw: &SlotBuf<A>,
     mut low: usize,
     mut high: usize,
     key: &[u8],
@@ -108,7 +106,7 @@ pub(crate) fn search_between<A: Allocator>(
 
 /// The first index from `from` on whose message doesn't stand below the key and number, in steps that double.
 pub(crate) fn search_from<A: Allocator>(
-    raw: &RawBuf<A>,
+    raw: &SlotBuf<A>,
     from: usize,
     key: &[u8],
     number: u64,
@@ -128,19 +126,4 @@ pub(crate) fn search_from<A: Allocator>(
         step *= 2;
     }
     search_between(raw, low, len, key, number)
-}
-
-/// Moves the `count` slots from `from` on to the places from `to` on. No message is read.
-pub(crate) fn move_slots<A: Allocator>(raw: &mut RawBuf<A>, to: usize, from: usize, count: usize)
-    requires within { (to ≤ from) × (from + count ≤ length raw.old.slots) }
-    requires small { length raw.old.slots < 2 ^ 32 }
-    ensures { raw.new
-        ≡ raw_lists raw.old.front
-        (take (to + count) (remove_range raw.old.slots to from)
-        ++ drop (to + count) raw.old.slots) raw.old.capacity }
-{
-    for i in 0..count {
-        let slot = raw.slot(from + i);
-        raw.set_slot(to + i, slot);
-    }
 }

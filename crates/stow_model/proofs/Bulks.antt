@@ -2,6 +2,7 @@
 use Rattle.std.proofs.Common.{◌≡◌, ◌≢◌, ℕ, ◌-◌, ◌<◌, ◌≤◌, List, [], ◌∷◌, ◌++◌, length, take, drop, replicate, refl, ap, ◌∙◌, sym, subst, arith, append_assoc, append-nil, length-append, lit≤, inl, inr}
 use Rattle.std.proofs.lemmas.List.{length-replicate, take-append-drop}
 use Rattle.stow_model.specs.declared.stream_fault.StreamFault.TheVariants.{ExpectedBulk, InvalidBulkLength, BulkNotEnded}
+use Rattle.stow_bytes.specs.Limits.{value_limit}
 use Rattle.stow_model.specs.Wire.{bulk_line, bulk, FitsBulk}
 use Rattle.stow_model.proofs.Spelling.{line_once, split_once}
 use Rattle.stow_model.specs.Parts.{ends, IsBegunNumber, IsStuckNumber, IsBegunBulk, IsStuckBulk}
@@ -20,7 +21,7 @@ lined word = refl
 pub none_begun : IsBegunBulk []
 none_begun = ([], 36, ends 0 ++ 13 ∷ 10 ∷ [], lit≤ tt, refl)
 
-pub number_begun : (after : List ℕ) → IsBegunNumber 65535 after → IsBegunBulk (36 ∷ after)
+pub number_begun : (after : List ℕ) → IsBegunNumber value_limit after → IsBegunBulk (36 ∷ after)
 number_begun after (n, next, more, le, e) =
     let w : List ℕ = zeros n in
     let fits : FitsBulk (zeros n) = let l = length-zeros n in omega arith in (
@@ -42,7 +43,7 @@ sign_stuck sign after differ = record {
   place = refl;
 }
 
-pub number_stuck : (after : List ℕ) → IsStuckNumber 65535 after → IsStuckBulk (36 ∷ after) InvalidBulkLength
+pub number_stuck : (after : List ℕ) → IsStuckNumber value_limit after → IsStuckBulk (36 ∷ after) InvalidBulkLength
 number_stuck after s = record {
   front = 36 ∷ s.front;
   byte = s.byte;
@@ -61,7 +62,7 @@ begun_with : (word part tail : List ℕ) → FitsBulk word → 0 < length tail �
 begun_with word part [] fits some e = absurd (omega arith)
 begun_with word part (next ∷ more) fits some e = (word, next, more, fits, e)
 
-pub body_begun : (len : ℕ) (rest : List ℕ) → len ≤ 65535 → length rest ≤ len → IsBegunBulk (bulk_line len ++ rest)
+pub body_begun : (len : ℕ) (rest : List ℕ) → len ≤ value_limit → length rest ≤ len → IsBegunBulk (bulk_line len ++ rest)
 body_begun len rest le short =
     let w : List ℕ = rest ++ zeros (len - length rest) in
     let same : length (rest ++ zeros (len - length rest)) ≡ len = let l = length-zeros (len - length rest) in rw (length-append rest (zeros (len - length rest))) (omega arith) in

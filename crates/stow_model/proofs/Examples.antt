@@ -10,6 +10,7 @@ use Rattle.sha2.specs.Sha256.{sha256}
 use Rattle.std.proofs.lemmas.Fmt.{decimal_digit}
 use Rattle.std.proofs.lemmas.List.{length-replicate, replicate-append-replicate}
 use Rattle.stow_model.specs.declared.stream_fault.StreamFault.TheVariants.{InvalidArrayLength, ExpectedBulk, InlineTooLong}
+use Rattle.stow_bytes.specs.Limits.{line_limit}
 use Rattle.stow_model.specs.Message.{Message, Words, Quoted, Blank}
 use Rattle.stow_model.specs.Wire.{array_line, bulks, message_of_text, text_of_line, begins_array, IsLine, Spells, IsBegun, IsFaulty, IsPlace}
 use Rattle.stow_model.specs.Command.{kind_of}
@@ -97,7 +98,7 @@ no_lf : (line : List ℕ) → list_any (λ b. b == 10) line ≡ false → AllByR
 no_lf [] e = tt
 no_lf (b ∷ line) e = (let parts = neither (b == 10) (list_any (λ c. c == 10) line) e in (is_not_lf b parts.0, no_lf line parts.1))
 
-is_line : (line : List ℕ) → list_any (λ b. b == 10) line ≡ false → begins_array line ≡ false → length line ≤ 65536 → IsLine line
+is_line : (line : List ℕ) → list_any (λ b. b == 10) line ≡ false → begins_array line ≡ false → length line ≤ line_limit → IsLine line
 is_line line none plain short = (no_lf line none, short, plain)
 
 -- another message isn't spelled
@@ -150,10 +151,10 @@ xs_plain : (n : ℕ) → begins_array (replicate n 120) ≡ false
 xs_plain zero = refl
 xs_plain (suc n) = refl
 
-xs_line : (n : ℕ) → n ≤ 65536 → IsLine (replicate n 120)
+xs_line : (n : ℕ) → n ≤ line_limit → IsLine (replicate n 120)
 xs_line n short = (xs_no_lf n, (let l : length (replicate {A = ℕ} n 120) ≡ n = length-replicate n 120 in omega arith), xs_plain n)
 
-xs_faulty : (n limit : ℕ) → limit ≡ 65536 → limit < n → IsFaulty (replicate n 120) InlineTooLong
+xs_faulty : (n limit : ℕ) → limit ≡ line_limit → limit < n → IsFaulty (replicate n 120) InlineTooLong
 xs_faulty n limit is long =
     let x : ℕ = 120 in
     let parts : replicate limit x ++ x ∷ replicate (n - limit - 1) x ≡ replicate n x = replicate-append-replicate limit (suc (n - limit - 1)) x ∙ ap (λ k. replicate k x) (omega arith) in
@@ -182,7 +183,7 @@ of_lines = record {
   begun = dollar_begun;
   not_faulty = λ f. faulty_not_begun_lem (codes "$5") ExpectedBulk f dollar_begun;
   waits = λ n short. line_begun (replicate n 120) (xs_line n short);
-  too_long = λ n long. xs_faulty n 65536 refl long;
+  too_long = λ n long. xs_faulty n line_limit refl long;
 }
 
 same_digest : (a : List ℕ) (tenant : ℕ) → ◌≡◌ {A = Option ℕ} (if bytes_eq a a then Some tenant else None) (Some tenant)

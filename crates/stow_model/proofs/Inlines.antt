@@ -8,6 +8,7 @@ use Rattle.std.specs.Option.{unwrap_or}
 use Rattle.std.proofs.lemmas.List.Quantifiers.{position-Some}
 use Rattle.std.proofs.lemmas.List.Sums.{fails_before_first}
 use Rattle.std.proofs.lemmas.List.Splits.{slice_split-cons_yes, slice_split-cons_no}
+use Rattle.stow_bytes.specs.Limits.{line_limit}
 use Rattle.stow_model.specs.Message.{Message}
 use Rattle.stow_model.specs.Message as message
 use Rattle.stow_model.specs.declared.stream_fault.StreamFault.TheVariants.{InlineTooLong}
@@ -52,7 +53,7 @@ line_first (b ∷ line) x y plain long e =
     cc
 
 -- as much of a line as there may be, and one byte more that isn't LF
-no_inline : (front : List ℕ) (byte : ℕ) → IsLine front → length front ≡ 65536 → byte ≢ 10 → IsNoMessage (front ++ byte ∷ [])
+no_inline : (front : List ℕ) (byte : ℕ) → IsLine front → length front ≡ line_limit → byte ≢ 10 → IsNoMessage (front ++ byte ∷ [])
 unfolding IsNoMessage Spells
 no_inline front byte (all, short, plain) long differ m spelling more y s e = elim s [
   | inl array ↦
@@ -63,7 +64,7 @@ no_inline front byte (all, short, plain) long differ m spelling more y s e = eli
       omega (arith, length-append front (byte ∷ []), beyond, short')
 ]
 
-pub line_too_long : (front more : List ℕ) (byte : ℕ) → IsLine front → length front ≡ 65536 → byte ≢ 10 → IsFaulty (front ++ byte ∷ more) InlineTooLong
+pub line_too_long : (front more : List ℕ) (byte : ℕ) → IsLine front → length front ≡ line_limit → byte ≢ 10 → IsFaulty (front ++ byte ∷ more) InlineTooLong
 unfolding IsPlace
 line_too_long front more byte h long differ = faulty front more byte InlineTooLong (line_begun front h) (no_inline front byte h long differ) (h, long)
 
@@ -157,7 +158,7 @@ record IsEnded (bytes : List ℕ) (n : ℕ) : Type 0 where
   is : IsLine line
   at : bytes ≡ line ++ 10 ∷ rest
 
-ended_at : (bytes : List ℕ) (looked end more : ℕ) → IsLooked looked bytes → looked ≤ end → end ≤ length bytes → end ≤ 65537 → FoundAt (λ b. b == 10) (searched bytes looked end) more → IsEnded bytes (looked + more)
+ended_at : (bytes : List ℕ) (looked end more : ℕ) → IsLooked looked bytes → looked ≤ end → end ≤ length bytes → end ≤ line_limit + 1 → FoundAt (λ b. b == 10) (searched bytes looked end) more → IsEnded bytes (looked + more)
 ended_at bytes looked end more h from to short f =
     let S : List ℕ = searched bytes looked end in
     let z : List ℕ = drop (end - looked) (drop looked bytes) in
@@ -183,7 +184,7 @@ ended_at bytes looked end more h from to short f =
       at = at;
     }
 
-pub line_found : (bytes front back : List ℕ) (looked end more : ℕ) → IsLooked looked bytes → looked ≤ end → end ≤ length bytes → end ≤ 65537 → FoundAt (λ b. b == 10) (take (end - looked) (drop looked bytes)) more → front ≡ take (looked + more) bytes → back ≡ drop (looked + more) bytes → IsLine front × (bytes ≡ front ++ 10 ∷ take (length back - 1) (drop 1 back))
+pub line_found : (bytes front back : List ℕ) (looked end more : ℕ) → IsLooked looked bytes → looked ≤ end → end ≤ length bytes → end ≤ line_limit + 1 → FoundAt (λ b. b == 10) (take (end - looked) (drop looked bytes)) more → front ≡ take (looked + more) bytes → back ≡ drop (looked + more) bytes → IsLine front × (bytes ≡ front ++ 10 ∷ take (length back - 1) (drop 1 back))
 line_found bytes front back looked end more h from to short f at_front at_back =
     let e = ended_at bytes looked end more h from to short f in
     let whole : length bytes ≡ length (e.line ++ 10 ∷ e.rest) = ap length e.at in
@@ -198,29 +199,29 @@ line_found bytes front back looked end more h from to short f at_front at_back =
 no_lf_yet : (bytes : List ℕ) (looked end : ℕ) → IsLooked looked bytes → AllByRecursion (λ b. (b == 10) ≡ false) (searched bytes looked end) → AllByRecursion (λ b. b ≢ 10) (take looked bytes ++ searched bytes looked end)
 no_lf_yet bytes looked end h none = all_append (λ x. x ≢ 10) (take looked bytes) (searched bytes looked end) h.2.0 (all_map (λ b. (b == 10) ≡ false) (λ b. b ≢ 10) (searched bytes looked end) is_no_lf none)
 
-pub line_goes_on : (bytes : List ℕ) (looked : ℕ) → IsLooked looked bytes → length bytes ≤ 65536 → AllByRecursion (λ b. (b == 10) ≡ false) (take (length bytes - looked) (drop looked bytes)) → IsLine bytes
+pub line_goes_on : (bytes : List ℕ) (looked : ℕ) → IsLooked looked bytes → length bytes ≤ line_limit → AllByRecursion (λ b. (b == 10) ≡ false) (take (length bytes - looked) (drop looked bytes)) → IsLine bytes
 line_goes_on bytes looked h short none =
     let all : take looked bytes ++ searched bytes looked (length bytes) ≡ bytes = ap (λ t. take looked bytes ++ t) (take_all (length bytes - looked) (drop looked bytes) (let l = length-drop looked bytes in omega arith)) ∙ take-append-drop looked bytes in
     (subst (AllByRecursion (λ b. b ≢ 10)) all (no_lf_yet bytes looked (length bytes) h none), short, h.0)
 
-pub line_stuck : (bytes : List ℕ) (looked : ℕ) → IsLooked looked bytes → 65536 < length bytes → AllByRecursion (λ b. (b == 10) ≡ false) (take (65537 - looked) (drop looked bytes)) → IsFaulty bytes InlineTooLong
+pub line_stuck : (bytes : List ℕ) (looked : ℕ) → IsLooked looked bytes → line_limit < length bytes → AllByRecursion (λ b. (b == 10) ≡ false) (take (line_limit + 1 - looked) (drop looked bytes)) → IsFaulty bytes InlineTooLong
 line_stuck bytes looked h long none =
-    let S : List ℕ = searched bytes looked 65537 in
-    let z : List ℕ = drop (65537 - looked) (drop looked bytes) in
+    let S : List ℕ = searched bytes looked (line_limit + 1) in
+    let z : List ℕ = drop (line_limit + 1 - looked) (drop looked bytes) in
     let f : List ℕ = take looked bytes ++ S in
     let la : length (take looked bytes) ≡ looked = length-take-le looked bytes h.1 in
-    let lb : length (searched bytes looked 65537) ≡ 65537 - looked = length-searched bytes looked 65537 (omega (arith, h.2.1)) (omega arith) in
-    let len : length (take looked bytes ++ searched bytes looked 65537) ≡ 65537 = omega (arith, length-append (take looked bytes) (searched bytes looked 65537), h.2.1) in
-    let front : List ℕ = take 65536 f in
-    let byte : ℕ = get_or f 65536 0 in
-    let cut : front ++ byte ∷ drop (65536 + 1) f ≡ f = cut_at f 65536 (omega arith) in
-    let at : front ++ byte ∷ (drop (65536 + 1) f ++ z) ≡ bytes = sym (append_assoc front (byte ∷ drop (65536 + 1) f) z) ∙ ap (λ t. t ++ z) cut ∙ sym (in_three bytes looked 65537) in
-    let all : AllByRecursion (λ b. b ≢ 10) (front ++ byte ∷ drop (65536 + 1) f) = subst (AllByRecursion (λ b. b ≢ 10)) (sym cut) (no_lf_yet bytes looked 65537 h none) in
-    let lf : length (take 65536 (take looked bytes ++ searched bytes looked 65537)) ≡ 65536 = length-take-le 65536 (take looked bytes ++ searched bytes looked 65537) (omega arith) in
+    let lb : length (searched bytes looked (line_limit + 1)) ≡ line_limit + 1 - looked = length-searched bytes looked (line_limit + 1) (omega (arith, h.2.1)) (omega arith) in
+    let len : length (take looked bytes ++ searched bytes looked (line_limit + 1)) ≡ line_limit + 1 = omega (arith, length-append (take looked bytes) (searched bytes looked (line_limit + 1)), h.2.1) in
+    let front : List ℕ = take line_limit f in
+    let byte : ℕ = get_or f line_limit 0 in
+    let cut : front ++ byte ∷ drop (line_limit + 1) f ≡ f = cut_at f line_limit (omega arith) in
+    let at : front ++ byte ∷ (drop (line_limit + 1) f ++ z) ≡ bytes = sym (append_assoc front (byte ∷ drop (line_limit + 1) f) z) ∙ ap (λ t. t ++ z) cut ∙ sym (in_three bytes looked (line_limit + 1)) in
+    let all : AllByRecursion (λ b. b ≢ 10) (front ++ byte ∷ drop (line_limit + 1) f) = subst (AllByRecursion (λ b. b ≢ 10)) (sym cut) (no_lf_yet bytes looked (line_limit + 1) h none) in
+    let lf : length (take line_limit (take looked bytes ++ searched bytes looked (line_limit + 1))) ≡ line_limit = length-take-le line_limit (take looked bytes ++ searched bytes looked (line_limit + 1)) (omega arith) in
     subst (λ t. IsFaulty t InlineTooLong) at
-    (line_too_long front (drop (65536 + 1) f ++ z) byte
-    (all_front (λ b. b ≢ 10) front (byte ∷ drop (65536 + 1) f) all, omega arith, plain_front front (byte ∷ (drop (65536 + 1) f ++ z)) (subst (λ t. begins_array t ≡ false) (sym at) h.0))
-    lf (all_at (λ b. b ≢ 10) front (drop (65536 + 1) f) byte all))
+    (line_too_long front (drop (line_limit + 1) f ++ z) byte
+    (all_front (λ b. b ≢ 10) front (byte ∷ drop (line_limit + 1) f) all, omega arith, plain_front front (byte ∷ (drop (line_limit + 1) f ++ z)) (subst (λ t. begins_array t ≡ false) (sym at) h.0))
+    lf (all_at (λ b. b ≢ 10) front (drop (line_limit + 1) f) byte all))
 
 -- ---- the words of a text
 

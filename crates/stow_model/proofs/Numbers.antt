@@ -31,7 +31,7 @@ no_lf (d ∷ ds) h = (λ e. omega arith, no_lf ds h.1)
 pub digits_of_decimal : (n : ℕ) → n < 2 ^ 64 → AllByRecursion IsDigit (decimal n)
 digits_of_decimal n small = digits_decimal digits_own n small
 
-pub so_far_in_line : (limit : ℕ) (front : List ℕ) (value : ℕ) → limit < 100000 → IsSoFar limit front value → AllByRecursion (λ b. b ≢ 10) front
+pub so_far_in_line : (limit : ℕ) (front : List ℕ) (value : ℕ) → limit < 10000000 → IsSoFar limit front value → AllByRecursion (λ b. b ≢ 10) front
 unfolding IsSoFar
 so_far_in_line limit front value small h = elim h [
   | inl none ↦ subst (AllByRecursion (λ b. b ≢ 10)) (sym none.0) tt
@@ -39,7 +39,7 @@ so_far_in_line limit front value small h = elim h [
 ]
 
 -- one more digit
-pub one_more_digit : (limit : ℕ) (front : List ℕ) (value byte : ℕ) → limit < 10000000 → IsSoFar limit front value → 48 ≤ byte → byte ≤ 57 → (0 < length front → value ≢ 0) → value * 10 + (byte - 48) ≤ limit → IsSoFar limit (front ++ byte ∷ []) (value * 10 + (byte - 48))
+pub one_more_digit : (limit : ℕ) (front : List ℕ) (value byte : ℕ) → limit < 1000000000 → IsSoFar limit front value → 48 ≤ byte → byte ≤ 57 → (0 < length front → value ≢ 0) → value * 10 + (byte - 48) ≤ limit → IsSoFar limit (front ++ byte ∷ []) (value * 10 + (byte - 48))
 unfolding IsSoFar
 one_more_digit limit front value byte small h low high some fits =
     let d : ℕ = byte - 48 in
@@ -123,11 +123,11 @@ front_le a n more y small small' e =
           subst (λ x. P x n) (ap (digits_value 10) front ∙ value_of_decimal a small) (subst (λ z. P (digits_value 10 (take (length (decimal a)) (decimal n))) z) (value_of_decimal n small') le)
     ]
 
-pub too_large : (limit next : ℕ) (front : List ℕ) → next < 2 ^ 64 → limit < 100000 → limit < next → front ≡ decimal next → IsNoNumber limit front
+pub too_large : (limit next : ℕ) (front : List ℕ) → next < 2 ^ 64 → limit < 10000000 → limit < next → front ≡ decimal next → IsNoNumber limit front
 too_large limit next front small few large e = λ n more y le h. let b : next ≤ n = front_le next n more y small (omega arith) (ap (λ t. t ++ more) (sym e) ∙ h) in omega arith
 
 -- no digit after a zero
-pub after_zero : (limit byte : ℕ) → limit < 100000 → 48 ≤ byte → byte ≤ 57 → IsNoNumber limit (48 ∷ byte ∷ [])
+pub after_zero : (limit byte : ℕ) → limit < 10000000 → 48 ≤ byte → byte ≤ 57 → IsNoNumber limit (48 ∷ byte ∷ [])
 after_zero limit byte few low high = λ n more y le h.
     let digits : AllByRecursion IsDigit (48 ∷ byte ∷ []) = ((omega arith, omega arith), ((low, high), tt)) in
     elim (lined_up (48 ∷ byte ∷ []) more (10 ∷ y) n digits (omega arith) (h ∙ ended n y)) [
@@ -136,14 +136,14 @@ after_zero limit byte few low high = λ n more y le h.
     ]
 
 -- neither a digit nor CR
-pub no_digit : (limit value byte : ℕ) → limit < 100000 → value ≤ limit → (48 ≤ byte → byte ≤ 57 → ⊥) → byte ≢ 13 → IsNoNumber limit (decimal value ++ byte ∷ [])
+pub no_digit : (limit value byte : ℕ) → limit < 10000000 → value ≤ limit → (48 ≤ byte → byte ≤ 57 → ⊥) → byte ≢ 13 → IsNoNumber limit (decimal value ++ byte ∷ [])
 no_digit limit value byte few fits other no_cr = λ n more y le h.
     elim (lined_up (decimal value) (byte ∷ more) (10 ∷ y) n (digits_of_decimal value (omega arith)) (omega arith) (sym (append_assoc (decimal value) (byte ∷ []) more) ∙ h ∙ ended n y)) [
       | inl all ↦ let x : byte ∷ more ≡ 13 ∷ 10 ∷ y = all.1 in no_cr cc
       | inr on ↦ let x : byte ∷ more ≡ on.next ∷ on.more = on.rest in let same : byte ≡ on.next = cc in other (omega (arith, on.digit.0)) (omega (arith, on.digit.1))
     ]
 
-pub no_first_digit : (limit byte : ℕ) → limit < 100000 → (48 ≤ byte → byte ≤ 57 → ⊥) → IsNoNumber limit (byte ∷ [])
+pub no_first_digit : (limit byte : ℕ) → limit < 10000000 → (48 ≤ byte → byte ≤ 57 → ⊥) → IsNoNumber limit (byte ∷ [])
 no_first_digit limit byte few other = λ n more y le h.
     elim (lined_up [] (byte ∷ more) (10 ∷ y) n tt (omega arith) (h ∙ ended n y)) [
       | inl all ↦ let some : 0 < length (decimal n) = decimal_nonempty n (omega arith) in let none : 0 ≡ length (decimal n) = ap length all.0 in omega arith
@@ -151,7 +151,7 @@ no_first_digit limit byte few other = λ n more y le h.
     ]
 
 -- CR without LF
-pub no_line_feed : (limit value byte : ℕ) → limit < 100000 → value ≤ limit → byte ≢ 10 → IsNoNumber limit ((decimal value ++ 13 ∷ []) ++ byte ∷ [])
+pub no_line_feed : (limit value byte : ℕ) → limit < 10000000 → value ≤ limit → byte ≢ 10 → IsNoNumber limit ((decimal value ++ 13 ∷ []) ++ byte ∷ [])
 no_line_feed limit value byte few fits no_lf = λ n more y le h.
     elim (lined_up (decimal value) (13 ∷ byte ∷ more) (10 ∷ y) n (digits_of_decimal value (omega arith)) (omega arith)
     (sym (append_assoc (decimal value) (13 ∷ []) (byte ∷ more)) ∙ sym (append_assoc (decimal value ++ 13 ∷ []) (byte ∷ []) more) ∙ h ∙ ended n y)) [
@@ -168,7 +168,7 @@ some_so_far limit front value h long = elim h [
   | inr some ↦ some
 ]
 
-stuck_none : (limit : ℕ) (front after : List ℕ) (value byte : ℕ) → limit < 100000 → IsSoFar limit front value → front ≡ [] → (48 ≤ byte → byte ≤ 57 → ⊥) → IsStuckNumber limit (front ++ byte ∷ after)
+stuck_none : (limit : ℕ) (front after : List ℕ) (value byte : ℕ) → limit < 10000000 → IsSoFar limit front value → front ≡ [] → (48 ≤ byte → byte ≤ 57 → ⊥) → IsStuckNumber limit (front ++ byte ∷ after)
 stuck_none limit front after value byte few h none other = record {
   front = front;
   byte = byte;
@@ -179,7 +179,7 @@ stuck_none limit front after value byte few h none other = record {
   stuck = subst (λ t. IsNoNumber limit (t ++ byte ∷ [])) (sym none) (no_first_digit limit byte few other);
 }
 
-stuck_some : (limit : ℕ) (front after : List ℕ) (value byte : ℕ) → limit < 100000 → IsSoFar limit front value → 0 < length front → (48 ≤ byte → byte ≤ 57 → ⊥) → byte ≢ 13 → IsStuckNumber limit (front ++ byte ∷ after)
+stuck_some : (limit : ℕ) (front after : List ℕ) (value byte : ℕ) → limit < 10000000 → IsSoFar limit front value → 0 < length front → (48 ≤ byte → byte ≤ 57 → ⊥) → byte ≢ 13 → IsStuckNumber limit (front ++ byte ∷ after)
 stuck_some limit front after value byte few h long other no_cr =
     let some = some_so_far limit front value h long in
     record {
@@ -199,7 +199,7 @@ all_append P (x ∷ a) b p q = (p.0, all_append P a b p.1 q)
 cr_begun : (limit : ℕ) (front : List ℕ) (value : ℕ) → IsSoFar limit front value → 0 < length front → IsBegunNumber limit (front ++ 13 ∷ [])
 cr_begun limit front value h long = let some = some_so_far limit front value h long in (value, 10, [], some.1, append_assoc front (13 ∷ []) (10 ∷ []) ∙ ap (λ t. t ++ 13 ∷ 10 ∷ []) some.0)
 
-stuck_cr : (limit : ℕ) (front after : List ℕ) (value byte : ℕ) → limit < 100000 → IsSoFar limit front value → 0 < length front → byte ≢ 10 → IsStuckNumber limit (front ++ 13 ∷ byte ∷ after)
+stuck_cr : (limit : ℕ) (front after : List ℕ) (value byte : ℕ) → limit < 10000000 → IsSoFar limit front value → 0 < length front → byte ≢ 10 → IsStuckNumber limit (front ++ 13 ∷ byte ∷ after)
 stuck_cr limit front after value byte few h long no_lf =
     let some = some_so_far limit front value h long in
     record {
@@ -213,14 +213,14 @@ stuck_cr limit front after value byte few h long no_lf =
     }
 
 -- what is told at the byte after the digits
-pub at_end_stuck : (some : Bool) (limit : ℕ) (front after : List ℕ) (value byte : ℕ) → limit < 100000 → IsSoFar limit front value → (some ≡ true → 0 < length front) → (some ≡ false → front ≡ []) → (48 ≤ byte → byte ≤ 57 → ⊥) → (some ≡ true → byte ≢ 13) → IsStuckNumber limit (front ++ byte ∷ after)
+pub at_end_stuck : (some : Bool) (limit : ℕ) (front after : List ℕ) (value byte : ℕ) → limit < 10000000 → IsSoFar limit front value → (some ≡ true → 0 < length front) → (some ≡ false → front ≡ []) → (48 ≤ byte → byte ≤ 57 → ⊥) → (some ≡ true → byte ≢ 13) → IsStuckNumber limit (front ++ byte ∷ after)
 at_end_stuck true limit front after value byte few h long none other no_cr = stuck_some limit front after value byte few h (long refl) other (no_cr refl)
 at_end_stuck false limit front after value byte few h long none other no_cr = stuck_none limit front after value byte few h (none refl) other
 
 pub at_end_more : (limit : ℕ) (front after : List ℕ) (value byte : ℕ) → IsSoFar limit front value → 0 < length front → byte ≡ 13 → after ≡ [] → IsBegunNumber limit (front ++ byte ∷ after)
 at_end_more limit front after value byte h long cr none = subst (λ t. IsBegunNumber limit (front ++ t)) (λ i. sym cr i ∷ sym none i) (cr_begun limit front value h long)
 
-pub at_end_stuck_line : (limit : ℕ) (front after later : List ℕ) (value byte lf : ℕ) → limit < 100000 → IsSoFar limit front value → 0 < length front → byte ≡ 13 → after ≡ lf ∷ later → lf ≢ 10 → IsStuckNumber limit (front ++ byte ∷ after)
+pub at_end_stuck_line : (limit : ℕ) (front after later : List ℕ) (value byte lf : ℕ) → limit < 10000000 → IsSoFar limit front value → 0 < length front → byte ≡ 13 → after ≡ lf ∷ later → lf ≢ 10 → IsStuckNumber limit (front ++ byte ∷ after)
 at_end_stuck_line limit front after later value byte lf few h long cr more no_lf = subst (λ t. IsStuckNumber limit (front ++ t)) (λ i. sym cr i ∷ sym more i) (stuck_cr limit front later value lf few h long no_lf)
 
 pub at_end_number : (limit : ℕ) (front after later : List ℕ) (value byte lf : ℕ) → IsSoFar limit front value → 0 < length front → byte ≡ 13 → after ≡ lf ∷ later → lf ≡ 10 → (value ≤ limit) × (front ++ byte ∷ after ≡ ends value ++ later)
@@ -243,7 +243,7 @@ length_take bytes i lt = length-take-le i bytes (omega arith)
 pub not_first : (bytes : List ℕ) (i : ℕ) → i < length bytes → 0 < i → 0 < length (take i bytes)
 not_first bytes i lt some = let e = length_take bytes i lt in omega arith
 
-pub zero_stuck : (limit : ℕ) (bytes : List ℕ) (i value : ℕ) → limit < 100000 → i < length bytes → IsSoFar limit (take i bytes) value → 0 < i → value ≡ 0 → 48 ≤ get_or bytes i 0 → get_or bytes i 0 ≤ 57 → IsStuckNumber limit bytes
+pub zero_stuck : (limit : ℕ) (bytes : List ℕ) (i value : ℕ) → limit < 10000000 → i < length bytes → IsSoFar limit (take i bytes) value → 0 < i → value ≡ 0 → 48 ≤ get_or bytes i 0 → get_or bytes i 0 ≤ 57 → IsStuckNumber limit bytes
 zero_stuck limit bytes i value few lt h some none low high =
     let byte : ℕ = get_or bytes i 0 in
     let is = some_so_far limit (take i bytes) value h (not_first bytes i lt some) in
@@ -262,7 +262,7 @@ wider : (limit wide : ℕ) (front : List ℕ) (value : ℕ) → value ≤ wide �
 unfolding IsSoFar
 wider limit wide front value le h = elim h [ inl none ↦ inl none | inr one ↦ inr (one.0, le) ]
 
-pub large_stuck : (limit : ℕ) (bytes : List ℕ) (i value : ℕ) → limit < 100000 → i < length bytes → IsSoFar limit (take i bytes) value → (0 < i → value ≢ 0) → 48 ≤ get_or bytes i 0 → get_or bytes i 0 ≤ 57 → limit < value * 10 + (get_or bytes i 0 - 48) → IsStuckNumber limit bytes
+pub large_stuck : (limit : ℕ) (bytes : List ℕ) (i value : ℕ) → limit < 10000000 → i < length bytes → IsSoFar limit (take i bytes) value → (0 < i → value ≢ 0) → 48 ≤ get_or bytes i 0 → get_or bytes i 0 ≤ 57 → limit < value * 10 + (get_or bytes i 0 - 48) → IsStuckNumber limit bytes
 large_stuck limit bytes i value few lt h some low high large =
     let byte : ℕ = get_or bytes i 0 in
     let small : value ≤ limit = so_far_small limit (take i bytes) value h in
@@ -288,7 +288,7 @@ large_stuck limit bytes i value few lt h some low high large =
     at_some : (bytes : List ℕ) (i : ℕ) → i < length bytes → 0 < length (take i bytes) → 0 < i
     at_some bytes i lt long = let e = length_take bytes i lt in omega arith
 
-pub digit_more : (limit : ℕ) (bytes : List ℕ) (i value : ℕ) → limit < 100000 → i < length bytes → IsSoFar limit (take i bytes) value → (0 < i → value ≢ 0) → 48 ≤ get_or bytes i 0 → get_or bytes i 0 ≤ 57 → value * 10 + (get_or bytes i 0 - 48) ≤ limit → IsSoFar limit (take (i + 1) bytes) (value * 10 + (get_or bytes i 0 - 48))
+pub digit_more : (limit : ℕ) (bytes : List ℕ) (i value : ℕ) → limit < 10000000 → i < length bytes → IsSoFar limit (take i bytes) value → (0 < i → value ≢ 0) → 48 ≤ get_or bytes i 0 → get_or bytes i 0 ≤ 57 → value * 10 + (get_or bytes i 0 - 48) ≤ limit → IsSoFar limit (take (i + 1) bytes) (value * 10 + (get_or bytes i 0 - 48))
 digit_more limit bytes i value few lt h some low high fits =
     subst (λ t. IsSoFar limit t (value * 10 + (get_or bytes i 0 - 48))) (sym (take_more bytes i 0 lt))
     (one_more_digit limit (take i bytes) value (get_or bytes i 0) (omega arith) h low high (λ long. some (let e = length_take bytes i lt in omega arith)) fits)

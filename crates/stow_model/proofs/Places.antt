@@ -3,6 +3,7 @@ use Rattle.std.proofs.Common.{◌≡◌, ◌≢◌, ℕ, List, [], ◌∷◌, �
 use Rattle.std.specs.List.{AllByRecursion}
 use Rattle.std.specs.Fmt.{decimal}
 use Rattle.std.proofs.lemmas.List.{append_cancel_left}
+use Rattle.stow_bytes.specs.Limits.{line_limit}
 use Rattle.stow_model.specs.declared.stream_fault.StreamFault.{StreamFault}
 use Rattle.stow_model.specs.declared.stream_fault.StreamFault.TheVariants.{InvalidArrayLength, ExpectedBulk, InvalidBulkLength, BulkNotEnded, InlineTooLong}
 use Rattle.stow_model.specs.Wire.{number_line, bulk_line, bulk, bulks, FitsBulk, begins_array, IsLine, Spells, IsBegun, IsInLine, IsInArray, IsPlace, IsFaulty, FaultOnce}
@@ -99,7 +100,7 @@ IsRest BulkNotEnded rest = (n : ℕ) × (tail : List ℕ) × (rest ≡ bulk_line
 -- the three kinds of places
 data Kind (bytes : List ℕ) (fault : StreamFault) : Type 0 where
   InHead : IsInLine 42 bytes → fault ≡ InvalidArrayLength → Kind bytes fault
-  InInline : IsLine bytes → length bytes ≡ 65536 → fault ≡ InlineTooLong → Kind bytes fault
+  InInline : IsLine bytes → length bytes ≡ line_limit → fault ≡ InlineTooLong → Kind bytes fault
   InElement : (rest : List ℕ) → IsInArray bytes rest → NoWhole rest → IsRest fault rest → Kind bytes fault
 
 kind : (bytes : List ℕ) (fault : StreamFault) → IsPlace bytes fault → Kind bytes fault

@@ -12,6 +12,7 @@ use Rattle.stow_message.specs.Rising.{AreOldest}
 use Rattle.stow_tree_model.specs.Agreement.{TenantPins}
 use Rattle.stow_tree_model.specs.Messages.{ops_in}
 use Rattle.stow_tree_model.specs.TreeMessage.{TreeMessage}
+use Rattle.stow_node.specs.Jobs.{JobState, job_state}
 use Rattle.stow_node.specs.Subtree.{Subtree, right_above_leaves}
 
 -- where the next leaf above a fence begins, or else the upper end
@@ -23,14 +24,16 @@ next_fence high (leaf ∷ leaves) fence =
 -- None of the four causes for which a result is stale: the leaf at the target has the job's page,
 -- and is cut as the job says; each key of the batch is the leaf's; the batch is all that is
 -- buffered of its keys right above the leaf, up to its numbers; and no pin is missing.
-pub record CanInstall {A : Type 0} (t : Subtree) (job : FlushJob A)
-    (pins : TenantPins) : Type 0 where
-  pub leaf : Contains t.leaves (job.target.low_fence, job.page)
-  pub target : job.target.leaf_target ≡ t.shape.leaf
-  pub inside : NoneOutside job.target.low_fence
-      (next_fence top_key t.leaves job.target.low_fence) job.batch.messages
-  pub oldest : AreOldest job.batch.messages (right_above_leaves t)
-  pub covered : Covers (pins_in job.pins) pins job.page job.batch.messages
+pub record IsFresh (t : Subtree) (job : JobState) (pins : TenantPins) : Type 0 where
+  pub leaf : Contains t.leaves (job.low_fence, job.page)
+  pub target : job.leaf_target ≡ t.shape.leaf
+  pub inside : NoneOutside job.low_fence (next_fence top_key t.leaves job.low_fence) job.batch
+  pub oldest : AreOldest job.batch (right_above_leaves t)
+  pub covered : Covers job.pins pins job.page job.batch
+
+-- the job's result can be installed under these pins
+abbrev pub CanInstall : {A : Type 0} → Subtree → FlushJob A → TenantPins → Type 0
+CanInstall t job pins = IsFresh t (job_state job) pins
 
 -- the job's merge keeps all that these pins show
 abbrev pub CoversAll : {A : Type 0} → FlushJob A → TenantPins → Type 0

@@ -8,5 +8,6 @@ pub mod Flushes
 pub mod Regroups
 pub mod Rooms
 pub mod Ways
+pub mod Jobs
 pub mod Installs
 pub mod Plans

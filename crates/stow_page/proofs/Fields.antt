@@ -1,16 +1,20 @@
 -- Fields at the front of bytes.
-use Rattle.std.proofs.Common.{◌≡◌, ℕ, zero, suc, ◌+◌, ◌<◌, ◌≤◌, ◌^◌, List, [], ◌∷◌, ◌++◌, length, get_or, take, drop, refl, sym, ◌∙◌, ap, subst, arith, append_assoc, lit<, Fits, w8, Bool, false, IsTrue, ◌↔◌}
+use Rattle.std.proofs.Common.{◌≡◌, ℕ, zero, suc, ◌+◌, ◌<◌, ◌≤◌, ◌^◌, List, [], ◌∷◌, ◌++◌, length, get_or, take, drop, refl, sym, ◌∙◌, ap, subst, arith, append_assoc, lit<, Fits, w8, Bool, false, IsTrue, ◌↔◌, Some}
+use Rattle.std.specs.Option.{unwrap_or}
 use Rattle.std.proofs.lemmas.Grind.{common_steps}
 use Rattle.std.proofs.lemmas.Bool.{true≢false}
 use Rattle.std.proofs.Math.Seq.{take-append_seam}
 use Rattle.std.proofs.lemmas.List.{get_or-drop, length-drop, length-take-le}
 use Rattle.std.proofs.lemmas.Nat.{from_be_bytes-to_be_bytes_2, from_be_bytes-to_be_bytes_4, from_be_bytes-to_be_bytes_8, be_bytes_8}
 use Rattle.std.specs.Int.{to_be_bytes, from_be_bytes, w16, w32, w64}
-use Rattle.stow_bytes.specs.Limits.{key_limit, tenant_limit}
+use Rattle.stow_bytes.specs.Limits.{key_limit, tenant_limit, value_limit}
 use Rattle.stow_tree_model.specs.Keys.{IsTenantKey, IsOfTenant, tenant_of}
 use Rattle.stow_tree_model.specs.Version.{Version}
-use Rattle.stow_page.specs.Format.{entry, tail, header, place_bytes}
-use Rattle.stow_page.proofs.Entries.{entry-append}
+use Rattle.stow_page.specs.Format.{entry, tail, format_byte, header, length_bytes, length_width, longest, place_bytes, IsTold}
+use Rattle.stow_page.specs.Rows.{length_in}
+use Rattle.stow_page.specs.declared.format.Format.{Format}
+use Rattle.stow_page.specs.declared.format.Format.TheVariants.{One, Two}
+use Rattle.stow_page.proofs.Entries.{entry-append, put-append}
 use Rattle.stow_page.specs.Faults.{Nothing, Length, Index, Key, Number, Put, PutLength, front_bytes, IsKeyLength, IsTenantIndex, IsVersionNumber, IsGood, EndsInField, HasBadField}
 
 -- what a test of a field found to be out of its range
@@ -28,6 +32,19 @@ split16 bytes long fits = grind (arith, common_steps)
 
 pub split32 : (bytes : List ℕ) → 4 ≤ length bytes → AreBytes bytes → bytes ≡ to_be_bytes w32 (from_be_bytes w32 bytes) ++ drop 4 bytes
 split32 bytes long fits = grind (arith, common_steps)
+
+-- numbers in whole fields fit them
+from16_fits : (bytes : List ℕ) → 2 ≤ length bytes → AreBytes bytes → from_be_bytes w16 bytes < 2 ^ 16
+from16_fits [] long fits = absurd (omega arith)
+from16_fits (_ ∷ []) long fits = absurd (omega arith)
+from16_fits (a ∷ b ∷ rest) long fits = let one = fits 0 in let two = fits 1 in omega arith
+
+from32_fits : (bytes : List ℕ) → 4 ≤ length bytes → AreBytes bytes → from_be_bytes w32 bytes < 2 ^ 32
+from32_fits [] long fits = absurd (omega arith)
+from32_fits (_ ∷ []) long fits = absurd (omega arith)
+from32_fits (_ ∷ _ ∷ []) long fits = absurd (omega arith)
+from32_fits (_ ∷ _ ∷ _ ∷ []) long fits = absurd (omega arith)
+from32_fits (a ∷ b ∷ c ∷ d ∷ rest) long fits = let one = fits 0 in let two = fits 1 in let three = fits 2 in let four = fits 3 in omega arith
 
 AreBytes-take : (n : ℕ) (bytes : List ℕ) → AreBytes bytes → AreBytes (take n bytes)
 AreBytes-take zero bytes fits i = lit< tt
@@ -58,11 +75,11 @@ AreBytes-drop n bytes fits i = subst (λ b. b < 256) (sym (get_or-drop n bytes i
 
 -- ---- a key
 
-pub length_ends : (bytes : List ℕ) → length bytes < 2 → EndsInField bytes
-length_ends bytes h = record { front = Nothing; is_good = tt; rest = bytes; are = refl; ends = h }
+pub length_ends : (format : Format) (bytes : List ℕ) → length bytes < 2 → EndsInField format bytes
+length_ends format bytes h = record { front = Nothing; is_good = tt; rest = bytes; are = refl; ends = h }
 
-pub bad_length : (bytes : List ℕ) (n : ℕ) → 2 ≤ length bytes → AreBytes bytes → n ≡ from_be_bytes w16 bytes → n < 2 ^ 16 → (IsKeyLength n → ⊥) → HasBadField bytes
-bad_length bytes n long fits e low bad = record {
+pub bad_length : (format : Format) (bytes : List ℕ) (n : ℕ) → 2 ≤ length bytes → AreBytes bytes → n ≡ from_be_bytes w16 bytes → n < 2 ^ 16 → (IsKeyLength n → ⊥) → HasBadField format bytes
+bad_length format bytes n long fits e low bad = record {
   front = Nothing;
   is_good = tt;
   field = to_be_bytes w16 (from_be_bytes w16 bytes);
@@ -85,11 +102,11 @@ after_length bytes rest n long fits e r good = record {
   fits = subst AreBytes (sym r) (AreBytes-drop 2 bytes fits);
 }
 
-pub index_ends : (bytes rest : List ℕ) (n : ℕ) → AfterLength bytes rest n → length rest < 4 → EndsInField bytes
-index_ends bytes rest n h short = record { front = Length n; is_good = h.is_length; rest = rest; are = h.are; ends = short }
+pub index_ends : (format : Format) (bytes rest : List ℕ) (n : ℕ) → AfterLength bytes rest n → length rest < 4 → EndsInField format bytes
+index_ends format bytes rest n h short = record { front = Length n; is_good = h.is_length; rest = rest; are = h.are; ends = short }
 
-pub bad_index : (bytes rest : List ℕ) (n tenant : ℕ) → AfterLength bytes rest n → 4 ≤ length rest → tenant ≡ from_be_bytes w32 rest → tenant < 2 ^ 32 → (IsTenantIndex tenant → ⊥) → HasBadField bytes
-bad_index bytes rest n tenant h long e low bad = record {
+pub bad_index : (format : Format) (bytes rest : List ℕ) (n tenant : ℕ) → AfterLength bytes rest n → 4 ≤ length rest → tenant ≡ from_be_bytes w32 rest → tenant < 2 ^ 32 → (IsTenantIndex tenant → ⊥) → HasBadField format bytes
+bad_index format bytes rest n tenant h long e low bad = record {
   front = Length n;
   is_good = h.is_length;
   field = to_be_bytes w32 (from_be_bytes w32 rest);
@@ -102,8 +119,8 @@ bad_index bytes rest n tenant h long e low bad = record {
 split_index : (rest : List ℕ) (tenant : ℕ) → 4 ≤ length rest → AreBytes rest → tenant ≡ from_be_bytes w32 rest → rest ≡ to_be_bytes w32 tenant ++ drop 4 rest
 split_index rest tenant long fits e = split32 rest long fits ∙ ap (λ t. to_be_bytes w32 t ++ drop 4 rest) (sym e)
 
-pub key_ends : (bytes rest : List ℕ) (n tenant : ℕ) → AfterLength bytes rest n → 4 ≤ length rest → tenant ≡ from_be_bytes w32 rest → IsTenantIndex tenant → length rest < n → EndsInField bytes
-key_ends bytes rest n tenant h long e good short =
+pub key_ends : (format : Format) (bytes rest : List ℕ) (n tenant : ℕ) → AfterLength bytes rest n → 4 ≤ length rest → tenant ≡ from_be_bytes w32 rest → IsTenantIndex tenant → length rest < n → EndsInField format bytes
+key_ends format bytes rest n tenant h long e good short =
     let left = length-drop 4 rest in
     record {
       front = Index n tenant;
@@ -139,60 +156,92 @@ key_is_read bytes rest key after n h e l = h.are ∙ (λ i. to_be_bytes w16 (sym
 
 -- ---- a number
 
-pub bad_number : (key rest : List ℕ) (n : ℕ) → IsGood (Key key) → 8 ≤ length rest → AreBytes rest → n ≡ from_be_bytes w64 rest → n < 2 ^ 64 → (IsVersionNumber n → ⊥) → HasBadField (front_bytes (Key key) ++ rest)
-bad_number key rest n good long fits e low bad = record {
+pub bad_number : (format : Format) (key rest : List ℕ) (n : ℕ) → IsGood format (Key key) → 8 ≤ length rest → AreBytes rest → n ≡ from_be_bytes w64 rest → n < 2 ^ 64 → (IsVersionNumber n → ⊥) → HasBadField format (front_bytes format (Key key) ++ rest)
+bad_number format key rest n good long fits e low bad = record {
   front = Key key;
   is_good = good;
   field = to_be_bytes w64 (from_be_bytes w64 rest);
   rest = drop 8 rest;
-  are = ap (λ b. front_bytes (Key key) ++ b) (split64 rest long fits);
+  are = ap (λ b. front_bytes format (Key key) ++ b) (split64 rest long fits);
   is_whole = refl;
   is_bad = λ r. bad (subst IsVersionNumber (from_be_bytes-to_be_bytes_8 (from_be_bytes w64 rest) (subst (λ m. m < 2 ^ 64) e low) ∙ sym e) r);
 }
 
-pub number_ends : (key rest : List ℕ) → IsGood (Key key) → length rest < 8 → EndsInField (front_bytes (Key key) ++ rest)
-number_ends key rest good short = record { front = Key key; is_good = good; rest = rest; are = refl; ends = short }
+pub number_ends : (format : Format) (key rest : List ℕ) → IsGood format (Key key) → length rest < 8 → EndsInField format (front_bytes format (Key key) ++ rest)
+number_ends format key rest good short = record { front = Key key; is_good = good; rest = rest; are = refl; ends = short }
 
 -- ---- a value
 
-pub kind_ends : (key rest : List ℕ) (number : ℕ) → IsGood (Number key number) → length rest ≡ 0 → EndsInField (front_bytes (Number key number) ++ rest)
-kind_ends key rest number good none = record { front = Number key number; is_good = good; rest = rest; are = refl; ends = omega arith }
+module _ (format : Format) where
+  pub kind_ends : (key rest : List ℕ) (number : ℕ) → IsGood format (Number key number) → length rest ≡ 0 → EndsInField format (front_bytes format (Number key number) ++ rest)
+  kind_ends key rest number good none = record { front = Number key number; is_good = good; rest = rest; are = refl; ends = omega arith }
 
-pub bad_kind : (key bytes rest : List ℕ) (number kind : ℕ) → IsGood (Number key number) → bytes ≡ kind ∷ rest → (kind ≡ 0 → ⊥) → (kind ≡ 1 → ⊥) → HasBadField (front_bytes (Number key number) ++ bytes)
-bad_kind key bytes rest number kind good e zero_no one_no = record {
-  front = Number key number;
+  pub bad_kind : (key bytes rest : List ℕ) (number kind : ℕ) → IsGood format (Number key number) → bytes ≡ kind ∷ rest → (kind ≡ 0 → ⊥) → (kind ≡ 1 → ⊥) → HasBadField format (front_bytes format (Number key number) ++ bytes)
+  bad_kind key bytes rest number kind good e zero_no one_no = record {
+    front = Number key number;
+    is_good = good;
+    field = kind ∷ [];
+    rest = rest;
+    are = ap (λ b. front_bytes format (Number key number) ++ b) e;
+    is_whole = refl;
+    is_bad = (λ z. zero_no (ap (λ bs. get_or bs 0 0) z), λ o. one_no (ap (λ bs. get_or bs 0 0) o));
+  }
+
+  pub put_length_ends : (key rest : List ℕ) (number : ℕ) → IsGood format (Number key number) → length rest < length_width format → EndsInField format (front_bytes format (Number key number) ++ 0 ∷ rest)
+  put_length_ends key rest number good short = record
+      { front = Put key number; is_good = good; rest = rest; are = sym (append_assoc (place_bytes key number) (0 ∷ []) rest); ends = short }
+
+-- a value's length at the front of bytes, and what follows it
+pub split_length : (format : Format) (bytes : List ℕ) → length_width format ≤ length bytes → AreBytes bytes → bytes ≡ length_bytes format (length_in format bytes) ++ drop (length_width format) bytes
+split_length One bytes long fits = split16 bytes long fits
+split_length Two bytes long fits = split32 bytes long fits
+
+-- a length within the limit can be told in the format that it was read in
+pub length_fits : (format : Format) (bytes : List ℕ) → length_width format ≤ length bytes → AreBytes bytes → length_in format bytes ≤ value_limit → length_in format bytes ≤ longest format
+length_fits One bytes long fits low = let e = split16 bytes long fits in let short = from16_fits bytes long fits in omega arith
+length_fits Two bytes long fits low = low
+
+pub bad_put_length : (format : Format) (key bytes : List ℕ) (number n : ℕ) → IsGood format (Number key number) → length_width format ≤ length bytes → AreBytes bytes → n ≡ length_in format bytes → value_limit < n → HasBadField format (front_bytes format (Number key number) ++ 0 ∷ bytes)
+bad_put_length One key bytes number n good long fits e high = absurd (let short = from16_fits bytes long fits in omega arith)
+bad_put_length Two key bytes number n good long fits e high = record {
+  front = Put key number;
   is_good = good;
-  field = kind ∷ [];
-  rest = rest;
-  are = ap (λ b. front_bytes (Number key number) ++ b) e;
+  field = to_be_bytes w32 (from_be_bytes w32 bytes);
+  rest = drop 4 bytes;
+  are = ap (λ b. place_bytes key number ++ 0 ∷ b) (split32 bytes long fits) ∙ sym (append_assoc (place_bytes key number) (0 ∷ []) (to_be_bytes w32 (from_be_bytes w32 bytes) ++ drop 4 bytes));
   is_whole = refl;
-  is_bad = (λ z. zero_no (ap (λ bs. get_or bs 0 0) z), λ o. one_no (ap (λ bs. get_or bs 0 0) o));
+  is_bad = let fit = from32_fits bytes long fits in subst (λ m. value_limit < m) (e ∙ sym (from_be_bytes-to_be_bytes_4 (from_be_bytes w32 bytes) fit)) high;
 }
 
-pub put_length_ends : (key rest : List ℕ) (number : ℕ) → IsGood (Number key number) → length rest < 2 → EndsInField (front_bytes (Number key number) ++ 0 ∷ rest)
-put_length_ends key rest number good short = record
-    { front = Put key number; is_good = good; rest = rest; are = sym (append_assoc (place_bytes key number) (0 ∷ []) rest); ends = short }
-
-pub value_ends : (key bytes rest : List ℕ) (number n : ℕ) → IsGood (Number key number) → 2 ≤ length bytes → AreBytes bytes → n ≡ from_be_bytes w16 bytes → n < 2 ^ 16 → rest ≡ drop 2 bytes → length rest < n → EndsInField (front_bytes (Number key number) ++ 0 ∷ bytes)
-value_ends key bytes rest number n good long fits e low r short = record {
+pub value_ends : (format : Format) (key bytes rest : List ℕ) (number n : ℕ) → IsGood format (Number key number) → length_width format ≤ length bytes → AreBytes bytes → n ≡ length_in format bytes → n ≤ value_limit → rest ≡ drop (length_width format) bytes → length rest < n
+    → EndsInField format (front_bytes format (Number key number) ++ 0 ∷ bytes)
+value_ends format key bytes rest number n good long fits e low r short = record {
   front = PutLength key number n;
-  is_good = (good.0, good.1, good.2, (let bound : n ≤ 65535 = omega arith in bound));
+  is_good = (good.0, good.1, good.2, subst (λ m. m ≤ longest format) (sym e) (length_fits format bytes long fits (subst (λ m. m ≤ value_limit) e low)));
   rest = rest;
-  are = ap (λ b. place_bytes key number ++ 0 ∷ b) (split16 bytes long fits ∙ (λ i. to_be_bytes w16 (sym e i) ++ sym r i)) ∙ sym (append_assoc (place_bytes key number) (0 ∷ to_be_bytes w16 n) rest);
+  are = ap (λ b. place_bytes key number ++ 0 ∷ b) (split_length format bytes long fits ∙ (λ i. length_bytes format (sym e i) ++ sym r i)) ∙ sym (append_assoc (place_bytes key number) (0 ∷ length_bytes format n) rest);
   ends = short;
 }
 
+-- a whole value
+pub value_is_read : (format : Format) (bytes rest value after : List ℕ) (n : ℕ) → length_width format ≤ length bytes → AreBytes bytes → n ≡ length_in format bytes → n ≤ value_limit → rest ≡ drop (length_width format) bytes → rest ≡ value ++ after → length value ≡ n
+    → (0 ∷ bytes ≡ tail format (Some value) ++ after) × IsTold format (Some value)
+value_is_read format bytes rest value after n long fits e low r v l = (
+  ap (λ b. 0 ∷ b) (split_length format bytes long fits ∙ (λ i. length_bytes format ((sym e ∙ sym l) i) ++ (sym r ∙ v) i)) ∙ sym (put-append format value after),
+  record { is_short = λ b is. subst (λ c. length c ≤ longest format) (ap (λ o. unwrap_or o value) is) (subst (λ m. m ≤ longest format) (sym e ∙ sym l) (length_fits format bytes long fits (subst (λ m. m ≤ value_limit) e low))) },
+)
+
 -- ---- a whole entry
 
-pub entry_is_read : (bytes after_key after_number : List ℕ) (v : Version) (rest : List ℕ) → bytes ≡ front_bytes (Key v.key) ++ after_key → after_key ≡ to_be_bytes w64 v.number ++ after_number → after_number ≡ tail v.value ++ rest → bytes ≡ entry v ++ rest
-entry_is_read bytes after_key after_number v rest k n t =
-    k ∙ append_assoc (to_be_bytes w16 (length v.key)) v.key after_key
+pub entry_is_read : (format : Format) (bytes after_key after_number : List ℕ) (v : Version) (rest : List ℕ) → bytes ≡ to_be_bytes w16 (length v.key) ++ (v.key ++ after_key) → after_key ≡ to_be_bytes w64 v.number ++ after_number → after_number ≡ tail format v.value ++ rest → bytes ≡ entry format v ++ rest
+entry_is_read format bytes after_key after_number v rest k n t =
+    k
     ∙ ap (λ b. to_be_bytes w16 (length v.key) ++ (v.key ++ b)) (n ∙ ap (λ b. to_be_bytes w64 v.number ++ b) t)
-    ∙ sym (entry-append v rest)
+    ∙ sym (entry-append format v rest)
 
 -- ---- the header
 
-pub header_is_read : (bytes : List ℕ) (format : ℕ) (rest later : List ℕ) (count : ℕ) → AreBytes bytes → bytes ≡ format ∷ rest → format ≡ 1 → 4 ≤ length rest → count ≡ from_be_bytes w32 rest → later ≡ drop 4 rest → bytes ≡ header count ++ later
-header_is_read bytes format rest later count fits e one long c l =
+pub header_is_read : (bytes : List ℕ) (byte : ℕ) (format : Format) (rest later : List ℕ) (count : ℕ) → AreBytes bytes → bytes ≡ byte ∷ rest → byte ≡ format_byte format → 4 ≤ length rest → count ≡ from_be_bytes w32 rest → later ≡ drop 4 rest → bytes ≡ header format count ++ later
+header_is_read bytes byte format rest later count fits e one long c l =
     let rest_fits : AreBytes rest = λ i. subst (λ b. get_or b (suc i) 0 < 256) e (fits (suc i)) in
     e ∙ (λ i. one i ∷ (split_index rest count long rest_fits c ∙ ap (λ b. to_be_bytes w32 count ++ b) (sym l)) i)

@@ -1,6 +1,9 @@
 pub mod Entries
+pub mod Formats
 pub mod Packing
 pub mod Pushed
+pub mod Sizes
+pub mod Anew
 pub mod Looked
 pub mod Fields
 pub mod Pages

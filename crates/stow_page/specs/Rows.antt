@@ -6,73 +6,83 @@ use Rattle.std.specs.Str.{bytes_eq}
 use Rattle.stow_tree_model.specs.Order.{VersionPlace, place_cmp, version_place, VersionsRise}
 use Rattle.stow_tree_model.specs.Version.{Version, version_of}
 use Rattle.stow_tree_model.specs.declared.version.Version as lent
-use Rattle.stow_tree_model.specs.Value.{IsValue}
-use Rattle.stow_page.specs.Format.{entry, tail, packed_page, places_of, IsVersion, AreVersions}
+use Rattle.stow_page.specs.Format.{entry, tail, length_width, packed_page, format_of, places_of, IsTold, IsVersion, AreVersions}
+use Rattle.stow_page.specs.declared.format.Format.{Format}
+use Rattle.stow_page.specs.declared.format.Format.TheVariants.{One, Two}
 
 -- ---- what stands in a block
 
+-- the length of a value that stands at the front of these bytes
+abbrev pub length_in : Format → List ℕ → ℕ
+length_in One bytes = from_be_bytes w16 bytes
+length_in Two bytes = from_be_bytes w32 bytes
+
 -- the value whose tail stands at the front of these bytes
-abbrev pub value_in : List ℕ → Option (List ℕ)
-value_in [] = None
-value_in (zero ∷ after) = Some (take (from_be_bytes w16 after) (drop 2 after))
-value_in (suc _ ∷ after) = None
+abbrev pub value_in : Format → List ℕ → Option (List ℕ)
+value_in format [] = None
+value_in format (zero ∷ after) =
+    Some (take (length_in format after) (drop (length_width format) after))
+value_in format (suc _ ∷ after) = None
 
 -- what follows the key of the entry at the front of these bytes
 abbrev pub after_key : List ℕ → List ℕ
 after_key bytes = drop (from_be_bytes w16 bytes) (drop 2 bytes)
 
 -- the version whose entry stands at the front of these bytes
-unfoldable pub version_in : List ℕ → Version
-version_in bytes =
+unfoldable pub version_in : Format → List ℕ → Version
+version_in format bytes =
     record {
       key = take (from_be_bytes w16 bytes) (drop 2 bytes);
       number = from_be_bytes w64 (after_key bytes);
-      value = value_in (drop 8 (after_key bytes));
+      value = value_in format (drop 8 (after_key bytes));
     }
 
 -- the bytes begin with the version's entry
-pub record IsAtFront (v : Version) (bytes : List ℕ) : Type 0 where
+pub record IsAtFront (format : Format) (v : Version) (bytes : List ℕ) : Type 0 where
   pub rest : List ℕ
-  pub is_entry : bytes ≡ entry v ++ rest
+  pub is_entry : bytes ≡ entry format v ++ rest
   pub is_version : IsVersion v
+  pub is_told : IsTold format v.value
 
 -- the bytes begin with the value's tail
-pub record IsTail (value : Option (List ℕ)) (bytes : List ℕ) : Type 0 where
+pub record IsTail (format : Format) (value : Option (List ℕ)) (bytes : List ℕ) : Type 0 where
   pub rest : List ℕ
-  pub is_tail : bytes ≡ tail value ++ rest
-  pub is_value : IsValue value
+  pub is_tail : bytes ≡ tail format value ++ rest
+  pub is_value : IsTold format value
 
 -- the versions whose entries stand at these places
-abbrev pub rows_in : List ℕ → List ℕ → List Version
-rows_in bytes places = map (λ place. version_in (drop place bytes)) places
+abbrev pub rows_in : Format → List ℕ → List ℕ → List Version
+rows_in format bytes places = map (λ place. version_in format (drop place bytes)) places
 
--- the bytes are the page of these versions, each of which stands at its place
-pub record ArePacked (bytes places : List ℕ) (rows : List Version) : Type 0 where
+-- the bytes are the page of these versions, which has this format, and each stands at its place
+pub record ArePacked (format : Format) (bytes places : List ℕ) (rows : List Version) : Type 0 where
   pub is_page : bytes ≡ packed_page rows
+  pub is_format : format ≡ format_of rows
   pub are_places : places ≡ places_of rows
   pub are_versions : AreVersions rows
   pub rise : VersionsRise rows
   pub is_addressed : length bytes < 2 ^ 32
 
 -- the block stands for the versions that are in it
-abbrev pub IsBlock : List ℕ → List ℕ → Type 0
-IsBlock bytes places = ArePacked bytes places (rows_in bytes places)
+abbrev pub IsBlock : Format → List ℕ → List ℕ → Type 0
+IsBlock format bytes places = ArePacked format bytes places (rows_in format bytes places)
+
+-- the format of versions, some of which have the one alone, and the others the other
+abbrev pub wider : Format → Format → Format
+wider One other = other
+wider Two other = Two
 
 -- with this version behind them the page still has fewer than 2^32 bytes
 abbrev pub HasRoomFor : List Version → Version → Type 0
 HasRoomFor rows v = length (packed_page (rows ++ v ∷ [])) < 2 ^ 32
 
 -- a lent version's entry
-abbrev pub entry_of : lent.Version → List ℕ
-entry_of v = entry (version_of v)
+abbrev pub entry_of : Format → lent.Version → List ℕ
+entry_of format v = entry format (version_of v)
 
 -- bytes with this count of entries in the header
 abbrev pub with_count : List ℕ → ℕ → List ℕ
 with_count bytes count = take 1 bytes ++ (to_be_bytes w32 count ++ drop 5 bytes)
-
--- a block's bytes with one entry more, and this count of entries in the header
-abbrev pub counted : List ℕ → Version → ℕ → List ℕ
-counted bytes v count = with_count (bytes ++ entry v) count
 
 -- ---- what is looked up
 

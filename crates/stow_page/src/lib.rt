@@ -1,12 +1,15 @@
 //! A leaf of the tree in packed form, and its versions lent out of the bytes.
 //!
-//! `specs/Format.antt` defines the format by cases on the versions, `specs/Faults.antt` what is wrong with bytes that
-//! are no page: after whole good fields the first field that ends too early or is out of its range, the first entry
-//! that doesn't stand above the one before, or bytes behind the last. `PackedRows` is the block that is written
-//! version by version, and at each moment its bytes are the page of what was pushed. `Rows` shares such a block, and
-//! so does a `Page` that was made here, so `pack` and `unpack` of it move no byte; a page from elsewhere is read field
-//! by field. With the laws, `unpack` gives rows exactly where the bytes are those rows' page, and else the one fault
-//! that they have.
+//! `specs/Format.antt` defines the format by cases on the versions. A page has one of two formats: format 1 tells the
+//! length of a value in two bytes, format 2 in four, and a page has format 2 just where one of its values is longer than
+//! 65,535 bytes, so versions have one page. `specs/Faults.antt` says what is wrong with bytes that are no page: after
+//! whole good fields the first field that ends too early or is out of its range, the first entry that doesn't stand above
+//! the one before, bytes behind the last, or a format 2 that none of the values needs.
+//!
+//! `PackedRows` is the block that is written version by version, and at each moment its bytes are the page of what was
+//! pushed; the first long value has the block written anew in format 2, once. `Rows` shares such a block, and so does a
+//! `Page` that was made here, so `pack` and `unpack` of it move no byte; a page from elsewhere is read field by field.
+//! With the laws, `unpack` gives rows exactly where the bytes are those rows' page, and else the one fault that they have.
 //!
 //! A call that asks for memory may be refused it at any time, so a body that always answers `AllocError`, or the fault
 //! `Memory`, meets the contract of each such call: tests call each with ample memory, and with each request refused.
@@ -19,6 +22,7 @@
 
 pub mod big_endian;
 pub mod entry;
+pub mod format;
 mod hint;
 pub mod laws;
 pub mod packed_rows;

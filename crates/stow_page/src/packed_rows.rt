@@ -3,10 +3,13 @@ ghost use Rattle.std.specs.Prelude.{◌≡◌, ◌==◌, ◌↔◌, IsTrue, ◌+
 ghost use Rattle.std.specs.List.{All};
 ghost use Rattle.stow_tree_model.specs.Version.{version_of};
 ghost use Rattle.stow_tree_model.specs.Order.{VersionsRise};
-ghost use Rattle.stow_page.specs.Format.{packed_page, AreVersions};
-ghost use Rattle.stow_page.specs.Rows.{HasRoomFor, IsBlock, rows_in, entry_of, with_count, is_above, is_up_to, IsCountUpTo, version_at};
+ghost use Rattle.stow_tree_model.specs.Value.{bytes_at};
+ghost use Rattle.stow_page.specs.Format.{entries, packed_in, packed_page, format_of, places_from, IsTold, AreVersions};
+ghost use Rattle.stow_page.specs.Rows.{HasRoomFor, IsBlock, rows_in, entry_of, wider, with_count, is_above, is_up_to, IsCountUpTo, version_at};
+ghost use Rattle.stow_page.specs.declared.format.Format.TheVariants.{Two};
 
-use crate::entry::{append_entry, entry_size, lent_version};
+use crate::entry::{append_entry, entry_size, format_of, lent_version};
+use crate::format::Format;
 use crate::hint::Hint;
 use std::alloc::{AllocError, Allocator, Global};
 use std::cmp::Ordering;
@@ -19,6 +22,7 @@ use stow_tree_model::version::Version;
 /// stand. A page has fewer than 2^32 bytes.
 #[derive(Drop)]
 pub struct PackedRows<A: Allocator = Global> {
+    format: Format,
     bytes: Vec<u8, A>,
     places: Vec<u32, A>,
     hint: Hint<A>,
@@ -31,9 +35,9 @@ impl<A: Allocator> Model for PackedRows<A> {
 
     ghost Value = { List Version };
 
-    ghost view = { λ r. rows_in r.bytes.items r.places.items };
+    ghost view = { λ r. rows_in r.format r.bytes.items r.places.items };
 
-    ghost invariant = { λ r. IsBlock r.bytes.items r.places.items };
+    ghost invariant = { λ r. IsBlock r.format r.bytes.items r.places.items };
 }
 
 impl<A: Allocator + Copy> PackedRows<A> {
@@ -44,6 +48,7 @@ impl<A: Allocator + Copy> PackedRows<A> {
         let mut bytes = Vec::new(alloc);
         bytes.extend_from_slice(&[1, 0, 0, 0, 0])?;
         Ok(PackedRows {
+            format: Format::One,
             bytes,
             places: Vec::new(alloc),
             hint: Hint::new(alloc),
@@ -57,13 +62,15 @@ impl<A: Allocator + Copy> PackedRows<A> {
         let mut bytes = Vec::with_capacity(alloc, size)?;
         bytes.extend_from_slice(&[1, 0, 0, 0, 0])?;
         Ok(PackedRows {
+            format: Format::One,
             bytes,
             places: Vec::with_capacity(alloc, versions)?,
             hint: Hint::new(alloc),
         })
     }
 
-    /// Versions and others above them, in a block of their own. Their entries are copied as they stand.
+    /// Versions and others above them, in a block of their own. Their entries are copied as they stand, if their formats
+    /// are the same.
     pub(crate) fn joined(
         alloc: A,
         lower: &PackedRows<A>,
@@ -71,6 +78,24 @@ impl<A: Allocator + Copy> PackedRows<A> {
     ) -> Result<PackedRows<A>, AllocError>
         requires rise { VersionsRise (lower.now ++ upper.now) }
         requires room { length (packed_page (lower.now ++ upper.now)) < 2 ^ 32 }
+        ensures { IfOk result (λ r. r ≡ lower.now ++ upper.now) }
+    {
+        if lower.format().is_same(upper.format()) {
+            PackedRows::joined_alike(alloc, lower, upper)
+        } else {
+            PackedRows::joined_anew(alloc, lower, upper)
+        }
+    }
+
+    /// Versions and others above them, in a block of their own. Their entries are copied as they stand.
+    fn joined_alike(
+        alloc: A,
+        lower: &PackedRows<A>,
+        upper: &PackedRows<A>,
+    ) -> Result<PackedRows<A>, AllocError>
+        requires rise { VersionsRise (lower.now ++ upper.now) }
+        requires room { length (packed_page (lower.now ++ upper.now)) < 2 ^ 32 }
+        requires alike { format_of lower.now ≡ format_of upper.now }
         ensures { IfOk result (λ r. r ≡ lower.now ++ upper.now) }
     {
         let (_, entries) = upper.bytes.as_slice().split_at(5);
@@ -87,26 +112,92 @@ impl<A: Allocator + Copy> PackedRows<A> {
         )?;
         write_count(&mut bytes, places.len() as u32);
         Ok(PackedRows {
+            format: lower.format,
             bytes,
             places,
             hint,
         })
     }
-}
 
-impl<A: Allocator> PackedRows<A> {
-    /// Adds a version above all others. An `Err` changes nothing.
+    /// Versions and others above them, written anew in format 2.
+    fn joined_anew(
+        alloc: A,
+        lower: &PackedRows<A>,
+        upper: &PackedRows<A>,
+    ) -> Result<PackedRows<A>, AllocError>
+        requires rise { VersionsRise (lower.now ++ upper.now) }
+        requires room { length (packed_page (lower.now ++ upper.now)) < 2 ^ 32 }
+        requires wide { format_of (lower.now ++ upper.now) ≡ Two }
+        ensures { IfOk result (λ r. r ≡ lower.now ++ upper.now) }
+    {
+        let size = lower.len_in(Format::Two) + upper.len_in(Format::Two) - 5;
+        let mut bytes = Vec::with_capacity(alloc, size)?;
+        let mut places = Vec::with_capacity(alloc, lower.len() + upper.len())?;
+        bytes.extend_from_slice(&[2, 0, 0, 0, 0])?;
+        append_all(&mut bytes, &mut places, lower)?;
+        append_all(&mut bytes, &mut places, upper)?;
+        write_count(&mut bytes, places.len() as u32);
+        Ok(PackedRows {
+            format: Format::Two,
+            bytes,
+            places,
+            hint: Hint::new(alloc),
+        })
+    }
+
+    /// Adds a version above all others. An `Err` changes nothing. The first value that two bytes can't tell the length of
+    /// has the page written anew in format 2.
     pub fn push(&mut self, version: Version<'_>) -> Result<(), AllocError>
         requires above { VersionsRise (self.old ++ version_of version ∷ []) }
         requires room { HasRoomFor self.old (version_of version) }
         ensures ok { OnOk result (self.new ≡ self.old ++ version_of version.entry ∷ []) }
         ensures err { OnErr result (self.new ≡ self.old) }
     {
-        append_placed(&mut self.bytes, &mut self.places, version)?;
+        if !self.format().is_same(self.format_with(version)) {
+            *self = self.anew_with(version)?;
+            return Ok(());
+        }
+        self.push_alike(version)
+    }
+
+    /// Adds a version above all others that leaves the page its format. An `Err` changes nothing.
+    fn push_alike(&mut self, version: Version<'_>) -> Result<(), AllocError>
+        requires above { VersionsRise (self.old ++ version_of version ∷ []) }
+        requires room { HasRoomFor self.old (version_of version) }
+        requires alike { format_of self.old ≡ format_of (self.old ++ version_of version ∷ []) }
+        ensures ok { OnOk result (self.new ≡ self.old ++ version_of version.entry ∷ []) }
+        ensures err { OnErr result (self.new ≡ self.old) }
+    {
+        append_placed(&mut self.bytes, &mut self.places, self.format, version)?;
         write_count(&mut self.bytes, self.places.len() as u32);
         Ok(())
     }
 
+    /// These versions and one above them, written anew in format 2, in a block that is no smaller.
+    fn anew_with(&self, version: Version<'_>) -> Result<PackedRows<A>, AllocError>
+        requires above { VersionsRise (self.now ++ version_of version ∷ []) }
+        requires room { HasRoomFor self.now (version_of version) }
+        requires wide { format_of (self.now ++ version_of version ∷ []) ≡ Two }
+        ensures { IfOk result (λ r. r ≡ self.now ++ version_of version.entry ∷ []) }
+    {
+        let alloc = *self.bytes.allocator();
+        let size = self.len_in(Format::Two) + entry_size(Format::Two, version);
+        let mut bytes = Vec::with_capacity(alloc, self.bytes.capacity().max(size))?;
+        let mut places = Vec::with_capacity(alloc, self.places.capacity().max(self.len() + 1))?;
+        bytes.extend_from_slice(&[2, 0, 0, 0, 0])?;
+        append_all(&mut bytes, &mut places, self)?;
+        append_placed(&mut bytes, &mut places, Format::Two, version)?;
+        write_count(&mut bytes, places.len() as u32);
+        Ok(PackedRows {
+            format: Format::Two,
+            bytes,
+            places,
+            hint: Hint::new(alloc),
+        })
+    }
+}
+
+impl<A: Allocator> PackedRows<A> {
     /// Makes look-ups of keys fast, until versions are added.
     pub(crate) fn note_keys(&mut self) -> Result<(), AllocError>
         ensures { self.new ≡ self.old }
@@ -115,6 +206,7 @@ impl<A: Allocator> PackedRows<A> {
         if !self.hint.is_empty() {
             note_newest(
                 &mut self.hint,
+                self.format,
                 self.bytes.as_slice(),
                 self.places.as_slice(),
             );
@@ -145,13 +237,55 @@ impl<A: Allocator> PackedRows<A> {
         self.bytes.as_slice()
     }
 
+    /// The format of the page of these versions.
+    pub(crate) fn format(&self) -> Format
+        ensures { result ≡ format_of self.now }
+    {
+        self.format
+    }
+
+    /// The format of the page of these versions and this one.
+    fn format_with(&self, version: Version<'_>) -> Format
+        ensures { result ≡ format_of (self.now ++ version_of version.entry ∷ []) }
+    {
+        self.format.wider(format_of(version))
+    }
+
+    /// How many bytes these versions have in the format.
+    fn len_in(&self, format: Format) -> usize
+        ensures len { result ≡ length (packed_in format self.now) }
+        ensures few { result < 2 ^ 53 }
+    {
+        if self.format.is_same(format) {
+            return self.bytes.len();
+        }
+        let mut len = 5;
+        for index in 0..self.len() {
+            len += entry_size(format, self.get(index));
+        }
+        len
+    }
+
+    /// How many bytes the page of these versions and others above them has.
+    pub(crate) fn page_len_with(&self, upper: &PackedRows<A>) -> usize
+        ensures { result ≡ length (packed_page (self.now ++ upper.now)) }
+    {
+        let format = self.format.wider(upper.format);
+        self.len_in(format) + upper.len_in(format) - 5
+    }
+
     /// The version at this place in the order, lent.
     pub fn get(&self, index: usize) -> Version<'_>
         requires { index < length self.now }
         ensures version { slice_get self.now index ≡ Some (version_of result) }
         ensures rise { VersionsRise self.now }
     {
-        lent_at(self.bytes.as_slice(), self.places.as_slice(), index)
+        lent_at(
+            self.format,
+            self.bytes.as_slice(),
+            self.places.as_slice(),
+            index,
+        )
     }
 
     /// The version stands above all of them.
@@ -170,7 +304,8 @@ impl<A: Allocator> PackedRows<A> {
     pub fn has_room_for(&self, version: Version<'_>) -> bool
         ensures { IsTrue result ↔ HasRoomFor self.now (version_of version.entry) }
     {
-        self.as_bytes().len() + entry_size(version) < 4_294_967_296
+        let format = self.format_with(version);
+        self.len_in(format) + entry_size(format, version) < 4_294_967_296
     }
 
     /// How many versions stand at the key and number or below.
@@ -260,23 +395,23 @@ impl<A: Allocator> PackedRows<A> {
 }
 
 /// The version whose entry stands at the place with this index, lent.
-fn lent_at<'a>(bytes: &'a [u8], places: &[u32], index: usize) -> Version<'a>
-    requires block { IsBlock bytes.now places.now }
+fn lent_at<'a>(format: Format, bytes: &'a [u8], places: &[u32], index: usize) -> Version<'a>
+    requires block { IsBlock format bytes.now places.now }
     requires within { index < length places.now }
-    ensures { slice_get (rows_in bytes.now places.now) index ≡ Some (version_of result) }
+    ensures { slice_get (rows_in format bytes.now places.now) index ≡ Some (version_of result) }
 {
     let place = places[index] as usize;
-    lent_version(bytes.split_at(place).1)
+    lent_version(format, bytes.split_at(place).1)
 }
 
 /// Notes where the newest version of each key stands.
-fn note_newest<A: Allocator>(hint: &mut Hint<A>, bytes: &[u8], places: &[u32])
-    requires { IsBlock bytes.now places.now }
+fn note_newest<A: Allocator>(hint: &mut Hint<A>, format: Format, bytes: &[u8], places: &[u32])
+    requires { IsBlock format bytes.now places.now }
 {
     for index in 0..places.len() {
-        let key = lent_at(bytes, places, index).key.bytes;
+        let key = lent_at(format, bytes, places, index).key.bytes;
         if index + 1 == places.len()
-            || compare(key, lent_at(bytes, places, index + 1).key.bytes).is_ne()
+            || compare(key, lent_at(format, bytes, places, index + 1).key.bytes).is_ne()
         {
             hint.note(key, index);
         }
@@ -305,23 +440,43 @@ fn stands_above(version: Version<'_>, key: TenantKey<'_>, number: u64) -> bool
 fn append_placed<A: Allocator>(
     bytes: &mut Vec<u8, A>,
     places: &mut Vec<u32, A>,
+    format: Format,
     version: Version<'_>,
 ) -> Result<(), AllocError>
-    requires { length bytes.old.items < 2 ^ 32 }
-    ensures bytes { OnOk result (bytes.new.items ≡ bytes.old.items ++ entry_of version.entry) }
+    requires low { length bytes.old.items < 2 ^ 32 }
+    requires told { IsTold format (bytes_at version.value) }
+    ensures bytes { OnOk result
+        (bytes.new.items ≡ bytes.old.items ++ entry_of format version.entry) }
     ensures places { OnOk result (places.new.items
         ≡ places.old.items ++ length bytes.old.items ∷ []) }
     ensures bytes_stay { OnErr result (bytes.new.items ≡ bytes.old.items) }
     ensures places_stay { OnErr result (places.new.items ≡ places.old.items) }
 {
     let start = bytes.len();
-    if let Err(refused) = append_entry(bytes, version) {
+    if let Err(refused) = append_entry(bytes, format, version) {
         bytes.truncate(start);
         return Err(refused);
     }
     if places.push(start as u32).is_err() {
         bytes.truncate(start);
         return Err(AllocError);
+    }
+    Ok(())
+}
+
+/// Writes the entries of versions in format 2 behind the bytes, and their places behind the places.
+fn append_all<A: Allocator>(
+    bytes: &mut Vec<u8, A>,
+    places: &mut Vec<u32, A>,
+    rows: &PackedRows<A>,
+) -> Result<(), AllocError>
+    requires { length bytes.old.items + length (entries Two rows.now) < 2 ^ 32 }
+    ensures bytes { OnOk result (bytes.new.items ≡ bytes.old.items ++ entries Two rows.now) }
+    ensures places { OnOk result (places.new.items
+        ≡ places.old.items ++ places_from Two (length bytes.old.items) rows.now) }
+{
+    for index in 0..rows.len() {
+        append_placed(bytes, places, Format::Two, rows.get(index))?;
     }
     Ok(())
 }

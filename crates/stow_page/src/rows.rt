@@ -104,6 +104,13 @@ impl<A: Allocator> Rows<A> {
         self.packed.as_bytes().len()
     }
 
+    /// How many bytes the page of these versions and others above them has.
+    pub fn page_len_with(&self, upper: &Rows<A>) -> usize
+        ensures { result ≡ length (packed_page (self.now ++ upper.now)) }
+    {
+        self.packed.page_len_with(&upper.packed)
+    }
+
     /// The version at this place in the order, lent.
     pub fn get(&self, index: usize) -> Version<'_>
         requires { index < length self.now }

@@ -27,3 +27,5 @@ mod streams;
 mod table;
 #[cfg(test)]
 mod taken;
+#[cfg(test)]
+mod words;

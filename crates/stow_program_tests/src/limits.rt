@@ -12,24 +12,35 @@ use std::sync::Wait;
 use std::test::Fail;
 use std::thread::Threads;
 
-/// A key has up to 1,024 bytes, and a value up to 65,535; two halves of the longest value are one, and a byte more is too
-/// long.
+/// A key has up to 1,024 bytes, and a value up to 1,048,576; two halves of the longest value are one, and a byte more is too
+/// long. A value of 65,535 bytes grows.
 const KEYS_AND_VALUES: &str = r"
-*3\r\n$3\r\nSET\r\n$1024\r\n{0..1024|~}\r\n$65535\r\n@\r\n => +OK\r\n
+*3\r\n$3\r\nSET\r\n$1024\r\n{0..1024|~}\r\n$1048576\r\n@\r\n => +OK\r\n
 *3\r\n$3\r\nSET\r\n$1025\r\n{0..1025|~}\r\n$1\r\nv\r\n => -ERR key is too long\r\n
-*2\r\n$3\r\nGET\r\n$1024\r\n{0..1024|~}\r\n => $65535\r\n@\r\n
-*2\r\n$4\r\nECHO\r\n$65535\r\n@\r\n => $65535\r\n@\r\n
-*2\r\n$6\r\nSTRLEN\r\n$1024\r\n{0..1024|~}\r\n => :65535\r\n
-*3\r\n$6\r\nAPPEND\r\n$1024\r\n{0..1024|~}\r\n$0\r\n\r\n => :65535\r\n
+*2\r\n$3\r\nGET\r\n$1024\r\n{0..1024|~}\r\n => $1048576\r\n@\r\n
+*2\r\n$4\r\nECHO\r\n$1048576\r\n@\r\n => $1048576\r\n@\r\n
+*2\r\n$6\r\nSTRLEN\r\n$1024\r\n{0..1024|~}\r\n => :1048576\r\n
+*3\r\n$6\r\nAPPEND\r\n$1024\r\n{0..1024|~}\r\n$0\r\n\r\n => :1048576\r\n
 *3\r\n$6\r\nAPPEND\r\n$1024\r\n{0..1024|~}\r\n$1\r\nx\r\n => -ERR value is too long\r\n
-*3\r\n$3\r\nSET\r\n$4\r\nhalf\r\n$32767\r\n{0..32767|v}\r\n => +OK\r\n
-*3\r\n$6\r\nAPPEND\r\n$4\r\nhalf\r\n$32768\r\n{0..32768|v}\r\n => :65535\r\n
-*2\r\n$3\r\nGET\r\n$4\r\nhalf\r\n => $65535\r\n@\r\n
+*3\r\n$3\r\nSET\r\n$4\r\nhalf\r\n$524288\r\n{0..524288|v}\r\n => +OK\r\n
+*3\r\n$6\r\nAPPEND\r\n$4\r\nhalf\r\n$524288\r\n{0..524288|v}\r\n => :1048576\r\n
+*2\r\n$3\r\nGET\r\n$4\r\nhalf\r\n => $1048576\r\n@\r\n
+*3\r\n$3\r\nSET\r\n$4\r\nlong\r\n$65535\r\n^\r\n => +OK\r\n
+*3\r\n$6\r\nAPPEND\r\n$4\r\nlong\r\n$1\r\nv\r\n => :65536\r\n
+*2\r\n$3\r\nGET\r\n$4\r\nlong\r\n => $65536\r\n^v\r\n
+";
+
+/// The longest value is charged whole, and what it would become isn't.
+const CHARGED: &str = r"
+*3\r\n$3\r\nSET\r\n$1\r\nv\r\n$1048576\r\n@\r\n => +OK\r\n
+*3\r\n$6\r\nAPPEND\r\n$1\r\nv\r\n$1\r\nx\r\n => -ERR value is too long\r\n
+*1\r\n$5\r\nUSAGE\r\n => *14\r\n$4\r\nrows\r\n:1\r\n$6\r\ncharge\r\n:1048593\r\n$5\r\nquota\r\n:10000000\r\n$6\r\nwrites\r\n:1\r\n$8\r\ncommands\r\n:3\r\n$8\r\nrefusals\r\n:0\r\n$9\r\nsnapshots\r\n:0\r\n
 ";
 
 #[test]
 fn keys_and_values_have_limits(rt: HostRuntime) -> Result<(), Fail> {
-    answers_all(&rt, KEYS_AND_VALUES)
+    answers_by(&rt, AMPLE_PIPE, KEYS_AND_VALUES)?;
+    answers_by(&rt, "pipe --tenants ten.toml", CHARGED)
 }
 
 /// A request has up to 1,024 words, and a DEL up to 64 keys; too many keys are told before a key that is too long.
@@ -53,11 +64,11 @@ fn requests_have_a_most_of_words(rt: HostRuntime) -> Result<(), Fail> {
     answers_all(&rt, WORDS)
 }
 
-/// 1,024 rows of the longest value, in one reply of 64 MiB.
+/// 1,024 rows of long values, in one reply of 64 MiB.
 const RANGES: &str = r"
-{1000..2024|*3\r\n$3\r\nSET\r\n$4\r\n%\r\n$65535\r\n@\r\n} => {1000..2024|+OK\r\n}
+{1000..2024|*3\r\n$3\r\nSET\r\n$4\r\n%\r\n$65535\r\n^\r\n} => {1000..2024|+OK\r\n}
 *3\r\n$3\r\nSET\r\n$1\r\n3\r\n$6\r\nbeyond\r\n => +OK\r\n
-*4\r\n$5\r\nRANGE\r\n$0\r\n\r\n$0\r\n\r\n$4\r\n1024\r\n => *2048\r\n{1000..2024|$4\r\n%\r\n$65535\r\n@\r\n}
+*4\r\n$5\r\nRANGE\r\n$0\r\n\r\n$0\r\n\r\n$4\r\n1024\r\n => *2048\r\n{1000..2024|$4\r\n%\r\n$65535\r\n^\r\n}
 *4\r\n$5\r\nRANGE\r\n$0\r\n\r\n$0\r\n\r\n$4\r\n1025\r\n => -ERR value is not an integer or out of range\r\n
 ";
 
@@ -68,7 +79,7 @@ fn ranges_have_a_most_of_rows(rt: HostRuntime) -> Result<(), Fail> {
 
 /// One message of 64 MiB, which comes in pieces.
 const LARGE: &str = r"
-*1024\r\n$4\r\nMGET\r\n{0..1023|$65535\r\n@\r\n} => -ERR key is too long\r\n
+*1024\r\n$4\r\nMGET\r\n{0..1023|$65535\r\n^\r\n} => -ERR key is too long\r\n
 *2\r\n$4\r\nECHO\r\n$2\r\non\r\n => $2\r\non\r\n
 ";
 

@@ -17,7 +17,7 @@ use stow_run::folder::Folder;
 use stow_run::job::Task;
 use stow_run::salt_source::SaltSource;
 use stow_tasks::service::serve;
-use stow_testing::tenants::THREE;
+use stow_testing::tenants::{AMPLE, TEN_MILLION, THREE};
 use stow_tree::tree_shape::TreeShape;
 use stow_workers::counted::Counted;
 
@@ -29,14 +29,6 @@ pub const SCRIPT: &str = "script --tenants three.toml";
 pub const USAGE: &str = "usage --tenants three.toml";
 
 pub const AMPLE_PIPE: &str = "pipe --tenants ample.toml";
-
-/// One of the three tenants, with a quota that nothing reaches.
-const AMPLE: &str = "[[tenant]]
-name = \"ann\"
-salt = \"61\"
-digest = \"ba7816bf8f01cfea414140de5dae2223b00361a396177a9cb410ff61f20015ad\"
-quota = 9223372036854775807
-";
 
 pub const ENTRY: &str = "entry dora --quota 1000000";
 
@@ -59,6 +51,7 @@ impl<'a> Folder for Shelf<'a> {
         match path {
             "three.toml" => Ok(Given::all(THREE.as_bytes())),
             "ample.toml" => Ok(Given::all(AMPLE.as_bytes())),
+            "ten.toml" => Ok(Given::all(TEN_MILLION.as_bytes())),
             "empty.toml" => Ok(Given::all(b"")),
             "latin.toml" => Ok(Given::all(b"# \xe9\n")),
             "number.toml" => Ok(Given::all(b"tenant = 1")),

@@ -119,7 +119,7 @@ where
         + Wait
         + Sync,
 {
-    let line = format!(in rt.alloc(); "{SCRIPT} {options}")?;
+    let line = format!(in rt.alloc(); "script --tenants ample.toml {options}")?;
     let ended = run(rt, line.as_str(), &mut Given::all(talk.script.as_bytes()))?;
     let (sizes, others) = parted(rt.alloc(), ended.output.as_str())?;
     let is_told = ended.status == 0 && others.as_str() == talk.told.as_str();
@@ -154,7 +154,7 @@ where
         + Sync,
 {
     let options = format!(in rt.alloc();
-        "--buffer 131072 --leaf 4096 --fanout {fan_out} --cache {cache}"
+        "--buffer 2097152 --leaf 4096 --fanout {fan_out} --cache {cache}"
     )?;
     let told = told_with(rt, options.as_str(), talk)?;
     assert!(rt; are_held(told.as_slice(), cache), "{options}");
@@ -164,10 +164,8 @@ where
 #[test]
 fn rows_are_read_in_each_shape(rt: HostRuntime) -> Result<(), Fail> {
     let talk = rows_read_again(rt.alloc())?;
-    for cache in [0, 1, 1000] {
-        reads_again(&rt, &talk, 4, cache)?;
-        reads_again(&rt, &talk, 256, cache)?;
-    }
+    reads_again(&rt, &talk, 4, 1)?;
+    reads_again(&rt, &talk, 256, 1000)?;
     told_with(&rt, "--buffer 4194304", &talk)?;
     Ok(())
 }
@@ -220,15 +218,16 @@ reply :%\r\n
 
 #[test]
 fn appends_take_the_room_of_their_suffix(rt: HostRuntime) -> Result<(), Fail> {
-    let line = "script --tenants three.toml --buffer 131072 --cache 0";
+    let line = "script --tenants three.toml --buffer 2097152 --cache 0";
     answers_scripts(&rt, line, APPENDED)
 }
 
 /// Options with the statuses that a run ends with: each has two ends.
 const SIZES: &str = "
-buffer 131072 => 0
+buffer 2097152 => 0
+buffer 131072 => 2
 buffer 4194304 => 0
-buffer 131071 => 2
+buffer 2097151 => 2
 buffer 4194305 => 2
 leaf 4096 => 0
 leaf 1048576 => 0

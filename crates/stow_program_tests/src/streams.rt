@@ -132,9 +132,9 @@ const BLANKS: &str = "
 fn pieces_may_be_small_and_blank(rt: HostRuntime) -> Result<(), Fail> {
     let input = spread(
         rt.alloc(),
-        "AUTH ann bc\n*2\r\n$4\r\nECHO\r\n$65535\r\n@\r\n",
+        "AUTH ann bc\n*2\r\n$4\r\nECHO\r\n$65535\r\n^\r\n",
     )?;
-    let told = spread(rt.alloc(), "+OK\r\n$65535\r\n@\r\n")?;
+    let told = spread(rt.alloc(), "+OK\r\n$65535\r\n^\r\n")?;
     let mut pieces = Given::pieces(input.as_bytes(), 1, 1);
     wants(&rt, PIPE, &mut pieces, 0, told.as_str(), "")?;
     answers_each(&rt, BLANKS)

@@ -1,7 +1,8 @@
 //! Tables of texts, each with what is told of it.
 //!
 //! In a table of rows `\r`, `\n` and `\t` stand for these bytes. In each table `{LOW..HIGH|TEXT}` stands for the text once for
-//! each number from LOW to below HIGH, which `%` in it stands for, and `@` for the longest value: 65,535 times `v`.
+//! each number from LOW to below HIGH, which `%` in it stands for, `@` for the longest value, 1,048,576 times `v`, and `^` for
+//! 65,535 times `v`.
 use std::alloc::{AllocError, Allocator, Global};
 
 /// What is given, and what comes of it.
@@ -99,10 +100,21 @@ fn push_numbered<A: Allocator + Copy>(
     whole.push_str(text.as_str())
 }
 
-fn with_values<A: Allocator + Copy>(alloc: A, text: String<A>) -> Result<String<A>, AllocError> {
-    if !text.contains('@') {
+/// The text with so many times `v` in the place of each such mark.
+fn with_value<A: Allocator + Copy>(
+    alloc: A,
+    text: String<A>,
+    mark: char,
+    size: usize,
+) -> Result<String<A>, AllocError> {
+    if !text.contains(mark) {
         return Ok(text);
     }
-    let value = "v".repeat(alloc, 65_535)?;
-    text.replace(alloc, "@", value.as_str())
+    let value = "v".repeat(alloc, size)?;
+    text.replace(alloc, mark, value.as_str())
+}
+
+fn with_values<A: Allocator + Copy>(alloc: A, text: String<A>) -> Result<String<A>, AllocError> {
+    let text = with_value(alloc, text, '@', 1_048_576)?;
+    with_value(alloc, text, '^', 65_535)
 }

@@ -97,7 +97,7 @@ pub record PlansFlush {A : Type 0} (old : CoreState) (job : Option (FlushJob A))
 
 -- The result of a job came: no store moved. It is stale just where it can't be installed, and then
 -- nothing changed; else its batch is gone from the buffers.
-pub record TakesResult {A : Type 0} (old : CoreState) (job : FlushJob A) (told : Installed)
+pub record InstallsFlush {A : Type 0} (old : CoreState) (job : FlushJob A) (told : Installed)
     (new : CoreState) : Type 0 where
   pub keeps : Keeps old new
   pub stale : told ≡ installed.Stale ↔ ¬ (TakesResultOf old job)
@@ -113,5 +113,5 @@ pub record Plans {A : Type 0} (keeps : Bool) (old : BookState) (seat : SeatState
 -- the step of a job's result, with its one entry and receipt
 pub record Installs {A : Type 0} (keeps : Bool) (old : BookState) (seat : SeatState)
     (job : FlushJob A) (told : Installed) (new : BookState) (seat' : SeatState) : Type 0 where
-  pub core : TakesResult old.core job told new.core
+  pub core : InstallsFlush old.core job told new.core
   pub adds : Adds keeps (install_entry seat.number told) old.entries seat new.entries seat'

@@ -56,8 +56,8 @@ RefusesStrangers tenants (Plan has_job) = Unit {0}
 RefusesStrangers tenants (Install told) = Unit {0}
 
 -- the journal leads from empty stores to the core: each tenant was told what its own run over its
--- line tells, and its store is the last of that run; a change of the cache's size and a flush change
--- no store
+-- line tells, and its store is the last of that run; a change of the cache's size and a flush
+-- change no store
 pub record IsLegal (journal : List Entry) (core : CoreState) : Type 0 where
   pub told : (tenant : ℕ) → IsTenant core.entries tenant
       → told_in tenant journal

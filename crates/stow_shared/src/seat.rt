@@ -101,7 +101,7 @@ impl<J: Journal, A: Allocator> Seat<J, A> {
 impl<J: Journal, A: Allocator + Copy> Seat<J, A> {
     ghost use Rattle.stow_core.specs.State.{shared_of, Keeps, Resized};
     ghost use Rattle.stow_state.specs.State.{IsSound};
-    ghost use Rattle.stow_shared.specs.Books.{PlansFlush, TakesResult};
+    ghost use Rattle.stow_shared.specs.Books.{PlansFlush, InstallsFlush};
     ghost use Rattle.stow_shared.specs.Entries.{entry_of, plan_entry, install_entry};
     ghost use Rattle.stow_shared.specs.Seats.{with_receipt};
 
@@ -156,7 +156,7 @@ impl<J: Journal, A: Allocator + Copy> Seat<J, A> {
             ≡ with_receipt true (install_entry self.old.number told) self.old) }
         ensures err { OnErr result (self.new ≡ self.old) }
         ensures back { IfErr result (λ e. e.0 ≡ merge) }
-        ensures core { IfOk result (λ told. TakesResult core.old merge.job told core.new) }
+        ensures core { IfOk result (λ told. InstallsFlush core.old merge.job told core.new) }
         ensures keeps { Keeps core.old core.new }
     {
         if let Err(refused) = self.receipts.reserve(1) {

@@ -6,7 +6,7 @@ use std::alloc::{AllocError, Allocator};
 const ROWS: u32 = 400;
 
 /// How many bytes each value has.
-const SIZE: usize = 1_000;
+const SIZE: usize = 10_000;
 
 /// A request's bytes, and those of its reply.
 #[derive(Drop)]

@@ -25,6 +25,22 @@ pub const QUOTA: u64 = 1_000_000;
 /// The quota of cap.
 pub const SMALL_QUOTA: u64 = 100;
 
+/// One of the three tenants, with a quota that nothing reaches.
+pub const AMPLE: &str = "[[tenant]]
+name = \"ann\"
+salt = \"61\"
+digest = \"ba7816bf8f01cfea414140de5dae2223b00361a396177a9cb410ff61f20015ad\"
+quota = 9223372036854775807
+";
+
+/// One of the three tenants, with a quota of ten million bytes.
+pub const TEN_MILLION: &str = "[[tenant]]
+name = \"ann\"
+salt = \"61\"
+digest = \"ba7816bf8f01cfea414140de5dae2223b00361a396177a9cb410ff61f20015ad\"
+quota = 10000000
+";
+
 /// Another tenant, and then ann, with the entry that she has among the three.
 pub const OTHERS: &str = "[[tenant]]
 name = \"zoe\"

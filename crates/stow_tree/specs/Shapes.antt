@@ -6,7 +6,7 @@ use Rattle.stow_tree.specs.declared.tree_shape.TreeShape.{TreeShape}
 
 -- the sizes of nodes and leaves are within their limits
 pub record AreInRange (nodes : Shape) : Type 0 where
-  pub buffer : (131072 ≤ nodes.buffer) × (nodes.buffer ≤ 4194304)
+  pub buffer : (2097152 ≤ nodes.buffer) × (nodes.buffer ≤ 4194304)
   pub leaf : (4096 ≤ nodes.leaf) × (nodes.leaf ≤ 1048576)
   pub fan_out : (4 ≤ nodes.fan_out) × (nodes.fan_out ≤ 256)
 

@@ -7,7 +7,7 @@ use stow_merge::flush_target::{GREATEST_LEAF_TARGET, LEAST_LEAF_TARGET};
 use stow_node::shape::Shape;
 
 /// The fewest bytes of a node's buffer.
-pub const LEAST_BUFFER: u32 = 131_072;
+pub const LEAST_BUFFER: u32 = 2_097_152;
 /// The most bytes of a node's buffer.
 pub const MOST_BUFFER: u32 = 4_194_304;
 /// The fewest bytes of a page that a leaf is cut by.
@@ -37,7 +37,7 @@ pub struct TreeShape {
 impl TreeShape {
     /// The sizes of a tree where none are named.
     pub const USUAL: TreeShape = TreeShape {
-        buffer: 1_048_576,
+        buffer: LEAST_BUFFER,
         leaf: 65_536,
         fan_out: 16,
         cache: 1024,

@@ -43,7 +43,7 @@ bound_after old new number ms last all puts newer has key n above =
 pub bound_stays : (old new : TreeState) (last : ℕ) → new.root ≡ old.root → HasBound (tree_messages old) (λ t. last) → HasBound (tree_messages new) (λ t. last)
 bound_stays old new last root has = subst (λ ms. HasBound ms (λ t. last)) (sym (same_messages old new root)) has
 
-pub room_stays : (old new : TreeState) → new.root ≡ old.root → 131072 ≤ old.root.shape.buffer → 131072 ≤ new.root.shape.buffer
+pub room_stays : (old new : TreeState) → new.root ≡ old.root → 2097152 ≤ old.root.shape.buffer → 2097152 ≤ new.root.shape.buffer
 room_stays old new root room = let same = ap (λ (r : Subtree). r.shape.buffer) root in omega (arith, same, room)
 
 -- a new tree has no number
@@ -63,7 +63,7 @@ can_add_removal held m last has newer gone = record {
   short = subst (λ (op : Op). IsValue (outcome op (value_in (value held m.key m.number)))) (sym gone) nothing_is_value;
 }
 
-small_removal : (m : TreeMessage) → m.op ≡ Gone → length m.key ≤ 1028 → message_size m ≤ 1045
+small_removal : (m : TreeMessage) → m.op ≡ Gone → length m.key ≤ 1028 → message_size m ≤ 1047
 small_removal m gone key = let none = ap (λ op. length (bytes_in op)) gone in omega (arith, none, key)
 
 pub other_keys : (key other : List ℕ) → same_key key other ≡ false → other ≢ key
@@ -76,7 +76,7 @@ other_keys key other differ e = ⊎_elim
     apart s = cc
 
 -- two keys can be removed with one number above the bound
-pub can_remove_both : (t : TreeState) (m o : TreeMessage) (last : ℕ) → HasBound (tree_messages t) (λ tenant. last) → 131072 ≤ t.root.shape.buffer
+pub can_remove_both : (t : TreeState) (m o : TreeMessage) (last : ℕ) → HasBound (tree_messages t) (λ tenant. last) → 2097152 ≤ t.root.shape.buffer
     → last < m.number → last < o.number → m.op ≡ Gone → o.op ≡ Gone → o.key ≢ m.key → length m.key ≤ 1028 → length o.key ≤ 1028 → CanReserve t (m ∷ o ∷ [])
 can_remove_both t m o last has room newer newer' gone gone' apart short short' = record {
   can = record {

@@ -9,7 +9,7 @@ use stow_merge::pins::Pins;
 use stow_node::node::Node;
 use stow_raw::raw_buf::RawBuf;
 
-/// How many messages the root's buffer holds once so many bytes have room beside one message of 23 bytes.
+/// How many messages the root's buffer holds once so many bytes have room beside one message of 25 bytes.
 fn left_beside<A: Allocator + Copy>(alloc: A, bytes: usize) -> Result<usize, AllocError>
     requires { bytes ≤ 131072 }
 {
@@ -25,8 +25,8 @@ fn left_beside<A: Allocator + Copy>(alloc: A, bytes: usize) -> Result<usize, All
 /// Whether the message moves only where there is no room.
 pub(crate) fn makes_room<A: Allocator + Copy>(alloc: A) -> Result<bool, AllocError> {
     Ok(
-        left_beside(alloc, 131_049)? == 1
-            && left_beside(alloc, 131_050)? == 0
+        left_beside(alloc, 131_047)? == 1
+            && left_beside(alloc, 131_048)? == 0
             && left_beside(alloc, 131_072)? == 0,
     )
 }

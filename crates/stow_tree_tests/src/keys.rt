@@ -9,6 +9,8 @@ use stow_tree_model::tenant_key_buf::TenantKeyBuf;
 #[derive(Drop)]
 pub(crate) struct Keys<A: Allocator> {
     all: Vec<TenantKeyBuf<A>, A>,
+    /// Of each key one that stands behind it and before the next.
+    behind: Vec<TenantKeyBuf<A>, A>,
     /// Of each tenant, of 0 and of the one above them the lowest key.
     lows: Vec<TenantKeyBuf<A>, A>,
     /// Above the keys of all tenants.
@@ -44,12 +46,29 @@ fn all_of<A: Allocator + Copy>(
     Ok(all)
 }
 
+fn behind_of<A: Allocator + Copy>(
+    alloc: A,
+    tenants: u32,
+    letters: &[u8],
+) -> Result<Vec<TenantKeyBuf<A>, A>, AllocError>
+    requires { tenants ≤ 9 }
+{
+    let mut behind = Vec::new(alloc);
+    for tenant in 1..=tenants {
+        for letter in letters {
+            behind.push(TenantKeyBuf::new(alloc, tenant, &[*letter, b'~'])?)?;
+        }
+    }
+    Ok(behind)
+}
+
 impl<A: Allocator + Copy> Keys<A> {
     pub(crate) fn new(alloc: A, tenants: u32, letters: &[u8]) -> Result<Keys<A>, AllocError>
         requires { tenants ≤ 9 }
     {
         Ok(Keys {
             all: all_of(alloc, tenants, letters)?,
+            behind: behind_of(alloc, tenants, letters)?,
             lows: lows_of(alloc, tenants)?,
             beyond: TenantKeyBuf::new(alloc, 65_536, b"a")?,
         })
@@ -63,6 +82,14 @@ impl<A: Allocator + Copy> Keys<A> {
     /// The key at a place. Past the last one that is a key above those of all tenants.
     pub(crate) fn at(&self, place: usize) -> TenantKey<'_> {
         match self.all.get(place) {
+            Some(key) => key.as_key(),
+            None => self.beyond.as_key(),
+        }
+    }
+
+    /// The key behind that at a place, which is none of these.
+    pub(crate) fn behind(&self, place: usize) -> TenantKey<'_> {
+        match self.behind.get(place) {
             Some(key) => key.as_key(),
             None => self.beyond.as_key(),
         }

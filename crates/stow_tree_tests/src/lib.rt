@@ -28,4 +28,6 @@ mod read;
 #[cfg(test)]
 mod refusals;
 #[cfg(test)]
+mod slots;
+#[cfg(test)]
 mod tree;

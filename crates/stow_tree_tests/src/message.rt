@@ -49,40 +49,40 @@ type Row = (Call, bool, [usize; 4]);
 
 /// Calls of buffers of 40 bytes and of none: one message is taken, and neither it nor another then.
 const TIGHT: [Row; 4] = [
-    (Call::PutLeft((0, 1, 1)), true, [1, 23, 0, 0]),
-    (Call::PutLeft((0, 1, 1)), false, [1, 23, 0, 0]),
-    (Call::PutLeft((1, 2, 0)), false, [1, 23, 0, 0]),
-    (Call::PutRight((0, 1, 1)), false, [1, 23, 0, 0]),
+    (Call::PutLeft((0, 1, 1)), true, [1, 25, 0, 0]),
+    (Call::PutLeft((0, 1, 1)), false, [1, 25, 0, 0]),
+    (Call::PutLeft((1, 2, 0)), false, [1, 25, 0, 0]),
+    (Call::PutRight((0, 1, 1)), false, [1, 25, 0, 0]),
 ];
 
 /// Calls of buffers of 200 bytes: four messages of two tenants; a batch that is not all there, one that is and has not the
 /// oldest, and one that has; an interval that moves and is dropped.
 const WORKED: [Row; 25] = [
-    (Call::PutLeft((4, 1, 2)), true, [1, 24, 0, 0]),
-    (Call::PutLeft((1, 3, 3)), true, [2, 49, 0, 0]),
-    (Call::PutLeft((0, 2, 2)), true, [3, 73, 0, 0]),
-    (Call::PutLeft((1, 1, 5)), true, [4, 98, 0, 0]),
-    (Call::Squeeze, true, [4, 98, 0, 0]),
-    (Call::PutBatch((1, 3, 4)), true, [4, 98, 0, 0]),
-    (Call::PutBatch((0, 2, 2)), true, [4, 98, 0, 0]),
-    (Call::Oldest, false, [4, 98, 0, 0]),
-    (Call::Take, false, [4, 98, 0, 0]),
-    (Call::ResetBatch, true, [4, 98, 0, 0]),
-    (Call::PutBatch((1, 3, 3)), true, [4, 98, 0, 0]),
-    (Call::PutBatch((0, 2, 2)), true, [4, 98, 0, 0]),
-    (Call::Oldest, false, [4, 98, 0, 0]),
-    (Call::Take, true, [2, 90, 0, 0]),
-    (Call::PutLeft((1, 3, 3)), true, [3, 115, 0, 0]),
-    (Call::ResetBatch, true, [3, 115, 0, 0]),
-    (Call::PutBatch((1, 1, 5)), true, [3, 115, 0, 0]),
-    (Call::Oldest, true, [3, 115, 0, 0]),
-    (Call::Take, true, [2, 111, 0, 0]),
-    (Call::PutLeft((1, 1, 5)), true, [3, 136, 0, 0]),
-    (Call::MoveRight((1, 4)), true, [1, 128, 2, 50]),
-    (Call::DropRight((1, 4)), true, [1, 128, 0, 42]),
-    (Call::Squeeze, true, [1, 24, 0, 0]),
+    (Call::PutLeft((4, 1, 2)), true, [1, 26, 0, 0]),
+    (Call::PutLeft((1, 3, 3)), true, [2, 53, 0, 0]),
+    (Call::PutLeft((0, 2, 2)), true, [3, 79, 0, 0]),
+    (Call::PutLeft((1, 1, 5)), true, [4, 106, 0, 0]),
+    (Call::Squeeze, true, [4, 106, 0, 0]),
+    (Call::PutBatch((1, 3, 4)), true, [4, 106, 0, 0]),
+    (Call::PutBatch((0, 2, 2)), true, [4, 106, 0, 0]),
+    (Call::Oldest, false, [4, 106, 0, 0]),
+    (Call::Take, false, [4, 106, 0, 0]),
+    (Call::ResetBatch, true, [4, 106, 0, 0]),
+    (Call::PutBatch((1, 3, 3)), true, [4, 106, 0, 0]),
+    (Call::PutBatch((0, 2, 2)), true, [4, 106, 0, 0]),
+    (Call::Oldest, false, [4, 106, 0, 0]),
+    (Call::Take, true, [2, 98, 0, 0]),
+    (Call::PutLeft((1, 3, 3)), true, [3, 125, 0, 0]),
+    (Call::ResetBatch, true, [3, 125, 0, 0]),
+    (Call::PutBatch((1, 1, 5)), true, [3, 125, 0, 0]),
+    (Call::Oldest, true, [3, 125, 0, 0]),
+    (Call::Take, true, [2, 121, 0, 0]),
+    (Call::PutLeft((1, 1, 5)), true, [3, 148, 0, 0]),
+    (Call::MoveRight((1, 4)), true, [1, 140, 2, 54]),
+    (Call::DropRight((1, 4)), true, [1, 140, 0, 46]),
+    (Call::Squeeze, true, [1, 26, 0, 0]),
     (Call::ResetLeft, true, [0, 0, 0, 0]),
-    (Call::PutLeft((2, 9, 3)), true, [1, 25, 0, 0]),
+    (Call::PutLeft((2, 9, 3)), true, [1, 27, 0, 0]),
 ];
 
 /// Puts a message, where it fits and is new. Whether it did.
@@ -210,7 +210,7 @@ impl<A: Allocator + Copy, B: Allocator + Copy> All<A, B> {
         run.len() == 1
             && run.get(0).number == 9
             && run.get(0).op.carried() == b"new".as_slice()
-            && self.left.range_bytes(from, to) == 25
+            && self.left.range_bytes(from, to) == 27
             && self.left.of_key_near(from, 0).len() == 1
     }
 }

@@ -32,7 +32,7 @@ pub(crate) fn smallest() -> Shape
 pub(crate) fn put_a<A: Allocator>(node: &mut Node<A>)
     requires none { messages_of node.old ≡ [] }
     requires low { node.old.low ≡ packed 0 [] }
-    requires room { node.old.buffer.used + 23 ≤ node.old.buffer.capacity }
+    requires room { node.old.buffer.used + 25 ≤ node.old.buffer.capacity }
     ensures some { 0 < length node.new.buffer.messages }
     ensures capacity { node.new.buffer.capacity ≡ node.old.buffer.capacity }
     ensures short { AreShort (messages_of node.new) }

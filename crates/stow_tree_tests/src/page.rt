@@ -4,12 +4,14 @@ use crate::keys::Keys;
 use std::alloc::{AllocError, Allocator};
 use std::test::Fail;
 use stow_page::entry::entry_size;
+use stow_page::format::Format;
 use stow_page::packed_rows::PackedRows;
 use stow_page::page::{Page, pack, unpack};
 use stow_page::rows::{Rows, at};
 use stow_refusing::{Plan, Refusing};
 use stow_tree_model::tenant_key::TenantKey;
 
+mod long;
 mod plain;
 mod random;
 
@@ -28,7 +30,7 @@ const TOMBSTONE: &[u8] =
 /// The number of the fault that bytes from elsewhere have, or 0.
 pub(crate) fn fault_of<A: Allocator + Copy>(alloc: A, bytes: &[u8]) -> Result<u8, AllocError> {
     let bytes = Vec::from_slice(alloc, bytes)?;
-    if bytes.len() >= 65_536 {
+    if bytes.len() >= 16_777_216 {
         return Ok(9);
     }
     let page = Page::from_bytes(alloc, bytes)?;
@@ -44,7 +46,7 @@ pub(crate) fn rows_of<A: Allocator + Copy>(
     bytes: &[u8],
 ) -> Result<Option<Rows<A>>, AllocError> {
     let bytes = Vec::from_slice(alloc, bytes)?;
-    if bytes.len() >= 65_536 {
+    if bytes.len() >= 16_777_216 {
         return Ok(None);
     }
     let page = Page::from_bytes(alloc, bytes)?;
@@ -118,18 +120,19 @@ fn is_read<A: Allocator + Copy>(
 fn have_sizes<A: Allocator>(rows: &Rows<A>, sizes: &[usize]) -> bool {
     let mut same = rows.len() == sizes.len();
     for i in 0..sizes.len() {
-        same = same && i < rows.len() && entry_size(rows.get(i)) == sizes[i];
+        same = same && i < rows.len() && entry_size(Format::One, rows.get(i)) == sizes[i];
     }
     same
 }
 
-/// Whether all worked pages are read; `Err` where memory was refused. The put's entry has 19 bytes, the tombstone's 16.
+/// Whether all worked pages are read, and pages with long values made; `Err` where memory was refused. The put's entry has 19 bytes, the tombstone's 16.
 pub(crate) fn are_read<A: Allocator + Copy>(alloc: A) -> Result<bool, AllocError> {
     Ok(
         is_read(alloc, WORKED, &[19])?
             && is_read(alloc, REMOVED, &[19, 16])?
             && is_read(alloc, TOMBSTONE, &[16])?
-            && is_empty_page(alloc)?,
+            && is_empty_page(alloc)?
+            && long::are_made(alloc)?,
     )
 }
 
@@ -147,8 +150,8 @@ fn fault_of_changed<A: Allocator + Copy>(
     fault_of(alloc, bytes.as_slice())
 }
 
-/// The first byte of the worked page, and the fault that it leads to.
-const FORMATS: [(u8, u8); 5] = [(0, 1), (1, 0), (2, 1), (3, 1), (255, 1)];
+/// The first byte of the worked page, and the fault that it leads to: in format 2 the value's length ends too early.
+const FORMATS: [(u8, u8); 5] = [(0, 1), (1, 0), (2, 2), (3, 1), (255, 1)];
 
 /// Whether pages have the faults of another format, of one that is cut off or goes on, and of an entry that comes twice.
 fn are_faults<A: Allocator + Copy>(alloc: A) -> Result<bool, AllocError> {

@@ -4,6 +4,7 @@ pub(crate) mod calls;
 mod changes;
 mod dropping;
 mod few;
+mod formats;
 mod grown;
 pub(crate) mod installing;
 mod numbered;

@@ -126,6 +126,7 @@ one_more flushes old mid new count b is before once =
       length_is = omega (arith, length-append once.done before.done, whole.1, before.length_is);
     }
 
+-- a wake ended behind a flush that was none, or was refused memory
 pub at_last : {D : Type 0} (flushes : D → Flushing → D → Type 0) (old mid new : D) (count : ℕ) (b : Bool) → count < 16 → b ≡ false → HasGoneOn flushes old count mid → FlushesOnce flushes mid b new → WakesOnce flushes old new
 at_last flushes old mid new count b below is before once =
     record {
@@ -135,6 +136,20 @@ at_last flushes old mid new count b below is before once =
         in_turn = in_turn_after once.done before.done before.on before.in_turn once.is_flush.in_turn;
         most = omega (arith, length-append once.done before.done, once.is_flush.most, before.length_is, below);
         ended = λ on. absurd (goes_on_by once.done before.done on (λ goes. false≢true (sym is ∙ once.is_flush.ended goes)));
+      };
+    }
+
+-- or it ended behind a whole flush
+pub at_few : {D : Type 0} (flushes : D → Flushing → D → Type 0) (old mid new : D) (count : ℕ) (b : Bool) → count < 16 → b ≡ true → HasGoneOn flushes old count mid → FlushesOnce flushes mid b new → WakesOnce flushes old new
+at_few flushes old mid new count b below is before once =
+    let after = one_more flushes old mid new count b is before once in
+    record {
+      done = after.done;
+      led = after.led;
+      is_wake = record {
+        in_turn = after.in_turn;
+        most = omega (arith, after.length_is, below);
+        ended = λ on. omega (arith, after.length_is);
       };
     }
 

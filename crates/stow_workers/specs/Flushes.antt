@@ -31,8 +31,8 @@ HasJob (Planned is_job ∷ earlier) = is_job ≡ true
 HasJob (Came told ∷ earlier) = ⊥
 HasJob (Refused ∷ earlier) = ⊥
 
--- a flush is planned where the wake goes on, and a result comes after its job; memory may be refused
--- to either
+-- a flush is planned where the wake goes on, and a result comes after its job; memory may be
+-- refused to either
 abbrev pub CanFollow : Flushing → List Flushing → Type 0
 CanFollow (Planned is_job) earlier = GoesOn earlier
 CanFollow (Came told) earlier = HasJob earlier
@@ -49,12 +49,12 @@ pub record IsOneFlush (is_on : Bool) (done : List Flushing) : Type 0 where
   pub whole : IsTrue is_on → GoesOn done × (length done ≡ 2)
   pub ended : GoesOn done → IsTrue is_on
 
--- What one wake led to: plan and install in turn, at most 16 times, and no fewer unless there was
--- no job or memory was refused.
+-- What one wake led to: plan and install in turn, once at least unless there was no job or memory
+-- was refused, and at most 16 times.
 pub record IsOneWake (done : List Flushing) : Type 0 where
   pub in_turn : AreInTurn done
   pub most : length done ≤ 32
-  pub ended : GoesOn done → length done ≡ 32
+  pub ended : GoesOn done → 2 ≤ length done
 
 -- a door after one flush, and after one wake
 pub record FlushesOnce {D : Type 0} (flushes : D → Flushing → D → Type 0) (old : D) (is_on : Bool)

@@ -1,4 +1,5 @@
 //! Flushes of a flusher, wake by wake.
+ghost use Rattle.std.specs.Prelude.{is_some};
 ghost use Rattle.stow_workers.specs.Flushes.{FlushesOnce, HasFlushed, WakesOnce};
 
 use crate::gate::Gate;
@@ -11,6 +12,10 @@ use stow_house::flush_door::FlushDoor;
 
 /// The most flushes of one wake.
 const FLUSHES: u32 = 16;
+
+/// The fewest messages of a flush behind which a wake goes on: as many as a worker's requests between two wakes. A flush of
+/// fewer merges a page for little, so what waits is left to grow.
+const MANY: usize = 64;
 
 /// Serves one wake after another, until no more can come.
 pub fn flush_loop<R: Wait, D: FlushDoor<A>, G: Gate, A: Allocator + Copy>(
@@ -27,28 +32,40 @@ pub fn flush_loop<R: Wait, D: FlushDoor<A>, G: Gate, A: Allocator + Copy>(
     }
 }
 
-/// Plans, merges and installs up to 16 flushes, one after the other, until there is none or memory is refused.
+/// Plans, merges and installs up to 16 flushes, one after the other, until there is none, memory is refused or a flush was of
+/// few messages.
 pub fn serve_wake<D: FlushDoor<A>, G: Gate, A: Allocator + Copy>(alloc: A, door: &mut D, gate: &G)
     ensures { WakesOnce D.flushes door.old door.new }
 {
     for _ in 0..FLUSHES {
-        if !flush(alloc, door, gate) {
+        let Some(messages) = flush(alloc, door, gate) else {
+            return;
+        };
+        if messages < MANY {
             return;
         }
     }
 }
 
-/// Plans, merges and installs one flush. `false` where there is none, or memory is refused. A result that is stale
-/// is dropped. The gate is passed before the merge.
-fn flush<D: FlushDoor<A>, G: Gate, A: Allocator + Copy>(alloc: A, door: &mut D, gate: &G) -> bool
-    ensures { FlushesOnce D.flushes door.old result door.new }
+/// Plans, merges and installs one flush, and tells of how many messages it was. `None` where there is none, or memory is
+/// refused. A result that is stale is dropped. The gate is passed before the merge.
+fn flush<D: FlushDoor<A>, G: Gate, A: Allocator + Copy>(
+    alloc: A,
+    door: &mut D,
+    gate: &G,
+) -> Option<usize>
+    ensures { FlushesOnce D.flushes door.old (is_some result) door.new }
 {
     let Ok(Some(job)) = door.plan(alloc) else {
-        return false;
+        return None;
     };
+    let messages = job.batch.len();
     gate.pass(Place::BeforeMerge);
     let Ok(merge) = job.merge(alloc) else {
-        return false;
+        return None;
     };
-    door.install(alloc, &mut Some(merge)).is_ok()
+    match door.install(alloc, &mut Some(merge)) {
+        Ok(_) => Some(messages),
+        Err(_) => None,
+    }
 }

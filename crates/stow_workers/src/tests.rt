@@ -153,7 +153,7 @@ fn connections_end(rt: HostRuntime) -> Result<(), Fail> {
         ("AUTH ann bc\nPING", Served::Ended, "+OK\r\n"),
         ("AUTH ann bc\nQUIT\nPING\n", Served::Quit, "+OK\r\n+OK\r\n"),
         (
-            "AUTH ann bc\nPING\n*1\r\n$65536\r\nPING\n",
+            "AUTH ann bc\nPING\n*1\r\n$1048577\r\nPING\n",
             broken,
             "+OK\r\n+PONG\r\n-ERR Protocol error: invalid bulk length\r\n",
         ),

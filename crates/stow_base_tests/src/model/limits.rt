@@ -31,20 +31,20 @@ fn is_long_read<A: Allocator + Copy>(
     is_read(alloc, bytes.as_slice(), want.as_slice())
 }
 
-/// An array of 1,024 words; a word of 65,535 bytes, without its end and with it; and lines of 65,536 bytes, a CR before the
-/// LF counted among them.
+/// An array of 1,024 words; a word of 1,048,576 bytes, without its end and with it; and lines of 65,536 bytes, a CR before
+/// the LF counted among them.
 const READ: [(Long, Long); 9] = [
     (
         (b"*1024\r\n", b"$0\r\n\r\n", 1024, b""),
         (b"", b"[]", 1024, b" 0 more"),
     ),
     (
-        (b"*1\r\n$65535\r\n", b"x", 65_535, b""),
-        (b" 65547 more", b"", 0, b""),
+        (b"*1\r\n$1048576\r\n", b"x", 1_048_576, b""),
+        (b" 1048590 more", b"", 0, b""),
     ),
     (
-        (b"*1\r\n$65535\r\n", b"x", 65_535, b"\r\n"),
-        (b"[", b"x", 65_535, b"] 0 more"),
+        (b"*1\r\n$1048576\r\n", b"x", 1_048_576, b"\r\n"),
+        (b"[", b"x", 1_048_576, b"] 0 more"),
     ),
     (
         (b"", b"x", 65_536, b"\n"),

@@ -65,7 +65,7 @@ pub(crate) fn is_read<A: Allocator + Copy>(
 /// before the LF and elsewhere; and lines among arrays.
 const STREAMS: [(&[u8], &[u8]); 36] = [
     (b"", b" 0 more"),
-    (b"*1024\r\n$65535\r\n", b" 15 more"),
+    (b"*1024\r\n$1048576\r\n", b" 17 more"),
     (
         b"*3\r\n$4\r\nAUTH\r\n$3\r\nann\r\n$2\r\nbc\r\n*3\r\n$3\r\nSET\r\n$1\r\nk\r\n$2\r\nv1\r\n*2\r\n$3\r\nGET\r\n$1\r\nk\r\n",
         b"[AUTH][ann][bc][SET][k][v1][GET][k] 0 more",
@@ -75,8 +75,8 @@ const STREAMS: [(&[u8], &[u8]); 36] = [
         b"[PING] 20 more",
     ),
     (
-        b"*1\r\n$4\r\nPING\r\n*1\r\n$65536\r\n*1\r\n$4\r\nPING\r\n",
-        b"[PING] 26 invalid bulk length",
+        b"*1\r\n$4\r\nPING\r\n*1\r\n$1048577\r\n*1\r\n$4\r\nPING\r\n",
+        b"[PING] 28 invalid bulk length",
     ),
     (b"*0\r\n*-1\r\n*1\r\n$0\r\n\r\n", b"BB[] 0 more"),
     (b"*1\r\n$4\r\n\r\n\r\n\r\n*0\r\n", b"[\r\n\r\n]B 0 more"),
@@ -134,7 +134,7 @@ fn streams(rt: HostRuntime) -> Result<(), Fail> {
 }
 
 /// Bytes that can become no message, with their fault.
-const HOSTILE: [(&[u8], StreamFault); 26] = [
+const HOSTILE: [(&[u8], StreamFault); 28] = [
     (b"*\r", StreamFault::InvalidArrayLength),
     (b"*+", StreamFault::InvalidArrayLength),
     (b"* ", StreamFault::InvalidArrayLength),
@@ -156,7 +156,9 @@ const HOSTILE: [(&[u8], StreamFault); 26] = [
     (b"*1\r\n$-", StreamFault::InvalidBulkLength),
     (b"*1\r\n$\r", StreamFault::InvalidBulkLength),
     (b"*1\r\n$05", StreamFault::InvalidBulkLength),
-    (b"*1\r\n$65536", StreamFault::InvalidBulkLength),
+    (b"*1\r\n$1048577", StreamFault::InvalidBulkLength),
+    (b"*1\r\n$2000000", StreamFault::InvalidBulkLength),
+    (b"*1\r\n$10485760", StreamFault::InvalidBulkLength),
     (b"*1\r\n$3\rX", StreamFault::InvalidBulkLength),
     (b"*1\r\n$1\r\nab", StreamFault::BulkNotEnded),
     (b"*1\r\n$0\r\n\n", StreamFault::BulkNotEnded),

@@ -286,10 +286,10 @@ const VALUE: &str = "ERR value is too long";
 /// Keys, values and deletions at their limits and one above, and which refusal comes first: options, then number
 /// arguments, then keys, then values.
 pub const LONG: [LongRequest; 19] = [
-    (b"SET", &[1024, 65535], 0, "OK"),
+    (b"SET", &[1024, 1_048_576], 0, "OK"),
     (b"SET", &[0, 0], 0, "OK"),
-    (b"SET", &[1025, 65536], 0, KEY),
-    (b"SET", &[1024, 65536], 0, VALUE),
+    (b"SET", &[1025, 1_048_577], 0, KEY),
+    (b"SET", &[1024, 1_048_577], 0, VALUE),
     (b"GET", &[1025], 0, KEY),
     (b"GET", &[1025, 1], 0, "ERR wrong number of arguments"),
     (b"DEL", &[1, 1025], 0, KEY),
@@ -298,11 +298,18 @@ pub const LONG: [LongRequest; 19] = [
     (b"MGET", &[1, 1025], 0, KEY),
     (b"EXISTS", &[], 65, ":0"),
     (b"STRLEN", &[1024], 0, ":0"),
-    (b"APPEND", &[1, 65535], 0, ":65535"),
-    (b"APPEND", &[1, 65536], 0, VALUE),
-    (b"APPEND", &[1025, 65536], 0, KEY),
-    (b"SET", &[1025, 65536, 3], 0, "ERR syntax error"),
+    (b"APPEND", &[1, 1_048_576], 0, ":1048576"),
+    (b"APPEND", &[1, 1_048_577], 0, VALUE),
+    (b"APPEND", &[1025, 1_048_577], 0, KEY),
+    (b"SET", &[1025, 1_048_577, 3], 0, "ERR syntax error"),
     (b"INCRBY", &[1025, 1], 0, USED),
     (b"RANGE", &[1025, 1, 1], 0, USED),
     (b"INCR", &[1025], 0, KEY),
+];
+
+/// A request that sets `x`, and what is told where a byte is then appended.
+pub const GROWN: [(LongRequest, &str); 3] = [
+    ((b"SET", &[1, 65_535], 0, "OK"), ":65536"),
+    ((b"SET", &[1, 1_048_575], 0, "OK"), ":1048576"),
+    ((b"SET", &[1, 1_048_576], 0, "OK"), VALUE),
 ];

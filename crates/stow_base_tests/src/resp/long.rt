@@ -66,10 +66,10 @@ fn are_most_words<A: Allocator + Copy>(alloc: A) -> Result<bool, AllocError> {
     is_told_late(alloc, bytes.as_slice(), 1000, want.as_slice())
 }
 
-/// Whether a word of 65,535 bytes is given.
+/// Whether a word of 1,048,576 bytes is given.
 fn is_longest_word<A: Allocator + Copy>(alloc: A) -> Result<bool, AllocError> {
-    let bytes = long_bytes(alloc, b"*1\r\n$65535\r\n", (b"x", 65_535), b"\r\n")?;
-    let want = long_bytes(alloc, b"M[", (b"x", 65_535), b"].")?;
+    let bytes = long_bytes(alloc, b"*1\r\n$1048576\r\n", (b"x", 1_048_576), b"\r\n")?;
+    let want = long_bytes(alloc, b"M[", (b"x", 1_048_576), b"].")?;
     is_told_late(alloc, bytes.as_slice(), 1000, want.as_slice())
 }
 

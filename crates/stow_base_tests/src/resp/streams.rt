@@ -7,7 +7,7 @@ const WORKED: &[u8] =
     b"*3\r\n$4\r\nAUTH\r\n$3\r\nann\r\n$2\r\nbc\r\n*3\r\n$3\r\nSET\r\n$1\r\nk\r\n$2\r\nv1\r\n*2\r\n$3\r\nGET\r\n$1\r\nk\r\n";
 
 /// Streams, and what is told of each. All messages come before the fault.
-const TOLD: [(&[u8], &[u8]); 15] = [
+const TOLD: [(&[u8], &[u8]); 16] = [
     (WORKED, b"M[AUTH][ann][bc]M[SET][k][v1]M[GET][k]."),
     (
         b"*0\r\n*1\r\n$4\r\nPING\r\n*-1\r\n*1\r\nX",
@@ -23,6 +23,7 @@ const TOLD: [(&[u8], &[u8]); 15] = [
     (b"a\rb\n", b"M[a\rb]."),
     (b"$5\r\n+OK\n", b"M[$5]M[+OK]."),
     (b"$5", b"."),
+    (b"*1\r\n$1048576\r\nab", b"."),
     (b"\n\n\r", b"BB."),
     (
         b"*1\r\n$4\r\nPING\r\nPING\r\nECHO m\n*1\r\n$4\r\nQUIT\r\n\n*",
@@ -48,7 +49,7 @@ const SIZE: &[u8] = b"invalid bulk length";
 const END: &[u8] = b"bulk not ended by CRLF";
 
 /// Beginnings that can become no message, with the fault that their last byte makes.
-const FAULTY: [(&[u8], &[u8]); 14] = [
+const FAULTY: [(&[u8], &[u8]); 16] = [
     (b"*-2", LENGTH),
     (b"*01", LENGTH),
     (b"*+", LENGTH),
@@ -60,7 +61,9 @@ const FAULTY: [(&[u8], &[u8]); 14] = [
     (b"*1\r\nX", BULK),
     (b"*1\r\n$-", SIZE),
     (b"*1\r\n$05", SIZE),
-    (b"*1\r\n$65536", SIZE),
+    (b"*1\r\n$1048577", SIZE),
+    (b"*1\r\n$2000000", SIZE),
+    (b"*1\r\n$10485760", SIZE),
     (b"*1\r\n$1\r\naX", END),
     (b"*1\r\n$1\r\na\rX", END),
 ];

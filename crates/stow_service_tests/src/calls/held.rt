@@ -118,7 +118,7 @@ fn holds_no_more<A: Allocator + Copy>(
 
 #[test]
 fn rounds_hold_no_more_than_the_first(rt: HostRuntime) -> Result<(), Fail> {
-    let heap = LocalHeap::new(rt.alloc(), 4_194_304)?;
+    let heap = LocalHeap::new(rt.alloc(), 33_554_432)?;
     assert!(rt; holds_no_more(&heap, (&heap, rt.alloc()))?);
     Ok(())
 }

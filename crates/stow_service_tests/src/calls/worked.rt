@@ -1,5 +1,5 @@
 //! Each tenant's own keys, the longest value, many suffixes to a long one, and the last key beside other tenants' first.
-use crate::making::new_core;
+use crate::making::{core_of, new_core};
 use crate::text::is_told;
 use std::alloc::{AllocError, Allocator, Global};
 use std::test::Fail;
@@ -7,7 +7,9 @@ use stow_core::Core;
 use stow_model::reply::Reply;
 use stow_testing::lines::{repeated, words_of};
 use stow_testing::replies::is_text;
+use stow_testing::tenants::AMPLE;
 use stow_tree::shape_report::ShapeReport;
+use stow_tree::tree_shape::TreeShape;
 
 /// What a tenant is told to a line.
 pub(crate) type Told = (u32, &'static str, &'static str);
@@ -89,17 +91,17 @@ fn set_long<A: Allocator + Copy>(
 
 /// Whether a core takes a value at its limit, and not one byte more.
 fn keeps_limit<A: Allocator + Copy>(core: &mut Core<A>, alloc: A) -> Result<bool, AllocError> {
-    let reply = set_long(core, alloc, 65_535)?;
+    let reply = set_long(core, alloc, 1_048_576)?;
     Ok(
         is_text(alloc, &reply, "OK")?
             && is_told(core, alloc, 1, "APPEND v x", "ERR value is too long")?
-            && is_told(core, alloc, 1, "STRLEN v", ":65535")?,
+            && is_told(core, alloc, 1, "STRLEN v", ":1048576")?,
     )
 }
 
 /// Whether a new core does.
 fn has_limit<A: Allocator + Copy>(alloc: A, global: Global) -> Result<bool, AllocError> {
-    let mut core = new_core(alloc, global)?;
+    let mut core = core_of(alloc, global, AMPLE, TreeShape::SMALLEST)?;
     keeps_limit(&mut core, alloc)
 }
 

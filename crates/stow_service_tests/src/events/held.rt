@@ -63,7 +63,7 @@ fn holds_no_more<A: Allocator + Copy>(
 
 #[test]
 fn a_second_round_holds_no_more(rt: HostRuntime) -> Result<(), Fail> {
-    let heap = LocalHeap::new(rt.alloc(), 4_194_304)?;
+    let heap = LocalHeap::new(rt.alloc(), 33_554_432)?;
     let acts = random_acts(rt.alloc(), ACTS)?;
     assert!(rt; holds_no_more(&heap, (&heap, rt.alloc()), acts.as_slice())?);
     Ok(())

@@ -168,8 +168,8 @@ pub(crate) fn withstands<A: Allocator + Copy, B: Allocator>(
 const FITTING: [(usize, u64, Op<'static>, bool, bool); 4] = [
     (1, 2, Op::Gone, true, true),
     (1, 1, Op::Gone, false, true),
-    (65_535, 2, Op::Append(b""), true, true),
-    (65_535, 2, Op::Append(b"y"), false, false),
+    (1_048_576, 2, Op::Append(b""), true, true),
+    (1_048_576, 2, Op::Append(b"y"), false, false),
 ];
 
 /// Whether values are short once a leaf and a batch are merged.

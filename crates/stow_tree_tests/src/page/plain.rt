@@ -42,7 +42,21 @@ fn number_in(bytes: &[u8]) -> u64 {
 /// An entry's key and number.
 pub type Place<'a> = (&'a [u8], u64);
 
-fn entry<'a>(cursor: &mut Cursor<'a>) -> Result<Place<'a>, u8> {
+/// In how many bytes a page tells the length of a value, and how many bytes a value has at most.
+type Lengths = (usize, u64);
+
+/// How many bytes the value has that stands next, and is read.
+fn value(cursor: &mut Cursor<'_>, (width, most): Lengths) -> Result<u64, u8> {
+    let length = number_in(cursor.take(width).ok_or(2u8)?);
+    if length > most {
+        return Err(4);
+    }
+    cursor.take((length % 4_294_967_296) as usize).ok_or(2u8)?;
+    Ok(length)
+}
+
+/// An entry's key and number, and whether its value is longer than two bytes can tell.
+fn entry<'a>(cursor: &mut Cursor<'a>, lengths: Lengths) -> Result<(Place<'a>, bool), u8> {
     let length = number_in(cursor.take(2).ok_or(2u8)?);
     if length < 4 || length > 1028 {
         return Err(4);
@@ -58,15 +72,28 @@ fn entry<'a>(cursor: &mut Cursor<'a>) -> Result<Place<'a>, u8> {
     if number == 0 || number > 9_223_372_036_854_775_807 {
         return Err(4);
     }
-    match number_in(cursor.take(1).ok_or(2u8)?) {
-        0 => {
-            let length = number_in(cursor.take(2).ok_or(2u8)?);
-            cursor.take((length % 65_536) as usize).ok_or(2u8)?;
-        }
-        1 => {}
+    let is_long = match number_in(cursor.take(1).ok_or(2u8)?) {
+        0 => value(cursor, lengths)? > 65_535,
+        1 => false,
         _ => return Err(4),
+    };
+    Ok(((key, number), is_long))
+}
+
+/// Reads the number of entries and as many, which rise. Whether one of them has a long value.
+fn entries(cursor: &mut Cursor<'_>, lengths: Lengths) -> Result<bool, u8> {
+    let count = number_in(cursor.take(4).ok_or(2u8)?);
+    let mut has_long = false;
+    let mut last: Place = (b"", 0);
+    for _ in 0..count {
+        let ((key, number), is_long) = entry(cursor, lengths)?;
+        if key < last.0 || (key == last.0 && number <= last.1) {
+            return Err(3);
+        }
+        last = (key, number);
+        has_long = has_long || is_long;
     }
-    Ok((key, number))
+    Ok(has_long)
 }
 
 /// The number of the first fault in reading order, or 0.
@@ -79,17 +106,15 @@ pub fn first_fault(bytes: &[u8]) -> u8 {
 
 fn read(bytes: &[u8]) -> Result<(), u8> {
     let mut cursor = Cursor::new(bytes);
-    if number_in(cursor.take(1).ok_or(2u8)?) != 1 {
-        return Err(1);
-    }
-    let count = number_in(cursor.take(4).ok_or(2u8)?);
-    let mut last: Place = (b"", 0);
-    for _ in 0..count {
-        let (key, number) = entry(&mut cursor)?;
-        if key < last.0 || (key == last.0 && number <= last.1) {
-            return Err(3);
+    match number_in(cursor.take(1).ok_or(2u8)?) {
+        1 => entries(&mut cursor, (2, 65_535))?,
+        2 => {
+            if !entries(&mut cursor, (4, 1_048_576))? {
+                return Err(4);
+            }
+            true
         }
-        last = (key, number);
-    }
+        _ => return Err(1),
+    };
     if cursor.is_at_end() { Ok(()) } else { Err(4) }
 }

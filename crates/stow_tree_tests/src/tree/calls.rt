@@ -47,7 +47,7 @@ pub(crate) fn is_made<A: Allocator + Copy>(alloc: A) -> Result<bool, AllocError>
 /// Sizes of which one is below the least, or above the most.
 const OUT_OF_RANGE: [TreeShape; 7] = [
     TreeShape {
-        buffer: 131_071,
+        buffer: 2_097_151,
         ..SMALLEST
     },
     TreeShape {
@@ -120,7 +120,8 @@ enum Call {
 pub(crate) const COURSE: Course = Course {
     shape: SMALLEST,
     letters: b"abc",
-    longest: 60_000,
+    longest: 960_000,
+    filler: 0,
     number: 1,
 };
 

@@ -7,7 +7,7 @@ use stow_refusing::Refusing;
 use stow_tree::shape_report::ShapeReport;
 use stow_tree::tree_shape::TreeShape;
 
-/// Writes most keys and removes them, so many times, as pins come and go; all jobs are installed each time, where they are to
+/// Removes most keys and fills buffers, so many times, as pins come and go; all jobs are installed each time, where they are to
 /// be. How large the tree is then, if it tells what the list does.
 fn shrink<A: Allocator + Copy>(
     alloc: A,
@@ -28,81 +28,101 @@ fn shrink<A: Allocator + Copy>(
     })
 }
 
-/// How large a tree is after 3,000 random changes, and after 40 and 80 rounds of writes and removals.
+/// How a tree shrinks.
 #[derive(Clone, Copy)]
+struct Shrinking {
+    fan_out: u32,
+    /// How often most keys are removed.
+    rounds: u32,
+    /// Whether all jobs are installed each time.
+    drains: bool,
+}
+
+/// How large a tree is after 1,250 random changes, and then, where no pin is left of these, after its rounds of removals.
+#[derive(Clone, Copy, Debug)]
 struct Reports {
     grown: ShapeReport,
-    middle: ShapeReport,
     last: ShapeReport,
 }
 
 /// How large it is, if it tells what the plain list does.
 fn reports_of<A: Allocator + Copy>(
     alloc: A,
-    (fan_out, drains): (u32, bool),
+    shrinking: Shrinking,
 ) -> Result<Option<Reports>, AllocError> {
     let course = Course {
         shape: TreeShape {
-            fan_out,
+            fan_out: shrinking.fan_out,
             ..SMALLEST
         },
         letters: FORTY,
         longest: 4_000,
+        filler: 240_000,
         number: 7,
     };
     let mut run = Run::new(alloc, course)?;
-    if !run.go_on(alloc, 3_000)? {
+    if !run.go_on(alloc, 1_250)? {
         return Ok(None);
     }
     let grown = run.tree.tree.shape();
-    let (Some(middle), Some(last)) = (
-        shrink(alloc, &mut run, (40, drains))?,
-        shrink(alloc, &mut run, (40, drains))?,
-    ) else {
-        return Ok(None);
-    };
-    Ok(Some(Reports {
-        grown,
-        middle,
-        last,
-    }))
+    run.unpin();
+    Ok(
+        match shrink(alloc, &mut run, (shrinking.rounds, shrinking.drains))? {
+            Some(last) => Some(Reports { grown, last }),
+            None => None,
+        },
+    )
 }
 
-/// Whether the leaves of a tree of three levels become few again.
-fn are_few(reports: Reports) -> bool {
-    let (grown, last) = (reports.grown, reports.last);
-    grown.height == 3 && last.height == 3 && grown.leaves >= 60 && last.leaves <= 30
-}
-
-/// Whether leaves become fewer twice.
-fn are_fewer(reports: Reports) -> bool {
-    let (grown, middle, last) = (reports.grown, reports.middle, reports.last);
-    grown.height >= 3 && middle.leaves < grown.leaves && last.leaves < middle.leaves
-}
-
-/// Whether a tree's leaves become few. Nodes are not joined, so at a fan-out of 4 they become fewer and not few.
-fn become_few<A: Allocator + Copy>(alloc: A) -> Result<bool, AllocError> {
-    let (Some(wide), Some(narrow)) = (
-        reports_of(alloc, (8, false))?,
-        reports_of(alloc, (4, false))?,
-    ) else {
-        return Ok(false);
-    };
-    Ok(are_few(wide) && are_fewer(narrow))
-}
-
-/// Whether they become few where all jobs are installed.
-fn become_few_in_jobs<A: Allocator + Copy>(alloc: A) -> Result<bool, AllocError> {
-    Ok(match reports_of(alloc, (8, true))? {
-        Some(reports) => are_few(reports) && reports.last.buffered == 0,
+/// Whether a tree of three levels at least keeps its levels, and no more than one of so many leaves.
+fn shrinks(reports: Option<Reports>, part: u64) -> bool {
+    match reports {
+        Some(Reports { grown, last }) => {
+            grown.height >= 3
+                && last.height == grown.height
+                && grown.leaves >= 50
+                && last.leaves <= grown.leaves / part.max(1)
+        }
         None => false,
-    })
+    }
 }
 
 #[test]
 fn leaves_become_few_again(rt: HostRuntime) -> Result<(), Fail> {
     let heap = Refusing::new(rt.alloc());
-    assert!(rt; become_few(&heap)?);
-    assert!(rt; become_few_in_jobs(&heap)?);
+    let shrinking = Shrinking {
+        fan_out: 8,
+        rounds: 40,
+        drains: false,
+    };
+    let reports = reports_of(&heap, shrinking)?;
+    assert!(rt; shrinks(reports, 2), "{reports:?}");
+    Ok(())
+}
+
+#[test]
+fn leaves_become_few_where_all_jobs_are_installed(rt: HostRuntime) -> Result<(), Fail> {
+    let heap = Refusing::new(rt.alloc());
+    let shrinking = Shrinking {
+        fan_out: 8,
+        rounds: 4,
+        drains: true,
+    };
+    let reports = reports_of(&heap, shrinking)?;
+    assert!(rt; shrinks(reports, 3), "{reports:?}");
+    Ok(())
+}
+
+// Nodes are not joined, so at a fan-out of 4 the leaves become fewer and not few.
+#[test]
+fn leaves_become_fewer_under_many_nodes(rt: HostRuntime) -> Result<(), Fail> {
+    let heap = Refusing::new(rt.alloc());
+    let shrinking = Shrinking {
+        fan_out: 4,
+        rounds: 4,
+        drains: true,
+    };
+    let reports = reports_of(&heap, shrinking)?;
+    assert!(rt; shrinks(reports, 2), "{reports:?}");
     Ok(())
 }

@@ -222,12 +222,10 @@ const SPREAD: u32 = 303;
 /// A tree that holds a message of each key in its root, of which each takes a page of its own.
 fn to_spread<A: Allocator + Copy>(alloc: A) -> Result<Run<A>, AllocError> {
     let course = Course {
-        shape: TreeShape {
-            buffer: 2_097_152,
-            ..SMALLEST
-        },
+        shape: SMALLEST,
         letters: LETTERS,
         longest: 4_000,
+        filler: 0,
         number: 9,
     };
     let mut run = Run::new(alloc, course)?;

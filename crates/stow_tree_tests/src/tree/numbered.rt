@@ -34,7 +34,7 @@ pub(crate) struct Numbered<A: Allocator + Copy> {
     pub(crate) tree: Tree<A>,
     pub(crate) last: u64,
     pub(crate) ghost below: { HasBound (tree_messages tree) (λ _. last) },
-    pub(crate) ghost room: { 131072 ≤ tree.root.shape.buffer },
+    pub(crate) ghost room: { 2097152 ≤ tree.root.shape.buffer },
 }
 
 impl<A: Allocator + Copy> Numbered<A> {
@@ -118,6 +118,36 @@ impl<A: Allocator + Copy> Numbered<A> {
         pins: &Pins<A>,
     ) -> Result<Option<FlushJob<A>>, AllocError> {
         self.tree.plan(alloc, pins)
+    }
+
+    /// A job's result, if a buffer holds a message.
+    pub(crate) fn merged(
+        &mut self,
+        alloc: A,
+        pins: &Pins<A>,
+    ) -> Result<Option<FlushResult<A>>, AllocError> {
+        match self.plan(alloc, pins)? {
+            None => Ok(None),
+            Some(job) => match job.merge(alloc) {
+                Ok(merge) => Ok(Some(merge)),
+                Err((_, refused)) => Err(refused),
+            },
+        }
+    }
+
+    /// Plans and installs until no buffer holds a message. Whether it comes to that, and all are installed.
+    pub(crate) fn drain(&mut self, alloc: A, pins: &Pins<A>) -> Result<bool, AllocError> {
+        for _ in 0..10_000u32 {
+            let Some(merge) = self.merged(alloc, pins)? else {
+                return Ok(true);
+            };
+            match self.install(alloc, merge, pins) {
+                Ok(Installed::Done) => {}
+                Ok(Installed::Stale) => return Ok(false),
+                Err((_, refused)) => return Err(refused),
+            }
+        }
+        Ok(false)
     }
 
     /// The tree's `install`.

@@ -9,11 +9,18 @@ use stow_refusing::{Plan, Refusing};
 use stow_tree::shape_report::ShapeReport;
 use stow_tree_model::tenant_key_buf::TenantKeyBuf;
 
-/// Forty keys of each tenant, whose values soon fill nodes.
+/// Three keys of each tenant, whose values all fit into the root's buffer.
+const NARROW: Course = Course {
+    longest: 60_000,
+    ..COURSE
+};
+
+/// Forty keys of each tenant, whose changes soon fill nodes.
 const WIDE: Course = Course {
     shape: SMALLEST,
     letters: FORTY,
     longest: 8_000,
+    filler: 480_000,
     number: 3,
 };
 
@@ -123,7 +130,7 @@ pub(crate) fn withstands<A: Allocator + Copy, B: Allocator>(
     n: u64,
 ) -> Result<Option<bool>, AllocError> {
     heap.set(Plan::Grant);
-    let mut run = Run::new(alloc, COURSE)?;
+    let mut run = Run::new(alloc, NARROW)?;
     if !run.go_on(alloc, 20)? {
         return Ok(Some(false));
     }
@@ -140,7 +147,7 @@ pub(crate) fn withstands<A: Allocator + Copy, B: Allocator>(
 #[test]
 fn jobs_are_planned(rt: HostRuntime) -> Result<(), Fail> {
     let heap = Refusing::new(rt.alloc());
-    assert_eq!(rt; turns(&heap, COURSE, &SMALL)?, SMALL.len());
+    assert_eq!(rt; turns(&heap, NARROW, &SMALL)?, SMALL.len());
     assert_eq!(rt; turns(&heap, WIDE, &GROWING)?, GROWING.len());
     Ok(())
 }

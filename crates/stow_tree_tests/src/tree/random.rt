@@ -10,15 +10,9 @@ use stow_tree::tree_shape::TreeShape;
 /// How large the tree is after so many changes, if it tells what the plain list does.
 fn grown<A: Allocator + Copy>(
     alloc: A,
-    (shape, longest): (TreeShape, u16),
+    course: Course,
     count: u32,
 ) -> Result<Option<ShapeReport>, AllocError> {
-    let course = Course {
-        shape,
-        letters: FORTY,
-        longest,
-        number: 7,
-    };
     let mut run = Run::new(alloc, course)?;
     let agrees = run.go_on(alloc, count)?;
     Ok(if agrees {
@@ -28,19 +22,43 @@ fn grown<A: Allocator + Copy>(
     })
 }
 
+/// Short values in a small tree, which holds so many leaves.
+fn short(cache: u32) -> Course {
+    Course {
+        shape: TreeShape { cache, ..SMALLEST },
+        letters: FORTY,
+        longest: 4_000,
+        filler: 240_000,
+        number: 7,
+    }
+}
+
+/// Long values in a tree of this shape.
+fn long(shape: TreeShape) -> Course {
+    Course {
+        shape,
+        letters: b"abcdefgh",
+        longest: 300_000,
+        filler: 0,
+        number: 7,
+    }
+}
+
 /// Whether a small tree, which holds so many leaves, grows and tells what the list does.
 fn is_small_told<A: Allocator + Copy>(alloc: A, cache: u32) -> Result<bool, AllocError> {
-    let shape = TreeShape { cache, ..SMALLEST };
-    Ok(match grown(alloc, (shape, 4_000), 2_000)? {
+    Ok(match grown(alloc, short(cache), 1_000)? {
         Some(report) => report.height >= 3,
         None => false,
     })
 }
 
-/// Whether a large tree grows and tells what the list does.
-fn is_large_told<A: Allocator + Copy>(alloc: A) -> Result<bool, AllocError> {
-    Ok(match grown(alloc, (LARGEST, 30_000), 1_500)? {
-        Some(report) => report.leaves >= 2,
+/// Whether a tree of long values grows to so many leaves at least, and tells what the list does.
+fn is_long_told<A: Allocator + Copy>(
+    alloc: A,
+    (shape, leaves): (TreeShape, u64),
+) -> Result<bool, AllocError> {
+    Ok(match grown(alloc, long(shape), 200)? {
+        Some(report) => report.leaves >= leaves,
         None => false,
     })
 }
@@ -51,6 +69,7 @@ fn a_tree_tells_what_a_list_does(rt: HostRuntime) -> Result<(), Fail> {
     assert!(rt; is_small_told(&heap, 0)?);
     assert!(rt; is_small_told(&heap, 1)?);
     assert!(rt; is_small_told(&heap, 1_000)?);
-    assert!(rt; is_large_told(&heap)?);
+    assert!(rt; is_long_told(&heap, (SMALLEST, 12))?);
+    assert!(rt; is_long_told(&heap, (LARGEST, 2))?);
     Ok(())
 }

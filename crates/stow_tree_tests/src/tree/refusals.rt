@@ -1,12 +1,14 @@
 //! Each call with each of its requests for memory refused in turn.
 use crate::keys::Keys;
 use crate::tree::calls::SMALLEST;
+use crate::tree::changes::Change;
 use crate::tree::numbered::Numbered;
 use crate::tree::run::{Course, Read, Run};
 use std::alloc::{AllocError, Allocator};
 use std::test::Fail;
 use stow_merge::pins::Pins;
 use stow_refusing::{Plan, Refusing};
+use stow_tree::shape_report::ShapeReport;
 use stow_tree::tree_shape::TreeShape;
 use stow_tree_model::op::Op;
 
@@ -30,88 +32,126 @@ fn putting_asks_for_no_memory(rt: HostRuntime) -> Result<(), Fail> {
     Ok(())
 }
 
+/// How long a value is that only fills buffers.
+const FILLER: u32 = 480_000;
+
 /// A tree after so many random changes.
-fn after<A: Allocator + Copy>(alloc: A, cache: u32, steps: u32) -> Result<Run<A>, AllocError> {
+fn after<A: Allocator + Copy>(alloc: A, cache: u32, turns: u32) -> Result<Run<A>, AllocError> {
     let course = Course {
         shape: TreeShape { cache, ..SMALLEST },
         letters: b"abcdefgh",
         longest: 8_000,
+        filler: FILLER,
         number: 11,
     };
     let mut run = Run::new(alloc, course)?;
-    for _ in 0..steps {
-        let change = run.draw();
-        run.put(alloc, change)?;
+    for turn in 0..turns {
+        run.take_turn(alloc, turn)?;
         run.move_pins()?;
     }
     Ok(run)
 }
 
-/// How many requests the put after so many random changes makes.
-fn asked_after<A: Allocator + Copy, B: Allocator>(
-    heap: &Refusing<B>,
-    alloc: A,
-    steps: u32,
-) -> Result<u64, AllocError> {
-    heap.set(Plan::Grant);
-    let mut run = after(alloc, 0, steps)?;
-    let change = run.draw();
-    heap.set(Plan::Grant);
-    run.put(alloc, change)?;
-    Ok(heap.asked())
+/// What is put: a change, or what fills buffers behind the key at a place.
+#[derive(Clone, Copy)]
+enum Step {
+    Change(Change),
+    Filler(usize),
 }
 
-/// Whether a put whose nth request is refused is refused, changes nothing that is told, and then succeeds.
-fn withstands_put<A: Allocator + Copy, B: Allocator>(
-    heap: &Refusing<B>,
+fn take_step<A: Allocator + Copy>(
     alloc: A,
-    (steps, n): (u32, u64),
-) -> Result<bool, AllocError> {
-    heap.set(Plan::Grant);
-    let mut run = after(alloc, 0, steps)?;
-    let change = run.draw();
-    heap.set(Plan::RefuseAt(n));
-    let is_refused = run.put(alloc, change).is_err();
-    heap.set(Plan::Grant);
-    let stands = run.agrees(alloc)?;
-    run.put(alloc, change)?;
-    Ok(is_refused && stands && run.agrees(alloc)?)
+    run: &mut Run<A>,
+    what: Step,
+) -> Result<(), AllocError> {
+    match what {
+        Step::Change(change) => run.put(alloc, change),
+        Step::Filler(place) => run.put_filler(alloc, (place, FILLER)),
+    }
 }
 
-/// How many requests the put after so many changes makes, if it withstands that each is refused; else which it doesn't.
+/// Puts it with its first request refused, then with its second, and so on, until it makes fewer, and from the first again
+/// where a refused put changed how large the tree is. How many requests it makes at most, if all but the last are refused and
+/// change nothing that is told; else which request it doesn't withstand.
 fn put_refusals<A: Allocator + Copy, B: Allocator>(
     heap: &Refusing<B>,
     alloc: A,
-    steps: u32,
+    run: &mut Run<A>,
+    what: Step,
 ) -> Result<Result<u64, u64>, AllocError> {
-    let asked = asked_after(heap, alloc, steps)?;
-    for n in 0..asked {
-        if !withstands_put(heap, alloc, (steps, n))? {
+    let (mut n, mut most) = (0u64, 0u64);
+    for _ in 0..5_000u32 {
+        let before: ShapeReport = run.tree.tree.shape();
+        heap.set(Plan::RefuseAt(n));
+        let is_refused = take_step(alloc, run, what).is_err();
+        let is_over = heap.asked() <= n;
+        heap.set(Plan::Grant);
+        if is_over && !is_refused {
+            return Ok(Ok(most));
+        }
+        if is_over || !is_refused || !run.agrees(alloc)? {
             return Ok(Err(n));
         }
+        n = if run.tree.tree.shape() == before {
+            n.saturating_add(1)
+        } else {
+            0
+        };
+        most = most.max(n);
     }
-    Ok(Ok(asked))
+    Ok(Err(n))
 }
 
-/// The most requests that one of many puts makes, and how many flush, if all withstand that each is refused; else which put
-/// and which request.
+/// Puts the random change of a turn, and before some of them what fills buffers, with each request refused in turn. How many
+/// requests they make at most, if they withstand that; else which they don't withstand.
+fn turn_refusals<A: Allocator + Copy, B: Allocator>(
+    heap: &Refusing<B>,
+    alloc: A,
+    run: &mut Run<A>,
+    turn: u32,
+) -> Result<Result<u64, u64>, AllocError> {
+    let mut most = 0u64;
+    if turn % 4 == 0 {
+        let place = run.place();
+        most = match put_refusals(heap, alloc, run, Step::Filler(place))? {
+            Ok(asked) => asked,
+            Err(n) => return Ok(Err(n)),
+        };
+        run.remove_filler(alloc, place)?;
+    }
+    let change = run.draw();
+    match put_refusals(heap, alloc, run, Step::Change(change))? {
+        Ok(asked) => most = most.max(asked),
+        Err(n) => return Ok(Err(n)),
+    }
+    Ok(if run.agrees(alloc)? {
+        Ok(most)
+    } else {
+        Err(most)
+    })
+}
+
+/// The most requests that one of many puts makes, and how many flush, if all withstand that each is refused; else which turn's
+/// doesn't, and which request.
 fn all_put_refusals<A: Allocator + Copy, B: Allocator>(
     heap: &Refusing<B>,
     alloc: A,
 ) -> Result<Result<(u64, u32), (u32, u64)>, AllocError> {
+    let mut run = after(alloc, 0, 20)?;
     let (mut most, mut flushes) = (0, 0u32);
-    for steps in 20..240 {
-        let asked = match put_refusals(heap, alloc, steps)? {
+    for turn in 20..120 {
+        let asked = match turn_refusals(heap, alloc, &mut run, turn)? {
             Ok(asked) => asked,
-            Err(n) => return Ok(Err((steps, n))),
+            Err(n) => return Ok(Err((turn, n))),
         };
         most = asked.max(most);
         flushes = flushes.saturating_add(u32::from(asked >= 5));
+        run.move_pins()?;
     }
     Ok(Ok((most, flushes)))
 }
 
-// Two of these changes flush at least, and one of them makes a hundred requests or more.
+// Two of these turns flush at least, and one of them makes a hundred requests or more.
 #[test]
 fn reserving_withstands_each_refusal(rt: HostRuntime) -> Result<(), Fail> {
     let heap = Refusing::new(rt.alloc());
@@ -123,15 +163,16 @@ fn reserving_withstands_each_refusal(rt: HostRuntime) -> Result<(), Fail> {
     Ok(())
 }
 
-/// Whether a read whose nth request is refused is refused, or holds no leaf where that was asked for; and changes nothing that
-/// is told, and then succeeds. `None` where it makes fewer.
+/// Whether a read whose nth request is refused, where no leaf is held, is refused, or holds no leaf where that was asked for;
+/// and changes nothing that is told, and then succeeds. `None` where it makes fewer.
 fn withstands_read<A: Allocator + Copy, B: Allocator>(
     heap: &Refusing<B>,
     alloc: A,
+    run: &mut Run<A>,
     (read, cache, n): (Read, u32, u64),
 ) -> Result<Option<bool>, AllocError> {
-    heap.set(Plan::Grant);
-    let mut run = after(alloc, cache, 60)?;
+    run.tree.resize(0)?;
+    run.tree.resize(cache as usize)?;
     heap.set(Plan::RefuseAt(n));
     let is_refused = run.read(alloc, read).is_err();
     let is_over = heap.asked() <= n;
@@ -150,8 +191,10 @@ fn read_refusals<A: Allocator + Copy, B: Allocator>(
     alloc: A,
     (read, cache): (Read, u32),
 ) -> Result<Result<u64, u64>, AllocError> {
+    heap.set(Plan::Grant);
+    let mut run = after(alloc, cache, 60)?;
     for n in 0..1_000u64 {
-        match withstands_read(heap, alloc, (read, cache, n))? {
+        match withstands_read(heap, alloc, &mut run, (read, cache, n))? {
             None => return Ok(Ok(n)),
             Some(is_right) if is_right => {}
             Some(_) => return Ok(Err(n)),

@@ -13,6 +13,7 @@ use stow_node::installed::Installed;
 use stow_read::row::Row;
 use stow_testing::random::Random;
 use stow_tree::tree_shape::TreeShape;
+use stow_tree_model::op::Op;
 use stow_tree_model::plain::value_of_key;
 use stow_tree_model::tenant_key_buf::TenantKeyBuf;
 use stow_tree_model::version_buf::VersionBuf;
@@ -22,8 +23,11 @@ const TENANTS: u32 = 3;
 /// How many places there are at which what a change carries may begin.
 const PLACES: u32 = 1_000;
 
-/// How long a short value is.
-const SHORT: u32 = 1_000;
+/// How long a value is that fills buffers as a key is removed.
+const SHORT: u32 = 16_000;
+
+/// Before every so many random changes comes a value that only fills buffers.
+const STRIDE: u32 = 8;
 
 /// What a run is of.
 #[derive(Clone, Copy)]
@@ -32,7 +36,9 @@ pub(crate) struct Course {
     /// The keys that each tenant has.
     pub(crate) letters: &'static [u8],
     /// Random values are shorter than this.
-    pub(crate) longest: u16,
+    pub(crate) longest: u32,
+    /// How long the values are that only fill buffers, or 0 where there are none.
+    pub(crate) filler: u32,
     /// The number of its source of random numbers.
     pub(crate) number: u64,
 }
@@ -50,6 +56,7 @@ pub(crate) struct Run<A: Allocator + Copy> {
     changes: Vec<Change, A>,
     random: Random,
     longest: u32,
+    filler: u32,
 }
 
 /// A read of a tree.
@@ -60,15 +67,19 @@ pub(crate) enum Read {
     Range,
 }
 
-/// Random bytes.
+/// So many bytes at least: twice as many random ones as there are places, again and again.
 fn random_bytes<A: Allocator + Copy>(
     alloc: A,
     random: &mut Random,
     count: u32,
 ) -> Result<Vec<u8, A>, AllocError> {
+    let mut block = Vec::new(alloc);
+    for _ in 0..2 * PLACES {
+        block.push(random.below(256) as u8)?;
+    }
     let mut bytes = Vec::new(alloc);
-    for _ in 0..count {
-        bytes.push(random.below(256) as u8)?;
+    for _ in 0..=count / (2 * PLACES) {
+        bytes.extend_from_slice(block.as_slice())?;
     }
     Ok(bytes)
 }
@@ -107,20 +118,21 @@ impl<A: Allocator + Copy> Run<A> {
     /// No changes yet.
     pub(crate) fn new(alloc: A, course: Course) -> Result<Run<A>, AllocError> {
         let mut random = Random::new(course.number);
-        let longest = u32::from(course.longest);
+        let longest = course.longest.max(course.filler).max(SHORT);
         Ok(Run {
             tree: Numbered::new(alloc, course.shape)?,
             keys: Keys::new(alloc, TENANTS, course.letters)?,
-            bytes: random_bytes(alloc, &mut random, PLACES + longest)?,
+            bytes: random_bytes(alloc, &mut random, PLACES.saturating_add(longest))?,
             pins: Pins::new(alloc),
             changes: Vec::new(alloc),
             random,
-            longest,
+            longest: course.longest,
+            filler: course.filler,
         })
     }
 
     /// The place of a random key.
-    fn place(&mut self) -> usize {
+    pub(crate) fn place(&mut self) -> usize {
         let count = self.keys.len();
         if count == 0 || count > 1_000 {
             return 0;
@@ -179,6 +191,39 @@ impl<A: Allocator + Copy> Run<A> {
         )
     }
 
+    /// Fills buffers with a value of so many bytes, under the key behind that at a place. No one looks at this key, so the list
+    /// doesn't have it.
+    pub(crate) fn put_filler(
+        &mut self,
+        alloc: A,
+        (place, len): (usize, u32),
+    ) -> Result<(), AllocError> {
+        let key = self.keys.behind(place);
+        let filler = &self.bytes[..self.bytes.len().min(len as usize)];
+        self.tree.put(alloc, key, Op::Put(filler), &self.pins)
+    }
+
+    /// Removes what fills buffers under the key behind that at a place.
+    pub(crate) fn remove_filler(&mut self, alloc: A, place: usize) -> Result<(), AllocError> {
+        let key = self.keys.behind(place);
+        self.tree.put(alloc, key, Op::Gone, &self.pins)
+    }
+
+    fn fill(&mut self, alloc: A, (place, len): (usize, u32)) -> Result<(), AllocError> {
+        self.put_filler(alloc, (place, len))?;
+        self.remove_filler(alloc, place)
+    }
+
+    /// Puts the random change of a turn. Before some of them comes a value that only fills buffers, if there are such.
+    pub(crate) fn take_turn(&mut self, alloc: A, turn: u32) -> Result<(), AllocError> {
+        if self.filler > 0 && turn % STRIDE == 0 {
+            let place = self.place();
+            self.fill(alloc, (place, self.filler))?;
+        }
+        let change = self.draw();
+        self.put(alloc, change)
+    }
+
     /// Removes two keys with one number.
     pub(crate) fn remove_both(
         &mut self,
@@ -200,11 +245,11 @@ impl<A: Allocator + Copy> Run<A> {
         Ok(())
     }
 
-    /// Gives each key but every twentieth a short value, and then removes it.
+    /// Removes each key but every twentieth, and fills buffers.
     pub(crate) fn remove_most(&mut self, alloc: A) -> Result<(), AllocError> {
         for place in 0..self.keys.len() {
             if place % 20 != 0 {
-                self.change(alloc, (Kind::Put, place, SHORT))?;
+                self.fill(alloc, (place, SHORT))?;
                 self.change(alloc, (Kind::Gone, place, 0))?;
             }
         }
@@ -225,22 +270,28 @@ impl<A: Allocator + Copy> Run<A> {
         if self.random.below(2) == 0 {
             return self.pin(tenant);
         }
+        self.unpin_first(tenant);
+        Ok(())
+    }
+
+    /// Removes a tenant's first pin, if it has one.
+    fn unpin_first(&mut self, tenant: u32) {
         if let Some(pin) = self.pins.of(tenant).first() {
             let pin = *pin;
             self.pins.remove(tenant, pin);
         }
-        Ok(())
+    }
+
+    /// Removes all pins, of which a tenant has four at most.
+    pub(crate) fn unpin(&mut self) {
+        for turn in 0..4 * TENANTS {
+            self.unpin_first(1 + turn % TENANTS);
+        }
     }
 
     /// A job's result, if a buffer holds a message.
     pub(crate) fn merged(&mut self, alloc: A) -> Result<Option<FlushResult<A>>, AllocError> {
-        match self.tree.plan(alloc, &self.pins)? {
-            None => Ok(None),
-            Some(job) => match job.merge(alloc) {
-                Ok(merge) => Ok(Some(merge)),
-                Err((_, refused)) => Err(refused),
-            },
-        }
+        self.tree.merged(alloc, &self.pins)
     }
 
     /// Installs a result, which comes back where memory is refused.
@@ -266,15 +317,7 @@ impl<A: Allocator + Copy> Run<A> {
 
     /// Plans and installs until no buffer holds a message. Whether it comes to that, and all are installed.
     pub(crate) fn drain(&mut self, alloc: A) -> Result<bool, AllocError> {
-        for _ in 0..10_000u32 {
-            let Some(merge) = self.merged(alloc)? else {
-                return Ok(true);
-            };
-            if self.installed(alloc, merge)? == Installed::Stale {
-                return Ok(false);
-            }
-        }
-        Ok(false)
+        self.tree.drain(alloc, &self.pins)
     }
 
     /// Reads the key that was last appended to, or the rows below it.
@@ -444,9 +487,8 @@ impl<A: Allocator + Copy> Run<A> {
             if self.random.below(20) == 0 {
                 self.move_pins()?;
             }
-            let change = self.draw();
-            self.put(alloc, change)?;
-            if turn % 100 == 99 && !self.agrees(alloc)? {
+            self.take_turn(alloc, turn)?;
+            if turn % 500 == 499 && !self.agrees(alloc)? {
                 return Ok(false);
             }
         }

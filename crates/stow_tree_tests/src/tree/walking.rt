@@ -12,10 +12,10 @@ use stow_refusing::{Plan, Refusing};
 /// What is done to three keys, with how many bytes, and whether all of it is pinned then. The root's buffer can't hold all
 /// values up to the pin; behind it the second key is removed, and there is more of the third.
 const CHANGES: [(Kind, usize, u32, bool); 6] = [
-    (Kind::Put, 0, 60_000, false),
-    (Kind::Put, 1, 60_000, false),
+    (Kind::Put, 0, 960_000, false),
+    (Kind::Put, 1, 960_000, false),
     (Kind::Append, 0, 1, false),
-    (Kind::Put, 2, 60_000, true),
+    (Kind::Put, 2, 960_000, true),
     (Kind::Gone, 1, 0, false),
     (Kind::Append, 2, 1, false),
 ];
@@ -37,12 +37,12 @@ type Told = (usize, u64, u32, Option<u64>);
 
 /// What is told at the pin, and at the end.
 const AT_PIN: [Told; 3] = [
-    (0, 3, 60_001, None),
-    (1, 2, 60_000, Some(5)),
-    (2, 4, 60_000, Some(6)),
+    (0, 3, 960_001, None),
+    (1, 2, 960_000, Some(5)),
+    (2, 4, 960_000, Some(6)),
 ];
 
-const AT_END: [Told; 2] = [(0, 3, 60_001, None), (2, 6, 60_001, None)];
+const AT_END: [Told; 2] = [(0, 3, 960_001, None), (2, 6, 960_001, None)];
 
 /// A walk from a key on, or after it, of so many keys; then of which of those that may be told it tells, from one on and
 /// before another. At `LOWEST` stands the lowest key.

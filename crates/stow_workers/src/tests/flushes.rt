@@ -59,14 +59,17 @@ impl FlushDoor<Global> for Waiting {
     }
 }
 
-// How many jobs there are, to which plan and install memory is refused, and how many of both there are.
-const WAKES: [(usize, (usize, usize), (usize, usize)); 6] = [
-    (0, (0, 0), (1, 0)),
-    (3, (0, 0), (4, 3)),
-    (16, (0, 0), (16, 16)),
-    (1_000, (0, 0), (16, 16)),
-    (1_000, (3, 0), (3, 2)),
-    (1_000, (0, 3), (3, 3)),
+// How many changes of a row wait, how many jobs there are, to which plan and install memory is refused, and how many of both there are.
+// Behind a job of few changes a wake ends.
+const WAKES: [(usize, usize, (usize, usize), (usize, usize)); 8] = [
+    (64, 0, (0, 0), (1, 0)),
+    (64, 3, (0, 0), (4, 3)),
+    (64, 16, (0, 0), (16, 16)),
+    (64, 1_000, (0, 0), (16, 16)),
+    (64, 1_000, (3, 0), (3, 2)),
+    (64, 1_000, (0, 3), (3, 3)),
+    (63, 1_000, (0, 0), (1, 1)),
+    (1, 1_000, (0, 0), (1, 1)),
 ];
 
 /// How many plans and installs one wake makes, where there are so many jobs, and memory is refused to this plan and install.
@@ -87,19 +90,21 @@ fn woken(
     (door.plans, door.installs)
 }
 
-/// A core in which a row waits in a buffer.
-fn with_row(alloc: Global) -> Result<Core<Global>, AllocError> {
+/// A core in which one row waits in a buffer, and so many changes of it.
+fn with_row(alloc: Global, changes: usize) -> Result<Core<Global>, AllocError> {
     let mut service = Service::new(alloc, alloc)?;
     let words = words_of(alloc, "SET k v")?;
-    let _told = service.core.call(alloc, 1, &words);
+    for _ in 0..changes {
+        let _told = service.core.call(alloc, 1, &words);
+    }
     Ok(service.core)
 }
 
 #[test]
 fn a_wake_ends(rt: HostRuntime) -> Result<(), Fail> {
-    for (jobs, refused, want) in WAKES {
-        let found = woken(rt.alloc(), with_row(rt.alloc())?, jobs, refused);
-        assert!(rt; found == want, "{jobs} jobs: {found:?}");
+    for (changes, jobs, refused, want) in WAKES {
+        let found = woken(rt.alloc(), with_row(rt.alloc(), changes)?, jobs, refused);
+        assert!(rt; found == want, "{changes} changes, {jobs} jobs: {found:?}");
     }
     Ok(())
 }

@@ -353,7 +353,7 @@ fn broken_clients<R: Net<Stream = TcpStream>>(
     breaks_off(rt, address, b"AUTH ann bc\n*3\r\n$3\r\nSET\r\n$1\r\nk")?;
     let fault = "-ERR Protocol error: invalid bulk length\r\n";
     let unread = "x".repeat(alloc, 200_000)?;
-    let line = format!(in alloc; "*1\r\n$65536\r\n{unread}")?;
+    let line = format!(in alloc; "*1\r\n$1048577\r\n{unread}")?;
     let mut is_right = ends_with(rt, address, alloc, line.as_str(), fault)?;
     let value = "v".repeat(alloc, 60_000)?;
     let mut many = format!(in alloc; "{ANN}SET k {value}\n")?;

@@ -3,6 +3,7 @@ use Rattle.std.specs.List.{AllByRecursion}
 use Rattle.stow_merge.specs.Cuts.{size_between, ArePages}
 use Rattle.stow_merge.specs.Pages.{ArePagesOf}
 use Rattle.stow_merge.specs.Writing.{versions_in, keys_in, AreRuns, AreSizes, AreFewAndShort, CanPack, pages_at, at_least_one_page}
+use Rattle.stow_page.specs.Format.{format_of}
 use Rattle.stow_merge.proofs.PageLemmas.{AreWritten}
 use Rattle.stow_merge.proofs.PagedLemmas.{AreKeys, are_keys, are_short, are_written, can_write, one_page_of, pages_of, if_ok}
 use Rattle.stow_merge.proofs.merging.paged.Goals as goal
@@ -20,7 +21,8 @@ write_pages-requires g c =
     let all = keys_in survey c.in_ok-keys.keys.items in
     let keys : AreKeys (versions_in survey survey.kept.items) all =
     are_keys survey survey.kept.items c.in_ok-keys.keys.items c.requires.rise (subst (λ ks. AreRuns ks (map (λ key. key.now) c.in_ok-keys.keys.items)) c.as_slice.ensures.value c.in_ok-keys.ensures) in
-    let sizes : AreSizes all c.in_ok-sizes.sizes.items = subst (λ ks. AreSizes (keys_in survey ks) c.in_ok-sizes.sizes.items) c.as_slice-2.ensures.value c.in_ok-sizes.ensures in
+    let sizes : AreSizes (format_of (versions_in survey survey.kept.items)) all c.in_ok-sizes.sizes.items =
+    subst (λ f. AreSizes f all c.in_ok-sizes.sizes.items) c.format_of-format.ensures (subst (λ ks. AreSizes c.format_of-format.result (keys_in survey ks) c.in_ok-sizes.sizes.items) c.as_slice-2.ensures.value c.in_ok-sizes.ensures) in
     let cuts : ArePages c.in_ok-sizes.sizes.items c.saturating_sub.result 0 c.in_ok-ends.ends.items (length c.in_ok-sizes.sizes.items) =
     subst (λ ss. ArePages ss c.saturating_sub.result 0 c.in_ok-ends.ends.items (length ss)) c.as_slice-3.ensures.value c.in_ok-ends.ensures.pages in
     let done : AreWritten c.args.target all 0 (pages_at all 0 c.in_ok-ends.ends.items) = are_written _ _ _ _ _ _ c.ranges.target.fits c.saturating_sub.ensures keys sizes cuts in
@@ -34,7 +36,8 @@ returns g c =
     let ends = c.in_ok-ends.ends.items in
     let keys : AreKeys (versions_in survey survey.kept.items) all =
     are_keys survey survey.kept.items c.in_ok-keys.keys.items c.requires.rise (subst (λ ks. AreRuns ks (map (λ key. key.now) c.in_ok-keys.keys.items)) c.as_slice.ensures.value c.in_ok-keys.ensures) in
-    let sizes : AreSizes all c.in_ok-sizes.sizes.items = subst (λ ks. AreSizes (keys_in survey ks) c.in_ok-sizes.sizes.items) c.as_slice-2.ensures.value c.in_ok-sizes.ensures in
+    let sizes : AreSizes (format_of (versions_in survey survey.kept.items)) all c.in_ok-sizes.sizes.items =
+    subst (λ f. AreSizes f all c.in_ok-sizes.sizes.items) c.format_of-format.ensures (subst (λ ks. AreSizes c.format_of-format.result (keys_in survey ks) c.in_ok-sizes.sizes.items) c.as_slice-2.ensures.value c.in_ok-sizes.ensures) in
     let cuts : ArePages c.in_ok-sizes.sizes.items c.saturating_sub.result 0 ends (length c.in_ok-sizes.sizes.items) =
     subst (λ ss. ArePages ss c.saturating_sub.result 0 ends (length ss)) c.as_slice-3.ensures.value c.in_ok-ends.ensures.pages in
     let done : AreWritten c.args.target all 0 (pages_at all 0 ends) = are_written _ _ _ _ _ _ c.ranges.target.fits c.saturating_sub.ensures keys sizes cuts in

@@ -8,7 +8,7 @@ bytes-requires g c = let front = c.args.raw.now.front in let at = c.args.at in l
 
 pub read_key_len-len-requires : goal.read_key_len-len-requires
 read_key_len-len-requires g c = let front = c.args.raw.now.front in let at = c.args.at in let b = c.requires.begins in
-    omega (arith, room front at b, ap length c.bytes.ensures, length-take 13 (drop at front), length-drop at front)
+    omega (arith, room front at b, ap length c.bytes.ensures, length-take 15 (drop at front), length-drop at front)
 
 pub overflow_add-at : goal.overflow_add-at
 overflow_add-at g c = let front = c.args.raw.now.front in let at = c.args.at in let b = c.requires.begins in
@@ -20,5 +20,5 @@ bytes-requires-2 g c = let front = c.args.raw.now.front in let at = c.args.at in
 
 pub returns : goal.returns
 returns g c = let front = c.args.raw.now.front in let at = c.args.at in let b = c.requires.begins in
-    c.bytes-2.ensures ∙ key_is front at b (at + 13) c.read_key_len-len.result refl (c.read_key_len-len.ensures ∙ key_len_is front at b c.bytes.result.now c.bytes.ensures)
+    c.bytes-2.ensures ∙ key_is front at b (at + 15) c.read_key_len-len.result refl (c.read_key_len-len.ensures ∙ key_len_is front at b c.bytes.result.now c.bytes.ensures)
     ∙ sym (ap (λ (m : TreeMessage). m.key) (read_is front at b))

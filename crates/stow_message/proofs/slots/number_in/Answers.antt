@@ -8,7 +8,7 @@ bytes-requires g c = let front = c.args.raw.now.front in let at = c.args.at in l
 
 pub read_number-requires : goal.read_number-requires
 read_number-requires g c = let front = c.args.raw.now.front in let at = c.args.at in let b = c.requires.begins in
-    omega (arith, room front at b, ap length c.bytes.ensures, length-take 13 (drop at front), length-drop at front)
+    omega (arith, room front at b, ap length c.bytes.ensures, length-take 15 (drop at front), length-drop at front)
 
 pub returns : goal.returns
 returns g c = let front = c.args.raw.now.front in let at = c.args.at in let b = c.requires.begins in

@@ -1,6 +1,14 @@
-use Rattle.std.proofs.Common.{◌≡◌, ◌+◌, ◌≤◌, ◌++◌, length, refl, ap, ◌∙◌, arith}
+use Rattle.std.proofs.Common.{◌≡◌, ◌+◌, ◌≤◌, ◌++◌, length, take, drop, length-append, length-take, refl, ap, ◌∙◌, arith}
 use Rattle.stow_node.proofs.Came.{coming_first, coming_next}
 use Rattle.stow_node.proofs.coming.put_behind.Goals as goal
+
+pub unwrap-requires : goal.unwrap-requires
+unwrap-requires g c = c.append.ensures.succeeds (omega (arith, c.requires.places, ap length c.requires.empty, c.args.wide.ok.0))
+
+pub insert-requires : goal.insert-requires
+insert-requires g c =
+    let w = c.loop-child.invariant.0 in let cs = c.args.children.now.items in let k = c.args.index + 1 in
+    omega (arith, ap length w.is, length-append (take k cs) (w.done ++ drop k cs), length-append w.done (drop k cs), length-take k cs, c.requires.inside, c.args.children.now.ok.0, c.loop-child.wide.ok.0)
 
 pub loop-child-init : goal.loop-child-init
 loop-child-init g c =

@@ -5,8 +5,8 @@ use Rattle.stow_page.proofs.entry.append_value.Goals as goal
 pub returns-in_err-extend_from_slice-clause-err : goal.returns-in_err-extend_from_slice-clause-err
 returns-in_err-extend_from_slice-clause-err g c = grind (arith, common_steps)
 
-pub returns-in_err-extend_from_slice-2-clause-err : goal.returns-in_err-extend_from_slice-2-clause-err
-returns-in_err-extend_from_slice-2-clause-err g c = grind (arith, common_steps)
+pub returns-in_err-append_length-clause-err : goal.returns-in_err-append_length-clause-err
+returns-in_err-append_length-clause-err g c = grind (arith, common_steps)
 
 pub returns-clause-ok : goal.returns-clause-ok
 returns-clause-ok g c = grind (arith, common_steps)

@@ -5,6 +5,6 @@ use Rattle.stow_page.proofs.entry.entry_size.Goals as goal
 
 pub returns-clause-size : goal.returns-clause-size
 returns-clause-size c =
-    let here = length-entry (version_of c.args.version) in
+    let here = length-entry c.args.format (version_of c.args.version) in
     let tail = c.tail_size.ensures.size in
     omega arith

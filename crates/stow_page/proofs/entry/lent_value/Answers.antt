@@ -1,6 +1,7 @@
-use Rattle.std.proofs.Common.{arith}
-use Rattle.std.proofs.lemmas.Grind.{common_steps}
+use Rattle.stow_page.proofs.Entries.{put_at}
 use Rattle.stow_page.proofs.entry.lent_value.Goals as goal
 
-pub slice_bounds-result-end : goal.slice_bounds-result-end
-slice_bounds-result-end c = grind (arith, common_steps)
+pub lent_put-requires : goal.lent_put-requires
+lent_put-requires c =
+    let put = put_at c.args.format c.args.bytes.now c.in_ok-kind.after.now c.in_ok-kind.kind.now c.requires c.in_ok-kind.ensures.cases.0 c.if-kind-ne0.false in
+    record { width = put.width; whole = put.whole }

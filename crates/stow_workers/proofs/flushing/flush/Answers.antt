@@ -1,4 +1,5 @@
-use Rattle.std.proofs.Common.{Ok, ap, ◌∙◌, rules}
+use Rattle.std.proofs.Common.{Ok, Err, ap, sym, ◌∙◌, rules}
+use Rattle.std.specs.Result.{is_ok}
 use Rattle.stow_workers.proofs.Flushed.{unplanned, unmerged, merged}
 use Rattle.stow_workers.proofs.flushing.flush.Goals as goal
 
@@ -11,5 +12,8 @@ returns-in_default-2 g c = unplanned _ _ _ _ c.plan.ensures (λ job at. search r
 pub returns-in_default-merge : goal.returns-in_default-merge
 returns-in_default-merge g c = unmerged _ _ _ _ c.in-Ok-Some.job (c.in-Ok-Some.is ∙ ap Ok c.in-Ok-Some.field-0-is) c.plan.ensures
 
+pub returns-in-Ok-install : goal.returns-in-Ok-install
+returns-in-Ok-install g c = merged _ _ _ _ _ c.in-Ok-Some.job _ _ (c.in-Ok-Some.is ∙ ap Ok c.in-Ok-Some.field-0-is) c.plan.ensures c.install.ensures.installs (sym (ap is_ok c.in-Ok-install.is))
+
 pub returns : goal.returns
-returns g c = merged _ _ _ _ _ c.in-Ok-Some.job _ _ (c.in-Ok-Some.is ∙ ap Ok c.in-Ok-Some.field-0-is) c.plan.ensures c.install.ensures.installs c.is_ok.ensures.value
+returns g c = merged _ _ _ _ _ c.in-Ok-Some.job _ _ (c.in-Ok-Some.is ∙ ap Ok c.in-Ok-Some.field-0-is) c.plan.ensures c.install.ensures.installs (sym (ap is_ok c.in-Err.is))

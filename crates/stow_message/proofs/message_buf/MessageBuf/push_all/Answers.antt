@@ -7,7 +7,7 @@ use Rattle.stow_message.specs.MessageBuf.{MessageList, messages_in}
 use Rattle.stow_message.proofs.Covered.{covered, covers_more, covers_all_placed}
 use Rattle.stow_message.proofs.Squeezed.{all_sizes}
 use Rattle.stow_message.proofs.Merged.{Filling, filling, filled_here, here_small, old_within, place_here, slots_now, front_small, end_within, next, now_filled, now_seen}
-use Rattle.stow_message.proofs.Moved.{length-moved}
+use Rattle.stow_slots.proofs.Moved.{length-moved}
 use Rattle.stow_message.proofs.message_buf.MessageBuf.push_all.Goals as goal
 
 pub append_all-requires : goal.append_all-requires
@@ -46,15 +46,11 @@ pub search_from-end-requires-clause-filled : goal.search_from-end-requires-claus
 search_from-end-requires-clause-filled g c = let l = c.loop-new in let v = c.args.self.now in let run = c.args.run.now in
     filled_here v run c.requires.room c.requires.valid l.self-inside.raw l.new l.old (l.old + l.new - length run) l.at l.invariant.filling
 
-pub move_slots-requires-clause-within : goal.move_slots-requires-clause-within
-move_slots-requires-clause-within g c = let l = c.loop-new in let v = c.args.self.now in let run = c.args.run.now in
+pub move_slots-requires : goal.move_slots-requires
+move_slots-requires g c = let l = c.loop-new in let v = c.args.self.now in let run = c.args.run.now in
     let lt : l.new < length run = omega (arith, c.loop-new-test.true, c.len-count.ensures) in let end = c.search_from-end.result in
     let ends = end_within v run c.requires.room c.requires.valid l.self-inside.raw l.new l.old (l.old + l.new - length run) l.at l.invariant.filling lt (message_of c.get-message.result) c.get-message.ensures end c.search_from-end.ensures in
     (omega arith, omega (arith, ends.0, ends.1))
-
-pub move_slots-requires-clause-small : goal.move_slots-requires-clause-small
-move_slots-requires-clause-small g c = let l = c.loop-new in let v = c.args.self.now in let run = c.args.run.now in let k = l.old + l.new - length run in let w = l.invariant.filling in
-    omega (arith, front_small v run c.requires.room c.requires.valid l.self-inside.raw l.new l.old k l.at w, slots_now v run c.requires.room c.requires.valid l.self-inside.raw l.new l.old k l.at w)
 
 pub set_slot-requires : goal.set_slot-requires
 set_slot-requires g c = let l = c.loop-new in let v = c.args.self.now in let run = c.args.run.now in let k = l.old + l.new - length run in let w = l.invariant.filling in
@@ -87,7 +83,7 @@ loop-new-preserved g c =
     let counts = place_here v run c.requires.room c.requires.valid l.self-inside.raw l.new l.old k l.at w in
     record {
       filling = next v run c.requires.room c.requires.valid l.self-inside.raw l.new l.old k l.at w lt m c.get-message.ensures end c.search_from-end.ensures _ _ (omega (arith, counts, c.len-count.ensures, lt)) refl
-          c.move_slots.new.raw c.move_slots.ensures _ (omega (arith, counts, c.len-count.ensures, lt)) c.set_slot.new.self c.set_slot.ensures _ (omega (arith, c.size.ensures)) _ (omega (arith, counts));
+          c.move_slots.new.self c.move_slots.ensures _ (omega (arith, counts, c.len-count.ensures, lt)) c.set_slot.new.self c.set_slot.ensures _ (omega (arith, c.size.ensures)) _ (omega (arith, counts));
       marks = l.invariant.marks;
     }
 

@@ -26,8 +26,8 @@ pub search_from-at-requires-clause-filled : goal.search_from-at-requires-clause-
 search_from-at-requires-clause-filled g c = let l = c.loop-i in
     filled_now c.self.inside.raw c.self.invariant.filled c.args.batch.now.messages l.self-inside.raw l.kept l.i l.from l.invariant.taking
 
-pub move_slots-requires-clause-within : goal.move_slots-requires-clause-within
-move_slots-requires-clause-within g c = let l = c.loop-i in let raw = c.self.inside.raw in let bs = c.args.batch.now.messages in let h = c.self.invariant.filled in let w = l.invariant.taking in
+pub move_slots-requires : goal.move_slots-requires
+move_slots-requires g c = let l = c.loop-i in let raw = c.self.inside.raw in let bs = c.args.batch.now.messages in let h = c.self.invariant.filled in let w = l.invariant.taking in
     let lt : l.i < length bs = omega (arith, c.loop-i-test.true, c.len-i-end.ensures.len) in
     let ends = end_within raw h bs l.self-inside.raw l.kept l.i l.from w lt (message_of c.message-gone.result) c.message-gone.ensures c.search_from-at.result c.search_from-at.ensures in
     (omega (arith, w.counts), omega (arith, ends, slots_stay raw h bs l.self-inside.raw l.kept l.i l.from w))
@@ -42,7 +42,7 @@ pub loop-i-preserved : goal.loop-i-preserved
 loop-i-preserved g c = let l = c.loop-i in let raw = c.self.inside.raw in let bs = c.args.batch.now.messages in let h = c.self.invariant.filled in let w = l.invariant.taking in
     let lt : l.i < length bs = omega (arith, c.loop-i-test.true, c.len-i-end.ensures.len) in record {
       taking = next raw h bs l.self-inside.raw l.kept l.i l.from w lt (message_of c.message-gone.result) c.message-gone.ensures c.search_from-at.result c.search_from-at.ensures
-          _ refl c.move_slots.new.raw c.move_slots.ensures _ refl _ refl;
+          _ refl c.move_slots.new.self c.move_slots.ensures _ refl _ refl;
       marks = l.invariant.marks;
     }
 

@@ -1,4 +1,4 @@
-use Rattle.std.proofs.Common.{rules, ℕ, ◌≡◌, ◌≢◌, ◌<◌, List, [], length, Some, refl, sym, ap, ◌∙◌, subst, arith}
+use Rattle.std.proofs.Common.{rules, ℕ, ◌≡◌, ◌≢◌, ◌<◌, List, [], ◌∷◌, ◌++◌, length, Some, refl, sym, ap, ◌∙◌, subst, arith}
 use Rattle.std.specs.Prelude.{slice_get}
 use Rattle.std.specs.Vec.{with_item}
 use Rattle.stow_leaf.proofs.Steps.{inside_of, if_ok}
@@ -10,6 +10,7 @@ use Rattle.stow_node.specs.Nodes.{parts_of, subtree_of}
 use Rattle.stow_node.specs.Parts.{messages_in}
 use Rattle.stow_node.specs.Plans.{HasLeafTarget, HasDeepest, Plans}
 use Rattle.stow_node.specs.Subtree.{Subtree, buffered, messages_of}
+use Rattle.stow_tree_model.specs.TreeMessage.{TreeMessage}
 use Rattle.stow_node.proofs.Down.{node_at}
 use Rattle.stow_node.proofs.Entered.{not_leaf}
 use Rattle.stow_node.proofs.HandedDown.{same_node}
@@ -29,6 +30,18 @@ is_there g t c =
 
 is_kept : (g : given.Over) (t : ℕ) (c : After-plan_below g t) → slice_get c.self.inside.children.items c.in-Some.index ≡ Some (in_child.Node c.in-Node.node) → ChildStays c.self.inside c.in-Node.node c.plan_below.new.self (with_item c.self.inside.children c.in-Some.index (in_child.Node c.plan_below.new.self))
 is_kept g t c at = child_stays c.self.inside (with_item c.self.inside.children c.in-Some.index (in_child.Node c.plan_below.new.self)) c.in-Some.index c.in-Node.node c.plan_below.new.self c.self.invariant at refl c.plan_below.ensures.same
+
+-- where none is buffered below, some message is the node's own
+some_own : (s : Subtree) → s.deeper ≡ [] → buffered s ≢ [] → 0 < length s.buffer.messages
+some_own s none some = one s.buffer.messages refl where
+  one : (ms : List TreeMessage) → s.buffer.messages ≡ ms → 0 < length s.buffer.messages
+  one [] e = absurd (some ((λ i. e i ++ s.deeper) ∙ none))
+  one (m ∷ ms) e = omega (arith, ap length e)
+
+pub plan_own-requires-clause-some : goal.plan_own-requires-clause-some
+plan_own-requires-clause-some g t c =
+    let none : messages_in (parts_of c.self.inside.children.items) ≡ [] = subst (λ (l : List (Child g.row.A.Denot)). messages_in (parts_of l) ≡ []) c.as_slice.ensures.value c.in_default.ensures in
+    some_own c.args.self.now (ap (λ (s : Subtree). s.deeper) (sym c.self.view_is) ∙ none) c.requires.some
 
 pub returns-in_default-clause-way : goal.returns-in_default-clause-way
 returns-in_default-clause-way g t c =

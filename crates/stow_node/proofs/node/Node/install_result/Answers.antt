@@ -10,6 +10,9 @@ loop-self-init g c =
     (let t = c.if-height-gt-MOST_HEIGHT.false in let h = c.height.ensures in omega (arith, t, h)) c.requires.fan_out c.in_ok-room.ensures.ok
     (subst (λ ws. HasRoom c.args.self.now.shape ws c.in_ok-room.room) c.new-above.ensures.items c.in_ok-room.ensures.room) c.in_ok-room.ensures.cache c.in_ok-room.ensures.gone
 
+pub rise-requires-clause-came : goal.rise-requires-clause-came
+rise-requires-clause-came g c = let t = c.loop-self-test.true in let e = c.is_empty.ensures in let o = c.loop-self.room.came.ok.0 in grind (arith, nat_tests, t, e, o)
+
 pub rise-requires-clause-are : goal.rise-requires-clause-are
 rise-requires-clause-are g c = raising_behind c.args.merge.now.job c.args.self.now c.loop-self.self c.loop-self.room c.args.cache.now c.install_below.new.cache c.loop-self.invariant
 

@@ -1,6 +1,0 @@
-use Rattle.std.proofs.Common.{take}
-use Rattle.stow_merge.specs.Writing.{AreSizes, keys_in}
-use Rattle.stow_merge.proofs.writing.sizes_of.Given as goal
-
-abbrev pub invariant-loop-i : goal.invariant-loop-i
-invariant-loop-i g l = AreSizes (keys_in l.survey (take l.i l.keys)) l.sizes.items

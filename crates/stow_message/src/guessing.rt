@@ -1,0 +1,56 @@
+//! Where a message may stand, by a search in one list of slots and a look into the other.
+ghost use Rattle.std.specs.Prelude.{Contains, IfSome};
+ghost use Rattle.stow_message.specs.MessageBuf.{IsPackedBuffer};
+
+use crate::slots::{key_at, number_in};
+use std::alloc::Allocator;
+use std::cmp::Ordering;
+use stow_bytes::compare::compare;
+use stow_slots::slot_buf::SlotBuf;
+
+/// How many messages may stand below the key and number: as many as do of those whose slots aren't young, and of the others
+/// as many as stand before those and, side by side, behind them.
+pub(crate) fn guess<A: Allocator>(raw: &SlotBuf<A>, key: &[u8], number: u64) -> usize
+    requires { IsPackedBuffer raw.now }
+{
+    let older = older_below(raw, key, number);
+    let count = raw.young_count();
+    for young in raw.young_behind(older)..count {
+        if !is_below(raw, raw.young_slot(young), key, number) {
+            return older.saturating_add(young);
+        }
+    }
+    older.saturating_add(count)
+}
+
+/// How many messages whose slots aren't young stand below the key and number.
+fn older_below<A: Allocator>(raw: &SlotBuf<A>, key: &[u8], number: u64) -> usize
+    requires { IsPackedBuffer raw.now }
+{
+    let (mut low, mut high) = (0, raw.old_count());
+    while low < high {
+        let middle = low + (high - low) / 2;
+        if is_below(raw, raw.old_slot(middle), key, number) {
+            low = middle + 1;
+        } else {
+            high = middle;
+        }
+    }
+    low
+}
+
+/// Whether the message of a slot stands below the key and number, if there is one.
+fn is_below<A: Allocator>(raw: &SlotBuf<A>, slot: Option<u32>, key: &[u8], number: u64) -> bool
+    requires filled { IsPackedBuffer raw.now }
+    requires there { IfSome slot (Contains raw.now.slots) }
+{
+    let Some(slot) = slot else {
+        return false;
+    };
+    let at = slot as usize;
+    match compare(key_at(raw, at), key) {
+        Ordering::Less => true,
+        Ordering::Equal => number_in(raw, at) < number,
+        Ordering::Greater => false,
+    }
+}

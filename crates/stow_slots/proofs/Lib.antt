@@ -1,0 +1,4 @@
+pub mod Merged
+pub mod Moved
+pub mod Parts
+pub mod Settled

@@ -1,0 +1,30 @@
+//! Young slots come to the older ones.
+ghost use Rattle.std.specs.Prelude.{◌≡◌, []};
+ghost use Rattle.stow_slots.specs.Young.{all_lists, IsYoung};
+
+use crate::moving::move_slots;
+use crate::young_slot::YoungSlot;
+use std::alloc::Allocator;
+use stow_raw::raw_buf::RawBuf;
+
+/// Brings the young slots to the others, in one pass over them.
+pub(crate) fn settle<A: Allocator>(raw: &mut RawBuf<A>, young: &mut Vec<YoungSlot, A>)
+    requires { IsYoung raw.old young.old.items }
+    ensures all { raw.new ≡ all_lists raw.old young.old.items }
+    ensures none { young.new.items ≡ [] }
+{
+    let count = young.len();
+    if count == 0 {
+        return;
+    }
+    let _known = raw.capacity();
+    raw.add_slots(count);
+    let mut past = 0;
+    for i in 0..count {
+        let slot = young[i];
+        move_slots(raw, past + i, count + past, slot.behind - past);
+        raw.set_slot(slot.behind + i, slot.slot);
+        past = slot.behind;
+    }
+    young.clear();
+}

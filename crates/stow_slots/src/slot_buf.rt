@@ -1,0 +1,232 @@
+//! One block, filled from both ends, into which slots are put fast.
+ghost use Rattle.std.specs.Prelude.{◌≡◌, ◌+◌, ◌-◌, ◌*◌, ◌<◌, ◌≤◌, [], ◌++◌, length, take, drop, replicate, slice_set, slice_index, IfOk, IfSome, Contains};
+ghost use Rattle.std.specs.List.{insert, remove_range};
+ghost use Rattle.stow_raw.specs.RawBuf.{raw_lists, raw_used, RawFits};
+
+use crate::moving::move_slots;
+use crate::ranking::{put_young, rank_of};
+use crate::settling::settle;
+use crate::young_slot::YoungSlot;
+use std::alloc::{AllocError, Allocator, Global};
+use std::marker::Model;
+use stow_raw::raw_buf::RawBuf;
+
+/// The most young slots.
+const YOUNG: usize = 512;
+
+/// The fewest bytes of a block that has a list of young slots.
+const LARGE: usize = 65_536;
+
+/// Bytes from the front and slots, numbers of 32 bits, from the back, in a block of fixed capacity. The youngest slots may
+/// stand beside the block.
+#[derive(Drop)]
+pub struct SlotBuf<A: Allocator = Global> {
+    raw: RawBuf<A>,
+    young: Vec<YoungSlot, A>,
+}
+
+impl<A: Allocator> Model for SlotBuf<A> {
+    ghost use Rattle.stow_raw.specs.RawBuf.{RawLists, raw_lists_code};
+    ghost use Rattle.stow_slots.specs.Young.{all_lists, IsYoung};
+
+    ghost Value = { RawLists };
+
+    ghost coded = { raw_lists_code };
+
+    ghost view = { λ b. all_lists b.raw b.young.items };
+
+    ghost invariant = { λ b. IsYoung b.raw b.young.items };
+}
+
+impl<A: Allocator + Copy> SlotBuf<A> {
+    /// A block of `capacity` bytes that holds nothing yet. A capacity of 0 asks for no memory; one that no block can
+    /// have is refused as memory is.
+    pub fn with_capacity(alloc: A, capacity: usize) -> Result<Self, AllocError>
+        ensures { IfOk result (λ b. b ≡ raw_lists [] [] capacity) }
+    {
+        let raw = RawBuf::with_capacity(alloc, capacity)?;
+        let most = if capacity < LARGE { 0 } else { YOUNG };
+        let young = Vec::with_capacity(alloc, most)?;
+        Ok(SlotBuf { raw, young })
+    }
+}
+
+impl<A: Allocator> SlotBuf<A> {
+    /// How many bytes the block has.
+    pub fn capacity(&self) -> usize
+        ensures { result ≡ self.now.capacity }
+    {
+        self.raw.capacity()
+    }
+
+    /// How many more bytes fit: a slot takes four, a young one too.
+    pub fn room(&self) -> usize
+        ensures room { result ≡ self.now.capacity - raw_used self.now }
+        ensures exact { raw_used self.now + result ≡ self.now.capacity }
+    {
+        self.raw.room() - 4 * self.young.len()
+    }
+
+    /// How many bytes stand at the front.
+    pub fn front_len(&self) -> usize
+        ensures { result ≡ length self.now.front }
+    {
+        self.raw.front_len()
+    }
+
+    /// How many slots there are.
+    pub fn slot_count(&self) -> usize
+        ensures { result ≡ length self.now.slots }
+    {
+        let _known = self.raw.capacity();
+        self.raw.slot_count() + self.young.len()
+    }
+
+    /// Appends to the bytes at the front.
+    pub fn push_front(&mut self, bytes: &[u8])
+        requires { RawFits self.old (length bytes.now) }
+        ensures { self.new
+            ≡ raw_lists (self.old.front ++ bytes.now) self.old.slots self.old.capacity }
+    {
+        self.raw.push_front(bytes);
+    }
+
+    /// The `len` bytes of the front from `at` on, not copied.
+    pub fn bytes(&self, at: usize, len: usize) -> &[u8]
+        requires { at + len ≤ length self.now.front }
+        ensures { result.now ≡ take len (drop at self.now.front) }
+    {
+        self.raw.bytes(at, len)
+    }
+
+    /// The slot at `index`.
+    pub fn slot(&self, index: usize) -> u32
+        requires { index < length self.now.slots }
+        ensures { result ≡ slice_index self.now.slots index }
+    {
+        let young = self.young.as_slice();
+        let rank = rank_of(young, index);
+        if rank < young.len() && young[rank].behind == index - rank {
+            return young[rank].slot;
+        }
+        self.raw.slot(index - rank)
+    }
+
+    /// Writes over the slot at `index`.
+    pub fn set_slot(&mut self, index: usize, slot: u32)
+        requires { index < length self.old.slots }
+        ensures { self.new
+            ≡ raw_lists self.old.front (slice_set self.old.slots index slot) self.old.capacity }
+    {
+        settle(&mut self.raw, &mut self.young);
+        self.raw.set_slot(index, slot);
+    }
+
+    /// Puts a slot at `index`. The older ones aren't moved, unless the young ones are too many.
+    pub fn insert_slot(&mut self, index: usize, slot: u32)
+        requires { (index ≤ length self.old.slots) × RawFits self.old 4 }
+        ensures { self.new
+            ≡ raw_lists self.old.front (insert self.old.slots index slot) self.old.capacity }
+    {
+        if put_young(&mut self.young, index, slot) {
+            return;
+        }
+        settle(&mut self.raw, &mut self.young);
+        self.raw.insert_slot(index, slot);
+    }
+
+    /// Puts `count` slots of value 0 before the others, for `set_slot`. No slot is moved.
+    pub fn add_slots(&mut self, count: usize)
+        requires { RawFits self.old (4 * count) }
+        ensures { self.new
+            ≡ raw_lists self.old.front (replicate count 0 ++ self.old.slots) self.old.capacity }
+    {
+        settle(&mut self.raw, &mut self.young);
+        self.raw.add_slots(count);
+    }
+
+    /// Moves the `count` slots from `from` on to the places from `to` on.
+    pub fn move_slots(&mut self, to: usize, from: usize, count: usize)
+        requires { (to ≤ from) × (from + count ≤ length self.old.slots) }
+        ensures { self.new
+            ≡ raw_lists self.old.front
+            (take (to + count) (remove_range self.old.slots to from)
+            ++ drop (to + count) self.old.slots) self.old.capacity }
+    {
+        settle(&mut self.raw, &mut self.young);
+        move_slots(&mut self.raw, to, from, count);
+    }
+
+    /// Takes the `count` slots from `from` on out, by one move of the slots before them.
+    pub fn remove_slots(&mut self, from: usize, count: usize)
+        requires { from + count ≤ length self.old.slots }
+        ensures { self.new
+            ≡ raw_lists self.old.front (remove_range self.old.slots from (from + count))
+            self.old.capacity }
+    {
+        settle(&mut self.raw, &mut self.young);
+        self.raw.remove_slots(from, count);
+    }
+
+    /// Empties the front. The slots stay.
+    pub fn clear_front(&mut self)
+        ensures { self.new ≡ raw_lists [] self.old.slots self.old.capacity }
+    {
+        self.raw.clear_front();
+    }
+
+    /// Empties both lists.
+    pub fn reset(&mut self)
+        ensures { self.new ≡ raw_lists [] [] self.old.capacity }
+    {
+        self.raw.reset();
+        self.young.clear();
+    }
+
+    /// How many slots aren't young.
+    pub fn old_count(&self) -> usize {
+        self.raw.slot_count()
+    }
+
+    /// How many slots are young.
+    pub fn young_count(&self) -> usize {
+        self.young.len()
+    }
+
+    /// The slot at this place among those that aren't young, if there are so many.
+    pub fn old_slot(&self, place: usize) -> Option<u32>
+        ensures { IfSome result (Contains self.now.slots) }
+    {
+        if place < self.raw.slot_count() {
+            Some(self.raw.slot(place))
+        } else {
+            None
+        }
+    }
+
+    /// The slot at this place among the young ones, if there are so many.
+    pub fn young_slot(&self, place: usize) -> Option<u32>
+        ensures { IfSome result (Contains self.now.slots) }
+    {
+        if place < self.young.len() {
+            Some(self.young[place].slot)
+        } else {
+            None
+        }
+    }
+
+    /// How many young slots stand before the place behind so many of the older ones and as many young ones.
+    pub fn young_behind(&self, older: usize) -> usize {
+        let young = self.young.as_slice();
+        let (mut low, mut high) = (0, young.len());
+        while low < high {
+            let middle = low + (high - low) / 2;
+            if young[middle].behind < older {
+                low = middle + 1;
+            } else {
+                high = middle;
+            }
+        }
+        low
+    }
+}
