@@ -13,8 +13,8 @@ pub fn repeated<A: Allocator>(alloc: A, byte: u8, count: usize) -> Result<Vec<u8
     Ok(bytes)
 }
 
-/// Bytes of a value of which few fit the smallest buffer.
-const LONG: usize = 20_000;
+/// Bytes of a value of which six fit the smallest buffer.
+const LONG: usize = 300_000;
 
 /// Adds a word that a line names: `''` is the empty one, `LAST` the last key that there can be, and `LONG` a long value.
 pub fn push_word<A: Allocator + Copy>(

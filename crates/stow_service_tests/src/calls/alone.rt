@@ -11,7 +11,7 @@ use stow_plain::plain_store::PlainStore;
 use stow_testing::lines::words_of;
 use stow_testing::random::Random;
 use stow_testing::replies::reply_text;
-use stow_testing::tenants::{QUOTA, SMALL_QUOTA, THREE};
+use stow_testing::tenants::{SMALL_QUOTA, THREE};
 use stow_tree::tree_shape::{MOST_BUFFER, MOST_CACHE, MOST_FAN_OUT, MOST_LEAF, TreeShape};
 
 const KEYS: [&str; 6] = ["''", "a", "ab", "b", "b0", "c"];
@@ -34,8 +34,11 @@ const IDS: [&str; 24] = [
     "18", "19", "20", "21", "22", "23", "24",
 ];
 
+/// The quota that the first two tenants begin with, which holds many long values.
+const LONG_QUOTA: u64 = 15_000_000;
+
 /// Quotas that an operator gives. Some hold no row, and some all.
-const QUOTAS: [u64; 6] = [0, 40, 200, 30_000, 60_000, 1_000_000];
+const QUOTAS: [u64; 6] = [0, 40, 200, 450_000, 900_000, LONG_QUOTA];
 
 /// A request's line: `k` and `l` are keys, `v` is a value, `n` a number, and `i` a snapshot's id.
 const LINES: [&str; 24] = [
@@ -110,8 +113,8 @@ impl<A: Allocator + Copy> OwnStores<A> {
     /// Three stores without rows.
     fn new(alloc: A) -> OwnStores<A> {
         OwnStores {
-            first: PlainStore::new(alloc, QUOTA),
-            second: PlainStore::new(alloc, QUOTA),
+            first: PlainStore::new(alloc, LONG_QUOTA),
+            second: PlainStore::new(alloc, LONG_QUOTA),
             third: PlainStore::new(alloc, SMALL_QUOTA),
         }
     }
@@ -179,19 +182,26 @@ fn are_rows_alike<A: Allocator + Copy>(
     Ok(true)
 }
 
-/// The first request to a new core of this shape that is not answered as alone, or that the rows are others.
+/// The first request to a new core of this shape that is not answered as alone, or that the rows are others, or that nothing
+/// was flushed.
 fn other_of<A: Allocator + Copy>(
     alloc: A,
     global: Global,
     shape: TreeShape,
 ) -> Result<Option<&'static str>, AllocError> {
     let mut core = core_of(alloc, global, THREE, shape)?;
+    core.set_quota(1, LONG_QUOTA);
+    core.set_quota(2, LONG_QUOTA);
     let mut stores = OwnStores::new(alloc);
     let other = first_other(&mut core, &mut stores, alloc)?;
-    if other.is_some() || are_rows_alike(&mut core, &mut stores, alloc)? {
+    if other.is_some() {
         return Ok(other);
     }
-    Ok(Some("the rows"))
+    if core.shape().leaves < 2 {
+        return Ok(Some("no flush"));
+    }
+    let alike = are_rows_alike(&mut core, &mut stores, alloc)?;
+    Ok(if alike { None } else { Some("the rows") })
 }
 
 // Values that are long enough for many flushes are among them.

@@ -16,6 +16,12 @@ const REQUESTS: u32 = 4_000;
 /// Keys of a round, each tenant's as many.
 const KEYS: u32 = 100;
 
+/// Keys of a round of long values: more than one buffer and the leaves of one node hold.
+const LONG_KEYS: u32 = 20;
+
+/// The quota of a tenant with long values, which no round reaches.
+const LONG_QUOTA: u64 = 15_000_000;
+
 const VALUES: [&str; 4] = ["''", "7", "x", "a_longer_value_of_thirty_bytes"];
 
 /// A request's line: `k` and `l` are keys, and `v` a value.
@@ -120,5 +126,60 @@ fn holds_no_more<A: Allocator + Copy>(
 fn rounds_hold_no_more_than_the_first(rt: HostRuntime) -> Result<(), Fail> {
     let heap = LocalHeap::new(rt.alloc(), 33_554_432)?;
     assert!(rt; holds_no_more(&heap, (&heap, rt.alloc()))?);
+    Ok(())
+}
+
+/// The next flush in two steps. Whether there was one.
+fn flush<A: Allocator + Copy>(core: &mut Core<A>, alloc: A) -> Result<bool, AllocError> {
+    let Some(job) = core.plan(alloc)? else {
+        return Ok(false);
+    };
+    let merge = job.merge(alloc).map_err(|_| AllocError)?;
+    core.install(alloc, merge).map_err(|_| AllocError)?;
+    Ok(true)
+}
+
+/// Flushes until no buffer holds a message, in at most so many steps.
+fn flush_all<A: Allocator + Copy>(core: &mut Core<A>, alloc: A) -> Result<(), AllocError> {
+    for _ in 0..1_000 {
+        if !flush(core, alloc)? {
+            return Ok(());
+        }
+    }
+    Err(AllocError)
+}
+
+/// Long values of a tenant's, which split nodes, and then the deletion of all.
+fn long_round<A: Allocator + Copy>(core: &mut Core<A>, alloc: A) -> Result<(), AllocError> {
+    for key in 0..LONG_KEYS {
+        let line = format!(in alloc; "SET {key} LONG")?;
+        ask(core, alloc, 1, &words_of(alloc, line.as_str())?)?;
+    }
+    flush_all(core, alloc)?;
+    for key in 0..LONG_KEYS {
+        delete(core, alloc, key)?;
+    }
+    flush_all(core, alloc)
+}
+
+/// Whether flushes split nodes in a round of long values, and a new core then holds no more of the heap after a third round
+/// than after the second.
+fn flushes_hold_no_more<A: Allocator + Copy>(
+    heap: &LocalHeap,
+    (alloc, global): (A, Global),
+) -> Result<bool, AllocError> {
+    let mut core = new_core(alloc, global)?;
+    core.set_quota(1, LONG_QUOTA);
+    long_round(&mut core, alloc)?;
+    long_round(&mut core, alloc)?;
+    let held = heap.used();
+    long_round(&mut core, alloc)?;
+    Ok(core.shape().height > 1 && heap.used() <= held)
+}
+
+#[test]
+fn flushes_leave_no_more_than_before(rt: HostRuntime) -> Result<(), Fail> {
+    let heap = LocalHeap::new(rt.alloc(), 268_435_456)?;
+    assert!(rt; flushes_hold_no_more(&heap, (&heap, rt.alloc()))?);
     Ok(())
 }

@@ -171,6 +171,9 @@ fn prepares_withstand_each_refusal(rt: HostRuntime) -> Result<(), Fail> {
     Ok(())
 }
 
+/// Bytes of a quota that no number of long values here reaches.
+const AMPLE_QUOTA: u64 = 100_000_000;
+
 /// Gives tenant 1 so many long values.
 fn fill<A: Allocator + Copy>(core: &mut Core<A>, alloc: A, keys: u32) -> Result<(), AllocError> {
     for key in 0..keys {
@@ -183,6 +186,7 @@ fn fill<A: Allocator + Copy>(core: &mut Core<A>, alloc: A, keys: u32) -> Result<
 /// A core in which tenant 1 has also so many long values.
 fn filled<A: Allocator + Copy>(alloc: A, global: Global, keys: u32) -> Result<Core<A>, AllocError> {
     let mut core = started(alloc, global)?;
+    core.set_quota(1, AMPLE_QUOTA);
     fill(&mut core, alloc, keys)?;
     Ok(core)
 }
@@ -195,9 +199,9 @@ fn is_put<A: Allocator + Copy, B: Allocator>(
     words: &Words<A>,
 ) -> Result<bool, AllocError> {
     let stood = stands(core, alloc, "$old", "nil")?;
-    let kept = is_told(core, alloc, 1, "STRLEN 5", ":20000")?;
+    let kept = is_told(core, alloc, 1, "STRLEN 5", ":300000")?;
     let done = commits(heap, alloc, core, words, "OK")?;
-    Ok(stood && kept && done && is_told(core, alloc, 1, "STRLEN c", ":20000")?)
+    Ok(stood && kept && done && is_told(core, alloc, 1, "STRLEN c", ":300000")?)
 }
 
 /// Whether one more long value withstands the refusal of this request for memory, or `None` if it asks for fewer.
