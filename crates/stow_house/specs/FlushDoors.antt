@@ -1,18 +1,24 @@
 -- What is done at a flusher's door.
-use Rattle.std.specs.Prelude.{Bool, Option, is_some, Result, Ok, Err}
+use Rattle.std.specs.Prelude.{ℕ, length, Option, Some, None, Result, Ok, Err}
+use Rattle.stow_merge.specs.declared.flush_job.FlushJob.{FlushJob}
 use Rattle.stow_node.specs.declared.installed.Installed.{Installed}
 
 pub data Flushing : Type 0 where
-  -- a flush was planned, and whether there is a job for it
-  Planned : Bool → Flushing
+  -- a flush was planned, and of how many messages its job is, if there is one
+  Planned : Option ℕ → Flushing
   -- the result of a job came, and this became of it
   Came : Installed → Flushing
   -- memory was refused to either
   Refused : Flushing
 
+-- of how many messages a job is, if there is one
+abbrev pub messages_of : {A : Type 0} → Option (FlushJob A) → Option ℕ
+messages_of None = None
+messages_of (Some job) = Some (length job.batch.messages)
+
 -- what a plan did, by its answer
-abbrev pub planned : {J E : Type 0} → Result (Option J) E → Flushing
-planned (Ok job) = Planned (is_some job)
+abbrev pub planned : {A E : Type 0} → Result (Option (FlushJob A)) E → Flushing
+planned (Ok job) = Planned (messages_of job)
 planned (Err refused) = Refused
 
 -- what an install did, by its answer

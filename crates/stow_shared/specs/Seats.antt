@@ -1,5 +1,5 @@
 -- A seat: what it was told under the lock.
-use Rattle.std.specs.Prelude.{◌≡◌, ℕ, Bool, List, [], if◌then◌else◌}
+use Rattle.std.specs.Prelude.{◌≡◌, ℕ, Bool, List, [], if◌then◌else◌, is_some}
 use Rattle.stow_house.specs.FlushDoors.{Flushing, Planned, Came, Refused}
 use Rattle.stow_model.specs.Reply.{Reply}
 use Rattle.stow_model.specs.Store.{one_more, is_out_of_memory}
@@ -37,8 +37,8 @@ SeatCalls keeps old tenant words told new = new ≡ after_call keeps tenant word
 
 -- the seat after what a flusher did: its receipt, and nothing where memory was refused
 abbrev pub after_flushing : Bool → Flushing → SeatState → SeatState
-after_flushing keeps (Planned has_job) seat =
-    with_receipt keeps (plan_entry seat.number has_job) seat
+after_flushing keeps (Planned messages) seat =
+    with_receipt keeps (plan_entry seat.number (is_some messages)) seat
 after_flushing keeps (Came told) seat = with_receipt keeps (install_entry seat.number told) seat
 after_flushing keeps Refused seat = seat
 

@@ -1,5 +1,4 @@
 //! Flushes of a flusher, wake by wake.
-ghost use Rattle.std.specs.Prelude.{is_some};
 ghost use Rattle.stow_workers.specs.Flushes.{FlushesOnce, HasFlushed, WakesOnce};
 
 use crate::gate::Gate;
@@ -54,7 +53,7 @@ fn flush<D: FlushDoor<A>, G: Gate, A: Allocator + Copy>(
     door: &mut D,
     gate: &G,
 ) -> Option<usize>
-    ensures { FlushesOnce D.flushes door.old (is_some result) door.new }
+    ensures { FlushesOnce D.flushes door.old result door.new }
 {
     let Ok(Some(job)) = door.plan(alloc) else {
         return None;
