@@ -1,5 +1,5 @@
 -- Messages that are put into an empty buffer.
-use Rattle.std.proofs.Common.{◌≡◌, ◌≤◌, ◌+◌, Bool, List, [], ◌∷◌, ap, ◌∙◌, refl, arith}
+use Rattle.std.proofs.Common.{◌≡◌, ◌≤◌, Bool, List, [], ◌∷◌, ap, ◌∙◌, refl, arith}
 use Rattle.std.specs.Prelude.{not}
 use Rattle.std.specs.List.{filter, sum_by}
 use Rattle.std.proofs.lemmas.List.Filters.{sum_by-filter_both}

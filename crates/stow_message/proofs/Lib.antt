@@ -5,6 +5,7 @@ pub mod Oldest
 pub mod Placed
 pub mod Pushed
 pub mod Copied
+pub mod Counted
 pub mod Covered
 pub mod Ranges
 pub mod Reading

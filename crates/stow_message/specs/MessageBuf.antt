@@ -91,7 +91,8 @@ pub record IsPackedBuffer (raw : RawLists) : Type 0 where
   pub live : sum_by message_size (messages_in raw) ≤ raw_used raw
   pub within : (raw_used raw ≤ raw.capacity) × (raw.capacity < 4294967296)
 
--- .. and each one's key has its marks
-pub record IsMarked (raw : RawLists) (words : List ℕ) : Type 0 where
+-- .. each one's key has its marks, and the bytes of all are counted
+pub record IsMarked (raw : RawLists) (words : List ℕ) (live : ℕ) : Type 0 where
   pub filled : IsPackedBuffer raw
   pub covers : Covers words (messages_in raw)
+  pub counted : live ≡ sum_by message_size (messages_in raw)

@@ -31,6 +31,8 @@ use stow_tree_model::tenant_key::TenantKey;
 pub struct MessageBuf<A: Allocator = Global> {
     raw: SlotBuf<A>,
     filter: Filter<A>,
+    /// How many bytes the messages take, their slots among them.
+    live: usize,
 }
 
 impl<A: Allocator> Model for MessageBuf<A> {
@@ -43,7 +45,7 @@ impl<A: Allocator> Model for MessageBuf<A> {
 
     ghost view = { λ b. message_list (messages_in b.raw) (raw_used b.raw) b.raw.capacity };
 
-    ghost invariant = { λ b. IsMarked b.raw b.filter };
+    ghost invariant = { λ b. IsMarked b.raw b.filter b.live };
 }
 
 /// Whether the message stands below the key and number.
@@ -154,9 +156,10 @@ fn bytes_in<A: Allocator>(run: &Run<'_, A>) -> usize
     requires { length run.now < 4294967296 }
     ensures { result ≡ sum_by message_size run.now }
 {
+    let _known = run.buf.used();
     let mut total = 0;
     for i in 0..run.len() {
-        total += size(run.get(i));
+        total += run.packed(i).len() + SLOT;
     }
     total
 }
@@ -169,7 +172,11 @@ impl<A: Allocator + Copy> MessageBuf<A> {
     {
         let raw = SlotBuf::with_capacity(alloc, capacity)?;
         let filter = Filter::with_capacity(alloc, capacity)?;
-        Ok(MessageBuf { raw, filter })
+        Ok(MessageBuf {
+            raw,
+            filter,
+            live: 0,
+        })
     }
 }
 
@@ -190,23 +197,18 @@ impl<A: Allocator> MessageBuf<A> {
         self.raw.capacity() - self.raw.room()
     }
 
-    /// All messages, lent.
-    fn all(&self) -> Run<'_, A>
-        ensures messages { result ≡ self.now.messages }
-        ensures small { length result < 4294967296 }
-    {
-        Run {
-            buf: self,
-            from: 0,
-            to: self.len(),
-        }
-    }
-
     /// How many bytes the messages take, their slots among them: as many as are in use where none are dead.
     pub fn live(&self) -> usize
         ensures { result ≡ sum_by message_size self.now.messages }
     {
-        bytes_in(&self.all())
+        self.live
+    }
+
+    /// Orders what was put last among the others, so that reads of many are fast. No message moves.
+    pub fn settle(&mut self)
+        ensures { self.new ≡ self.old }
+    {
+        self.raw.settle();
     }
 
     /// How many messages there are.
@@ -339,6 +341,7 @@ impl<A: Allocator> MessageBuf<A> {
         append(&mut self.raw, message);
         self.raw.insert_slot(index, at);
         self.filter.add(message.key.bytes);
+        self.live += size(message);
     }
 
     /// The messages of a key, the newest first, lent.
@@ -410,7 +413,14 @@ impl<A: Allocator> MessageBuf<A> {
             ≡ message_list (remove_range self.old.messages index (index + count))
             (self.old.used - 4 * count) self.old.capacity }
     {
+        let _known = self.len();
+        let gone = bytes_in(&Run {
+            buf: self,
+            from: index,
+            to: index + count,
+        });
         self.raw.remove_slots(index, count);
+        self.live -= gone;
     }
 
     /// Puts the messages of a run to their places. Each is searched from the place of the one before on, and the slots between are
@@ -427,6 +437,7 @@ impl<A: Allocator> MessageBuf<A> {
         let mut at = self.raw.front_len();
         append_all(&mut self.raw, run);
         let count = run.len();
+        let bytes = self.raw.front_len() - at + SLOT * count;
         self.raw.add_slots(count);
         let mut old = count;
         for new in 0..count {
@@ -438,6 +449,7 @@ impl<A: Allocator> MessageBuf<A> {
             at += size(message) - SLOT;
             old = end;
         }
+        self.live += bytes;
     }
 
     /// Moves the messages of the keys from `from` on and below `to` into another buffer. Their bytes here are dead.
@@ -556,6 +568,7 @@ impl<A: Allocator> MessageBuf<A> {
             from = at + 1;
         }
         self.raw.remove_slots(kept, from - kept);
+        self.live -= batch.live();
     }
 
     /// Takes all messages of the batch out, or none where one of them is missing. Their bytes are dead.
@@ -596,5 +609,6 @@ impl<A: Allocator> MessageBuf<A> {
     {
         self.raw.reset();
         self.filter.clear();
+        self.live = 0;
     }
 }

@@ -441,6 +441,13 @@ impl<A: Allocator + Copy> Node<A> {
         }
     }
 
+    /// Orders what was put last into its own buffer, so that all that is there is read fast. No message moves.
+    fn order(&mut self)
+        ensures { self.new ≡ self.old }
+    {
+        self.buffer.settle();
+    }
+
     /// A job for a flush outside the lock, under pins, where a buffer holds a message: it is of the deepest such buffer.
     /// Messages may have moved towards the leaves, also where memory is refused.
     pub fn plan(&mut self, alloc: A, pins: &Pins<A>) -> Result<Option<FlushJob<A>>, AllocError>
@@ -454,6 +461,7 @@ impl<A: Allocator + Copy> Node<A> {
         if is_drained(self) {
             return Ok(None);
         }
+        self.order();
         Ok(Some(self.plan_below(alloc, pins)?))
     }
 }
@@ -689,6 +697,7 @@ impl<A: Allocator> Node<A> {
         if bytes <= capacity - self.buffer.used() {
             return true;
         }
+        self.buffer.settle();
         if ample > capacity - self.buffer.live() {
             return false;
         }

@@ -1,11 +1,10 @@
 -- Young slots come to the older ones, the first ones first.
-use Rattle.std.proofs.Common.{◌≡◌, ℕ, zero, suc, ◌+◌, ◌-◌, ◌*◌, ◌<◌, ◌≤◌, List, [], ◌∷◌, ◌++◌, length, take, drop, set, replicate, get_or, refl, sym, ap, subst, ◌∙◌, arith, length-append, length-take, length-drop, append_assoc, take_at, drop_at, drop-drop, take-append-drop}
-use Rattle.std.proofs.lemmas.List.{length-replicate, append-nil, drop_more, drop_all, set_at}
+use Rattle.std.proofs.Common.{◌≡◌, ℕ, ◌+◌, ◌-◌, ◌<◌, ◌≤◌, List, [], ◌∷◌, ◌++◌, length, take, drop, set, replicate, get_or, refl, sym, ap, subst, ◌∙◌, arith, length-append, length-take, length-drop, append_assoc, take_at, drop_at, drop-drop, take-append-drop}
+use Rattle.std.proofs.lemmas.List.{length-replicate, drop_more, drop_all, set_at}
 use Rattle.std.proofs.Math.Seq.{drop-append-add, take-append-add}
-use Rattle.stow_slots.proofs.Merged.{none_young}
 use Rattle.std.specs.Prelude.{slice_set}
 use Rattle.std.specs.List.{remove_range}
-use Rattle.stow_raw.specs.RawBuf.{RawLists, raw_lists, raw_used, RawFits}
+use Rattle.stow_raw.specs.RawBuf.{RawLists, raw_lists}
 use Rattle.stow_slots.specs.Young.{merged_from, merged, AreRising, IsYoung, all_lists}
 use Rattle.stow_slots.specs.declared.young_slot.YoungSlot.{YoungSlot}
 use Rattle.stow_slots.proofs.Merged.{AreAmong}

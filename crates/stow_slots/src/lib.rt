@@ -2,9 +2,9 @@
 //!
 //! `SlotBuf` keeps what `RawBuf` promises, word for word: two lists and a capacity. But a slot that is put between others
 //! moves none of them: the youngest slots, `YOUNG` at most, stand in a list of their own, each with how many of the older ones
-//! it stands behind (`specs/Young.antt`: `merged`). They come to the older ones in one pass, when they are many, and before
-//! slots are changed in any other way. The list's memory is got with the block's; a block of fewer than `LARGE` bytes has none, and
-//! puts slots where they belong at once.
+//! it stands behind (`specs/Young.antt`: `merged`). They come to the older ones in one pass, when they are many, before
+//! slots are changed in any other way, and when `settle` is called, for those who read many. The list's memory is got with the
+//! block's; a block of fewer than `LARGE` bytes has none, and puts slots where they belong at once.
 //!
 //! How long a slot stands in which list is no part of a contract. `old_slot`, `young_slot` and their counts serve searches that
 //! look into one list alone: what they give is a slot of the block, and nothing is said of its place, so what is found by them

@@ -183,6 +183,13 @@ impl<A: Allocator> SlotBuf<A> {
         self.young.clear();
     }
 
+    /// Brings the young slots to the others, for those who read many.
+    pub fn settle(&mut self)
+        ensures { self.new ≡ self.old }
+    {
+        settle(&mut self.raw, &mut self.young);
+    }
+
     /// How many slots aren't young.
     pub fn old_count(&self) -> usize {
         self.raw.slot_count()

@@ -1,9 +1,9 @@
-use Rattle.std.proofs.Common.{◌≡◌, ◌+◌, ◌≤◌, ◌<◌, List, [], ap, sym, subst, ◌∙◌, arith, refl}
+use Rattle.std.proofs.Common.{◌≡◌, ◌+◌, List, [], sym, subst, ◌∙◌, arith}
 use Rattle.std.proofs.lemmas.List.Elements.{All-filter}
 use Rattle.std.specs.List.{All, sum_by}
 use Rattle.stow_tree_model.specs.Order.{MessagesRise}
 use Rattle.stow_tree_model.specs.TreeMessage.{TreeMessage}
-use Rattle.stow_message.specs.MessageBuf.{MessageList, message_list}
+use Rattle.stow_message.specs.MessageBuf.{message_list}
 use Rattle.stow_message.specs.Packed.{message_size, IsMessage}
 use Rattle.stow_message.specs.Rising.{is_between, in_range, all_placed}
 use Rattle.stow_message.proofs.Copied.{all_placed_alone, some_size}

@@ -1,16 +1,35 @@
-use Rattle.std.proofs.Common.{◌<◌, length, ap, arith}
-use Rattle.std.proofs.lemmas.List.Sums.{sum_by_more}
-use Rattle.stow_tree_model.specs.TreeMessage.{message_of}
+use Rattle.std.proofs.Common.{◌≡◌, ◌+◌, ◌-◌, ◌<◌, ◌≤◌, ◌∙◌, [], length, drop, ap, subst, arith}
+use Rattle.std.specs.List.{sum_by}
+use Rattle.std.specs.Prelude.{slice_index_or}
+use Rattle.std.proofs.lemmas.List.Sums.{sum_by_more, sum_by_more_le, sum_by-take-le, sum_by-take-drop}
+use Rattle.stow_tree_model.specs.TreeMessage.{TreeMessage}
+use Rattle.stow_tree_model.specs.Op.{Gone}
 use Rattle.stow_message.specs.Packed.{message_size}
+use Rattle.stow_message.proofs.Reading.{length-message_bytes}
+use Rattle.stow_message.proofs.message_buf.bytes_in.Given as given
 use Rattle.stow_message.proofs.message_buf.bytes_in.Goals as goal
+use Rattle.stow_message.proofs.message_buf.bytes_in.Goals.{After-packed}
 
-pub overflow_add-total : goal.overflow_add-total
-overflow_add-total g c = let m = c.get.result in
-    record { fits = omega (arith, c.size-total.ensures, m.is_short, m.key.is_key.is_short, c.loop-i.invariant.small, c.requires, c.len-i-end.ensures, c.loop-i-test.true) }
+none : TreeMessage
+none = record { key = []; number = 0; op = Gone }
+
+size_is : (g : given.Over) (c : After-packed g) → length c.packed.result.now + 4 ≡ message_size (slice_index_or c.args.run.now c.loop-i.i none)
+size_is g c = ap (λ bs. length bs + 4) (c.packed.ensures none) ∙ length-message_bytes (slice_index_or c.args.run.now c.loop-i.i none)
+
+within : (g : given.Over) (c : After-packed g) → c.loop-i.i < length c.args.run.now
+within g c = omega (arith, c.len-i-end.ensures, c.loop-i-test.true)
+
+-- all of them take no more than the buffer has in use
+in_use : (g : given.Over) (c : After-packed g) → sum_by message_size c.args.run.now ≤ c.used-known.result
+in_use g c =
+    let r = c.run.inside in
+    let rest = drop r.from r.buf.now.messages in
+    subst (λ ms. sum_by message_size ms ≤ c.used-known.result) c.run.view_is
+    (omega (arith, sum_by-take-le message_size rest (r.to - r.from), sum_by-take-drop message_size r.buf.now.messages r.from, c.used-known.ensures.live))
+
+pub overflow_add-total-in-loop-i : goal.overflow_add-total-in-loop-i
+overflow_add-total-in-loop-i g c =
+    record { fits = omega (arith, size_is g c, c.loop-i.invariant, sum_by_more_le message_size c.args.run.now c.loop-i.i none (within g c), in_use g c, c.used-known.type_inv) }
 
 pub loop-i-preserved : goal.loop-i-preserved
-loop-i-preserved g c = let m = c.get.result in let run = c.args.run.now in let i = c.loop-i.i in let within : i < length run = omega (arith, c.len-i-end.ensures, c.loop-i-test.true) in
-    record {
-      sum = omega (arith, sum_by_more message_size run i (message_of m) within, c.loop-i.invariant.sum, c.size-total.ensures, ap message_size c.get.ensures);
-      small = omega (arith, c.size-total.ensures, m.is_short, m.key.is_key.is_short, c.loop-i.invariant.small);
-    }
+loop-i-preserved g c = omega (arith, sum_by_more message_size c.args.run.now c.loop-i.i none (within g c), c.loop-i.invariant, size_is g c)

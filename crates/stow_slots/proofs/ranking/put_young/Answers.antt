@@ -1,5 +1,4 @@
-use Rattle.std.proofs.Common.{◌≡◌, ◌+◌, ◌-◌, ◌≤◌, ℕ, List, length, ap, sym, subst, ◌∙◌, arith}
-use Rattle.stow_slots.specs.Young.{IsRank, HasOneMore}
+use Rattle.std.proofs.Common.{length, ap, arith}
 use Rattle.stow_slots.proofs.Merged.{rank_within}
 use Rattle.stow_slots.proofs.ranking.put_young.Goals as goal
 

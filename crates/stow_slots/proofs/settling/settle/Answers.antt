@@ -1,9 +1,8 @@
-use Rattle.std.proofs.Common.{◌≡◌, ◌+◌, ◌-◌, ◌*◌, ◌<◌, ◌≤◌, ◌^◌, ℕ, [], ◌∷◌, ◌++◌, length, take, drop, get_or, Some, ap, sym, subst, refl, ◌∙◌, arith, length-append}
+use Rattle.std.proofs.Common.{◌≡◌, ◌+◌, ◌-◌, ◌<◌, ◌++◌, length, take, drop, get_or, ap, sym, subst, refl, ◌∙◌, arith}
 use Rattle.std.specs.Prelude.{slice_set}
 use Rattle.std.specs.List.{remove_range}
-use Rattle.stow_raw.specs.RawBuf.{RawLists, raw_lists, raw_used}
-use Rattle.stow_slots.specs.Young.{IsYoung, all_lists}
-use Rattle.stow_slots.specs.declared.young_slot.YoungSlot.{YoungSlot}
+use Rattle.stow_raw.specs.RawBuf.{RawLists, raw_lists}
+use Rattle.stow_slots.specs.Young.{all_lists}
 use Rattle.stow_slots.proofs.Parts.{nothing, all_of_none}
 use Rattle.stow_slots.proofs.Settled.{IsSettling, unadded, unadded_is, begun, counts, all_settled, one_more, low, high}
 use Rattle.stow_slots.proofs.settling.settle.Goals as goal

@@ -1,7 +1,11 @@
-use Rattle.std.proofs.Common.{ap, sym, subst}
+use Rattle.std.proofs.Common.{ap, sym, subst, arith}
+use Rattle.std.specs.List.{sum_by}
 use Rattle.stow_tree_model.specs.TreeMessage.{message_of}
 use Rattle.stow_message.specs.Filter.{Covers}
 use Rattle.stow_message.specs.MessageBuf.{MessageList}
+use Rattle.stow_message.specs.Packed.{message_size}
+use Rattle.stow_message.proofs.RisingLists.{sum-placed}
+use Rattle.stow_message.proofs.Counted.{is_counted}
 use Rattle.stow_message.proofs.Covered.{covered, covers_more, covers_placed}
 use Rattle.stow_message.proofs.Pushed.{bytes_fit, push}
 use Rattle.stow_message.proofs.message_buf.MessageBuf.push.Goals as goal
@@ -22,7 +26,12 @@ invariant_of-self g c =
           (covers_placed marks (message_of c.args.message) c.args.self.now.messages c.add.ensures.added
           (covers_more c.self.inside.filter marks c.args.self.now.messages c.add.ensures.stay
           (covered c.self.inside.raw c.self.inside.filter c.args.self.now c.self.view_is c.self.invariant.covers)));
+      counted = omega (arith, c.size.ensures, is_counted c.self.inside.raw c.self.inside.live c.args.self.now c.self.view_is c.self.invariant.counted, sum-placed (message_of c.args.message) c.args.self.now.messages, ap (λ (w : MessageList). sum_by message_size w.messages) (put.is _ _ c.front_len-at.ensures c.insert_slot.ensures));
     }
+
+pub overflow_add-self : goal.overflow_add-self
+overflow_add-self g c =
+    record { fits = omega (arith, c.size.ensures, c.self.invariant.counted, c.self.invariant.filled.live, c.self.invariant.filled.within, ap (λ (w : MessageList). w.used) c.self.view_is, ap (λ (w : MessageList). w.capacity) c.self.view_is, c.requires.0) }
 
 pub returns : goal.returns
 returns g c = (push c.self.inside.raw c.self.invariant.filled c.args.self.now c.self.view_is c.args.message c.requires c.append.new.raw c.append.ensures _ c.search-index.ensures.count).is _ _ c.front_len-at.ensures c.insert_slot.ensures

@@ -1,14 +1,31 @@
-use Rattle.std.proofs.Common.{ℕ, List, ◌≡◌, ◌+◌, ◌-◌, ◌<◌, ◌≤◌, length, refl, ap, sym, subst, arith, length-append}
+use Rattle.std.proofs.Common.{ℕ, List, ◌≡◌, ◌+◌, ◌-◌, ◌*◌, ◌^◌, ◌<◌, ◌≤◌, length, refl, ap, sym, subst, arith, length-append}
+use Rattle.std.specs.List.{sum_by}
 use Rattle.stow_raw.specs.RawBuf.{RawLists, raw_used}
 use Rattle.stow_tree_model.specs.TreeMessage.{TreeMessage, message_of}
-use Rattle.stow_message.specs.Packed.{all_bytes}
+use Rattle.stow_message.specs.Packed.{all_bytes, message_size}
 use Rattle.stow_message.specs.Filter.{Covers}
 use Rattle.stow_message.specs.MessageBuf.{MessageList, messages_in}
+use Rattle.stow_message.proofs.Counted.{is_counted}
+use Rattle.stow_message.proofs.Placed.{sum-all_placed}
 use Rattle.stow_message.proofs.Covered.{covered, covers_more, covers_all_placed}
 use Rattle.stow_message.proofs.Squeezed.{all_sizes}
-use Rattle.stow_message.proofs.Merged.{Filling, filling, filled_here, here_small, old_within, place_here, slots_now, front_small, end_within, next, now_filled, now_seen}
+use Rattle.stow_message.proofs.Merged.{Filling, filling, filled_here, here_small, old_within, place_here, end_within, next, now_filled, now_seen}
 use Rattle.stow_slots.proofs.Moved.{length-moved}
+use Rattle.stow_message.proofs.message_buf.MessageBuf.push_all.Given as given
 use Rattle.stow_message.proofs.message_buf.MessageBuf.push_all.Goals as goal
+use Rattle.stow_message.proofs.message_buf.MessageBuf.push_all.Goals.{After-front_len}
+
+-- the bytes of the run
+grown : (g : given.Over) (c : After-front_len g) → c.front_len.result - c.front_len-at.result + 4 * c.len-count.result ≡ sum_by message_size c.args.run.now
+grown g c = omega (
+  arith,
+  c.front_len.ensures,
+  ap (λ (r : RawLists). length r.front) c.append_all.ensures,
+  length-append c.self.inside.raw.front (all_bytes c.args.run.now),
+  all_sizes c.args.run.now,
+  c.front_len-at.ensures,
+  c.len-count.ensures,
+)
 
 pub append_all-requires : goal.append_all-requires
 append_all-requires g c = let run = c.args.run.now in
@@ -36,6 +53,7 @@ loop-new-init g c = let count = c.len-count.result in
           (filling c.args.self.now c.args.run.now c.requires.room c.requires.valid c.self.inside.raw c.self.invariant.filled c.self.view_is c.append_all.new.raw c.add_slots.new.self c.append_all.ensures count c.len-count.ensures
           c.add_slots.ensures c.front_len-at.result c.front_len-at.ensures);
       marks = refl;
+      live = refl;
     }
 
 pub search_from-end-requires-clause-within : goal.search_from-end-requires-clause-within
@@ -85,6 +103,7 @@ loop-new-preserved g c =
       filling = next v run c.requires.room c.requires.valid l.self-inside.raw l.new l.old k l.at w lt m c.get-message.ensures end c.search_from-end.ensures _ _ (omega (arith, counts, c.len-count.ensures, lt)) refl
           c.move_slots.new.self c.move_slots.ensures _ (omega (arith, counts, c.len-count.ensures, lt)) c.set_slot.new.self c.set_slot.ensures _ (omega (arith, c.size.ensures)) _ (omega (arith, counts));
       marks = l.invariant.marks;
+      live = l.invariant.live;
     }
 
 pub invariant_of-self : goal.invariant_of-self
@@ -97,8 +116,32 @@ invariant_of-self g c = let l = c.loop-new in
           (covers_all_placed marks c.args.run.now c.args.self.now.messages c.add_all.ensures.added
           (covers_more c.self.inside.filter marks c.args.self.now.messages c.add_all.ensures.stay
           (covered c.self.inside.raw c.self.inside.filter c.args.self.now c.self.view_is c.self.invariant.covers))));
+      counted = omega (
+        arith,
+        l.invariant.live,
+        is_counted c.self.inside.raw c.self.inside.live c.args.self.now c.self.view_is c.self.invariant.counted,
+        grown g (goal.at.invariant_of-self g c).After-front_len,
+        sum-all_placed c.args.run.now c.args.self.now.messages,
+        ap (λ (w : MessageList). sum_by message_size w.messages) (now_seen c.args.self.now c.args.run.now c.requires.room c.requires.valid l.self-inside.raw l.new l.old (l.old + l.new - length c.args.run.now) l.at l.invariant.filling c.requires.rising c.requires.new (omega (arith, c.loop-new-test.false, c.len-count.ensures))),
+      );
     }
 
 pub returns : goal.returns
 returns g c = let l = c.loop-new in
     now_seen c.args.self.now c.args.run.now c.requires.room c.requires.valid l.self-inside.raw l.new l.old (l.old + l.new - length c.args.run.now) l.at l.invariant.filling c.requires.rising c.requires.new (omega (arith, c.loop-new-test.false, c.len-count.ensures))
+
+
+-- all that takes room is within the block
+fits : (g : given.Over) (c : After-front_len g) → c.self.inside.live + sum_by message_size c.args.run.now < 2 ^ 32
+fits g c = omega (arith, c.requires.room, c.self.invariant.counted, c.self.invariant.filled.live, c.self.invariant.filled.within, ap (λ (w : MessageList). w.used) c.self.view_is, ap (λ (w : MessageList). w.capacity) c.self.view_is)
+
+pub overflow_mul-bytes : goal.overflow_mul-bytes
+overflow_mul-bytes g c = record { fits = omega (arith, c.len-count.ensures, all_sizes c.args.run.now, fits g c) }
+
+pub overflow_add-bytes : goal.overflow_add-bytes
+overflow_add-bytes g c = record { fits = omega (arith, grown g c, fits g c) }
+
+pub overflow_add-self : goal.overflow_add-self
+overflow_add-self g c =
+    let n = (goal.at.overflow_add-self g c).After-front_len in
+    record { fits = omega (arith, c.loop-new.invariant.live, grown g n, fits g n) }

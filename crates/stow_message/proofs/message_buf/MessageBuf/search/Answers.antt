@@ -1,1 +1,0 @@
-use Rattle.stow_message.proofs.message_buf.MessageBuf.search.Goals as goal

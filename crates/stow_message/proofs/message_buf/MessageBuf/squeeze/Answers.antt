@@ -1,7 +1,10 @@
 use Rattle.std.proofs.Common.{ℕ, List, ◌++◌, ◌∙◌, length, refl, ap, sym, subst, arith}
+use Rattle.std.specs.List.{sum_by}
 use Rattle.stow_raw.specs.RawBuf.{raw_lists}
 use Rattle.stow_message.specs.Filter.{Covers}
 use Rattle.stow_message.specs.MessageBuf.{MessageList}
+use Rattle.stow_message.specs.Packed.{message_size}
+use Rattle.stow_message.proofs.Counted.{is_counted}
 use Rattle.stow_message.proofs.Covered.{covered}
 use Rattle.stow_message.proofs.Squeezed.{turn, end}
 use Rattle.stow_message.proofs.message_buf.MessageBuf.squeeze.Goals as goal
@@ -34,6 +37,7 @@ loop-i-preserved g c =
     record {
       raw = t.slots _ c.front_len-at.ensures _ c.set_slot.ensures;
       marks = c.loop-i.invariant.marks;
+      live = c.loop-i.invariant.live;
       spare = t.bytes c.slot.result c.slot.ensures _ refl _ (c.push_front.ensures ∙ ap (λ l. raw_lists (spare.front ++ l) spare.slots spare.capacity) c.packed_at.ensures);
     }
 
@@ -52,7 +56,11 @@ renew_marks-requires g c =
     }
 
 pub invariant_of-self : goal.invariant_of-self
-invariant_of-self g c = record { filled = (end c.self.inside.raw c.self.invariant.filled c.args.self.now c.self.view_is c.loop-i.i c.loop-i.self-inside.raw c.loop-i.invariant.raw c.loop-i.spare _ c.loop-i.invariant.spare (omega (arith, c.loop-i-test.false, c.slot_count-i-end.ensures)) _ c.front_len.ensures _ c.bytes.ensures _ c.clear_front.ensures).filled _ c.push_front-2.ensures; covers = c.renew_marks.ensures }
+invariant_of-self g c = let e = (end c.self.inside.raw c.self.invariant.filled c.args.self.now c.self.view_is c.loop-i.i c.loop-i.self-inside.raw c.loop-i.invariant.raw c.loop-i.spare _ c.loop-i.invariant.spare (omega (arith, c.loop-i-test.false, c.slot_count-i-end.ensures)) _ c.front_len.ensures _ c.bytes.ensures _ c.clear_front.ensures) in record {
+  filled = e.filled _ c.push_front-2.ensures;
+  covers = c.renew_marks.ensures;
+  counted = c.loop-i.invariant.live ∙ is_counted c.self.inside.raw c.self.inside.live c.args.self.now c.self.view_is c.self.invariant.counted ∙ sym (ap (λ (w : MessageList). sum_by message_size w.messages) (e.is _ c.push_front-2.ensures));
+}
 
 pub returns-clause-squeezed : goal.returns-clause-squeezed
 returns-clause-squeezed g c = (end c.self.inside.raw c.self.invariant.filled c.args.self.now c.self.view_is c.loop-i.i c.loop-i.self-inside.raw c.loop-i.invariant.raw c.loop-i.spare _ c.loop-i.invariant.spare (omega (arith, c.loop-i-test.false, c.slot_count-i-end.ensures)) _ c.front_len.ensures _ c.bytes.ensures _ c.clear_front.ensures).is _ c.push_front-2.ensures

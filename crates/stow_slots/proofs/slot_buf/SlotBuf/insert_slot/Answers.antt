@@ -1,9 +1,8 @@
-use Rattle.std.proofs.Common.{◌≡◌, ◌+◌, ◌-◌, ◌*◌, ◌≤◌, ℕ, length, ap, sym, subst, ◌∙◌, arith}
-use Rattle.std.specs.Prelude.{IsTrue}
+use Rattle.std.proofs.Common.{◌≤◌, length, ap, sym, subst, ◌∙◌, arith}
 use Rattle.std.specs.List.{insert}
 use Rattle.std.proofs.lemmas.List.Edits.{length-insert}
 use Rattle.stow_raw.specs.RawBuf.{RawLists, raw_lists, raw_used}
-use Rattle.stow_slots.specs.Young.{HasOneMore, IsYoung, all_lists}
+use Rattle.stow_slots.specs.Young.{IsYoung, all_lists}
 use Rattle.stow_slots.proofs.Parts.{put_in, put_so, settled, settled_all}
 use Rattle.stow_slots.proofs.slot_buf.SlotBuf.insert_slot.Goals as goal
 

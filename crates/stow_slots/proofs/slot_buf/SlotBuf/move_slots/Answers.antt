@@ -1,9 +1,6 @@
-use Rattle.std.proofs.Common.{◌≡◌, ◌+◌, ◌-◌, ◌*◌, ◌<◌, ◌≤◌, ℕ, [], ◌∷◌, ◌++◌, length, take, drop, replicate, get_or, Some, ap, sym, subst, refl, ◌∙◌, arith, length-append, length-set, length-take, length-drop}
-use Rattle.std.proofs.lemmas.List.{length-replicate}
-use Rattle.std.specs.Prelude.{slice_set}
-use Rattle.std.specs.List.{insert, remove_range}
+use Rattle.std.proofs.Common.{◌+◌, ◌≤◌, ◌++◌, length, take, drop, ap, ◌∙◌, arith}
+use Rattle.std.specs.List.{remove_range}
 use Rattle.stow_raw.specs.RawBuf.{RawLists, raw_lists, raw_used}
-use Rattle.stow_slots.specs.Young.{IsYoung, all_lists}
 use Rattle.stow_slots.proofs.Parts.{fits, settled, settled_all}
 use Rattle.stow_slots.proofs.Moved.{length-moved}
 use Rattle.stow_slots.proofs.slot_buf.SlotBuf.move_slots.Goals as goal

@@ -1,6 +1,6 @@
-use Rattle.std.proofs.Common.{◌≡◌, ◌+◌, ◌-◌, ◌*◌, ◌<◌, ◌≤◌, ℕ, [], ◌∷◌, ◌++◌, length, get_or, Some, ap, sym, subst, refl, ◌∙◌, arith, length-append}
-use Rattle.stow_raw.specs.RawBuf.{RawLists, raw_lists, raw_used}
-use Rattle.stow_slots.specs.Young.{IsYoung, all_lists}
+use Rattle.std.proofs.Common.{sym, subst, arith, length-append}
+use Rattle.stow_raw.specs.RawBuf.{RawLists}
+use Rattle.stow_slots.specs.Young.{IsYoung}
 use Rattle.stow_slots.proofs.Parts.{used, capacity}
 use Rattle.stow_slots.proofs.slot_buf.SlotBuf.push_front.Goals as goal
 

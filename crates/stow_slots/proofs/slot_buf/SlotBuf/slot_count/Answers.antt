@@ -1,6 +1,4 @@
-use Rattle.std.proofs.Common.{◌≡◌, ◌+◌, ◌-◌, ◌*◌, ◌<◌, ◌≤◌, ℕ, [], ◌∷◌, ◌++◌, length, get_or, Some, ap, sym, subst, refl, ◌∙◌, arith, length-append}
-use Rattle.stow_raw.specs.RawBuf.{RawLists, raw_lists, raw_used}
-use Rattle.stow_slots.specs.Young.{IsYoung, all_lists}
+use Rattle.std.proofs.Common.{arith}
 use Rattle.stow_slots.proofs.Parts.{count}
 use Rattle.stow_slots.proofs.slot_buf.SlotBuf.slot_count.Goals as goal
 

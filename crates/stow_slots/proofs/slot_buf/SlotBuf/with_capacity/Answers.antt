@@ -1,5 +1,5 @@
-use Rattle.std.proofs.Common.{◌≡◌, ◌+◌, ◌-◌, ◌*◌, ◌<◌, ◌≤◌, ℕ, [], ◌∷◌, ◌++◌, length, get_or, Some, ap, sym, subst, refl, ◌∙◌, arith, length-append}
-use Rattle.stow_raw.specs.RawBuf.{RawLists, raw_lists, raw_used}
+use Rattle.std.proofs.Common.{ap, sym, subst, ◌∙◌, arith}
+use Rattle.stow_raw.specs.RawBuf.{raw_used}
 use Rattle.stow_slots.specs.Young.{IsYoung, all_lists}
 use Rattle.stow_slots.proofs.Parts.{empty, all_of_none}
 use Rattle.stow_slots.proofs.slot_buf.SlotBuf.with_capacity.Goals as goal

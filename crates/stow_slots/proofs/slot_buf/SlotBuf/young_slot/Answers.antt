@@ -1,4 +1,4 @@
-use Rattle.std.proofs.Common.{arith, length, ap}
+use Rattle.std.proofs.Common.{arith, length}
 use Rattle.std.proofs.lemmas.Option.{slice_get_read}
 use Rattle.stow_slots.proofs.Parts.{young_contained}
 use Rattle.stow_slots.proofs.slot_buf.SlotBuf.young_slot.Goals as goal
