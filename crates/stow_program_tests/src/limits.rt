@@ -190,7 +190,11 @@ const MANY: &str = r"
 fn a_store_may_be_large(rt: HostRuntime) -> Result<(), Fail> {
     answers_by(&rt, AMPLE_PIPE, MANY)?;
     answers_by(&rt, "pipe --tenants ample.toml --fanout 256", MANY)?;
-    answers_by(&rt, "pipe --tenants ample.toml --fanout 4 --leaf 4096", MANY)
+    answers_by(
+        &rt,
+        "pipe --tenants ample.toml --fanout 4 --leaf 4096",
+        MANY,
+    )
 }
 
 /// 10,000 connections and 100,000 events: more than 64 KiB of answers.

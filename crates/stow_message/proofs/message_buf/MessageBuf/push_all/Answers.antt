@@ -130,7 +130,6 @@ pub returns : goal.returns
 returns g c = let l = c.loop-new in
     now_seen c.args.self.now c.args.run.now c.requires.room c.requires.valid l.self-inside.raw l.new l.old (l.old + l.new - length c.args.run.now) l.at l.invariant.filling c.requires.rising c.requires.new (omega (arith, c.loop-new-test.false, c.len-count.ensures))
 
-
 -- all that takes room is within the block
 fits : (g : given.Over) (c : After-front_len g) → c.self.inside.live + sum_by message_size c.args.run.now < 2 ^ 32
 fits g c = omega (arith, c.requires.room, c.self.invariant.counted, c.self.invariant.filled.live, c.self.invariant.filled.within, ap (λ (w : MessageList). w.used) c.self.view_is, ap (λ (w : MessageList). w.capacity) c.self.view_is)
