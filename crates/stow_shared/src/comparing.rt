@@ -55,7 +55,7 @@ fn same_items<A: Allocator>(a: &Items<A>, b: &Items<A>) -> bool
 }
 
 /// Whether both replies are the same.
-pub(crate) fn same_reply<A: Allocator>(a: &Reply<A>, b: &Reply<A>) -> bool
+pub fn same_reply<A: Allocator>(a: &Reply<A>, b: &Reply<A>) -> bool
     ensures { IsTrue result ↔ (reply_of a.now ≡ reply_of b.now) }
 {
     match (a, b) {

@@ -10,7 +10,7 @@ use stow_model::reply::Reply;
 use stow_model::words::Words;
 
 /// A copy of words.
-pub(crate) fn copied_words<A: Allocator + Copy>(
+pub fn copied_words<A: Allocator + Copy>(
     alloc: A,
     words: &Words<A>,
 ) -> Result<Words<A>, AllocError>

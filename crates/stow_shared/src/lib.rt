@@ -26,9 +26,9 @@
 pub mod book;
 pub mod closed;
 mod closing;
-mod comparing;
+pub mod comparing;
 pub mod copies;
-mod copying;
+pub mod copying;
 pub mod desk;
 pub mod entry;
 pub mod journal;
@@ -38,6 +38,4 @@ pub mod open_fault;
 pub mod seat;
 pub mod shared;
 pub mod step;
-#[cfg(test)]
-mod tests;
 pub mod unkept;

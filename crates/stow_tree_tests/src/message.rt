@@ -211,7 +211,7 @@ impl<A: Allocator + Copy, B: Allocator + Copy> All<A, B> {
             && run.get(0).number == 9
             && run.get(0).op.carried() == b"new".as_slice()
             && self.left.range_bytes(from, to) == 27
-            && self.left.of_key_near(from, 0).len() == 1
+            && self.left.of_key(from).len() == 1
     }
 }
 

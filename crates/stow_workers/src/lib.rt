@@ -63,8 +63,6 @@ pub mod serving;
 pub mod sink;
 pub mod source;
 mod starting;
-#[cfg(test)]
-mod tests;
 pub mod wake;
 pub mod waker;
 pub mod waking_desk;

@@ -79,9 +79,10 @@ impl<A: Allocator + Copy> Numbered<A> {
         if !self.is_short(alloc, made)? {
             return Err(AllocError);
         }
+        let place = self.tree.glance(key, self.last).place;
         let messages = [made];
         self.tree.reserve(alloc, messages.as_slice(), pins)?;
-        self.tree.put_all(messages.as_slice());
+        self.tree.put_near(made, place);
         self.last = made.number;
         Ok(())
     }

@@ -10,6 +10,7 @@ use stow_bytes::byte_string::ByteString;
 use stow_merge::flush_result::FlushResult;
 use stow_merge::pins::Pins;
 use stow_node::installed::Installed;
+use stow_read::newest::Newest;
 use stow_read::row::Row;
 use stow_testing::random::Random;
 use stow_tree::tree_shape::TreeShape;
@@ -396,6 +397,16 @@ impl<A: Allocator + Copy> Run<A> {
         }
     }
 
+    /// Whether a glance at the key at a place tells of the value that it has at a number, as far as it tells it.
+    fn is_told(&self, place: usize, at: u64, value: Option<&[u8]>) -> bool {
+        match (self.tree.tree.glance(self.keys.at(place), at).newest, value) {
+            (Newest::Missing, None) => true,
+            (Newest::Whole(head), Some(bytes)) => head.length as usize == bytes.len(),
+            (Newest::Extended(number), Some(_)) => number <= at,
+            _ => false,
+        }
+    }
+
     /// What the list gives the key at a place, at a number.
     fn plain_value(
         &self,
@@ -417,7 +428,7 @@ impl<A: Allocator + Copy> Run<A> {
         self.keys.at(place).tenant()
     }
 
-    /// Whether the key at a place has what the list gives it, by `get` and by `versions`.
+    /// Whether the key at a place has what the list gives it, by `get`, by `versions`, and by `glance` as far as that tells it.
     fn is_key(&mut self, alloc: A, place: usize) -> Result<bool, AllocError> {
         let versions = self.versions(alloc, place)?;
         let numbers = self.numbers(alloc, self.tenant(place))?;
@@ -426,6 +437,7 @@ impl<A: Allocator + Copy> Run<A> {
             let value = self.value(alloc, place, *at)?;
             if !is_same(bytes_of(&value), &wanted)
                 || !is_same(shown(versions.as_slice(), *at), &wanted)
+                || !self.is_told(place, *at, bytes_of(&wanted))
             {
                 return Ok(false);
             }

@@ -2,10 +2,10 @@
 ghost use Rattle.std.specs.Prelude.{◌≡◌, IfOk, vec_len};
 ghost use Rattle.stow_core.specs.State.{IsNewCore};
 
-use crate::open_gate::OpenGate;
-use crate::pool::Pool;
-use crate::pool_fault::PoolFault;
-use crate::tests::hold::Hold;
+use stow_workers::open_gate::OpenGate;
+use stow_workers::pool::Pool;
+use stow_workers::pool_fault::PoolFault;
+use crate::workers::hold::Hold;
 use std::alloc::{AllocError, Allocator, Global};
 use std::collections::BTreeMap;
 use std::io;

@@ -1,9 +1,9 @@
 //! One wake over a door that gives so many jobs, all of whose results are stale, and refuses memory where it is to.
 ghost use Rattle.std.specs.Prelude.{◌≡◌, IsSome, None, OnErr, OnOk};
 
-use crate::flushing::serve_wake;
-use crate::open_gate::OpenGate;
-use crate::tests::Service;
+use stow_workers::flushing::serve_wake;
+use stow_workers::open_gate::OpenGate;
+use crate::workers::Service;
 use std::alloc::{AllocError, Global};
 use std::test::Fail;
 use stow_core::Core;

@@ -1,7 +1,7 @@
 //! A gate that holds a call and a merge until others were answered.
-use crate::gate::Gate;
-use crate::place::Place;
-use crate::tests::held::Held;
+use stow_workers::gate::Gate;
+use stow_workers::place::Place;
+use crate::workers::held::Held;
 use std::sync::atomic::{AtomicU64, Ordering};
 use std::time::Clock;
 

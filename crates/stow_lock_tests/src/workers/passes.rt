@@ -1,6 +1,6 @@
 //! A gate that counts who passes.
-use crate::gate::Gate;
-use crate::place::Place;
+use stow_workers::gate::Gate;
+use stow_workers::place::Place;
 use std::cell::Cell;
 
 /// How often each place was passed.

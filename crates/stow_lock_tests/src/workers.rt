@@ -1,10 +1,10 @@
 //! One connection of ann's over memory: worked requests, and readers, writers and memory that fail.
-use crate::counted::Counted;
-use crate::open_gate::OpenGate;
-use crate::served::Served;
-use crate::serving::serve_connection;
-use crate::tests::ends::{Feed, Narrow, Prompt};
-use crate::tests::passes::Passes;
+use stow_workers::counted::Counted;
+use stow_workers::open_gate::OpenGate;
+use stow_workers::served::Served;
+use stow_workers::serving::serve_connection;
+use crate::workers::ends::{Feed, Narrow, Prompt};
+use crate::workers::passes::Passes;
 use std::alloc::{AllocError, Allocator, Global};
 use std::cell::Cell;
 use std::io;

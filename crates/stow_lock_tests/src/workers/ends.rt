@@ -2,8 +2,8 @@
 ghost use Rattle.std.specs.Prelude.{◌≡◌, ℕ, List, Some, true, false};
 ghost use Rattle.stow_workers.specs.Failures.{HasFailed};
 
-use crate::sink::Sink;
-use crate::source::Source;
+use stow_workers::sink::Sink;
+use stow_workers::source::Source;
 use std::alloc::Global;
 use std::cell::Cell;
 use std::io;
