@@ -1,8 +1,4 @@
 //! One connection of ann's over memory: worked requests, and readers, writers and memory that fail.
-use stow_workers::counted::Counted;
-use stow_workers::open_gate::OpenGate;
-use stow_workers::served::Served;
-use stow_workers::serving::serve_connection;
 use crate::workers::ends::{Feed, Narrow, Prompt};
 use crate::workers::passes::Passes;
 use std::alloc::{AllocError, Allocator, Global};
@@ -17,6 +13,10 @@ use stow_model::stream_fault::StreamFault;
 use stow_refusing::{Plan, Refusing};
 use stow_testing::tenants::THREE;
 use stow_tree::tree_shape::TreeShape;
+use stow_workers::counted::Counted;
+use stow_workers::open_gate::OpenGate;
+use stow_workers::served::Served;
+use stow_workers::serving::serve_connection;
 
 mod ends;
 mod flushes;

@@ -2,12 +2,12 @@
 ghost use Rattle.std.specs.Prelude.{◌≡◌, ℕ, List, Some, true, false};
 ghost use Rattle.stow_workers.specs.Failures.{HasFailed};
 
-use stow_workers::sink::Sink;
-use stow_workers::source::Source;
 use std::alloc::Global;
 use std::cell::Cell;
 use std::io;
 use std::io::{Error, ErrorKind};
+use stow_workers::sink::Sink;
+use stow_workers::source::Source;
 
 /// One failure more.
 fn one_more(failures: &mut u64) -> Error

@@ -1,8 +1,6 @@
 //! One wake over a door that gives so many jobs, all of whose results are stale, and refuses memory where it is to.
 ghost use Rattle.std.specs.Prelude.{◌≡◌, IsSome, None, OnErr, OnOk};
 
-use stow_workers::flushing::serve_wake;
-use stow_workers::open_gate::OpenGate;
 use crate::workers::Service;
 use std::alloc::{AllocError, Global};
 use std::test::Fail;
@@ -12,6 +10,8 @@ use stow_merge::flush_job::FlushJob;
 use stow_merge::flush_result::FlushResult;
 use stow_node::installed::Installed;
 use stow_testing::lines::words_of;
+use stow_workers::flushing::serve_wake;
+use stow_workers::open_gate::OpenGate;
 
 /// A door over a core whose rows wait in a buffer.
 #[derive(Drop)]

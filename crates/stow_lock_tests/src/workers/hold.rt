@@ -1,9 +1,9 @@
 //! A gate that holds a call and a merge until others were answered.
-use stow_workers::gate::Gate;
-use stow_workers::place::Place;
 use crate::workers::held::Held;
 use std::sync::atomic::{AtomicU64, Ordering};
 use std::time::Clock;
+use stow_workers::gate::Gate;
+use stow_workers::place::Place;
 
 /// After so many replies a merge must have begun.
 const REPLIES: u64 = 100_000;

@@ -1,7 +1,7 @@
 //! A gate that counts who passes.
+use std::cell::Cell;
 use stow_workers::gate::Gate;
 use stow_workers::place::Place;
-use std::cell::Cell;
 
 /// How often each place was passed.
 #[derive(Drop)]

@@ -2,9 +2,6 @@
 ghost use Rattle.std.specs.Prelude.{◌≡◌, IfOk, vec_len};
 ghost use Rattle.stow_core.specs.State.{IsNewCore};
 
-use stow_workers::open_gate::OpenGate;
-use stow_workers::pool::Pool;
-use stow_workers::pool_fault::PoolFault;
 use crate::workers::hold::Hold;
 use std::alloc::{AllocError, Allocator, Global};
 use std::collections::BTreeMap;
@@ -33,6 +30,9 @@ use stow_shared::step::Step;
 use stow_shared::unkept::Unkept;
 use stow_testing::tenants::THREE;
 use stow_tree::tree_shape::TreeShape;
+use stow_workers::open_gate::OpenGate;
+use stow_workers::pool::Pool;
+use stow_workers::pool_fault::PoolFault;
 
 /// The logins of the two tenants.
 const ANN: &str = "AUTH ann bc\n";
