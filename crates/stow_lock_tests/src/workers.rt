@@ -24,6 +24,7 @@ mod held;
 mod hold;
 mod passes;
 mod pool;
+mod replies;
 
 /// A login, a write and a read, of 31, 28 and 20 bytes.
 const HELLO: &[u8] =

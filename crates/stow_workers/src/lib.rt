@@ -55,7 +55,7 @@ mod parting;
 pub mod place;
 pub mod pool;
 pub mod pool_fault;
-mod replies;
+pub mod replies;
 pub mod seat_promise;
 mod senders;
 pub mod served;

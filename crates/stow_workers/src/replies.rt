@@ -1,5 +1,5 @@
 //! Replies on their way to a writer.
-ghost use Rattle.std.specs.Prelude.{◌≡◌, false, [], OnOk, OnErr, option_map};
+ghost use Rattle.std.specs.Prelude.{◌≡◌, false, [], length, OnOk, OnErr, option_map};
 ghost use Rattle.stow_model.specs.Reply.{reply_of};
 ghost use Rattle.stow_workers.specs.Sent.{SendsReply, StaysSent, NoneWaits, sent_of};
 
@@ -8,9 +8,6 @@ use crate::writing::write_all;
 use std::alloc::{AllocError, Allocator, Global};
 use stow_model::reply::Reply;
 use stow_resp::encode::Encode;
-
-#[cfg(test)]
-mod tests;
 
 /// More bytes than these are written at once, and more room than for these isn't kept.
 const KEPT: usize = 65_536;
@@ -42,6 +39,18 @@ impl<A: Allocator + Copy> Replies<A> {
         ensures { result ≡ self.now.has_failed }
     {
         self.has_failed
+    }
+
+    /// How many bytes wait.
+    pub fn waiting(&self) -> usize
+        ensures { result ≡ length self.now.bytes.items }
+    {
+        self.bytes.len()
+    }
+
+    /// How many bytes there is room for.
+    pub fn room(&self) -> usize {
+        self.bytes.capacity()
     }
 
     /// Adds a reply, if there is one, and writes what waits if that is much. An `Err` adds and writes nothing.

@@ -1,9 +1,9 @@
 //! What room replies keep.
-use crate::counted::Counted;
-use crate::replies::Replies;
 use std::test::Fail;
 use stow_bytes::byte_string::ByteString;
 use stow_model::reply::Reply;
+use stow_workers::counted::Counted;
+use stow_workers::replies::Replies;
 
 // A reply of 65,545 bytes is written at once, and its room given back.
 #[test]
@@ -14,7 +14,7 @@ fn room_for_a_long_reply_is_not_kept(rt: HostRuntime) -> Result<(), Fail> {
     let mut writer = Counted::new(&mut output);
     let mut replies = Replies::new(alloc);
     replies.add(&mut writer, &Some(Reply::Bulk(value)))?;
-    assert!(rt; replies.bytes.is_empty() && replies.bytes.capacity() <= 65_536);
+    assert!(rt; replies.waiting() == 0 && replies.room() <= 65_536);
     Ok(())
 }
 
@@ -29,7 +29,7 @@ fn replies_wait_up_to_a_limit(rt: HostRuntime) -> Result<(), Fail> {
     let mut replies = Replies::new(alloc);
     for waiting in [16_384, 32_768, 49_152, 65_536, 0usize] {
         replies.add(&mut writer, &reply)?;
-        assert_eq!(rt; replies.bytes.len(), waiting);
+        assert_eq!(rt; replies.waiting(), waiting);
     }
     Ok(())
 }
