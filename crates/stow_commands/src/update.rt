@@ -1,5 +1,5 @@
 //! Changes of one row.
-ghost use Rattle.std.specs.Prelude.{◌≡◌, ◌++◌, [], IfOk};
+ghost use Rattle.std.specs.Prelude.{◌≡◌, ◌++◌, [], ℕ, List, Option, IfOk, is_some, length};
 ghost use Rattle.std.specs.Option.{unwrap_or};
 ghost use Rattle.stow_model.specs.Store as meant;
 ghost use Rattle.stow_commands.specs.Commands.{condition_of, update_of};
@@ -59,21 +59,22 @@ fn set<A: Allocator + Copy>(
     if value.len() > VALUE_LIMIT {
         return Err(OutcomeFault::Refused(Refusal::ValueTooLong));
     }
-    if !allows(condition, present) {
+    if !allows(condition, present.is_some()) {
         return Ok(Outcome::Unchanged(Reply::Null));
     }
     let value = ByteString::from_slice(alloc, value)?;
     Ok(Outcome::Written(value, Reply::Simple(SimpleString::Ok)))
 }
 
-/// Whether a SET with this condition writes.
-pub fn allows(condition: Condition, present: Option<&[u8]>) -> bool
-    ensures { result ≡ meant.allows (condition_of condition) (value_of present.entry) }
+/// Whether a SET with this condition writes, by whether there is a row.
+pub fn allows(condition: Condition, is_there: bool) -> bool
+    ensures { (present : Option (List ℕ)) → is_some present ≡ is_there
+        → result ≡ meant.allows (condition_of condition) present }
 {
     match condition {
         Condition::Always => true,
-        Condition::IfMissing => present.is_none(),
-        Condition::IfThere => present.is_some(),
+        Condition::IfMissing => !is_there,
+        Condition::IfThere => is_there,
     }
 }
 
@@ -84,27 +85,32 @@ fn append<A: Allocator + Copy>(
 ) -> Result<Outcome<A>, OutcomeFault>
     ensures { IsOutcome result (meant.append_outcome suffix.now (value_of present.entry)) }
 {
-    match append_reply(suffix, present) {
+    match append_reply(suffix, length_of(present)) {
         Ok(told) => Ok(Outcome::Written(joined(alloc, present, suffix)?, told)),
         Err(refusal) => Err(OutcomeFault::Refused(refusal)),
     }
 }
 
-/// What an APPEND is told by the row's present value, or why it is refused. The value that it leads to is not joined.
-pub fn append_reply<A: Allocator>(
-    suffix: &[u8],
-    present: Option<&[u8]>,
-) -> Result<Reply<A>, Refusal>
-    ensures { IsAppendReply result suffix.now (value_of present.entry) }
+/// What an APPEND is told by the length of the row's present value, or why it is refused. Neither that value nor the one that
+/// it leads to is asked for.
+pub fn append_reply<A: Allocator>(suffix: &[u8], present_len: usize) -> Result<Reply<A>, Refusal>
+    ensures { (present : Option (List ℕ)) → length (unwrap_or present []) ≡ present_len
+        → IsAppendReply result suffix.now present }
 {
-    let present_len = match present {
-        Some(value) => value.len(),
-        None => 0,
-    };
     if suffix.len() > VALUE_LIMIT || present_len > VALUE_LIMIT - suffix.len() {
         return Err(Refusal::ValueTooLong);
     }
     Ok(Reply::Integer((present_len + suffix.len()) as i64))
+}
+
+/// The length of the row's present value, a missing one counting as empty.
+fn length_of(present: Option<&[u8]>) -> usize
+    ensures { result ≡ length (unwrap_or (value_of present.entry) []) }
+{
+    match present {
+        Some(value) => value.len(),
+        None => 0,
+    }
 }
 
 /// The row's present value, followed by the suffix.

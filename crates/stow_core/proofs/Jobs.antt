@@ -5,7 +5,7 @@ use Rattle.std.proofs.lemmas.List.Elements.{All-contains, Contains-get_or}
 use Rattle.stow_core.specs.State.{CoreState, shared_of, IsCore}
 use Rattle.stow_core.specs.Flushing.{TakesResultOf, IsPlannedFrom}
 use Rattle.stow_core.proofs.Kept.{pins_held}
-use Rattle.stow_merge.specs.Covering.{Covers, IsCovered}
+use Rattle.stow_merge.specs.Covering.{IsCovered}
 use Rattle.stow_merge.specs.Pins as held
 use Rattle.stow_merge.specs.declared.flush_job.FlushJob.{FlushJob}
 use Rattle.stow_merge.specs.declared.pins.Pins.{Pins}

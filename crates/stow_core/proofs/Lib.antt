@@ -7,6 +7,8 @@ pub mod Moved
 pub mod Written
 pub mod Changed
 pub mod Carried
+pub mod RowLengths
+pub mod Glances
 pub mod Made
 pub mod Copies
 pub mod Charges

@@ -3,8 +3,7 @@ use Rattle.std.specs.Prelude.{ℕ, ◌+◌, List, [], ◌∷◌, length, if◌th
 use Rattle.stow_model.specs.Item.{Item}
 use Rattle.stow_model.specs.Item as item
 use Rattle.stow_read.specs.Range.{KeyValue}
-use Rattle.stow_tree_model.specs.Intervals.{AreKeyBytes}
-use Rattle.stow_tree_model.specs.Keys.{packed, own_key, IsTenantKey}
+use Rattle.stow_tree_model.specs.Keys.{packed, own_key}
 
 -- the upper end: an empty one is none, and the tenant's keys end where the next index's begin
 abbrev pub upper_end : ℕ → List ℕ → List ℕ

@@ -1,6 +1,7 @@
 pub mod Keys
 pub mod Tenancies
 pub mod State
+pub mod RowLengths
 pub mod Writes
 pub mod Taken
 pub mod Legal

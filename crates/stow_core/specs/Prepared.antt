@@ -22,6 +22,7 @@ use Rattle.stow_core.specs.declared.change.Change.TheVariants as change
 use Rattle.stow_core.specs.declared.prepared.Prepared.{Prepared}
 use Rattle.stow_core.specs.declared.write.Write.{Write}
 use Rattle.stow_core.specs.Keys.{AreKeysOf}
+use Rattle.stow_core.specs.RowLengths.{HaveLength}
 use Rattle.stow_core.specs.Taken.{AreDistinct}
 use Rattle.stow_core.specs.Tenancies.{tenancy_at, versions_of}
 use Rattle.stow_core.specs.Writes.{given_op, row_given, rows_given, writes_of, AreMessages, StaysShort}
@@ -136,7 +137,13 @@ pub record CanGive (core : CoreState) (tenant : ℕ) (keys : List (List ℕ)) (o
       keys
   pub fit : bytes_of (writes_of (next_number core tenant) op keys) ≤ 2097152
 
--- a write of the tenant's own keys needs no more memory, and is charged so
+-- where the write tells a length, each row that it makes has it
+abbrev pub TellsLength : {A : Type 0} → CoreState → ℕ → Write A → Type 0
+TellsLength core tenant write = IfSome write.length
+    (HaveLength (after_written write (store_of core tenant)).rows (next_number core tenant))
+
+-- A write of the tenant's own keys needs no more memory, is charged so, and the length that it
+-- tells is that of its rows.
 pub record CanPut {A : Type 0} (core : CoreState) (tenant : ℕ) (write : Write A)
     : Type 0 where
   pub is_tenant : IsTenant core.entries tenant
@@ -147,6 +154,7 @@ pub record CanPut {A : Type 0} (core : CoreState) (tenant : ℕ) (write : Write 
   pub reserved : IsReserved core.tree
       (writes_of (next_number core tenant) (given_op write.given) write.keys)
   pub charged : IsCharged core tenant write.charge (after_written write (store_of core tenant))
+  pub length : TellsLength core tenant write
 
 -- one more snapshot of the tenant's, and its pin, need no more memory
 pub record CanTakeSnapshot (core : CoreState) (tenant : ℕ) : Type 0 where

@@ -1,5 +1,5 @@
 -- What the core keeps for all tenants together, and one tenant's store in it.
-use Rattle.std.specs.Prelude.{◌≡◌, ◌≢◌, ℕ, ℤ, pos, negsuc, ◌<◌, length, Bool, IfSome, List, Option, Some, None}
+use Rattle.std.specs.Prelude.{◌≡◌, ◌≢◌, ℕ, ℤ, pos, ◌<◌, length, Bool, IfSome, List, Option, Some, None}
 use Rattle.std.specs.FinMap as map
 use Rattle.std.specs.List.{flat_map}
 use Rattle.stow_core.specs.Tenancies.{TenancyState, own_state, tenancy_at, versions_of, is_among}

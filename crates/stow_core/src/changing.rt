@@ -1,24 +1,27 @@
 //! Changes of one row.
-ghost use Rattle.std.specs.Prelude.{◌≡◌, ◌∷◌, [], length};
+ghost use Rattle.std.specs.Prelude.{◌≡◌, ◌∷◌, [], IfOk, OnOk, length};
 ghost use Rattle.stow_ledger.specs.Shown.{sized_option};
 ghost use Rattle.stow_model.specs.Reply.{reply_of};
 ghost use Rattle.stow_model.specs.Login.{IsTenant};
 ghost use Rattle.stow_state.specs.State.{IsSound};
-ghost use Rattle.stow_tree_model.specs.Keys.{own_key, IsTenantKey};
+ghost use Rattle.stow_tree_model.specs.Keys.{own_key, packed, IsTenantKey};
 ghost use Rattle.stow_core.specs.Keys.{AreKeysOf};
 ghost use Rattle.stow_core.specs.Legal.{IsShortKey};
 ghost use Rattle.stow_core.specs.State.{shared_of, row_at};
 ghost use Rattle.stow_core.specs.Prepared.{IsPrepared, changes, gives};
-ghost use Rattle.stow_core.specs.Writes.{given_op, row_of, IsLengthAfter, StaysShort};
+ghost use Rattle.stow_core.specs.Writes.{given_op, row_of, IsLengthAfter, IsRowAnswer, StaysShort};
+ghost use Rattle.stow_commands.specs.Commands.{update_of};
 ghost use Rattle.stow_commands.specs.Outcomes.{value_of};
-ghost use Rattle.stow_model.specs.Store.{value_in};
+ghost use Rattle.stow_model.specs.Store.{outcome, value_in};
 
 use crate::Core;
 use crate::charging::sized;
+use crate::found_change::FoundChange;
 use crate::given::Given;
 use crate::prepared::Prepared;
 use crate::preparing::only_counted;
-use crate::row_answer::RowAnswer;
+use crate::row_answer::{RowAnswer, append, made, set};
+use crate::sized_row::SizedRow;
 use crate::write::Write;
 use std::alloc::{AllocError, Allocator};
 use stow_commands::outcome_fault::OutcomeFault;
@@ -43,17 +46,58 @@ impl<A: Allocator + Copy> Core<A> {
         requires short { IsShortKey key.now }
         ensures { IsPrepared self.old tenant (changes key.now update.entry) self.new result }
     {
-        let (answer, before) = {
-            let row = self.row(buffer, alloc, self.present(tenant), key)?;
-            (RowAnswer::find(alloc, update, value_in(&row)), sized(&row))
-        };
+        let FoundChange { answer, row } = self.find_change(buffer, alloc, tenant, key, update)?;
         match answer {
             Ok(RowAnswer::Written(given, reply)) => {
-                self.prepare_row(buffer.as_slice(), alloc, tenant, before, given, reply)
+                self.prepare_row(buffer.as_slice(), alloc, tenant, row, given, reply)
             }
             Ok(RowAnswer::Unchanged(reply)) => Ok(only_counted(tenant, reply)),
             Err(OutcomeFault::Refused(refusal)) => Ok(only_counted(tenant, Reply::Error(refusal))),
             Err(OutcomeFault::OutOfMemory) => Err(AllocError),
+        }
+    }
+
+    /// What a change of a key's row leads to. Only an addition asks for the value that the row has; a SET and an APPEND ask for
+    /// its length. The buffer then has the key among the keys of all.
+    #[tactic(auto, unfolding(stow_model::specs::Store::outcome))]
+    fn find_change<'a>(
+        &self,
+        buffer: &mut Vec<u8, A>,
+        alloc: A,
+        tenant: u32,
+        key: &[u8],
+        update: Update<'a>,
+    ) -> Result<FoundChange<'a, A>, AllocError>
+        requires is_tenant { IsTenant self.now.entries tenant }
+        requires short { IsShortKey key.now }
+        ensures answer { IfOk result (λ found. IsRowAnswer found.answer
+            (value_in (row_at self.now tenant key.now))
+            (outcome (update_of update.entry) (value_in (row_at self.now tenant key.now)))) }
+        ensures row { IfOk result (λ found. found.row.version
+            ≡ sized_option (row_at self.now tenant key.now)) }
+        ensures buffer { OnOk result (buffer.new.items ≡ packed tenant key.now) }
+        ensures is_key { OnOk result (IsTenantKey buffer.new.items) }
+    {
+        match update {
+            Update::Set(value, condition) => {
+                let row = self.sized_row(buffer, alloc, tenant, key)?;
+                let answer = set(value, condition, row.version);
+                Ok(FoundChange { answer, row })
+            }
+            Update::Append(suffix) => {
+                let row = self.sized_row(buffer, alloc, tenant, key)?;
+                let answer = append(suffix, row.version);
+                Ok(FoundChange { answer, row })
+            }
+            Update::Add(_) => {
+                let found = self.row(buffer, alloc, self.present(tenant), key)?;
+                let answer = made(alloc, update, value_in(&found));
+                let row = SizedRow {
+                    version: sized(&found),
+                    place: usize::MAX,
+                };
+                Ok(FoundChange { answer, row })
+            }
         }
     }
 
@@ -63,7 +107,7 @@ impl<A: Allocator + Copy> Core<A> {
         key: &[u8],
         alloc: A,
         tenant: u32,
-        before: Option<SizedVersion>,
+        row: SizedRow,
         given: Given<'a, A>,
         reply: Reply<A>,
     ) -> Result<Prepared<'a, A>, AllocError>
@@ -71,20 +115,23 @@ impl<A: Allocator + Copy> Core<A> {
         requires sound { IsSound (shared_of self.old) }
         requires own_key { AreKeysOf tenant (key.now ∷ []) }
         requires is_key { IsTenantKey key.now }
-        requires before { before ≡ sized_option (row_at self.old tenant (own_key key.now)) }
+        requires row { row.version ≡ sized_option (row_at self.old tenant (own_key key.now)) }
         requires short { StaysShort (given_op given)
             (value_in (row_at self.old tenant (own_key key.now))) }
         ensures { IsPrepared self.old tenant
             (gives (key.now ∷ []) (given_op given.entry) (reply_of reply)) self.new result }
     {
-        let change = row_change(key, before, &given);
+        let change = row_change(key, row.version, &given);
         let charge = self.charge_of_write(tenant, &change);
+        let length = given.kept_length(change.after);
         let mut keys = self.spare_keys(alloc);
         keys.push(key)?;
         let write = Write {
             keys,
             given,
             charge,
+            length,
+            place: row.place,
         };
         self.prepare_write(alloc, tenant, write, reply)
     }

@@ -28,7 +28,8 @@ impl<A: Allocator + Copy> Core<A> {
         self.tenancies[tenant as usize - 1].refuse();
     }
 
-    /// Carries a write of the tenant's out, and keeps the memory of its keys for the next one.
+    /// Carries a write of the tenant's out, and keeps the length that it tells, and the memory of its keys for the next
+    /// one.
     pub(crate) fn put(&mut self, tenant: u32, write: Write<'_, A>)
         requires { CanPut self.old tenant write }
         ensures { Moves self.old tenant
@@ -38,12 +39,15 @@ impl<A: Allocator + Copy> Core<A> {
             keys,
             given,
             charge,
+            length,
+            place,
         } = write;
         let index = tenant as usize - 1;
         let number = self.tenancies[index].versions.last() + 1;
-        put(&mut self.tree, number, given.op(), keys.lent());
+        put(&mut self.tree, number, given.op(), keys.lent(), place);
         self.keys = keys;
         self.tenancies[index].write(charge);
+        self.lengths.keep(tenant, number, length);
     }
 
     /// Takes a snapshot of the tenant's rows.

@@ -13,7 +13,6 @@ ghost use Rattle.stow_core.specs.Prepared.{IsPrepared, IsChargedWithout, serves}
 ghost use Rattle.stow_core.specs.Taken.{AreTaken};
 
 use crate::Core;
-use crate::charging::sized;
 use crate::given::Given;
 use crate::prepared::Prepared;
 use crate::preparing::only_counted;
@@ -50,6 +49,8 @@ impl<A: Allocator + Copy> Core<A> {
             keys: taken,
             given: Given::Gone,
             charge,
+            length: None,
+            place: usize::MAX,
         };
         self.prepare_write(alloc, tenant, write, reply)
     }
@@ -71,12 +72,11 @@ impl<A: Allocator + Copy> Core<A> {
             (words_in keys.entry) r.0) }
         ensures charge { IfOk result (λ r. IsChargedWithout self.now tenant r.0 r.1) }
     {
-        let rows = self.present(tenant);
         let mut taken = spare;
         let mut charge = self.tenancy(tenant).account.present();
         for index in 0..keys.len() {
-            let row = self.row(buffer, alloc, rows, keys.get(index))?;
-            if let Some(version) = sized(&row) {
+            let row = self.sized_row(buffer, alloc, tenant, keys.get(index))?;
+            if let Some(version) = row.version {
                 if !is_among(buffer.as_slice(), taken.lent()) {
                     let own = (buffer.len() - 4) as u32;
                     charge = self.charge_without(tenant, charge, own, version);

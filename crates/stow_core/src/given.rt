@@ -1,5 +1,5 @@
 //! What writes give their keys.
-ghost use Rattle.std.specs.Prelude.{◌≡◌, ◌≤◌, Some, length};
+ghost use Rattle.std.specs.Prelude.{◌≡◌, ◌≤◌, IfSome, Some, length};
 ghost use Rattle.stow_bytes.specs.Limits.{value_limit};
 ghost use Rattle.stow_core.specs.Writes.{given_op, IsLengthAfter};
 ghost use Rattle.stow_tree_model.specs.Op.{Append, op_of};
@@ -44,6 +44,16 @@ impl<A: Allocator> Given<'_, A> {
             Given::Made(value) => Some(length_of(value.as_slice())),
             Given::Suffix(suffix) => Some(length_with(before, suffix)),
             Given::Gone => None,
+        }
+    }
+
+    /// The bytes of the key's value afterwards, where later messages don't have it whole.
+    pub(crate) fn kept_length(&self, after: Option<u32>) -> Option<u32>
+        ensures { IfSome result (λ bytes. after ≡ Some bytes) }
+    {
+        match self {
+            Given::Suffix(_) => after,
+            _ => None,
         }
     }
 }

@@ -13,6 +13,12 @@
 //! an id with the number of the last write, its pin: messages that a pin shows stay readable when others are merged. What
 //! a tenant is charged is kept as its changes come, and looked at before room is made.
 //!
+//! An APPEND, a STRLEN, an EXISTS, a SET and a DEL ask for no value: the key's newest message tells the number of its row,
+//! and the length where the value is whole there. The length of a value that appends make is kept in a table of 1 MiB, by the
+//! tenant and the number, from the `commit` of the append on until another length comes to its place. That each length there
+//! is the one of every row of its tenant's with its number is kept by the core's type, and holds since no two rows of a tenant's
+//! have one number. Where a length isn't there the value is read.
+//!
 //! A flush can be merged outside the lock that whoever drives the core holds: `Core::plan` gives its job, under the pins, or
 //! none exactly where no buffer holds a message, and `Core::install` puts the job's result into the tree, unless it is stale
 //! (`specs/Flushing.antt`). Neither changes a tenant's store. A body of either that always answers want of memory meets its
@@ -20,6 +26,8 @@
 //!
 //! A body of `prepare`, `prepare_command` or `prepare_change` that prepares the same twice is right too, since
 //! a prepared answer that is never carried out changes nothing.
+//! So is one of `told_version`, `length_of` or `kept_length` that tells nothing, and one of `keep` that holds nothing: values
+//! are then read. Another place of a `SizedRow` or a `Write` makes a search longer, and changes nothing else.
 #![tactic(auto)]
 
 ghost use Rattle.std.specs.Prelude.{◌≡◌, ◌<◌, Err, IfOk, OnErr, OnOk, length, map};
@@ -35,6 +43,7 @@ ghost use Rattle.stow_tree.specs.Shapes.{IsInRange};
 ghost use Rattle.stow_tree.specs.TreeState.{new_tree};
 
 use change::Change;
+use lengths::Lengths;
 use prepared::Prepared;
 use preparing::only_counted;
 use std::alloc::{AllocError, Allocator, Global};
@@ -58,9 +67,12 @@ mod charging;
 mod committing;
 mod deleting;
 mod flushing;
+mod found_change;
 pub mod given;
 mod interval;
 mod keys;
+mod length_entry;
+mod lengths;
 mod pinning;
 pub mod prepared;
 mod preparing;
@@ -68,6 +80,7 @@ mod ranging;
 mod reading;
 mod row_answer;
 pub mod rows_at;
+mod sized_row;
 pub mod snapshot;
 mod snapshots;
 pub mod tenancy;
@@ -88,6 +101,8 @@ pub struct Core<A: Allocator + Copy = Global> {
     tree: Tree<A>,
     /// Where a key is packed. Its bytes mean nothing between calls, so that its memory serves one after another.
     buffer: Vec<u8, A>,
+    /// The lengths of values that appends made. Each is that of every row of its tenant's that has its number.
+    lengths: Lengths<A>,
     /// Where a write's keys are listed. They mean nothing between calls, so that their memory serves one after another.
     keys: Words<A>,
 }
@@ -95,7 +110,8 @@ pub struct Core<A: Allocator + Copy = Global> {
 impl<A: Allocator + Copy> Model for Core<A> {
     ghost use Rattle.std.specs.Arc.{arc_value};
     ghost use Rattle.std.specs.Prelude.{map};
-    ghost use Rattle.stow_core.specs.State.{IsCore, CoreState};
+    ghost use Rattle.stow_core.specs.RowLengths.{IsKept};
+    ghost use Rattle.stow_core.specs.State.{CoreState};
     ghost use Rattle.stow_core.specs.Tenancies.{tenancy_of};
 
     ghost Value = { CoreState };
@@ -107,12 +123,12 @@ impl<A: Allocator + Copy> Model for Core<A> {
       tree = c.tree;
     } };
 
-    ghost invariant = { λ c. IsCore (record {
+    ghost invariant = { λ c. IsKept (record {
       entries = arc_value c.tenants;
       tenancies = map tenancy_of c.tenancies.items;
       pin_room = c.pin_room;
       tree = c.tree;
-    }) c.pins };
+    }) c.pins c.lengths };
 }
 
 impl<A: Allocator + Copy> Core<A> {
@@ -131,6 +147,7 @@ impl<A: Allocator + Copy> Core<A> {
     {
         let tree = Tree::new(alloc, shape)?;
         let tenancies = new_tenancies(alloc, &tenants)?;
+        let lengths = Lengths::new(alloc)?;
         let pins = Pins::new(alloc);
         Ok(Core {
             tenants,
@@ -138,6 +155,7 @@ impl<A: Allocator + Copy> Core<A> {
             pins,
             pin_room: 0,
             tree,
+            lengths,
             buffer: Vec::new(alloc),
             keys: Words::new(alloc),
         })

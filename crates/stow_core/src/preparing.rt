@@ -71,8 +71,8 @@ impl<A: Allocator + Copy> Core<A> {
             Command::Echo(text) => counted(tenant, echo(alloc, text)),
             Command::Get(key) => counted(tenant, self.value(buffer, alloc, rows, key)),
             Command::GetMany(keys) => counted(tenant, self.values(buffer, alloc, rows, keys)),
-            Command::Exists(keys) => counted(tenant, self.count_rows(buffer, alloc, rows, keys)),
-            Command::Length(key) => counted(tenant, self.value_length(buffer, alloc, rows, key)),
+            Command::Exists(keys) => counted(tenant, self.count_rows(buffer, rows, keys)),
+            Command::Length(key) => counted(tenant, self.value_length(buffer, alloc, tenant, key)),
             Command::Range(from, to, count) => {
                 let interval = Interval { tenant, from, to };
                 let number = rows.number;

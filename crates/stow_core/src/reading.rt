@@ -1,7 +1,8 @@
 //! Replies that are read from a tenant's rows, as they are or as a snapshot shows them.
-ghost use Rattle.std.specs.Prelude.{◌≡◌, ◌++◌, ◌∷◌, [], Some, IfOk, OnOk, pos, map};
+ghost use Rattle.std.specs.Prelude.{◌≡◌, ◌++◌, ◌∷◌, [], ℕ, List, Some, IfOk, IfSome, OnOk, is_some, pos, map};
 ghost use Rattle.std.specs.FinMap as finite;
 ghost use Rattle.stow_ledger.specs.Accounts.{IsAccountOf};
+ghost use Rattle.stow_ledger.specs.Shown.{sized_option};
 ghost use Rattle.stow_model.specs.LentWords.{words_in};
 ghost use Rattle.stow_model.specs.Reply.{reply_of};
 ghost use Rattle.stow_model.specs.Reply as reply;
@@ -11,22 +12,28 @@ ghost use Rattle.stow_tree_model.specs.Keys.{packed, IsTenantKey};
 ghost use Rattle.stow_tree_model.specs.Value.{IsValue};
 ghost use Rattle.stow_core.specs.Legal.{IsShortKey, AreShortKeys};
 ghost use Rattle.stow_state.specs.State.{IsSound};
-ghost use Rattle.stow_core.specs.State.{rows_in, shared_of, store_of, Keeps};
+ghost use Rattle.stow_core.specs.RowLengths.{IsToldOfRow};
+ghost use Rattle.stow_core.specs.State.{row_at, rows_in, shared_of, store_of, Keeps};
 ghost use Rattle.stow_core.specs.Tenancies.{tenancy_at, tenancy_of};
 ghost use Rattle.stow_core.specs.Writes.{row_of};
 
 use crate::Core;
+use crate::charging::sized;
 use crate::interval::Interval;
 use crate::keys::pack_into;
 use crate::ranging::first_rows;
 use crate::rows_at::RowsAt;
+use crate::sized_row::SizedRow;
 use crate::tenancy::Tenancy;
 use std::alloc::{AllocError, Allocator};
 use stow_bytes::byte_string::ByteString;
+use stow_ledger::sized_version::SizedVersion;
 use stow_model::items::Items;
 use stow_model::lent_words::LentWords;
 use stow_model::reply::Reply;
 use stow_read::found::Found;
+use stow_read::glance::Glance;
+use stow_read::newest::Newest;
 use stow_tree_model::tenant_key::TenantKey;
 
 impl<A: Allocator + Copy> Core<A> {
@@ -71,6 +78,87 @@ impl<A: Allocator + Copy> Core<A> {
         pack_into(buffer, rows.tenant, key)?;
         let key = TenantKey::from_packed(buffer.as_slice());
         tree.get(alloc, key, rows.number)
+    }
+
+    /// What the newest message of a key, or its row in a leaf, tells of the row that the key has. The buffer then has the key among
+    /// the keys of all.
+    fn glance(
+        &self,
+        buffer: &mut Vec<u8, A>,
+        rows: RowsAt,
+        key: &[u8],
+    ) -> Result<Glance, AllocError>
+        requires is_tenant { IsTenant self.now.entries rows.tenant }
+        requires short { IsShortKey key.now }
+        ensures told { IfOk result (λ glance. IsToldOfRow
+            (finite.get (rows_in self.now rows) key.now) glance.newest) }
+        ensures buffer { OnOk result (buffer.new.items ≡ packed rows.tenant key.now) }
+        ensures is_key { OnOk result (IsTenantKey buffer.new.items) }
+    {
+        let tree = &self.tree;
+        pack_into(buffer, rows.tenant, key)?;
+        let key = TenantKey::from_packed(buffer.as_slice());
+        Ok(tree.glance(key, rows.number))
+    }
+
+    /// The row that a tenant's key has now, without its bytes. Its value is read only where appends make it and its length
+    /// isn't held. The buffer then has the key among the keys of all.
+    pub(crate) fn sized_row(
+        &self,
+        buffer: &mut Vec<u8, A>,
+        alloc: A,
+        tenant: u32,
+        key: &[u8],
+    ) -> Result<SizedRow, AllocError>
+        requires is_tenant { IsTenant self.now.entries tenant }
+        requires short { IsShortKey key.now }
+        ensures row { IfOk result (λ row. row.version
+            ≡ sized_option (row_at self.now tenant key.now)) }
+        ensures buffer { OnOk result (buffer.new.items ≡ packed tenant key.now) }
+        ensures is_key { OnOk result (IsTenantKey buffer.new.items) }
+    {
+        let rows = self.present(tenant);
+        let glance = self.glance(buffer, rows, key)?;
+        let place = glance.place;
+        if let Some(version) = self.told_version(tenant, glance.newest) {
+            return Ok(SizedRow { version, place });
+        }
+        let row = self.row(buffer, alloc, rows, key)?;
+        let version = sized(&row);
+        Ok(SizedRow { version, place })
+    }
+
+    /// The version of a tenant's row as it is now, or that there is no row, by what its newest message tells. None where the length
+    /// of a value that appends make isn't held.
+    fn told_version(&self, tenant: u32, newest: Newest) -> Option<Option<SizedVersion>>
+        ensures { (key : List ℕ) → IsToldOfRow (row_at self.now tenant key) newest
+            → IfSome result (λ version. version ≡ sized_option (row_at self.now tenant key)) }
+    {
+        match newest {
+            Newest::Missing => Some(None),
+            Newest::Whole(head) => Some(Some(SizedVersion {
+                number: head.number,
+                length: head.length,
+            })),
+            Newest::Extended(number) => match self.lengths.length_of(tenant, number) {
+                Some(length) => Some(Some(SizedVersion { number, length })),
+                None => None,
+            },
+        }
+    }
+
+    /// Whether a key has a row.
+    fn has_row(&self, buffer: &mut Vec<u8, A>, rows: RowsAt, key: &[u8]) -> Result<bool, AllocError>
+        requires is_tenant { IsTenant self.now.entries rows.tenant }
+        requires short { IsShortKey key.now }
+        ensures { IfOk result (λ has. has
+            ≡ is_some (finite.get (rows_in self.now rows) key.now)) }
+    {
+        match self.glance(buffer, rows, key)?.newest {
+            Newest::Missing => Ok(false),
+            Newest::Whole(_) => Ok(true),
+            Newest::Extended(_) => Ok(true),
+        }
     }
 
     /// The value of a key, or null.
@@ -120,7 +208,6 @@ impl<A: Allocator + Copy> Core<A> {
     pub(crate) fn count_rows(
         &self,
         buffer: &mut Vec<u8, A>,
-        alloc: A,
         rows: RowsAt,
         keys: LentWords<'_>,
     ) -> Result<Reply<A>, AllocError>
@@ -131,28 +218,28 @@ impl<A: Allocator + Copy> Core<A> {
     {
         let mut count: usize = 0;
         for index in 0..keys.len() {
-            if self.row(buffer, alloc, rows, keys.get(index))?.is_some() {
+            if self.has_row(buffer, rows, keys.get(index))? {
                 count += 1;
             }
         }
         Ok(Reply::Integer(count as i64))
     }
 
-    /// The length of a key's value, 0 where there is none.
+    /// The length of the value that a tenant's key has now, 0 where there is none.
     pub(crate) fn value_length(
         &self,
         buffer: &mut Vec<u8, A>,
         alloc: A,
-        rows: RowsAt,
+        tenant: u32,
         key: &[u8],
     ) -> Result<Reply<A>, AllocError>
-        requires is_tenant { IsTenant self.now.entries rows.tenant }
+        requires is_tenant { IsTenant self.now.entries tenant }
         requires short { IsShortKey key.now }
         ensures { IfOk result (λ r. reply_of r
-            ≡ reply.Integer (pos (length_or_zero (finite.get (rows_in self.now rows) key.now)))) }
+            ≡ reply.Integer (pos (length_or_zero (row_at self.now tenant key.now)))) }
     {
-        match self.row(buffer, alloc, rows, key)? {
-            Some(found) => Ok(Reply::Integer(found.bytes().len() as i64)),
+        match self.sized_row(buffer, alloc, tenant, key)?.version {
+            Some(version) => Ok(Reply::Integer(version.length as i64)),
             None => Ok(Reply::Integer(0)),
         }
     }

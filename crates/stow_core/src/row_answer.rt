@@ -1,9 +1,11 @@
 //! What changes of rows lead to.
-ghost use Rattle.std.specs.Prelude.{◌≡◌};
+ghost use Rattle.std.specs.Prelude.{◌≡◌, [], Option, length};
+ghost use Rattle.std.specs.Option.{unwrap_or};
 ghost use Rattle.stow_commands.specs.Commands.{condition_of, update_of};
 ghost use Rattle.stow_commands.specs.Outcomes.{value_of};
 ghost use Rattle.stow_core.specs.Writes.{IsRowAnswer};
-ghost use Rattle.stow_model.specs.Store.{append_outcome, outcome, set_outcome};
+ghost use Rattle.stow_ledger.specs.Shown.{sized_option};
+ghost use Rattle.stow_model.specs.Store.{Version, append_outcome, outcome, set_outcome, value_in};
 
 use crate::given::Given;
 use std::alloc::{Allocator, Global};
@@ -12,6 +14,7 @@ use stow_commands::condition::Condition;
 use stow_commands::outcome::Outcome;
 use stow_commands::outcome_fault::OutcomeFault;
 use stow_commands::update::{Update, allows, append_reply};
+use stow_ledger::sized_version::SizedVersion;
 use stow_model::refusal::Refusal;
 use stow_model::reply::Reply;
 use stow_model::simple_string::SimpleString;
@@ -25,58 +28,52 @@ pub enum RowAnswer<'a, A: Allocator = Global> {
     Unchanged(Reply<A>),
 }
 
-impl<'a, A: Allocator + Copy> RowAnswer<'a, A> {
-    /// What a change leads to by the row's present value.
-    #[tactic(auto, unfolding(stow_model::specs::Store::outcome))]
-    pub fn find(
-        alloc: A,
-        update: Update<'a>,
-        present: Option<&[u8]>,
-    ) -> Result<RowAnswer<'a, A>, OutcomeFault>
-        ensures { IsRowAnswer result (value_of present.entry)
-            (outcome (update_of update.entry) (value_of present.entry)) }
-    {
-        match update {
-            Update::Set(value, condition) => set(value, condition, present),
-            Update::Append(suffix) => append(suffix, present),
-            Update::Add(_) => made(alloc, update, present),
-        }
-    }
-}
-
-fn set<'a, A: Allocator>(
+/// What a SET leads to by the row's present version.
+pub fn set<'a, A: Allocator>(
     value: &'a [u8],
     condition: Condition,
-    present: Option<&[u8]>,
+    present: Option<SizedVersion>,
 ) -> Result<RowAnswer<'a, A>, OutcomeFault>
-    ensures { IsRowAnswer result (value_of present.entry)
-        (set_outcome value.now (condition_of condition) (value_of present.entry)) }
+    ensures { (row : Option Version) → present ≡ sized_option row → IsRowAnswer result
+        (value_in row) (set_outcome value.now (condition_of condition) (value_in row)) }
 {
     if value.len() > VALUE_LIMIT {
         return Err(OutcomeFault::Refused(Refusal::ValueTooLong));
     }
-    if !allows(condition, present) {
+    if !allows(condition, present.is_some()) {
         return Ok(RowAnswer::Unchanged(Reply::Null));
     }
     let told = Reply::Simple(SimpleString::Ok);
     Ok(RowAnswer::Written(Given::Value(value), told))
 }
 
-fn append<'a, A: Allocator>(
+/// What an APPEND leads to by the row's present version.
+pub fn append<'a, A: Allocator>(
     suffix: &'a [u8],
-    present: Option<&[u8]>,
+    present: Option<SizedVersion>,
 ) -> Result<RowAnswer<'a, A>, OutcomeFault>
-    ensures { IsRowAnswer result (value_of present.entry)
-        (append_outcome suffix.now (value_of present.entry)) }
+    ensures { (row : Option Version) → present ≡ sized_option row → IsRowAnswer result
+        (value_in row) (append_outcome suffix.now (value_in row)) }
 {
-    match append_reply(suffix, present) {
+    match append_reply(suffix, length_or_none(present)) {
         Ok(told) => Ok(RowAnswer::Written(Given::Suffix(suffix), told)),
         Err(refusal) => Err(OutcomeFault::Refused(refusal)),
     }
 }
 
-/// What a change leads to that makes the row's value anew.
-fn made<'a, A: Allocator + Copy>(
+/// The bytes of a version's value, a missing one counting as empty.
+fn length_or_none(present: Option<SizedVersion>) -> usize
+    ensures { (row : Option Version) → present ≡ sized_option row
+        → length (unwrap_or (value_in row) []) ≡ result }
+{
+    match present {
+        Some(version) => version.length as usize,
+        None => 0,
+    }
+}
+
+/// What a change leads to that makes the row's value anew, by the one that it has.
+pub fn made<'a, A: Allocator + Copy>(
     alloc: A,
     update: Update<'_>,
     present: Option<&[u8]>,

@@ -5,10 +5,13 @@ use stow_ledger::charge::Charge;
 use stow_model::words::Words;
 
 /// A write of a tenant's. Its keys are among the keys of all tenants, each of them is given the same, and the charge
-/// is the tenant's afterwards.
+/// is the tenant's afterwards. Where an append makes the value, its length is told.
 #[derive(Drop)]
 pub struct Write<'a, A: Allocator = Global> {
     pub keys: Words<A>,
     pub given: Given<'a, A>,
     pub charge: Charge,
+    pub length: Option<u32>,
+    /// Where the messages may come to stand: a guess, beyond all where none was made.
+    pub place: usize,
 }

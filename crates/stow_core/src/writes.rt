@@ -74,18 +74,30 @@ fn messages<'a, A: Allocator + Copy>(
     Ok(messages)
 }
 
-/// Puts a message into the tree, which has the room.
-fn put_one<A: Allocator + Copy>(tree: &mut Tree<A>, number: u64, op: Op<'_>, key: &[u8])
+/// Puts a message into the tree, which has the room. The search is the shorter the nearer the guess is to the message's place.
+fn put_one<A: Allocator + Copy>(
+    tree: &mut Tree<A>,
+    number: u64,
+    op: Op<'_>,
+    key: &[u8],
+    guess: usize,
+)
     requires message { IsMessage (write_of number (op_of op) key.now) }
     requires room { IsReserved tree.old (write_of number (op_of op) key.now ∷ []) }
     ensures { Puts (write_of number (op_of op.entry) key.now ∷ []) tree.old tree.new }
 {
-    let messages = [message(number, op, key)];
-    tree.put_all(&messages);
+    tree.put_near(message(number, op, key), guess);
 }
 
-/// Does this to the values of these keys in the tree. It takes no memory and cannot fail.
-pub fn put<A: Allocator + Copy>(tree: &mut Tree<A>, number: u64, op: Op<'_>, keys: LentWords<'_>)
+/// Does this to the values of these keys in the tree. It takes no memory and cannot fail. The searches are the shorter the
+/// nearer the guess is to the places of the messages.
+pub fn put<A: Allocator + Copy>(
+    tree: &mut Tree<A>,
+    number: u64,
+    op: Op<'_>,
+    keys: LentWords<'_>,
+    guess: usize,
+)
     requires messages { AreMessages (writes_of number (op_of op) (words_in keys)) }
     requires room { IsReserved tree.old (writes_of number (op_of op) (words_in keys)) }
     ensures messages { tree_messages tree.new ≡ with_all (tree_messages tree.old)
@@ -93,6 +105,6 @@ pub fn put<A: Allocator + Copy>(tree: &mut Tree<A>, number: u64, op: Op<'_>, key
     ensures shape { tree.new.root.shape ≡ tree.old.root.shape }
 {
     for index in 0..keys.len() {
-        put_one(tree, number, op, keys.get(index));
+        put_one(tree, number, op, keys.get(index), guess);
     }
 }

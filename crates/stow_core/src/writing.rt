@@ -5,7 +5,7 @@ ghost use Rattle.stow_model.specs.Reply.{reply_of};
 ghost use Rattle.stow_model.specs.Login.{IsTenant};
 ghost use Rattle.stow_state.specs.State.{IsSound};
 ghost use Rattle.stow_core.specs.State.{store_of, shared_of};
-ghost use Rattle.stow_core.specs.Prepared.{IsPrepared, IsPriced, CanGive, CanWrite, after_written, next_number, writes};
+ghost use Rattle.stow_core.specs.Prepared.{IsPrepared, IsPriced, CanGive, CanWrite, TellsLength, after_written, next_number, writes};
 ghost use Rattle.stow_core.specs.Writes.{given_op};
 
 use crate::Core;
@@ -36,6 +36,7 @@ impl<A: Allocator + Copy> Core<A> {
         requires can_give { CanGive self.old tenant write.keys (given_op write.given) }
         requires priced { IsPriced self.old tenant write.charge
             (after_written write (store_of self.old tenant)) }
+        requires length { TellsLength self.old tenant write }
         ensures { IsPrepared self.old tenant (writes write.entry (reply_of reply))
             self.new result }
     {

@@ -1,3 +1,4 @@
+pub mod Pipelines
 pub mod Tenants
 pub mod Stood
 pub mod Hearing

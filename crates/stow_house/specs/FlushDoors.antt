@@ -12,13 +12,13 @@ pub data Flushing : Type 0 where
   Refused : Flushing
 
 -- of how many messages a job is, if there is one
-abbrev pub messages_of : {A : Type 0} → Option (FlushJob A) → Option ℕ
-messages_of None = None
-messages_of (Some job) = Some (length job.batch.messages)
+abbrev pub message_count : {A : Type 0} → Option (FlushJob A) → Option ℕ
+message_count None = None
+message_count (Some job) = Some (length job.batch.messages)
 
 -- what a plan did, by its answer
 abbrev pub planned : {A E : Type 0} → Result (Option (FlushJob A)) E → Flushing
-planned (Ok job) = Planned (messages_of job)
+planned (Ok job) = Planned (message_count job)
 planned (Err refused) = Refused
 
 -- what an install did, by its answer

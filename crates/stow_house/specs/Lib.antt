@@ -1,5 +1,6 @@
 pub mod Seen
 pub mod Conversations
+pub mod Pipelines
 pub mod StepResult
 pub mod Flushers
 pub mod Sessions

@@ -27,6 +27,7 @@ pub mod house;
 pub mod laws;
 pub mod mark;
 pub mod outputs;
+pub mod request;
 pub mod run_fault;
 pub mod session;
 pub mod step_result;

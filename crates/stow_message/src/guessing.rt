@@ -14,13 +14,44 @@ pub(crate) fn guess<A: Allocator>(raw: &SlotBuf<A>, key: &[u8], number: u64) -> 
     requires { IsPackedBuffer raw.now }
 {
     let older = older_below(raw, key, number);
-    let count = raw.young_count();
-    for young in raw.young_behind(older)..count {
-        if !is_below(raw, raw.young_slot(young), key, number) {
-            return older.saturating_add(young);
+    older.saturating_add(young_below(raw, raw.young_behind(older), key, number))
+}
+
+/// How many young messages may stand below the key and number, of which so many do.
+fn young_below<A: Allocator>(raw: &SlotBuf<A>, from: usize, key: &[u8], number: u64) -> usize
+    requires { IsPackedBuffer raw.now }
+{
+    let (mut low, mut high) = young_span(raw, from, key, number);
+    while low < high {
+        let middle = low + (high - low) / 2;
+        if is_below(raw, raw.young_slot(middle), key, number) {
+            low = middle + 1;
+        } else {
+            high = middle;
         }
     }
-    older.saturating_add(count)
+    low
+}
+
+/// Between which young messages those end that stand below the key and number. The steps from the first one double: few stand
+/// side by side, but where many of one key wait.
+fn young_span<A: Allocator>(
+    raw: &SlotBuf<A>,
+    from: usize,
+    key: &[u8],
+    number: u64,
+) -> (usize, usize)
+    requires { IsPackedBuffer raw.now }
+{
+    let count = raw.young_count();
+    let (mut low, mut high) = (from, from);
+    let mut step = 1usize;
+    while high < count && is_below(raw, raw.young_slot(high), key, number) {
+        low = high + 1;
+        high = low.saturating_add(step).min(count);
+        step = step.saturating_mul(2);
+    }
+    (low, high)
 }
 
 /// How many messages whose slots aren't young stand below the key and number.

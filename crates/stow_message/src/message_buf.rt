@@ -336,7 +336,16 @@ impl<A: Allocator> MessageBuf<A> {
             × IsNew (message_of message) self.old.messages }
         ensures { self.new ≡ with_message (message_of message.entry) self.old }
     {
-        let index = self.search(message.key.bytes, message.number);
+        self.push_near(message, usize::MAX);
+    }
+
+    /// The same; the search is the shorter the nearer the guess is to that place.
+    pub fn push_near(&mut self, message: Message<'_>, guess: usize)
+        requires { Fits self.old (message_of message)
+            × IsNew (message_of message) self.old.messages }
+        ensures { self.new ≡ with_message (message_of message.entry) self.old }
+    {
+        let index = self.count_below(message.key, message.number, guess);
         let at = self.raw.front_len() as u32;
         append(&mut self.raw, message);
         self.raw.insert_slot(index, at);
@@ -344,11 +353,11 @@ impl<A: Allocator> MessageBuf<A> {
         self.live += size(message);
     }
 
-    /// The messages of a key, the newest first, lent.
-    pub fn of_key(&self, key: TenantKey<'_>) -> Newest<'_, A>
-        ensures { result ≡ reverse (of_key key.entry.bytes.now self.now.messages) }
+    /// Whether messages of the key may be held. The answer takes no search.
+    pub fn may_have(&self, key: TenantKey<'_>) -> bool
+        ensures { result ≡ false → of_key key.entry.bytes.now self.now.messages ≡ [] }
     {
-        self.of_key_near(key, usize::MAX)
+        self.filter.may_have(key.bytes)
     }
 
     /// No messages.
@@ -364,15 +373,15 @@ impl<A: Allocator> MessageBuf<A> {
         }
     }
 
-    /// The messages of a key, the newest first, lent. The search is the shorter the nearer the guess is to the first; for a
-    /// guess beyond all messages the filter is asked before.
-    pub fn of_key_near(&self, key: TenantKey<'_>, guess: usize) -> Newest<'_, A>
+    /// The messages of a key, the newest first, lent.
+    pub fn of_key(&self, key: TenantKey<'_>) -> Newest<'_, A>
         ensures { result ≡ reverse (of_key key.entry.bytes.now self.now.messages) }
     {
-        if guess > self.len() && !self.filter.may_have(key.bytes) {
+        if !self.may_have(key) {
             return self.none();
         }
-        let from = self.count_below(key, 0, guess);
+        let _known = self.len();
+        let from = self.search(key.bytes, 0);
         let to = self.search_from(from, key.bytes, u64::MAX);
         Newest {
             run: Run {

@@ -667,7 +667,15 @@ impl<A: Allocator> Node<A> {
         requires { CanAccept (message_of message ∷ []) self.old }
         ensures { self.new ≡ accepted (message_of message.entry ∷ []) self.old }
     {
-        self.buffer.push(message);
+        self.push_near(message, usize::MAX);
+    }
+
+    /// The same; the search is the shorter the nearer the guess is to the message's place.
+    pub fn push_near(&mut self, message: Message<'_>, guess: usize)
+        requires { CanAccept (message_of message ∷ []) self.old }
+        ensures { self.new ≡ accepted (message_of message.entry ∷ []) self.old }
+    {
+        self.buffer.push_near(message, guess);
     }
 
     /// Takes the messages from its own low on and below `to` out of the buffer above it.

@@ -1,4 +1,5 @@
-pub mod Newest
+pub mod NewestFirst
+pub mod UpTo
 pub mod Looked
 pub mod Shown
 pub mod Below
@@ -16,3 +17,4 @@ pub mod Walks
 pub mod Heads
 pub mod NextNumbers
 pub mod Ways
+pub mod Glanced

@@ -1,33 +1,33 @@
 -- A look at a key's messages in one buffer.
-use Rattle.std.proofs.Common.{◌≡◌, ℕ, zero, suc, ◌+◌, ◌-◌, ◌<◌, ◌≤◌, Bool, true, false, cond, List, [], ◌∷◌, ◌++◌, length, drop, reverse, get_or, map, Option, Some, None, refl, ap, ◌∙◌, sym, subst, arith, ⊎_elim}
+use Rattle.std.proofs.Common.{◌≡◌, ℕ, zero, suc, ◌+◌, ◌-◌, ◌<◌, Bool, true, false, cond, List, [], ◌∷◌, ◌++◌, length, take, drop, reverse, get_or, Option, Some, None, refl, ap, ◌∙◌, sym, subst, arith, ⊎_elim}
 use Rattle.std.specs.Prelude.{IsSome, ◌==◌}
 use Rattle.std.specs.List.{AllByRecursion}
-use Rattle.std.specs.Ordering.{is_eq, eq_by_cmp}
-use Rattle.std.specs.declared.cmp.Ordering.TheVariants.{Less}
-use Rattle.std.specs.List.Sorted.{IsStrictlySortedBy}
+use Rattle.std.specs.Ordering.{is_eq}
 use Rattle.std.specs.Cmp.{tied_itself}
 use Rattle.std.specs.Cmp.Lexicographic.{nat_list_cmp_total}
-use Rattle.std.proofs.lemmas.Bool.{cond-true, cond-false}
+use Rattle.std.proofs.lemmas.Bool.{cond-true}
 use Rattle.std.proofs.lemmas.List.{reverse-append}
 use Rattle.stow_bytes.specs.Bytes.{bytes_cmp}
 use Rattle.stow_tree_model.specs.Op.{Append}
 use Rattle.stow_tree_model.specs.Operations.{NumberedValue, Operations, applied, latest, or_else, over, numbered, value_in, bytes_or_none}
 use Rattle.stow_tree_model.specs.Messages.{ops_in}
-use Rattle.stow_tree_model.specs.Order.{VersionPlace, place_cmp, place_of, MessagesRise}
+use Rattle.stow_tree_model.specs.Order.{MessagesRise}
 use Rattle.stow_tree_model.specs.TreeMessage.{TreeMessage}
+use Rattle.stow_tree_model.specs.Merged.{same_key}
 use Rattle.stow_tree_model.proofs.Falling.{IsHistory}
+use Rattle.stow_tree_model.proofs.Folds.{one_more, rises_take}
 use Rattle.stow_tree_model.proofs.Latest.{latest_same}
 use Rattle.stow_tree_model.proofs.Ordered.{history_of}
-use Rattle.stow_tree_model.proofs.Orders.{key_cases, place_cases, place_total}
-use Rattle.stow_tree_model.proofs.Histories.{ops_in-skip}
+use Rattle.stow_tree_model.proofs.Orders.{key_cases}
 use Rattle.stow_tree_model.proofs.Readings.{drop_one_less}
 use Rattle.stow_message.specs.Rising.{of_key}
 use Rattle.stow_message.proofs.Ranges.{filter_rises}
-use Rattle.stow_message.proofs.Removed.{all_dropped}
-use Rattle.stow_leaf.proofs.Found.{first_stays, or_none, none_or}
-use Rattle.stow_leaf.proofs.Ops.{ops-filter, ops-append}
+use Rattle.stow_leaf.proofs.Found.{first_stays}
+use Rattle.stow_leaf.proofs.Ops.{ops-filter}
 use Rattle.stow_read.specs.Suffixes.{SuffixList, with_suffix, extended, continued, IsAbove}
-use Rattle.stow_read.proofs.Newest.{read_own, read_above}
+use Rattle.stow_read.specs.UpTo.{IsUpTo}
+use Rattle.stow_read.proofs.NewestFirst.{read_own}
+use Rattle.stow_read.proofs.UpTo.{ops_reversed, front_there, own_up_to, none_behind}
 
 -- ---- the history of a key in a buffer
 
@@ -64,30 +64,6 @@ all_reversed P (x ∷ xs) h = subst (AllByRecursion P) (sym (reverse-append (x �
 
 pub newest_all : (key : List ℕ) (ms : List TreeMessage) → AllByRecursion (λ (m : TreeMessage). key ≡ m.key) (newest_of key ms)
 newest_all key ms = all_reversed (λ (m : TreeMessage). key ≡ m.key) (of_key key ms) (of_key_all key ms)
-
-none_above : (m : TreeMessage) (ms : List TreeMessage) → AllByRecursion (λ q. place_cmp (place_of m) q ≡ Less) (map place_of ms) → ops_in ms m.key m.number ≡ None
-none_above m [] h = refl
-none_above m (x ∷ xs) h =
-    ops_in-skip x xs m.key m.number (λ e. absurd (less_itself (place_of m) (place_of x) h.0 e)) ∙ none_above m xs h.1
-  where
-    less_itself : (p q : VersionPlace) → place_cmp p q ≡ Less → p ≡ q → ⊥
-    less_itself p q l e = cc (tied_itself place_total p)
-
--- a rising list has the same operations the other way round
-ops_reversed : (ms : List TreeMessage) (key : List ℕ) (n : ℕ) → MessagesRise ms → ops_in (reverse ms) key n ≡ ops_in ms key n
-unfolding IsStrictlySortedBy
-ops_reversed [] key n up = refl
-ops_reversed (m ∷ ms) key n up =
-    ap (λ xs. ops_in xs key n) (reverse-append (m ∷ []) ms)
-    ∙ ops-append (reverse ms) (m ∷ []) key n
-    ∙ ap (λ o. or_else o (ops_in (m ∷ []) key n)) (ops_reversed ms key n up.1)
-    ∙ ⊎_elim
-    (λ (e : (◌≡◌ {A = VersionPlace} (key, n) (place_of m)) × (eq_by_cmp place_cmp (key, n) (place_of m) ≡ true)).
-    none_or (ops_in ms key n) (ops_in (m ∷ []) key n) (ap (λ (p : VersionPlace). ops_in ms p.0 p.1) e.0 ∙ none_above m ms up.0)
-    ∙ cond-true _ _ _ e.1 ∙ sym (cond-true _ _ _ e.1))
-    (λ (e : (◌≡◌ {A = VersionPlace} (key, n) (place_of m) → ⊥) × (eq_by_cmp place_cmp (key, n) (place_of m) ≡ false)).
-    or_none (ops_in ms key n) (ops_in (m ∷ []) key n) (cond-false _ _ _ e.1) ∙ sym (cond-false _ _ _ e.1))
-    (place_cases (key, n) (place_of m))
 
 -- they have the key's operations
 pub ops_of_newest : (key : List ℕ) (ms : List TreeMessage) (n : ℕ) → MessagesRise ms → ops_in (newest_of key ms) key n ≡ ops_in ms key n
@@ -146,74 +122,73 @@ folded_next base ss count i s bytes bytes' len l e so_far more =
 
 -- ---- the look
 
--- the messages before the place have been looked at
-pub record IsLooking (ms : List TreeMessage) (key : List ℕ) (at i : ℕ) (old now : SuffixList) : Type 0 where
+-- the messages behind the first ones have been looked at
+pub record IsLooking (ms : List TreeMessage) (key : List ℕ) (at left : ℕ) (old now : SuffixList) : Type 0 where
   pub so_far : (older : Operations) → IsAbove (ops_in ms key) older
-      → continued old (latest (over (ops_in ms key) older) at) ≡ continued now (latest (over (ops_in (drop i (newest_of key ms)) key) older) at)
+      → continued old (latest (over (ops_in ms key) older) at) ≡ continued now (latest (over (ops_in (reverse (take left ms)) key) older) at)
 
-pub looking_first : (ms : List TreeMessage) (key : List ℕ) (at : ℕ) (old : SuffixList) → MessagesRise ms → IsLooking ms key at 0 old old
-looking_first ms key at old up = record {
-  so_far = λ older above. ap (continued old) (latest_same (over (ops_in ms key) older) (over (ops_in (newest_of key ms) key) older) at
-      (λ k l. ap (λ o. or_else o (older k)) (sym (ops_of_newest key ms k up))));
-}
+front_reversed : (ms : List TreeMessage) (key : List ℕ) (left n : ℕ) → MessagesRise ms → ops_in (reverse (take left ms)) key n ≡ ops_in (take left ms) key n
+front_reversed ms key left n up = ops_reversed (take left ms) key n (rises_take ms left up)
 
--- the next message
-record IsNext (ms : List TreeMessage) (key : List ℕ) (i : ℕ) (m : TreeMessage) : Type 0 where
-  split : drop i (newest_of key ms) ≡ m ∷ drop (i + 1) (newest_of key ms)
-  falls : IsHistory (m ∷ drop (i + 1) (newest_of key ms))
-  own : key ≡ m.key
-
-is_next : (ms : List TreeMessage) (key : List ℕ) (i : ℕ) (m : TreeMessage) → MessagesRise ms → i < length (newest_of key ms) → m ≡ get_or (newest_of key ms) i m → IsNext ms key i m
-is_next ms key i m up l e =
-    let more : suc i ≡ i + 1 = omega arith in
-    let cut : drop i (newest_of key ms) ≡ m ∷ drop (i + 1) (newest_of key ms) = drop_one_less (newest_of key ms) i m l e ∙ ap (λ k. m ∷ drop k (newest_of key ms)) more in
-    record {
-      split = cut;
-      falls = subst IsHistory cut (falls_dropped (newest_of key ms) i (newest_falls key ms up));
-      own = (subst (AllByRecursion (λ (n : TreeMessage). key ≡ n.key)) cut (all_dropped (λ (n : TreeMessage). key ≡ n.key) (newest_of key ms) i (newest_all key ms))).0;
-    }
-
-still_above : (ms : List TreeMessage) (key : List ℕ) (i : ℕ) (older : Operations) → MessagesRise ms → IsAbove (ops_in ms key) older → IsAbove (ops_in (drop i (newest_of key ms)) key) older
-still_above ms key i older up above n k s t = above n k (subst IsSome (ops_of_newest key ms n up) (there_dropped (newest_of key ms) i key n s)) t
-
--- the next message is above the number
-pub looking_past : (ms : List TreeMessage) (key : List ℕ) (at i : ℕ) (old now : SuffixList) (m : TreeMessage) → MessagesRise ms → i < length (newest_of key ms) → m ≡ get_or (newest_of key ms) i m
-    → IsLooking ms key at i old now → at < m.number → IsLooking ms key at (i + 1) old now
-looking_past ms key at i old now m up l e looking more = record {
-  so_far = λ older above. looking.so_far older above
-      ∙ ap (λ xs. continued now (latest (over (ops_in xs key) older) at)) (is_next ms key i m up l e).split
-      ∙ ap (continued now) (read_above m (drop (i + 1) (newest_of key ms)) key older at more);
+pub looking_first : (ms : List TreeMessage) (key : List ℕ) (at count : ℕ) (old : SuffixList) → MessagesRise ms → IsUpTo ms key at count → IsLooking ms key at count old old
+looking_first ms key at count old up front = record {
+  so_far = λ older above. ap (continued old) (latest_same (over (ops_in ms key) older) (over (ops_in (reverse (take count ms)) key) older) at
+      (λ k l. ap (λ o. or_else o (older k)) (sym (front_reversed ms key count k up ∙ front.whole k l))));
 }
 
 -- what the next message makes of what is below it
-pub applied_next : (ms : List TreeMessage) (key : List ℕ) (at i : ℕ) (old now : SuffixList) (m : TreeMessage) → MessagesRise ms → i < length (newest_of key ms) → m ≡ get_or (newest_of key ms) i m
-    → IsLooking ms key at i old now → m.number ≤ at → (older : Operations) → IsAbove (ops_in ms key) older
-    → continued old (latest (over (ops_in ms key) older) at) ≡ continued now (applied m.number (Some m.op) (latest (over (ops_in (drop (i + 1) (newest_of key ms)) key) older) at))
-applied_next ms key at i old now m up l e looking most older above =
-    let next = is_next ms key i m up l e in
-    looking.so_far older above
-    ∙ ap (λ xs. continued now (latest (over (ops_in xs key) older) at)) next.split
-    ∙ ap (continued now) (read_own m (drop (i + 1) (newest_of key ms)) key older at next.own next.falls most
-    (subst (λ xs. IsAbove (ops_in xs key) older) next.split (still_above ms key i older up above)))
+module _ (ms : List TreeMessage) (key : List ℕ) (at count : ℕ) (old now : SuffixList) (i : ℕ) (m : TreeMessage) (up : MessagesRise ms) (front : IsUpTo ms key at count)
+    (inside : i < count) (is : m ≡ get_or ms (count - 1 - i) m) (looking : IsLooking ms key at (count - i) old now) where
+  abbrev pub place : ℕ
+  place = count - 1 - i
 
-pub looking_on : (ms : List TreeMessage) (key : List ℕ) (at i : ℕ) (old now : SuffixList) (m : TreeMessage) (s : List ℕ) → MessagesRise ms → i < length (newest_of key ms) → m ≡ get_or (newest_of key ms) i m
-    → IsLooking ms key at i old now → m.number ≤ at → m.op ≡ Append s → IsLooking ms key at (i + 1) old (with_suffix m.number s now)
-looking_on ms key at i old now m s up l e looking most op = record {
-  so_far = λ older above. applied_next ms key at i old now m up l e looking most older above
-      ∙ ap (λ o. continued now (applied m.number (Some o) (latest (over (ops_in (drop (i + 1) (newest_of key ms)) key) older) at))) op
-      ∙ append_below now m.number s (latest (over (ops_in (drop (i + 1) (newest_of key ms)) key) older) at);
-}
+  next : place + 1 ≡ count - i
+  next = omega (arith, inside)
+
+  within : place < length ms
+  within = let w = front.within in omega (arith, inside, w)
+
+  split : reverse (take (place + 1) ms) ≡ m ∷ reverse (take place ms)
+  split = one_more ms place m within is
+
+  falls : IsHistory (m ∷ reverse (take place ms))
+  falls = subst IsHistory split (history_of (take (place + 1) ms) (rises_take ms (place + 1) up))
+
+  still_above : (older : Operations) → IsAbove (ops_in ms key) older → IsAbove (ops_in (m ∷ reverse (take place ms)) key) older
+  still_above older above n k s t = above n k (front_there ms (place + 1) key n (subst IsSome (front_reversed ms key (place + 1) n up) (subst (λ xs. IsSome (ops_in xs key n)) (sym split) s))) t
+
+  here : (older : Operations) → IsAbove (ops_in ms key) older → continued old (latest (over (ops_in ms key) older) at) ≡ continued now (latest (over (ops_in (reverse (take (place + 1) ms)) key) older) at)
+  here older above = looking.so_far older above ∙ ap (λ p. continued now (latest (over (ops_in (reverse (take p ms)) key) older) at)) (sym next)
+
+  pub applied_next : m.key ≡ key → (older : Operations) → IsAbove (ops_in ms key) older
+      → continued old (latest (over (ops_in ms key) older) at) ≡ continued now (applied m.number (Some m.op) (latest (over (ops_in (reverse (take place ms)) key) older) at))
+  applied_next own older above =
+      here older above
+      ∙ ap (λ xs. continued now (latest (over (ops_in xs key) older) at)) split
+      ∙ ap (continued now) (read_own m (reverse (take place ms)) key older at (sym own) falls (own_up_to ms key at count front place m (omega (arith, inside)) is own) (still_above older above))
+
+  pub looking_on : (s : List ℕ) → m.key ≡ key → m.op ≡ Append s → IsLooking ms key at (count - (i + 1)) old (with_suffix m.number s now)
+  looking_on s own op = record {
+    so_far = λ older above. applied_next own older above
+        ∙ ap (λ o. continued now (applied m.number (Some o) (latest (over (ops_in (reverse (take place ms)) key) older) at))) op
+        ∙ append_below now m.number s (latest (over (ops_in (reverse (take place ms)) key) older) at)
+        ∙ ap (λ p. continued (with_suffix m.number s now) (latest (over (ops_in (reverse (take p ms)) key) older) at)) less;
+  }
+    where
+      less : place ≡ count - (i + 1)
+      less = omega (arith, inside)
+
+  -- the next message is another key's: none are left
+  pub looked_past : same_key m.key key ≡ false → (older : Operations) → IsAbove (ops_in ms key) older → continued old (latest (over (ops_in ms key) older) at) ≡ continued now (latest older at)
+  looked_past other older above =
+      here older above
+      ∙ ap (continued now) (latest_same (over (ops_in (reverse (take (place + 1) ms)) key) older) older at
+      (λ k a. ap (λ o. or_else o (older k)) (front_reversed ms key (place + 1) k up ∙ none_behind ms key at count front place m (omega (arith, inside)) is up other k)))
 
 -- all of them have been looked at
-pub looked_all : (ms : List TreeMessage) (key : List ℕ) (at i : ℕ) (old now : SuffixList) → IsLooking ms key at i old now → length (newest_of key ms) ≤ i → (older : Operations) → IsAbove (ops_in ms key) older
+pub looked_all : (ms : List TreeMessage) (key : List ℕ) (at left : ℕ) (old now : SuffixList) → IsLooking ms key at left old now → left ≡ 0 → (older : Operations) → IsAbove (ops_in ms key) older
     → continued old (latest (over (ops_in ms key) older) at) ≡ continued now (latest older at)
-looked_all ms key at i old now looking l older above =
+looked_all ms key at left old now looking none older above =
     looking.so_far older above
-    ∙ ap (λ xs. continued now (latest (over (ops_in xs key) older) at)) (dropped (newest_of key ms) i l)
+    ∙ ap (λ p. continued now (latest (over (ops_in (reverse (take p ms)) key) older) at)) none
     ∙ ap (continued now) (latest_same (over (ops_in [] key) older) older at (λ k a. refl))
-  where
-    dropped : (xs : List TreeMessage) (i : ℕ) → length xs ≤ i → drop i xs ≡ []
-    dropped [] zero h = refl
-    dropped [] (suc i) h = refl
-    dropped (x ∷ xs) zero h = absurd (omega arith)
-    dropped (x ∷ xs) (suc i) h = dropped xs i (omega arith)

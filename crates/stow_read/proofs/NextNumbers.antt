@@ -35,7 +35,7 @@ use Rattle.stow_read.proofs.NextKeys.{apart}
 use Rattle.stow_read.proofs.NextMessages.{valid_at, each_there}
 
 -- an operation that messages have is one of theirs, with its number
-found_numbered : {X : Type 0} (ms : List TreeMessage) (key : List ℕ) (n : ℕ) → IsSome (ops_in ms key n) → ((m : TreeMessage) → Contains ms m → m.key ≡ key → m.number ≡ n → X) → X
+pub found_numbered : {X : Type 0} (ms : List TreeMessage) (key : List ℕ) (n : ℕ) → IsSome (ops_in ms key n) → ((m : TreeMessage) → Contains ms m → m.key ≡ key → m.number ≡ n → X) → X
 found_numbered [] key n s f = absurd cc
 found_numbered (m ∷ ms) key n s f = ⊎_elim
     (λ (e : (◌≡◌ {A = VersionPlace} (key, n) (place_of m)) × (eq_by_cmp place_cmp (key, n) (place_of m) ≡ true)). f m (contains_here m ms) (sym (ap (λ (p : VersionPlace). p.0) e.0)) (sym (ap (λ (p : VersionPlace). p.1) e.0)))
@@ -71,7 +71,7 @@ own_is_below m key b e =
     ap (λ x. is_lt (ordering_then (bytes_cmp x key) (nat_cmp m.number b))) e
     ∙ ap (λ o. is_lt (ordering_then o (nat_cmp m.number b))) (tied_itself nat_list_cmp_total key)
 
-own_below : (m : TreeMessage) (key : List ℕ) (b : ℕ) → m.key ≡ key → m.number < b → is_below (key, b) m ≡ true
+pub own_below : (m : TreeMessage) (key : List ℕ) (b : ℕ) → m.key ≡ key → m.number < b → is_below (key, b) m ≡ true
 own_below m key b e l = own_is_below m key b e ∙ ap is_lt (less_than m.number b l)
 
 not_less : (n b : ℕ) → b ≤ n → is_lt (nat_cmp n b) ≡ false
@@ -80,10 +80,10 @@ not_less n b l = ⊎_elim
     (λ (c : (n < b) ⊎ (b < n)). ⊎_elim (λ (a : n < b). absurd (omega arith)) (λ (a : b < n). ap is_lt (more_than n b a)) c)
     (cases_order n b)
 
-own_not_below : (m : TreeMessage) (key : List ℕ) (b : ℕ) → m.key ≡ key → b ≤ m.number → is_below (key, b) m ≡ false
+pub own_not_below : (m : TreeMessage) (key : List ℕ) (b : ℕ) → m.key ≡ key → b ≤ m.number → is_below (key, b) m ≡ false
 own_not_below m key b e l = own_is_below m key b e ∙ not_less m.number b l
 
-lower_below : (m : TreeMessage) (key : List ℕ) (b : ℕ) → lt m.key key ≡ true → is_below (key, b) m ≡ true
+pub lower_below : (m : TreeMessage) (key : List ℕ) (b : ℕ) → lt m.key key ≡ true → is_below (key, b) m ≡ true
 lower_below m key b l = ap (λ o. is_lt (ordering_then o (nat_cmp m.number b))) (lt_is (bytes_cmp m.key key) l)
 
 -- the numbers above this one are those from the bound on

@@ -25,7 +25,7 @@ use Rattle.stow_read.specs.Shown.{value_shown}
 use Rattle.stow_read.specs.Versions.{AreVersionsOf}
 use Rattle.stow_read.proofs.Gathered.{AllOwn, there_first, under_number}
 use Rattle.stow_read.proofs.Looked.{there_dropped}
-use Rattle.stow_read.proofs.Newest.{newest_step}
+use Rattle.stow_read.proofs.NewestFirst.{newest_step}
 use Rattle.stow_read.proofs.Shown.{rows_show, up_to_cases}
 use Rattle.stow_message.proofs.Removed.{all_dropped}
 

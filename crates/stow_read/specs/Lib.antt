@@ -7,4 +7,6 @@ pub mod Versions
 pub mod NextKey
 pub mod Range
 pub mod Walk
+pub mod Glance
+pub mod UpTo
 pub mod Way

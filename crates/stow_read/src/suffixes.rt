@@ -10,6 +10,7 @@ ghost use Rattle.stow_read.specs.Walk.{head_of};
 
 use crate::found::Found;
 use crate::lent_value::LentValue;
+use crate::up_to::count_up_to;
 use crate::value_head::ValueHead;
 use std::alloc::{AllocError, Allocator};
 use stow_bytes::byte_string::ByteString;
@@ -71,16 +72,17 @@ impl<'a, A: Allocator + Copy> Suffixes<'a, A> {
             (suffixes_of self.old) (suffixes_of self.new) look) }
     {
         let _known = buffer.len();
-        let newest = buffer.of_key_near(key, guess);
-        for i in 0..newest.len() {
-            let message = newest.get(i);
-            if message.number <= at {
-                let number = message.number;
-                match message.op {
-                    Op::Put(value) => return Ok(Look::Base(Some(LentValue { number, value }))),
-                    Op::Gone => return Ok(Look::Base(None)),
-                    Op::Append(suffix) => self.add(number, suffix)?,
-                }
+        let count = count_up_to(buffer, key, at, guess);
+        for i in 0..count {
+            let message = buffer.message(count - 1 - i);
+            if !message.key.is_same(key) {
+                return Ok(Look::Deeper);
+            }
+            let number = message.number;
+            match message.op {
+                Op::Put(value) => return Ok(Look::Base(Some(LentValue { number, value }))),
+                Op::Gone => return Ok(Look::Base(None)),
+                Op::Append(suffix) => self.add(number, suffix)?,
             }
         }
         Ok(Look::Deeper)

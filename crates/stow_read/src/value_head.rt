@@ -2,9 +2,9 @@
 
 /// What is told of a value in place of its bytes.
 #[derive(Clone, Copy)]
-pub(crate) struct ValueHead {
+pub struct ValueHead {
     /// The number of the write that made it.
-    pub(crate) number: u64,
+    pub number: u64,
     /// How many bytes it has.
-    pub(crate) length: u32,
+    pub length: u32,
 }

@@ -1,5 +1,6 @@
 //! A session over a door of the tests' own, which keeps what it is asked.
-ghost use Rattle.std.specs.Prelude.{◌≡◌, ◌⊎◌, ◌++◌, ◌∷◌, [], ℕ, List, IfOk, OnOk, OnErr, pos};
+ghost use Rattle.std.specs.Prelude.{◌≡◌, ◌⊎◌, ◌++◌, ◌∷◌, ◌<◌, [], ℕ, List, length, map, IfOk, OnOk, OnErr, pos};
+ghost use Rattle.stow_house.specs.Pipelines.{AnswersFront};
 ghost use Rattle.stow_model.specs.declared.refusal.Refusal.TheVariants as refusal;
 ghost use Rattle.stow_model.specs.Reply as told;
 ghost use Rattle.stow_model.specs.Reply.{reply_of};
@@ -9,6 +10,7 @@ use std::marker::Model;
 use std::test::Fail;
 use stow_house::answer::Answer;
 use stow_house::door::Door;
+use stow_house::request::Request;
 use stow_house::session::Session;
 use stow_login::tenants::Tenants;
 use stow_model::refusal::Refusal;
@@ -57,6 +59,25 @@ impl<A: Allocator + Copy> Door<A> for Fake<A> {
             Ok(()) => Reply::Integer(i64::from(tenant)),
             Err(_) => Reply::Error(Refusal::OutOfMemory),
         }
+    }
+
+    fn call_all(
+        &mut self,
+        alloc: A,
+        requests: &[Request<A>],
+        more: &mut Vec<Reply<A>, A>,
+    ) -> Reply<A>
+        requires some { 0 < length requests.now }
+        requires none { more.old.items ≡ [] }
+        ensures answers { AnswersFront (λ old tenant words r new.
+            ((r ≡ told.Integer (pos tenant)) × (new ≡ old ++ (tenant, words) ∷ []))
+            ⊎ ((r ≡ told.Error refusal.OutOfMemory) × (new ≡ old))) self.old requests.now
+            (reply_of result ∷ map reply_of more.new.items) self.new }
+        ensures within { length more.new.items < length requests.now }
+    {
+        let _only = more;
+        let request = &requests[0];
+        self.call(alloc, request.tenant, &request.words)
     }
 }
 

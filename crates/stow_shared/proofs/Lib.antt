@@ -4,4 +4,5 @@ pub mod Steps
 pub mod Receipts
 pub mod Sums
 pub mod Seating
+pub mod Desking
 pub mod Sends

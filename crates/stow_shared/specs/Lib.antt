@@ -6,3 +6,4 @@ pub mod Copies
 pub mod Opened
 pub mod Closed
 pub mod Laws
+pub mod Desks

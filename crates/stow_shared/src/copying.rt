@@ -10,10 +10,7 @@ use stow_model::reply::Reply;
 use stow_model::words::Words;
 
 /// A copy of words.
-pub fn copied_words<A: Allocator + Copy>(
-    alloc: A,
-    words: &Words<A>,
-) -> Result<Words<A>, AllocError>
+pub fn copied_words<A: Allocator + Copy>(alloc: A, words: &Words<A>) -> Result<Words<A>, AllocError>
     ensures { IfOk result (λ copy. copy ≡ words.now) }
 {
     let mut copy = Words::new(alloc);

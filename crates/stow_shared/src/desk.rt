@@ -1,8 +1,10 @@
 //! A seat's doors.
-ghost use Rattle.std.specs.Prelude.{◌≡◌, IsSome, None, OnErr, OnOk};
+ghost use Rattle.std.specs.Prelude.{◌≡◌, ◌<◌, [], ◌∷◌, length, map, IsSome, None, OnErr, OnOk};
 ghost use Rattle.stow_house.specs.FlushDoors.{planned, installed};
+ghost use Rattle.stow_house.specs.Pipelines.{AnswersFront};
 ghost use Rattle.stow_model.specs.Reply.{reply_of};
-ghost use Rattle.stow_shared.specs.Seats.{SeatCalls, SeatFlushes};
+ghost use Rattle.stow_shared.specs.Desks.{DeskCalls};
+ghost use Rattle.stow_shared.specs.Seats.{SeatFlushes};
 
 use crate::journal::Journal;
 use crate::seat::Seat;
@@ -11,6 +13,7 @@ use std::alloc::{AllocError, Allocator, Global};
 use std::sync::Wait;
 use stow_house::door::Door;
 use stow_house::flush_door::FlushDoor;
+use stow_house::request::Request;
 use stow_merge::flush_job::FlushJob;
 use stow_merge::flush_result::FlushResult;
 use stow_model::reply::Reply;
@@ -26,17 +29,28 @@ pub struct Desk<'a, R: Wait, J: Journal, A: Allocator + Copy = Global> {
 }
 
 impl<'a, R: Wait, J: Journal, A: Allocator + Copy> Door<A> for Desk<'a, R, J, A> {
-    // The seat is the same before and after, and gained the receipt of the call, or counted its refusal.
-    ghost answers = { λ old tenant words told new.
-        (new.seat.ghost_name ≡ old.seat.ghost_name)
-        × SeatCalls J.keeps old.seat.now tenant words told new.seat.now };
+    ghost answers = { DeskCalls J.keeps };
 
     fn call(&mut self, alloc: A, tenant: u32, words: &Words<A>) -> Reply<A>
-        ensures { (self.new.seat.ghost_name ≡ self.old.seat.ghost_name)
-            × SeatCalls J.keeps self.old.seat.now tenant words.now (reply_of result)
-            self.new.seat.now }
+        ensures { DeskCalls J.keeps self.old tenant words.now (reply_of result) self.new }
     {
         self.shared.call(self.rt, alloc, self.seat, tenant, words)
+    }
+
+    fn call_all(
+        &mut self,
+        alloc: A,
+        requests: &[Request<A>],
+        more: &mut Vec<Reply<A>, A>,
+    ) -> Reply<A>
+        requires some { 0 < length requests.now }
+        requires none { more.old.items ≡ [] }
+        ensures answers { AnswersFront (DeskCalls J.keeps) self.old requests.now
+            (reply_of result ∷ map reply_of more.new.items) self.new }
+        ensures within { length more.new.items < length requests.now }
+    {
+        self.shared
+            .call_all(self.rt, alloc, self.seat, requests, more)
     }
 }
 

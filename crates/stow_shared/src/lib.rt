@@ -35,6 +35,7 @@ pub mod journal;
 pub mod kept;
 pub mod laws;
 pub mod open_fault;
+mod pipelined;
 pub mod seat;
 pub mod shared;
 pub mod step;

@@ -1,8 +1,9 @@
 //! A core that threads share.
-ghost use Rattle.std.specs.Prelude.{◌≡◌, ◌≤◌, true, is_some, IfOk, IfErr, OnOk, OnErr};
+ghost use Rattle.std.specs.Prelude.{◌≡◌, ◌≤◌, ◌<◌, [], ◌∷◌, length, map, true, is_some, IfOk, IfErr, OnOk, OnErr};
 ghost use Rattle.stow_bytes.specs.Limits.{number_limit};
 ghost use Rattle.std.specs.Arc.{arc_value};
 ghost use Rattle.stow_core.specs.State.{IsNewCore};
+ghost use Rattle.stow_house.specs.Pipelines.{AnswersFront};
 ghost use Rattle.stow_model.specs.Reply.{reply_of};
 ghost use Rattle.stow_shared.specs.Closed.{Closes};
 ghost use Rattle.stow_shared.specs.Entries.{install_entry, plan_entry, quota_entry, resize_entry};
@@ -14,11 +15,13 @@ use crate::closed::Closed;
 use crate::copies::Copies;
 use crate::journal::Journal;
 use crate::open_fault::OpenFault;
+use crate::pipelined::answer_all;
 use crate::seat::Seat;
 use std::alloc::{AllocError, Allocator, Global};
 use std::marker::Model;
 use std::sync::{Arc, Mutex, Wait};
 use stow_core::Core;
+use stow_house::request::Request;
 use stow_login::tenants::Tenants;
 use stow_merge::flush_job::FlushJob;
 use stow_merge::flush_result::FlushResult;
@@ -104,6 +107,26 @@ impl<J: Journal, A: Allocator + Copy> Shared<J, A> {
             Ok(copies) => self.book.lock(rt).call(alloc, seat, tenant, words, copies),
             Err(_) => seat.refuse(),
         }
+    }
+
+    /// Answers requests one after another while the lock is held, each as `call` does: the first of them at least, and the next
+    /// ones for as many as `more` has room and no reply before them may be long.
+    pub fn call_all<R: Wait>(
+        &self,
+        rt: &R,
+        alloc: A,
+        seat: &mut Seat<J, A>,
+        requests: &[Request<A>],
+        more: &mut Vec<Reply<A>, A>,
+    ) -> Reply<A>
+        requires some { 0 < length requests.now }
+        requires none { more.old.items ≡ [] }
+        ensures answers { AnswersFront (SeatCalls J.keeps) seat.old requests.now
+            (reply_of result ∷ map reply_of more.new.items) seat.new }
+        ensures within { length more.new.items < length requests.now }
+    {
+        let mut book = self.book.lock(rt);
+        answer_all(&mut book, alloc, seat, requests, more)
     }
 
     /// Asks the cache to hold so many leaves, while the lock is held.

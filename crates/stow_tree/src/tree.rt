@@ -1,5 +1,5 @@
 //! The tree.
-ghost use Rattle.std.specs.Prelude.{◌≡◌, ◌↔◌, ◌<◌, ◌≤◌, ◌^◌, [], length, map, None, option_map, IfOk, IfErr, IfSome, OnOk, OnErr, Err};
+ghost use Rattle.std.specs.Prelude.{◌≡◌, ◌↔◌, ◌<◌, ◌≤◌, ◌^◌, [], ◌∷◌, length, map, None, option_map, IfOk, IfErr, IfSome, OnOk, OnErr, Err};
 ghost use Rattle.std.specs.FinMap as finite;
 ghost use Rattle.stow_flush.specs.Rooms.{FitsSqueezed};
 ghost use Rattle.stow_leaf_cache.specs.Cache.{cache_resized};
@@ -10,6 +10,7 @@ ghost use Rattle.stow_node.specs.declared.installed.Installed.TheVariants as ins
 ghost use Rattle.stow_node.specs.Plans.{IsPlanned, Plans};
 ghost use Rattle.stow_node.specs.Subtree.{buffered};
 ghost use Rattle.stow_read.specs.Found.{found_value};
+ghost use Rattle.stow_read.specs.Glance.{IsToldOf};
 ghost use Rattle.stow_read.specs.Range.{IsRange, key_value};
 ghost use Rattle.stow_read.specs.Versions.{AreVersionsOf};
 ghost use Rattle.stow_read.specs.Walk.{IsWalk};
@@ -42,6 +43,8 @@ use stow_node::node::Node;
 use stow_raw::raw_buf::RawBuf;
 use stow_read::found::Found;
 use stow_read::getting::get;
+use stow_read::glance::Glance;
+use stow_read::glancing::glance;
 use stow_read::leaf_for::leaf_for;
 use stow_read::range::range;
 use stow_read::row::Row;
@@ -159,6 +162,15 @@ impl<A: Allocator + Copy> Tree<A> {
         }
     }
 
+    /// Puts a message into the tree, for which there is room, as `put_all` does. The search is the shorter the nearer the guess
+    /// is to the message's place in the root's buffer.
+    pub fn put_near(&mut self, message: Message<'_>, guess: usize)
+        requires { IsReserved self.old (message_of message ∷ []) }
+        ensures { Puts (message_of message.entry ∷ []) self.old self.new }
+    {
+        self.root.push_near(message, guess);
+    }
+
     /// A job for a flush outside the lock, under pins, if a buffer holds a message: it is of the deepest such buffer, from
     /// which messages for one child move down first, where it stands above nodes. What the tree means stays, also where
     /// memory is refused.
@@ -227,6 +239,14 @@ impl<A: Allocator + Copy> Tree<A> {
         ensures short { IfOk result (λ found. IsValue (value_in (option_map found_value found))) }
     {
         Ok(get(alloc, &self.root, key, at)?.found)
+    }
+
+    /// What the key's newest message or row up to a number tells of the value that it has there. It takes no memory, and no
+    /// longer where many appends wait.
+    pub fn glance(&self, key: TenantKey<'_>, at: u64) -> Glance
+        ensures { IsToldOf (value (tree_messages self.now) key.entry.bytes.now at) result.newest }
+    {
+        glance(&self.root, key, at)
     }
 
     /// The first `count` keys from `from` on and below `to` that have a value at a number, in order, with it.

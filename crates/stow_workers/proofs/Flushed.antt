@@ -5,7 +5,7 @@ use Rattle.std.specs.Prelude.{is_some}
 use Rattle.std.proofs.lemmas.Option.{none-some}
 use Rattle.stow_merge.specs.declared.flush_job.FlushJob.{FlushJob}
 use Rattle.stow_node.specs.declared.installed.Installed.{Installed}
-use Rattle.stow_house.specs.FlushDoors.{Flushing, Planned, Came, Refused, messages_of, planned, installed}
+use Rattle.stow_house.specs.FlushDoors.{Flushing, Planned, Came, Refused, message_count, planned, installed}
 use Rattle.stow_workers.specs.Flushes.{FlushTo, HasFlushed, GoesOn, HasJob, CanFollow, AreInTurn, EndsIn, EndsInFew, StopsAtFew, IsOneFlush, FlushesOnce, WakesOnce}
 
 -- ---- one step after others
@@ -55,7 +55,7 @@ a_job n = record { in_turn = (tt, tt); most = omega arith; whole = λ m at. absu
 
 -- memory was refused to the merge
 pub unmerged : {D A E : Type 0} (flushes : D → Flushing → D → Type 0) (old new : D) (r : Result (Option (FlushJob A)) E) (job : FlushJob A) → r ≡ Ok (Some job) → flushes old (planned r) new → FlushesOnce flushes old None new
-unmerged flushes old new r job at is = record { done = Planned (messages_of (Some job)) ∷ []; led = one_step flushes old (Planned (messages_of (Some job))) new (subst (λ p. flushes old (planned p) new) at is); is_flush = a_job _ }
+unmerged flushes old new r job at is = record { done = Planned (message_count (Some job)) ∷ []; led = one_step flushes old (Planned (message_count (Some job))) new (subst (λ p. flushes old (planned p) new) at is); is_flush = a_job _ }
 
 -- so many messages where the result came
 abbrev came_of : {E : Type 0} → Result Installed E → ℕ → Option ℕ
@@ -68,25 +68,25 @@ is_whole (Ok told) n =
     record { in_turn = (refl, (tt, tt)); most = omega arith; whole = λ m at. record { told = told; is = ap (λ k. Came told ∷ Planned k ∷ []) at }; ended = λ on. refl }
 is_whole (Err back) n = record { in_turn = (inr refl, (tt, tt)); most = omega arith; whole = λ m at. absurd (none-some m at); ended = λ on. absurd on }
 
-two_done : {D A E F : Type 0} (flushes : D → Flushing → D → Type 0) (old mid new : D) (r : Result (Option (FlushJob A)) E) (job : FlushJob A) (s : Result Installed F) → r ≡ Ok (Some job) → flushes old (planned r) mid → flushes mid (installed s) new → FlushTo flushes old (installed s ∷ Planned (messages_of (Some job)) ∷ []) new
-two_done flushes old mid new r job s at is then = two_steps flushes old (Planned (messages_of (Some job))) mid (installed s) new (subst (λ p. flushes old (planned p) mid) at is) then
+two_done : {D A E F : Type 0} (flushes : D → Flushing → D → Type 0) (old mid new : D) (r : Result (Option (FlushJob A)) E) (job : FlushJob A) (s : Result Installed F) → r ≡ Ok (Some job) → flushes old (planned r) mid → flushes mid (installed s) new → FlushTo flushes old (installed s ∷ Planned (message_count (Some job)) ∷ []) new
+two_done flushes old mid new r job s at is then = two_steps flushes old (Planned (message_count (Some job))) mid (installed s) new (subst (λ p. flushes old (planned p) mid) at is) then
 
 -- a job's result came, or memory was refused to it
 pub merged : {D A E F : Type 0} (flushes : D → Flushing → D → Type 0) (old mid new : D) (r : Result (Option (FlushJob A)) E) (job : FlushJob A) (s : Result Installed F) (told : Installed) (n : ℕ) → r ≡ Ok (Some job) → flushes old (planned r) mid → flushes mid (installed s) new → s ≡ Ok told → n ≡ length job.batch.messages → FlushesOnce flushes old (Some n) new
 merged flushes old mid new r job s told n at is then came counted =
     record {
-      done = installed s ∷ Planned (messages_of (Some job)) ∷ [];
+      done = installed s ∷ Planned (message_count (Some job)) ∷ [];
       led = two_done flushes old mid new r job s at is then;
-      is_flush = subst (λ o. IsOneFlush o (installed s ∷ Planned (messages_of (Some job)) ∷ [])) (ap (λ r. came_of r (length job.batch.messages)) came ∙ sym (ap Some counted)) (is_whole s (length job.batch.messages));
+      is_flush = subst (λ o. IsOneFlush o (installed s ∷ Planned (message_count (Some job)) ∷ [])) (ap (λ r. came_of r (length job.batch.messages)) came ∙ sym (ap Some counted)) (is_whole s (length job.batch.messages));
     }
 
 -- memory was refused to the install
 pub uninstalled : {D A E F : Type 0} (flushes : D → Flushing → D → Type 0) (old mid new : D) (r : Result (Option (FlushJob A)) E) (job : FlushJob A) (s : Result Installed F) (back : F) → r ≡ Ok (Some job) → flushes old (planned r) mid → flushes mid (installed s) new → s ≡ Err back → FlushesOnce flushes old None new
 uninstalled flushes old mid new r job s back at is then refused =
     record {
-      done = installed s ∷ Planned (messages_of (Some job)) ∷ [];
+      done = installed s ∷ Planned (message_count (Some job)) ∷ [];
       led = two_done flushes old mid new r job s at is then;
-      is_flush = subst (λ o. IsOneFlush o (installed s ∷ Planned (messages_of (Some job)) ∷ [])) (ap (λ r. came_of r (length job.batch.messages)) refused) (is_whole s (length job.batch.messages));
+      is_flush = subst (λ o. IsOneFlush o (installed s ∷ Planned (message_count (Some job)) ∷ [])) (ap (λ r. came_of r (length job.batch.messages)) refused) (is_whole s (length job.batch.messages));
     }
 
 -- ---- one flush after others

@@ -3,5 +3,8 @@ pub mod Turning
 pub mod Pieces
 pub mod OneConnection
 pub mod Flushed
+pub mod Pipelining
+pub mod Waking
+pub mod Added
 pub mod Workers
 pub mod Sends

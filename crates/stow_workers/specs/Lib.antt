@@ -7,3 +7,5 @@ pub mod Turns
 pub mod Laws
 pub mod Flushes
 pub mod Pools
+pub mod WakingDesks
+pub mod Pipelined

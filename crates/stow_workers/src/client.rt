@@ -1,7 +1,10 @@
 //! A connection that is being served.
-ghost use Rattle.std.specs.Prelude.{◌≡◌, [], None, Some, false, option_map, IfSome};
+ghost use Rattle.std.specs.Prelude.{◌≡◌, List, [], ◌∷◌, map, None, Some, false, option_map, IfSome, OnOk, OnErr};
+ghost use Rattle.stow_model.specs.Login.{Entry};
 ghost use Rattle.stow_model.specs.Reply.{reply_of};
-ghost use Rattle.stow_house.specs.Conversations.{talk_of};
+ghost use Rattle.stow_house.specs.Conversations.{Talk, talk_of};
+ghost use Rattle.stow_workers.specs.Pipelined.{HearsAll, HasHeard, AnswersHeard, AnswersPart, SendsFront, TellsOrStops, encodings};
+ghost use Rattle.stow_workers.specs.Sent.{Sends, sent_of};
 ghost use Rattle.stow_workers.specs.Turns.{Turns, Shortens, GoesTo, ServesPiece, CanEndPiece, outcome_of, state_of};
 
 use crate::gate::Gate;
@@ -9,10 +12,11 @@ use crate::place::Place;
 use crate::replies::Replies;
 use crate::served::Served;
 use crate::sink::Sink;
-use std::alloc::{Allocator, Global};
+use std::alloc::{AllocError, Allocator, Global};
 use stow_house::conversation::Conversation;
 use stow_house::door::Door;
 use stow_house::heard::Heard;
+use stow_house::request::Request;
 use stow_house::stop::Stop;
 use stow_login::tenants::Tenants;
 use stow_model::reply::Reply;
@@ -23,7 +27,14 @@ pub struct Client<A: Allocator = Global> {
     alloc: A,
     conversation: Conversation<A>,
     replies: Replies<A>,
+    /// Requests that were heard together. They mean nothing between calls, so that their memory serves one after another.
+    requests: Vec<Request<A>, A>,
+    /// What the door replied to some of them. The same holds of it.
+    told: Vec<Reply<A>, A>,
 }
+
+/// The most requests that are heard before the door is asked.
+const PIPELINED: usize = 64;
 
 impl<A: Allocator + Copy> Client<A> {
     /// Nothing has come, and nobody is logged in.
@@ -37,6 +48,8 @@ impl<A: Allocator + Copy> Client<A> {
             alloc,
             conversation: Conversation::new(alloc),
             replies: Replies::new(alloc),
+            requests: Vec::new(alloc),
+            told: Vec::new(alloc),
         }
     }
 
@@ -84,8 +97,171 @@ impl<A: Allocator + Copy> Client<A> {
         }
     }
 
-    /// Serves the next message, if it is whole. `None` where the conversation goes on.
+    /// Serves the next messages that are whole: requests up to as many as there is room for, which the door may answer together,
+    /// and what comes behind them. `None` where the conversation goes on.
     fn serve_next<W: Sink, D: Door<A>, G: Gate>(
+        &mut self,
+        writer: &mut W,
+        tenants: &Tenants<A>,
+        door: &mut D,
+        gate: &G,
+    ) -> Option<Stop>
+        ensures shorter { Shortens result (talk_of self.old.conversation)
+            (talk_of self.new.conversation) }
+        ensures goes { GoesTo D.answers tenants.now result
+            (state_of door.old (W.contents writer.old) (W.failures writer.old) self.old)
+            (state_of door.new (W.contents writer.new) (W.failures writer.new) self.new) }
+        ensures same_borrow { W.borrow writer.new ≡ W.borrow writer.old }
+    {
+        self.requests.clear();
+        let _room = self.requests.reserve(PIPELINED);
+        let _room = self.told.reserve(PIPELINED);
+        match self.hear_all(tenants, gate) {
+            None if self.requests.is_empty() => self.serve_one(writer, tenants, door, gate),
+            end => self.serve_heard(writer, door, gate, end),
+        }
+    }
+
+    /// Serves requests that were heard, and tells what came behind them.
+    fn serve_heard<W: Sink, D: Door<A>, G: Gate>(
+        &mut self,
+        writer: &mut W,
+        door: &mut D,
+        gate: &G,
+        end: Option<(Option<Reply<A>>, Option<Stop>)>,
+    ) -> Option<Stop>
+        ensures shorter { (entries : List Entry) (first : Talk)
+            → HearsAll entries self.old.requests.items end first (talk_of self.old.conversation)
+            → HasHeard self.old.requests.items end
+            → Shortens result first (talk_of self.new.conversation) }
+        ensures goes { (entries : List Entry) (first : Talk)
+            → HearsAll entries self.old.requests.items end first (talk_of self.old.conversation)
+            → GoesTo D.answers entries result
+            (record (state_of door.old (W.contents writer.old) (W.failures writer.old) self.old) {
+              talk = first;
+            })
+            (state_of door.new (W.contents writer.new) (W.failures writer.new) self.new) }
+        ensures same_borrow { W.borrow writer.new ≡ W.borrow writer.old }
+    {
+        match self.answer_all(writer, door, gate) {
+            Ok(()) => self.reuse_words(),
+            Err(_) => return Some(Stop::NoMemory),
+        }
+        match end {
+            Some((reply, stop)) => self.tell(writer, &reply, stop),
+            None => None,
+        }
+    }
+
+    /// Adds a reply, if there is one. Why the conversation goes no further then, if it doesn't.
+    fn tell<W: Sink>(
+        &mut self,
+        writer: &mut W,
+        reply: &Option<Reply<A>>,
+        stop: Option<Stop>,
+    ) -> Option<Stop>
+        ensures told { TellsOrStops (option_map reply_of reply.now) stop result
+            (sent_of (W.contents writer.old) (W.failures writer.old) self.old.replies)
+            (sent_of (W.contents writer.new) (W.failures writer.new) self.new.replies) }
+        ensures conversation { self.new.conversation ≡ self.old.conversation }
+        ensures same_borrow { W.borrow writer.new ≡ W.borrow writer.old }
+    {
+        match self.replies.add(writer, reply) {
+            Ok(()) => stop,
+            Err(_) => Some(Stop::NoMemory),
+        }
+    }
+
+    /// Hands the words of the last request back, whose memory can serve the next one.
+    fn reuse_words(&mut self)
+        ensures talk { talk_of self.new.conversation ≡ talk_of self.old.conversation }
+        ensures replies { self.new.replies ≡ self.old.replies }
+    {
+        if let Some(request) = self.requests.pop() {
+            self.conversation.reuse(request.words);
+        }
+    }
+
+    /// Hears requests, for as many as there is room, and then what comes behind them, if that is none. The gate is passed for
+    /// each request.
+    fn hear_all<G: Gate>(
+        &mut self,
+        tenants: &Tenants<A>,
+        gate: &G,
+    ) -> Option<(Option<Reply<A>>, Option<Stop>)>
+        requires { self.old.requests.items ≡ [] }
+        ensures hears { HearsAll tenants.now self.new.requests.items result
+            (talk_of self.old.conversation) (talk_of self.new.conversation) }
+        ensures replies { self.new.replies ≡ self.old.replies }
+    {
+        while self.requests.len() < self.requests.capacity() {
+            match self.conversation.hear(self.alloc, tenants) {
+                Heard::Told(told, stop) => return Some((told, stop)),
+                Heard::Request(tenant, words) => {
+                    gate.pass(Place::BeforeCall);
+                    self.requests.push_reserved(Request { tenant, words });
+                }
+            }
+        }
+        None
+    }
+
+    /// Asks the door each of the requests, and adds the replies.
+    fn answer_all<W: Sink, D: Door<A>, G: Gate>(
+        &mut self,
+        writer: &mut W,
+        door: &mut D,
+        gate: &G,
+    ) -> Result<(), AllocError>
+        ensures ok { OnOk result (AnswersHeard D.answers self.old.requests.items door.old door.new
+            (sent_of (W.contents writer.old) (W.failures writer.old) self.old.replies)
+            (sent_of (W.contents writer.new) (W.failures writer.new) self.new.replies)) }
+        ensures err { OnErr result (AnswersPart D.answers self.old.requests.items door.old door.new
+            (sent_of (W.contents writer.old) (W.failures writer.old) self.old.replies)
+            (sent_of (W.contents writer.new) (W.failures writer.new) self.new.replies)) }
+        ensures conversation { self.new.conversation ≡ self.old.conversation }
+        ensures same_borrow { W.borrow writer.new ≡ W.borrow writer.old }
+    {
+        let mut done = 0;
+        while done < self.requests.len() {
+            self.told.clear();
+            let left = &self.requests.as_slice()[done..];
+            let first = door.call_all(self.alloc, left, &mut self.told);
+            done += 1 + self.told.len();
+            self.add_all(writer, gate, first)?;
+        }
+        Ok(())
+    }
+
+    /// Adds a reply, and those that the door gave with it. The gate is passed for each.
+    fn add_all<W: Sink, G: Gate>(
+        &mut self,
+        writer: &mut W,
+        gate: &G,
+        first: Reply<A>,
+    ) -> Result<(), AllocError>
+        ensures ok { OnOk result (Sends
+            (sent_of (W.contents writer.old) (W.failures writer.old) self.old.replies)
+            (sent_of (W.contents writer.new) (W.failures writer.new) self.new.replies)
+            (encodings (reply_of first ∷ map reply_of self.old.told.items))) }
+        ensures err { OnErr result (SendsFront
+            (sent_of (W.contents writer.old) (W.failures writer.old) self.old.replies)
+            (sent_of (W.contents writer.new) (W.failures writer.new) self.new.replies)
+            (reply_of first ∷ map reply_of self.old.told.items)) }
+        ensures same { self.new ≡ record self.old { replies = self.new.replies } }
+        ensures same_borrow { W.borrow writer.new ≡ W.borrow writer.old }
+    {
+        gate.pass(Place::Replied);
+        self.replies.add_reply(writer, &first)?;
+        for i in 0..self.told.len() {
+            gate.pass(Place::Replied);
+            self.replies.add_reply(writer, &self.told[i])?;
+        }
+        Ok(())
+    }
+
+    /// Serves the next message, if it is whole. `None` where the conversation goes on.
+    fn serve_one<W: Sink, D: Door<A>, G: Gate>(
         &mut self,
         writer: &mut W,
         tenants: &Tenants<A>,

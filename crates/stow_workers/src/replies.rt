@@ -1,7 +1,7 @@
 //! Replies on their way to a writer.
 ghost use Rattle.std.specs.Prelude.{◌≡◌, false, [], length, OnOk, OnErr, option_map};
-ghost use Rattle.stow_model.specs.Reply.{reply_of};
-ghost use Rattle.stow_workers.specs.Sent.{SendsReply, StaysSent, NoneWaits, sent_of};
+ghost use Rattle.stow_model.specs.Reply.{encoding, reply_of};
+ghost use Rattle.stow_workers.specs.Sent.{Sends, SendsReply, StaysSent, NoneWaits, sent_of};
 
 use crate::sink::Sink;
 use crate::writing::write_all;
@@ -67,9 +67,23 @@ impl<A: Allocator + Copy> Replies<A> {
             (sent_of (W.contents writer.new) (W.failures writer.new) self.new)) }
         ensures same_borrow { W.borrow writer.new ≡ W.borrow writer.old }
     {
-        let Some(reply) = reply else {
-            return Ok(());
-        };
+        match reply {
+            Some(reply) => self.add_reply(writer, reply),
+            None => Ok(()),
+        }
+    }
+
+    /// Adds a reply, and writes what waits if that is much. An `Err` adds and writes nothing.
+    pub fn add_reply<W: Sink>(&mut self, writer: &mut W, reply: &Reply<A>) -> Result<(), AllocError>
+        ensures ok { OnOk result (Sends
+            (sent_of (W.contents writer.old) (W.failures writer.old) self.old)
+            (sent_of (W.contents writer.new) (W.failures writer.new) self.new)
+            (encoding (reply_of reply.now))) }
+        ensures err { OnErr result
+            (StaysSent (sent_of (W.contents writer.old) (W.failures writer.old) self.old)
+            (sent_of (W.contents writer.new) (W.failures writer.new) self.new)) }
+        ensures same_borrow { W.borrow writer.new ≡ W.borrow writer.old }
+    {
         if self.has_failed {
             return Ok(());
         }

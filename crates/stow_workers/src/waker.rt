@@ -30,4 +30,11 @@ impl<A: Allocator> Waker<A> {
             let _ = wakes.send(rt, Wake);
         }
     }
+
+    /// Counts so many commands.
+    pub(crate) fn count_all<R: Wait>(&mut self, rt: &R, count: usize) {
+        for _ in 0..count {
+            self.count(rt);
+        }
+    }
 }

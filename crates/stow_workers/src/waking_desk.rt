@@ -1,12 +1,14 @@
 //! A desk that wakes flushers.
-ghost use Rattle.std.specs.Prelude.{◌≡◌};
+ghost use Rattle.std.specs.Prelude.{◌≡◌, ◌<◌, [], ◌∷◌, length, map};
+ghost use Rattle.stow_house.specs.Pipelines.{AnswersFront};
 ghost use Rattle.stow_model.specs.Reply.{reply_of};
-ghost use Rattle.stow_shared.specs.Seats.{SeatCalls};
+ghost use Rattle.stow_workers.specs.WakingDesks.{WakingCalls};
 
 use crate::waker::Waker;
 use std::alloc::{Allocator, Global};
 use std::sync::Wait;
 use stow_house::door::Door;
+use stow_house::request::Request;
 use stow_model::reply::Reply;
 use stow_model::words::Words;
 use stow_shared::desk::Desk;
@@ -20,18 +22,30 @@ pub struct WakingDesk<'a, R: Wait, J: Journal, A: Allocator + Copy = Global> {
 }
 
 impl<'a, R: Wait, J: Journal, A: Allocator + Copy> Door<A> for WakingDesk<'a, R, J, A> {
-    // The seat of the desk is the same, and gained the receipt of the call, or counted its refusal.
-    ghost answers = { λ old tenant words told new.
-        (new.desk.seat.ghost_name ≡ old.desk.seat.ghost_name)
-        × SeatCalls J.keeps old.desk.seat.now tenant words told new.desk.seat.now };
+    ghost answers = { WakingCalls J.keeps };
 
     fn call(&mut self, alloc: A, tenant: u32, words: &Words<A>) -> Reply<A>
-        ensures { (self.new.desk.seat.ghost_name ≡ self.old.desk.seat.ghost_name)
-            × SeatCalls J.keeps self.old.desk.seat.now tenant words.now (reply_of result)
-            self.new.desk.seat.now }
+        ensures { WakingCalls J.keeps self.old tenant words.now (reply_of result) self.new }
     {
         let reply = self.desk.call(alloc, tenant, words);
         self.waker.count(self.desk.rt);
         reply
+    }
+
+    fn call_all(
+        &mut self,
+        alloc: A,
+        requests: &[Request<A>],
+        more: &mut Vec<Reply<A>, A>,
+    ) -> Reply<A>
+        requires some { 0 < length requests.now }
+        requires none { more.old.items ≡ [] }
+        ensures answers { AnswersFront (WakingCalls J.keeps) self.old requests.now
+            (reply_of result ∷ map reply_of more.new.items) self.new }
+        ensures within { length more.new.items < length requests.now }
+    {
+        let first = self.desk.call_all(alloc, requests, more);
+        self.waker.count_all(self.desk.rt, 1 + more.len());
+        first
     }
 }

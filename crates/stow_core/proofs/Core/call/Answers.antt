@@ -17,6 +17,6 @@ returns-in-Err g c =
     let t = c.args.tenant in
     let own = λ (is : IsTenant c.args.self.now.entries t). subst (λ (s : CoreState). IsTenant s.entries t) (sym c.self.view_is) is in
     starved c.args.self.now c.prepare.new.self t c.args.words.now
-    (λ is. index_of _ c.self.inside.pins t c.self.invariant (own is))
-    (λ is. subst (λ s. store_of s t ≡ view (shared_of s) t) c.self.view_is (let there = own_there _ c.self.inside.pins t c.self.invariant (own is) in store_view _ t there.0 there.1))
+    (λ is. index_of _ c.self.inside.pins t c.self.invariant.0 (own is))
+    (λ is. subst (λ s. store_of s t ≡ view (shared_of s) t) c.self.view_is (let there = own_there _ c.self.inside.pins t c.self.invariant.0 (own is) in store_view _ t there.0 there.1))
     c.prepare.ensures.keeps (λ unknown. (c.in-Err.ensures.stranger unknown).answers)

@@ -17,7 +17,7 @@ numbers_without-requires g c = some_at c.args.self.now c.args.rows.tenant c.args
 pub returns-then-rows-last : goal.returns-then-rows-last
 returns-then-rows-last g c =
     let t = c.args.rows.tenant in
-    let index = index_of _ c.self.inside.pins t c.self.invariant (subst (λ (s : CoreState). IsTenant s.entries t) (sym c.self.view_is) c.requires.is_tenant) in
+    let index = index_of _ c.self.inside.pins t c.self.invariant.0 (subst (λ (s : CoreState). IsTenant s.entries t) (sym c.self.view_is) c.requires.is_tenant) in
     present_free c.args.self.now t c.args.id c.args.rows.number c.tenancy-tenancy.result.now c.tenancy-tenancy.ensures.own c.tenancy-tenancy.ensures.sound c.tenancy-tenancy.ensures.account index
     (number_at c.args.self.now t c.args.id c.args.rows.number c.tenancy-tenancy.result.now c.tenancy-tenancy.ensures.own c.requires.shows)
     c.present.result c.present.ensures.present c.present.ensures.given (c.if-rows-last.true ∙ c.last.ensures.value)
@@ -25,7 +25,7 @@ returns-then-rows-last g c =
 pub returns-then-contains : goal.returns-then-contains
 returns-then-contains g c =
     let t = c.args.rows.tenant in
-    let index = index_of _ c.self.inside.pins t c.self.invariant (subst (λ (s : CoreState). IsTenant s.entries t) (sym c.self.view_is) c.requires.is_tenant) in
+    let index = index_of _ c.self.inside.pins t c.self.invariant.0 (subst (λ (s : CoreState). IsTenant s.entries t) (sym c.self.view_is) c.requires.is_tenant) in
     let there : is_among c.args.rows.number c.as_slice.result.now ≡ true = sym c.contains.ensures.value ∙ c.if-contains.true in
     second_free c.args.self.now t c.args.id c.args.rows.number c.tenancy-tenancy.result.now c.tenancy-tenancy.ensures.own c.tenancy-tenancy.ensures.sound c.tenancy-tenancy.ensures.account index
     (number_at c.args.self.now t c.args.id c.args.rows.number c.tenancy-tenancy.result.now c.tenancy-tenancy.ensures.own c.requires.shows)
@@ -35,12 +35,12 @@ returns-then-contains g c =
 pub charge_of_drop-requires : goal.charge_of_drop-requires
 charge_of_drop-requires g c =
     let t = c.args.rows.tenant in
-    record { index = tight_index _ c.self.inside.pins t c.self.invariant (subst (λ (s : CoreState). IsTenant s.entries t) (sym c.self.view_is) c.requires.is_tenant) }
+    record { index = tight_index _ c.self.inside.pins t c.self.invariant.0 (subst (λ (s : CoreState). IsTenant s.entries t) (sym c.self.view_is) c.requires.is_tenant) }
 
 pub returns : goal.returns
 returns g c =
     let t = c.args.rows.tenant in
-    let index = index_of _ c.self.inside.pins t c.self.invariant (subst (λ (s : CoreState). IsTenant s.entries t) (sym c.self.view_is) c.requires.is_tenant) in
+    let index = index_of _ c.self.inside.pins t c.self.invariant.0 (subst (λ (s : CoreState). IsTenant s.entries t) (sym c.self.view_is) c.requires.is_tenant) in
     if_all_ok c.charge_of_drop.result _ _ _ _ (λ charge given lower charged.
     walked c.args.self.now t c.args.id c.args.rows.number c.tenancy-tenancy.result.now c.tenancy-tenancy.ensures.own c.tenancy-tenancy.ensures.sound c.tenancy-tenancy.ensures.account index
     (number_at c.args.self.now t c.args.id c.args.rows.number c.tenancy-tenancy.result.now c.tenancy-tenancy.ensures.own c.requires.shows)

@@ -1,12 +1,15 @@
 use Rattle.stow_core.proofs.Carried.{count}
+use Rattle.stow_core.proofs.RowLengths.{still_lengths}
+use Rattle.std.proofs.Common.{refl}
 use Rattle.stow_core.proofs.Core.count.Goals as goal
 
 pub invariant_of-self : goal.invariant_of-self
 invariant_of-self g c =
-    (count c.self.inside.tenants.value c.self.inside.tenancies.items c.self.inside.pin_room c.self.inside.tree c.self.inside.pins c.args.self.now c.args.tenant c.index_mut.result.now c.count.new.self
-    c.self.view_is c.self.invariant c.requires c.index_mut.ensures.value c.count.ensures.versions c.count.ensures.account).keeps
+    let carried = count c.self.inside.tenants.value c.self.inside.tenancies.items c.self.inside.pin_room c.self.inside.tree c.self.inside.pins c.args.self.now c.args.tenant c.index_mut.result.now c.count.new.self
+    c.self.view_is c.self.invariant.0 c.requires c.index_mut.ensures.value c.count.ensures.versions c.count.ensures.account in
+    (carried.keeps, still_lengths _ _ _ c.args.tenant c.self.inside.pins c.self.inside.lengths c.self.view_is _ carried (λ s. refl) (λ s. refl) c.self.invariant.1)
 
 pub returns : goal.returns
 returns g c =
     (count c.self.inside.tenants.value c.self.inside.tenancies.items c.self.inside.pin_room c.self.inside.tree c.self.inside.pins c.args.self.now c.args.tenant c.index_mut.result.now c.count.new.self
-    c.self.view_is c.self.invariant c.requires c.index_mut.ensures.value c.count.ensures.versions c.count.ensures.account).moves
+    c.self.view_is c.self.invariant.0 c.requires c.index_mut.ensures.value c.count.ensures.versions c.count.ensures.account).moves

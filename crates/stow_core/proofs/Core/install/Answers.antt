@@ -8,18 +8,19 @@ use Rattle.stow_core.proofs.Jobs.{install_told}
 use Rattle.stow_core.proofs.Kept.{core_agrees, keeps_agreed}
 use Rattle.stow_node.specs.declared.installed.Installed.TheVariants as installed
 use Rattle.stow_tree.specs.TreeState.{IsRead}
+use Rattle.stow_core.proofs.RowLengths.{kept_lengths}
 use Rattle.stow_core.proofs.Core.install.Goals as goal
 
 pub invariant_of-self : goal.invariant_of-self
-invariant_of-self g c = core_agrees _ c.self.inside.pins c.self.invariant c.install.new.self c.install.ensures.agrees c.install.ensures.shape
+invariant_of-self g c = (core_agrees _ c.self.inside.pins c.self.invariant.0 c.install.new.self c.install.ensures.agrees c.install.ensures.shape, kept_lengths _ _ c.self.inside.lengths (keeps_agreed _ c.self.inside.pins c.self.invariant.0 c.install.new.self c.install.ensures.agrees) c.self.invariant.1)
 
 pub returns-clause-keeps : goal.returns-clause-keeps
 returns-clause-keeps g c = subst (λ s. Keeps s (core_of c.self.inside.tenants.value c.self.inside.tenancies.items c.self.inside.pin_room c.install.new.self)) c.self.view_is
-    (keeps_agreed _ c.self.inside.pins c.self.invariant c.install.new.self c.install.ensures.agrees)
+    (keeps_agreed _ c.self.inside.pins c.self.invariant.0 c.install.new.self c.install.ensures.agrees)
 
 pub returns-clause-stale : goal.returns-clause-stale
 returns-clause-stale g c = subst (λ s. IfOk c.install.result (λ r. r ≡ installed.Stale ↔ ¬ (TakesResultOf s c.args.merge.job))) c.self.view_is
-    (install_told _ c.self.inside.pins c.self.invariant c.install.result c.args.merge.job c.install.ensures.stale)
+    (install_told _ c.self.inside.pins c.self.invariant.0 c.install.result c.args.merge.job c.install.ensures.stale)
 
 pub returns-clause-unmoved : goal.returns-clause-unmoved
 returns-clause-unmoved g c =

@@ -4,7 +4,7 @@ use Rattle.stow_state.specs.State.{IsSound}
 use Rattle.stow_core.proofs.Core.is_tenant.Goals as goal
 
 pub returns-then-tenant-ne0-clause-sound : goal.returns-then-tenant-ne0-clause-sound
-returns-then-tenant-ne0-clause-sound g c = subst (λ (s : CoreState). IsSound (shared_of s)) c.self.view_is c.self.invariant.sound
+returns-then-tenant-ne0-clause-sound g c = subst (λ (s : CoreState). IsSound (shared_of s)) c.self.view_is c.self.invariant.0.sound
 
 pub returns-else-tenant-ne0-clause-sound : goal.returns-else-tenant-ne0-clause-sound
-returns-else-tenant-ne0-clause-sound g c = subst (λ (s : CoreState). IsSound (shared_of s)) c.self.view_is c.self.invariant.sound
+returns-else-tenant-ne0-clause-sound g c = subst (λ (s : CoreState). IsSound (shared_of s)) c.self.view_is c.self.invariant.0.sound

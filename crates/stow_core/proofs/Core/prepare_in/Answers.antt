@@ -3,7 +3,7 @@ use Rattle.std.specs.FinMap as finite
 use Rattle.stow_commands.specs.Commands.{command_of}
 use Rattle.stow_commands.specs.declared.command.Command.TheVariants as command
 use Rattle.stow_core.specs.Prepared.{IsPrepared, serves}
-use Rattle.stow_core.specs.State.{store_of, rows_in}
+use Rattle.stow_core.specs.State.{store_of, row_at, rows_in}
 use Rattle.stow_core.proofs.Answered.{command_prepared, only_counted_prepared}
 use Rattle.stow_core.proofs.Kept.{keeps_itself}
 use Rattle.stow_model.specs.LentWords.{words_in}
@@ -50,11 +50,9 @@ returns-in-Exists g c =
 pub returns-in-Length : goal.returns-in-Length
 returns-in-Length g c =
     let core = c.args.self.now in
-    let store = store_of core c.args.tenant in
     let key = c.in-Length.key.now in
-    command_prepared core c.args.tenant c.args.command (command.Length c.in-Length.key) c.value_length.result c.counted-in-Length.result (reply.Integer (pos (length_or_zero (finite.get (rows_in core c.present-rows.result) key)))) c.in-Length.is c.counted-in-Length.ensures
-    c.requires.sound c.requires.is_tenant c.value_length.ensures
-    (λ i. (counted store, reply.Integer (pos (length_or_zero (finite.get (c.present-rows.ensures.rows i) key)))))
+    command_prepared core c.args.tenant c.args.command (command.Length c.in-Length.key) c.value_length.result c.counted-in-Length.result (reply.Integer (pos (length_or_zero (row_at core c.args.tenant key)))) c.in-Length.is c.counted-in-Length.ensures
+    c.requires.sound c.requires.is_tenant c.value_length.ensures refl
 
 pub returns-in-ListSnapshots : goal.returns-in-ListSnapshots
 returns-in-ListSnapshots g c =

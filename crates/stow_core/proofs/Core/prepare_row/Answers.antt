@@ -9,6 +9,9 @@ use Rattle.stow_core.proofs.Room.{one_write_fits}
 use Rattle.stow_model.specs.Reply.{reply_of}
 use Rattle.stow_model.specs.Store.{value_in}
 use Rattle.stow_tree_model.specs.Keys.{own_key}
+use Rattle.stow_core.proofs.RowLengths.{one_length}
+use Rattle.stow_core.specs.RowLengths.{HaveLength}
+use Rattle.std.specs.Prelude.{IfSome}
 use Rattle.stow_core.proofs.Core.prepare_row.Goals as goal
 
 pub returns-in_err-push : goal.returns-in_err-push
@@ -41,10 +44,23 @@ prepare_write-requires-clause-priced g c =
     let ch = c.charge_of_write-charge.result in
     let keys : c.push.new.self ≡ key ∷ [] = c.in_ok-push.ensures.ok ∙ ap (λ (ks : List (List ℕ)). ks ++ key ∷ []) c.spare_keys-keys.ensures.none in
     let change = c.row_change-change.ensures in
-    let told = told_change old t (own_key key) op c.row_change-change.result change.key (change.before ∙ c.requires.before) c.requires.short (λ row is. change.after row (sym change.before ∙ is)) in
+    let told = told_change old t (own_key key) op c.row_change-change.result change.key (change.before ∙ c.requires.row) c.requires.short (λ row is. change.after row (sym change.before ∙ is)) in
     let priced : IsPriced old t ch (after_given (key ∷ []) op (store_of old t)) = priced_row old t key op ch (c.charge_of_write-charge.ensures (own_key key) op told) in
     subst (λ (ks : List (List ℕ)). IsPriced c.spare_keys-keys.new.self t ch (after_given ks op (store_of c.spare_keys-keys.new.self t))) (sym keys)
     (subst (λ (s : CoreState). IsPriced s t ch (after_given (key ∷ []) op (store_of s t))) (sym c.spare_keys-keys.ensures.same) priced)
+
+pub prepare_write-requires-clause-length : goal.prepare_write-requires-clause-length
+prepare_write-requires-clause-length g c =
+    let old = c.args.self.now in
+    let t = c.args.tenant in
+    let key = c.args.key.now in
+    let op = given_op c.args.given in
+    let keys : c.push.new.self ≡ key ∷ [] = c.in_ok-push.ensures.ok ∙ ap (λ (ks : List (List ℕ)). ks ++ key ∷ []) c.spare_keys-keys.ensures.none in
+    let change = c.row_change-change.ensures in
+    let told = c.kept_length-length.result in
+    let tells = one_length old t key op c.args.row.version c.row_change-change.result.after told c.requires.row c.requires.short change.after c.kept_length-length.ensures in
+    subst (λ (ks : List (List ℕ)). IfSome told (HaveLength (after_given ks op (store_of c.spare_keys-keys.new.self t)).rows (next_number c.spare_keys-keys.new.self t))) (sym keys)
+    (subst (λ (s : CoreState). IfSome told (HaveLength (after_given (key ∷ []) op (store_of s t)).rows (next_number s t))) (sym c.spare_keys-keys.ensures.same) tells)
 
 pub returns : goal.returns
 returns g c =

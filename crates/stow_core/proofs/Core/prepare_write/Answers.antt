@@ -15,6 +15,10 @@ use Rattle.stow_ledger.specs.Accounts.{is_allowed}
 use Rattle.stow_model.specs.Login.{IsTenant}
 use Rattle.stow_model.specs.Reply.{reply_of}
 use Rattle.stow_tree.specs.Putting.{CanReserve, IsReserved}
+use Rattle.stow_core.proofs.RowLengths.{kept_lengths}
+use Rattle.stow_core.specs.RowLengths.{HaveLength}
+use Rattle.stow_model.specs.Store.{Store}
+use Rattle.std.specs.Prelude.{IfSome}
 use Rattle.stow_core.proofs.Core.prepare_write.Goals as goal
 
 pub returns-then-not-can_write : goal.returns-then-not-can_write
@@ -44,7 +48,7 @@ reserve-requires-clause-messages g c =
     let t = c.args.tenant in
     let can : CanWrite old t = can_still_write old old t c.can_write.result refl c.can_write.ensures (search rules) in
     subst AreMessages (λ i. writes_of ((ap (λ s. next_number s t) c.self.view_is ∙ sym c.next_number-number.ensures) i) (sym c.op-op.ensures i) (sym c.lent-keys.ensures i))
-    (gives_messages _ c.self.inside.pins c.self.invariant t (subst (λ (s : CoreState). IsTenant s.entries t) (sym c.self.view_is) c.requires.is_tenant) (subst (λ s. CanWrite s t) (sym c.self.view_is) can) c.args.write.keys (given_op c.args.write.given)
+    (gives_messages _ c.self.inside.pins c.self.invariant.0 t (subst (λ (s : CoreState). IsTenant s.entries t) (sym c.self.view_is) c.requires.is_tenant) (subst (λ s. CanWrite s t) (sym c.self.view_is) can) c.args.write.keys (given_op c.args.write.given)
     (subst (λ s. CanGive s t c.args.write.keys (given_op c.args.write.given)) (sym c.self.view_is) c.requires.can_give))
 
 pub reserve-requires-clause-can : goal.reserve-requires-clause-can
@@ -53,19 +57,19 @@ reserve-requires-clause-can g c =
     let t = c.args.tenant in
     let can : CanWrite old t = can_still_write old old t c.can_write.result refl c.can_write.ensures (search rules) in
     subst (CanReserve c.self.inside.tree) (λ i. writes_of ((ap (λ s. next_number s t) c.self.view_is ∙ sym c.next_number-number.ensures) i) (sym c.op-op.ensures i) (sym c.lent-keys.ensures i))
-    (can_give _ c.self.inside.pins c.self.invariant t (subst (λ (s : CoreState). IsTenant s.entries t) (sym c.self.view_is) c.requires.is_tenant) (subst (λ s. CanWrite s t) (sym c.self.view_is) can) c.args.write.keys (given_op c.args.write.given)
+    (can_give _ c.self.inside.pins c.self.invariant.0 t (subst (λ (s : CoreState). IsTenant s.entries t) (sym c.self.view_is) c.requires.is_tenant) (subst (λ s. CanWrite s t) (sym c.self.view_is) can) c.args.write.keys (given_op c.args.write.given)
     (subst (λ s. CanGive s t c.args.write.keys (given_op c.args.write.given)) (sym c.self.view_is) c.requires.can_give))
 
 pub invariant_of-self : goal.invariant_of-self
-invariant_of-self g c = core_agrees _ c.self.inside.pins c.self.invariant c.reserve.new.tree c.reserve.ensures.agrees c.reserve.ensures.shape
+invariant_of-self g c = (core_agrees _ c.self.inside.pins c.self.invariant.0 c.reserve.new.tree c.reserve.ensures.agrees c.reserve.ensures.shape, kept_lengths _ _ c.self.inside.lengths (keeps_agreed _ c.self.inside.pins c.self.invariant.0 c.reserve.new.tree c.reserve.ensures.agrees) c.self.invariant.1)
 
 pub returns-in_err-reserve : goal.returns-in_err-reserve
 returns-in_err-reserve g c =
     error_prepared c.args.self.now (core_of c.self.inside.tenants.value c.self.inside.tenancies.items c.self.inside.pin_room c.reserve.new.tree) c.args.tenant _ c.from_residual.result c.from_residual.ensures.0
-    (subst (λ s. Keeps s (core_of c.self.inside.tenants.value c.self.inside.tenancies.items c.self.inside.pin_room c.reserve.new.tree)) c.self.view_is (keeps_agreed _ c.self.inside.pins c.self.invariant c.reserve.new.tree c.reserve.ensures.agrees))
+    (subst (λ s. Keeps s (core_of c.self.inside.tenants.value c.self.inside.tenancies.items c.self.inside.pin_room c.reserve.new.tree)) c.self.view_is (keeps_agreed _ c.self.inside.pins c.self.invariant.0 c.reserve.new.tree c.reserve.ensures.agrees))
 
 pub invariant_of-self-2 : goal.invariant_of-self-2
-invariant_of-self-2 g c = core_agrees _ c.self.inside.pins c.self.invariant c.reserve.new.tree c.reserve.ensures.agrees c.reserve.ensures.shape
+invariant_of-self-2 g c = (core_agrees _ c.self.inside.pins c.self.invariant.0 c.reserve.new.tree c.reserve.ensures.agrees c.reserve.ensures.shape, kept_lengths _ _ c.self.inside.lengths (keeps_agreed _ c.self.inside.pins c.self.invariant.0 c.reserve.new.tree c.reserve.ensures.agrees) c.self.invariant.1)
 
 pub returns : goal.returns
 returns g c =
@@ -82,10 +86,10 @@ returns g c =
     let within = exceeds old t x own.own own.sound own.account (after_written write store) write.charge c.requires.priced.is ∙ ap not allowed in
     let charged = charged_in old t x own.own own.sound own.account (after_written write store) write.charge c.requires.priced.is (given_here old t x own.own own.sound own.account write.charge c.requires.priced.given) allowed in
     let new : CoreState = core_of c.self.inside.tenants.value c.self.inside.tenancies.items c.self.inside.pin_room c.reserve.new.tree in
-    let keeps : Keeps old new = subst (λ s. Keeps s new) c.self.view_is (keeps_agreed _ c.self.inside.pins c.self.invariant c.reserve.new.tree c.reserve.ensures.agrees) in
+    let keeps : Keeps old new = subst (λ s. Keeps s new) c.self.view_is (keeps_agreed _ c.self.inside.pins c.self.invariant.0 c.reserve.new.tree c.reserve.ensures.agrees) in
     let number : next_number new t ≡ c.next_number-number.result = ap (λ s. s.last + 1) (keeps.stores t) ∙ sym c.next_number-number.ensures in
     let messages = subst (λ n. AreMessages (writes_of n op write.keys)) (ap (λ s. next_number s t) c.self.view_is ∙ ap (λ s. s.last + 1) (sym (keeps.stores t)))
-    (gives_messages _ c.self.inside.pins c.self.invariant t (subst (λ (s : CoreState). IsTenant s.entries t) (sym c.self.view_is) c.requires.is_tenant) (subst (λ s. CanWrite s t) (sym c.self.view_is) can) write.keys op
+    (gives_messages _ c.self.inside.pins c.self.invariant.0 t (subst (λ (s : CoreState). IsTenant s.entries t) (sym c.self.view_is) c.requires.is_tenant) (subst (λ s. CanWrite s t) (sym c.self.view_is) can) write.keys op
     (subst (λ s. CanGive s t write.keys op) (sym c.self.view_is) c.requires.can_give)) in
     record {
       keeps = keeps;
@@ -96,6 +100,7 @@ returns g c =
         are_messages = messages;
         reserved = subst (IsReserved c.reserve.new.tree) (λ i. writes_of (sym number i) (c.op-op.ensures i) (c.lent-keys.ensures i)) c.in_ok-reserve.ensures.reserved;
         charged = charged_kept old new t write.charge (after_written write) charged (keeps.stores t) (ap (λ (s : CoreState). tenancy_at t s.tenancies) c.self.view_is);
+        length = subst (λ (s : Store). IfSome write.length (HaveLength (after_written write s).rows (s.last + 1))) (sym (keeps.stores t)) c.requires.length;
       };
       tenant_is = refl;
       answers = write_done store write.keys op (reply_of c.args.reply) can_is within;

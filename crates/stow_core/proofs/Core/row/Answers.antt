@@ -13,7 +13,7 @@ use Rattle.stow_core.proofs.Core.row.Goals as goal
 
 pub from_packed-key-requires : goal.from_packed-key-requires
 from_packed-key-requires g c =
-    let index = low_index _ c.self.inside.pins c.args.rows.tenant c.self.invariant (subst (λ (s : CoreState). IsTenant s.entries c.args.rows.tenant) (sym c.self.view_is) c.requires.is_tenant) in
+    let index = low_index _ c.self.inside.pins c.args.rows.tenant c.self.invariant.0 (subst (λ (s : CoreState). IsTenant s.entries c.args.rows.tenant) (sym c.self.view_is) c.requires.is_tenant) in
     subst IsTenantKey (sym (c.as_slice.ensures.value ∙ c.in_ok-pack_into.ensures)) (IsTenantKey-packed c.args.rows.tenant c.args.key.now index c.requires.short)
 
 pub returns-clause-row : goal.returns-clause-row
@@ -27,5 +27,5 @@ returns-clause-short g c = row_short c.get.result c.get.ensures.short
 
 pub returns-clause-is_key : goal.returns-clause-is_key
 returns-clause-is_key g c =
-    let index = low_index _ c.self.inside.pins c.args.rows.tenant c.self.invariant (subst (λ (s : CoreState). IsTenant s.entries c.args.rows.tenant) (sym c.self.view_is) c.requires.is_tenant) in
+    let index = low_index _ c.self.inside.pins c.args.rows.tenant c.self.invariant.0 (subst (λ (s : CoreState). IsTenant s.entries c.args.rows.tenant) (sym c.self.view_is) c.requires.is_tenant) in
     on_ok c.get.result (subst IsTenantKey (sym c.in_ok-pack_into.ensures) (IsTenantKey-packed c.args.rows.tenant c.args.key.now index c.requires.short))

@@ -1,4 +1,4 @@
-use Rattle.std.proofs.Common.{[], ◌∷◌, ◌++◌, map, false, ap, ◌∙◌, sym, subst, arith}
+use Rattle.std.proofs.Common.{[], ◌∷◌, ◌++◌, map, false, ap, ◌∙◌, sym, subst}
 use Rattle.stow_leaf.specs.Intervals.{spans}
 use Rattle.stow_leaf.proofs.Intervals.{lt}
 use Rattle.stow_tree_model.specs.Merged.{row_message}

@@ -8,17 +8,17 @@ use Rattle.stow_message.proofs.RisingLists.{sum-placed}
 use Rattle.stow_message.proofs.Counted.{is_counted}
 use Rattle.stow_message.proofs.Covered.{covered, covers_more, covers_placed}
 use Rattle.stow_message.proofs.Pushed.{bytes_fit, push}
-use Rattle.stow_message.proofs.message_buf.MessageBuf.push.Goals as goal
+use Rattle.stow_message.proofs.message_buf.MessageBuf.push_near.Goals as goal
 
 pub append-requires : goal.append-requires
 append-requires g c = bytes_fit c.self.inside.raw c.self.invariant.filled c.args.self.now c.self.view_is c.args.message c.requires
 
 pub insert_slot-requires : goal.insert_slot-requires
-insert_slot-requires g c = (push c.self.inside.raw c.self.invariant.filled c.args.self.now c.self.view_is c.args.message c.requires c.append.new.raw c.append.ensures _ c.search-index.ensures.count).room
+insert_slot-requires g c = (push c.self.inside.raw c.self.invariant.filled c.args.self.now c.self.view_is c.args.message c.requires c.append.new.raw c.append.ensures _ c.count_below-index.ensures.count).room
 
 pub invariant_of-self : goal.invariant_of-self
 invariant_of-self g c =
-    let put = push c.self.inside.raw c.self.invariant.filled c.args.self.now c.self.view_is c.args.message c.requires c.append.new.raw c.append.ensures _ c.search-index.ensures.count in
+    let put = push c.self.inside.raw c.self.invariant.filled c.args.self.now c.self.view_is c.args.message c.requires c.append.new.raw c.append.ensures _ c.count_below-index.ensures.count in
     let marks = c.add.new.self in
     record {
       filled = put.filled _ _ c.front_len-at.ensures c.insert_slot.ensures;
@@ -34,4 +34,4 @@ overflow_add-self g c =
     record { fits = omega (arith, c.size.ensures, c.self.invariant.counted, c.self.invariant.filled.live, c.self.invariant.filled.within, ap (λ (w : MessageList). w.used) c.self.view_is, ap (λ (w : MessageList). w.capacity) c.self.view_is, c.requires.0) }
 
 pub returns : goal.returns
-returns g c = (push c.self.inside.raw c.self.invariant.filled c.args.self.now c.self.view_is c.args.message c.requires c.append.new.raw c.append.ensures _ c.search-index.ensures.count).is _ _ c.front_len-at.ensures c.insert_slot.ensures
+returns g c = (push c.self.inside.raw c.self.invariant.filled c.args.self.now c.self.view_is c.args.message c.requires c.append.new.raw c.append.ensures _ c.count_below-index.ensures.count).is _ _ c.front_len-at.ensures c.insert_slot.ensures

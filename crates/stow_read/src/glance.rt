@@ -1,0 +1,10 @@
+//! What a look at a key's newest message or row comes to.
+use crate::newest::Newest;
+
+/// What a look at a key's newest message or row comes to.
+#[derive(Clone, Copy)]
+pub struct Glance {
+    pub newest: Newest,
+    /// Where the key's next message may come to stand in the buffer of the node that was looked into.
+    pub place: usize,
+}
