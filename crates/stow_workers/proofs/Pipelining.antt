@@ -25,6 +25,10 @@ pub asks_on : {A : Type 0} (entries : List Entry) (qs : List (Request A)) (q : R
 asks_on entries [] q old mid new all one = (new, subst (λ t. Asks entries q.tenant q.words t new) all one, refl)
 asks_on entries (p ∷ qs) q old mid new all one = (all.0, all.1, asks_on entries qs q all.0 mid new all.2 one)
 
+-- what leaves the requests and the talk as they are changes nothing of it
+pub asks_still : {A : Type 0} (entries : List Entry) (qs qs' : List (Request A)) (first t t' : Talk) → qs' ≡ qs → t' ≡ t → AsksAll entries qs first t → AsksAll entries qs' first t'
+asks_still entries qs qs' first t t' same talk all = subst (AsksAll entries qs' first) (sym talk) (subst (λ ps. AsksAll entries ps first t) (sym same) all)
+
 asks_front : {A : Type 0} (entries : List Entry) (count : ℕ) (qs : List (Request A)) (old new : Talk) → AsksAll entries qs old new → (mid : Talk) × AsksAll entries (take count qs) old mid
 asks_front entries zero qs old new all = (old, refl)
 asks_front entries (suc count) [] old new all = (old, refl)

@@ -20,6 +20,7 @@ use stow_house::request::Request;
 use stow_house::stop::Stop;
 use stow_login::tenants::Tenants;
 use stow_model::reply::Reply;
+use stow_model::words::Words;
 
 /// A conversation that is being served, and the replies that wait.
 #[derive(Drop)]
@@ -31,6 +32,8 @@ pub struct Client<A: Allocator = Global> {
     requests: Vec<Request<A>, A>,
     /// What the door replied to some of them. The same holds of it.
     told: Vec<Reply<A>, A>,
+    /// Words of earlier requests, whose memory serves the next ones.
+    words: Vec<Words<A>, A>,
 }
 
 /// The most requests that are heard before the door is asked.
@@ -50,6 +53,7 @@ impl<A: Allocator + Copy> Client<A> {
             replies: Replies::new(alloc),
             requests: Vec::new(alloc),
             told: Vec::new(alloc),
+            words: Vec::new(alloc),
         }
     }
 
@@ -116,6 +120,7 @@ impl<A: Allocator + Copy> Client<A> {
         self.requests.clear();
         let _room = self.requests.reserve(PIPELINED);
         let _room = self.told.reserve(PIPELINED);
+        let _room = self.words.reserve(PIPELINED);
         match self.hear_all(tenants, gate) {
             None if self.requests.is_empty() => self.serve_one(writer, tenants, door, gate),
             end => self.serve_heard(writer, door, gate, end),
@@ -172,13 +177,43 @@ impl<A: Allocator + Copy> Client<A> {
         }
     }
 
-    /// Hands the words of the last request back, whose memory can serve the next one.
+    /// Keeps the words of the requests, whose memory can serve the next ones.
     fn reuse_words(&mut self)
         ensures talk { talk_of self.new.conversation ≡ talk_of self.old.conversation }
         ensures replies { self.new.replies ≡ self.old.replies }
     {
-        if let Some(request) = self.requests.pop() {
-            self.conversation.reuse(request.words);
+        for _ in 0..self.requests.len() {
+            if let Some(request) = self.requests.pop() {
+                self.keep_words(request.words);
+            }
+        }
+    }
+
+    /// Keeps words where there is room for them, and else hands them back.
+    fn keep_words(&mut self, words: Words<A>)
+        ensures talk { talk_of self.new.conversation ≡ talk_of self.old.conversation }
+        ensures same { self.new ≡ record self.old {
+          conversation = self.new.conversation;
+          words = self.new.words;
+        } }
+    {
+        if self.words.len() < self.words.capacity() {
+            self.words.push_reserved(words);
+        } else {
+            self.conversation.reuse(words);
+        }
+    }
+
+    /// Hands words that were kept back, for the next message.
+    fn lend_words(&mut self)
+        ensures talk { talk_of self.new.conversation ≡ talk_of self.old.conversation }
+        ensures same { self.new ≡ record self.old {
+          conversation = self.new.conversation;
+          words = self.new.words;
+        } }
+    {
+        if let Some(words) = self.words.pop() {
+            self.conversation.reuse(words);
         }
     }
 
@@ -195,6 +230,7 @@ impl<A: Allocator + Copy> Client<A> {
         ensures replies { self.new.replies ≡ self.old.replies }
     {
         while self.requests.len() < self.requests.capacity() {
+            self.lend_words();
             match self.conversation.hear(self.alloc, tenants) {
                 Heard::Told(told, stop) => return Some((told, stop)),
                 Heard::Request(tenant, words) => {
