@@ -8,6 +8,7 @@ use std::process::Abort;
 use std::sync::{Arc, Wait};
 use stow_core::Core;
 use stow_house::door::Door;
+use stow_house::request::Request;
 use stow_login::tenants::Tenants;
 use stow_model::refusal::Refusal;
 use stow_model::reply::Reply;
@@ -60,7 +61,7 @@ fn opened<R: Abort, J: Journal, A: Allocator + Copy>(
 }
 
 /// A lock with one seat.
-fn opened_for_one<R: Abort, J: Journal, A: Allocator + Copy>(
+pub(crate) fn opened_for_one<R: Abort, J: Journal, A: Allocator + Copy>(
     rt: &R,
     alloc: A,
     global: Global,
@@ -456,4 +457,54 @@ fn entries_may_cross_threads(rt: HostRuntime) {
         step: Step::Resize(5),
     };
     assert!(rt; sent(entry).seat == 1);
+}
+
+/// An addition to `n`.
+fn addition<A: Allocator + Copy>(alloc: A) -> Result<Request<A>, AllocError> {
+    let words = words_of(alloc, "INCR n")?;
+    Ok(Request { tenant: 1, words })
+}
+
+/// A SET of `v` to a long value, and a GET of it.
+fn long_ones<A: Allocator + Copy>(alloc: A) -> Result<(Request<A>, Request<A>), AllocError> {
+    let value = vec![in alloc; b'v'; 5_000]?;
+    let mut words = words_of(alloc, "SET v")?;
+    words.push(value.as_slice())?;
+    let set = Request { tenant: 1, words };
+    let words = words_of(alloc, "GET v")?;
+    Ok((set, Request { tenant: 1, words }))
+}
+
+/// An addition, a long value that is set and read, and two additions.
+fn pipelined<A: Allocator + Copy>(alloc: A) -> Result<Vec<Request<A>, A>, AllocError> {
+    let mut requests = Vec::new(alloc);
+    let (set, get) = long_ones(alloc)?;
+    requests.push(addition(alloc)?)?;
+    requests.push(set)?;
+    requests.push(get)?;
+    requests.push(addition(alloc)?)?;
+    requests.push(addition(alloc)?)?;
+    Ok(requests)
+}
+
+// Five requests: a hold ends behind the long value, or where there is no room for more replies, and each has its receipt.
+#[test]
+fn requests_are_answered_together(rt: HostRuntime) -> Result<(), Fail> {
+    let alloc: Global = rt.alloc();
+    let (shared, mut seat) = opened_for_one::<_, Kept, Global>(&rt, alloc, alloc);
+    let requests = pipelined(alloc)?;
+    assert_eq!(rt; requests.len(), 5);
+    let mut more = Vec::with_capacity(alloc, 8)?;
+    let first = shared.call_all(&rt, alloc, &mut seat, requests.as_slice(), &mut more);
+    assert!(rt; same_reply(&first, &Reply::Integer(1)) && more.len() == 2);
+    assert!(rt; same_reply(&more[0], &OK));
+    assert!(rt; matches!(&more[1], Reply::Bulk(value) if value.len() == 5_000));
+    let mut none = Vec::new(alloc);
+    let next = shared.call_all(&rt, alloc, &mut seat, &requests.as_slice()[3..], &mut none);
+    assert!(rt; same_reply(&next, &Reply::Integer(2)) && none.is_empty());
+    let mut none = Vec::new(alloc);
+    let last = shared.call_all(&rt, alloc, &mut seat, &requests.as_slice()[4..], &mut none);
+    assert!(rt; same_reply(&last, &Reply::Integer(3)));
+    assert_eq!(rt; seat.receipts().len(), 5);
+    Ok(())
 }

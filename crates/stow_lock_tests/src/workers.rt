@@ -1,4 +1,5 @@
 //! One connection of ann's over memory: worked requests, and readers, writers and memory that fail.
+use crate::shared::opened_for_one;
 use crate::workers::ends::{Feed, Narrow, Prompt};
 use crate::workers::passes::Passes;
 use std::alloc::{AllocError, Allocator, Global};
@@ -11,6 +12,8 @@ use stow_core::Core;
 use stow_login::tenants::Tenants;
 use stow_model::stream_fault::StreamFault;
 use stow_refusing::{Plan, Refusing};
+use stow_shared::desk::Desk;
+use stow_shared::unkept::Unkept;
 use stow_testing::tenants::THREE;
 use stow_tree::tree_shape::TreeShape;
 use stow_workers::counted::Counted;
@@ -169,6 +172,38 @@ fn connections_end(rt: HostRuntime) -> Result<(), Fail> {
     Ok(())
 }
 
+// More requests in one piece than are asked together: each is carried out once, in its turn, and told.
+#[test]
+fn requests_of_one_piece_are_answered_in_order(rt: HostRuntime) -> Result<(), Fail> {
+    let alloc: Global = rt.alloc();
+    let mut input = Vec::from_slice(alloc, b"AUTH ann bc\n")?;
+    let mut told = Vec::from_slice(alloc, b"+OK\r\n")?;
+    for number in 1..201u32 {
+        input.extend_from_slice(b"INCR n\n")?;
+        told.extend_from_slice(format!(in alloc; ":{number}\r\n")?.as_bytes())?;
+    }
+    let written = Cell::new(0);
+    let mut reader = Feed::new(input.as_slice(), 4_096, false);
+    let mut writer = Narrow::new(alloc, &written, 10_000);
+    let (shared, mut seat) = opened_for_one::<_, Unkept, Global>(&rt, alloc, alloc);
+    let mut desk = Desk {
+        rt: &rt,
+        shared: &shared,
+        seat: &mut seat,
+    };
+    let served = serve_connection(
+        alloc,
+        &mut reader,
+        &mut writer,
+        shared.tenants(),
+        &mut desk,
+        &OpenGate,
+    );
+    assert!(rt; served == Served::Ended);
+    assert!(rt; writer.bytes() == told.as_slice());
+    Ok(())
+}
+
 // Replies of 5 and ten times 65,545 bytes to one piece: more than one of the long ones never waits.
 #[test]
 fn long_replies_do_not_wait(rt: HostRuntime) -> Result<(), Fail> {
@@ -204,18 +239,18 @@ fn asked_by_pings<A: Allocator + Copy, B: Allocator>(
     }
     let written = Cell::new(0);
     let mut reader = Feed::new(input.as_slice(), 4_096, false);
-    let mut writer = Narrow::new(global, &written, 1_000);
+    let mut writer = Narrow::new(global, &written, 10_000);
     heap.set(Plan::Grant);
     let _served = service.serve(&mut reader, &mut writer);
     Ok(heap.asked())
 }
 
-// The words of a request are filled again by the next one: a hundred requests take less memory than one a request.
+// The words of requests are filled again by later ones: a thousand take less memory than one a request.
 #[test]
 fn used_words_serve_the_next_request(rt: HostRuntime) -> Result<(), Fail> {
     let heap = Refusing::new(rt.alloc());
-    let asked = asked_by_pings(&heap, (&heap, rt.alloc()), 100)?;
-    assert!(rt; asked < 30, "{asked}");
+    let asked = asked_by_pings(&heap, (&heap, rt.alloc()), 1_000)?;
+    assert!(rt; asked < 300, "{asked}");
     Ok(())
 }
 
