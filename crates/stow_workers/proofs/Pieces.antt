@@ -2,6 +2,7 @@
 use Rattle.std.proofs.Common.{◌≡◌, ℕ, Bool, true, false, List, [], ◌∷◌, ◌++◌, Option, Some, None, refl, ap, ◌∙◌, sym, subst, inl, inr, append_assoc, append-nil}
 use Rattle.std.specs.Prelude.{IfSome}
 use Rattle.std.proofs.KnownBytes.{Appends-nil}
+use Rattle.std.specs.Io.KnownBytes.{Appends}
 use Rattle.stow_model.specs.Login.{Entry}
 use Rattle.stow_model.specs.Wire.{IsBegun}
 use Rattle.stow_model.proofs.Messages.{none_begun}
@@ -13,8 +14,8 @@ use Rattle.stow_workers.specs.declared.served.Served.{Served}
 use Rattle.stow_workers.specs.declared.served.Served.TheVariants as served
 use Rattle.stow_workers.specs.Exchanges.{steps_of, AllFollow, calls_in, LeadTo, told_in, spelled}
 use Rattle.stow_workers.specs.Sent.{Begins, Written, Sent, IsLeft, HasFailedIf, HasSent, StaysSent, NoneWaits}
-use Rattle.stow_workers.specs.Talks.{HasServedAll, ReaderFails, MeetsEnd, IsTold, bytes_told}
-use Rattle.stow_workers.specs.Turns.{State, IsAt, IsAfter, PieceTo, CanEndPiece, outcome_of}
+use Rattle.stow_workers.specs.Talks.{HasServedAll, ReaderFails, MeetsEnd, IsTold, IsServed, bytes_told}
+use Rattle.stow_workers.specs.Turns.{State, IsAt, IsAfter, IsEven, PieceTo, CanEndPiece, outcome_of}
 use Rattle.stow_workers.proofs.Turning.{one_more}
 
 -- ---- what was read
@@ -129,3 +130,27 @@ begins answers entries door start talk waiting has_failed nobody none empty righ
     failures = subst (λ f. HasFailedIf f start.failures start.failures) (sym right) refl;
   };
 }
+
+-- ---- the end of a connection whose messages were all served
+
+-- nothing waits and no write has failed: all was written
+even_told : (start : Written) (sent : Sent) (all : List ℕ) → HasSent start sent all → IsEven sent → (written : List ℕ) × Appends start.contents sent.writer.contents written × (written ≡ all) × (sent.writer.failures ≡ start.failures)
+even_told start sent all s even = (
+  s.written,
+  s.appends,
+  sym (subst (λ f. IsLeft f s.written sent.waiting all) even.0 s.left ∙ ap (λ b. s.written ++ b) even.1 ∙ append-nil s.written),
+  subst (λ f. HasFailedIf f start.failures sent.writer.failures) even.0 s.failures,
+)
+
+module _ {D : Type 0} (answers : DoorCall D) (entries : List Entry) (first : D) (start : Written) (read : List ℕ) (state : State D) (waits : IsAfter answers entries first start read (Some stopped.More) state) (even : IsEven state.sent) where
+  -- the reader failed
+  pub failed_served : IsServed answers entries first state.door read start state.sent.writer served.ReadFailed
+  failed_served =
+      let (written, appends, whole, failures) = even_told start state.sent (bytes_told entries waits.exchanges) waits.spelled even in
+      record { exchanges = waits.exchanges; course = waits.course; stops = has_served_all entries state.talk _ waits.at; told = record { written = written; appends = appends; whole = whole; failures = failures } }
+
+  -- the input ended
+  pub ended_served : IsServed answers entries first state.door read start state.sent.writer served.Ended
+  ended_served =
+      let (written, appends, whole, failures) = even_told start state.sent (bytes_told entries waits.exchanges) waits.spelled even in
+      record { exchanges = waits.exchanges; course = waits.course; stops = has_served_all entries state.talk _ waits.at; told = record { written = written; appends = appends; whole = whole; failures = failures } }

@@ -1,6 +1,8 @@
-use Rattle.std.proofs.Common.{[], None, ◌++◌, ◌∙◌, refl, take, arith, length-append}
-use Rattle.std.proofs.KnownBytes.{Consumes-nil, Consumes-trans}
-use Rattle.stow_workers.proofs.Pieces.{begins, goes_on, reader_stays}
+use Rattle.std.proofs.Common.{rules, ◌≡◌, [], None, ◌++◌, ◌∙◌, refl, ap, subst, inl, take, arith, append-nil, length-append}
+use Rattle.std.proofs.KnownBytes.{Consumes-nil, Consumes-trans, Consumes-kept}
+use Rattle.std.specs.Io.KnownBytes.{Consumes}
+use Rattle.stow_workers.specs.Failures.{HasFailed}
+use Rattle.stow_workers.proofs.Pieces.{begins, goes_on, reader_stays, failed_served, ended_served}
 use Rattle.stow_workers.proofs.serving.serve_connection.Goals as goal
 
 pub loop-init : goal.loop-init
@@ -30,3 +32,29 @@ loop-preserved g c =
     let n = c.in-Ok.count in
     let after = c.in_default-serve_piece.ensures.serves _ _ read (goes_on _ _ _ _ read _ waits) even in
     (read ++ take n c.read.new.room, Consumes-trans _ _ _ _ _ consumed c.in-Ok.ensures.bytes.0, omega (arith, length-append read (take n c.read.new.room), c.in-Ok.ensures.bound.1), c.in-Ok.ensures.failures ∙ same, after.0, after.1, c.in-Ok.ensures.same_borrow ∙ reader, c.in_default-serve_piece.ensures.same_borrow ∙ writer)
+
+pub returns-in_default-clause-serves : goal.returns-in_default-clause-serves
+returns-in_default-clause-serves g c =
+    let (read, consumed, counted, same, waits, even, reader, writer) = c.loop.invariant in
+    record {
+      read = read;
+      consumes = Consumes-kept _ _ _ _ consumed c.in_default.ensures.bytes;
+      end = tt;
+      served = failed_served _ _ _ _ read _ waits even;
+    }
+
+pub returns-in_default-clause-reader : goal.returns-in_default-clause-reader
+returns-in_default-clause-reader g c =
+    let (read, consumed, counted, same, waits, even, reader, writer) = c.loop.invariant in
+    subst (λ n. HasFailed n (g.R.Source.failures c.read.new.self)) same c.in_default.ensures.failures
+
+pub returns-then-count-eq0-clause-serves : goal.returns-then-count-eq0-clause-serves
+returns-then-count-eq0-clause-serves g c =
+    let (read, consumed, counted, same, waits, even, reader, writer) = c.loop.invariant in
+    let none : read ++ take c.in-Ok.count c.read.new.room ≡ read = ap (λ k. read ++ take k c.read.new.room) c.if-count-eq0.true ∙ append-nil read in
+    record {
+      read = read;
+      consumes = subst (Consumes _ _) none (Consumes-trans _ _ _ _ _ consumed c.in-Ok.ensures.bytes.0);
+      end = inl (c.in-Ok.ensures.bytes.1 c.if-count-eq0.true (search rules));
+      served = ended_served _ _ _ _ read _ waits even;
+    }

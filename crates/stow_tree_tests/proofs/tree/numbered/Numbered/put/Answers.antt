@@ -1,8 +1,7 @@
-use Rattle.std.proofs.Common.{◌≡◌, ◌<◌, refl, map, ap, sym, subst, arith}
-use Rattle.std.specs.List.{AllByRecursion}
+use Rattle.std.proofs.Common.{◌≡◌, ◌<◌, [], ◌∷◌, refl, ap, arith}
 use Rattle.stow_merge.specs.Pins.{pins_in}
 use Rattle.stow_node.specs.declared.shape.Shape.{Shape}
-use Rattle.stow_tree_model.specs.TreeMessage.{TreeMessage, message_of}
+use Rattle.stow_tree_model.specs.TreeMessage.{message_of}
 use Rattle.stow_tree.specs.TreeState.{tree_messages}
 use Rattle.stow_tree_tests.proofs.Numbering.{bound_under, bound_after}
 use Rattle.stow_tree_tests.proofs.tree.numbered.Numbered.put.Goals as goal
@@ -15,10 +14,9 @@ invariant_of-self g c = record {
 
 pub invariant_of-self-2 : goal.invariant_of-self-2
 invariant_of-self-2 g c = record {
-  below = bound_after c.reserve.new.self c.put_all.new.self c.in-Some.made.number (map message_of c.as_slice-2.result.now) c.args.self.now.last
-      (subst (λ ms. AllByRecursion (λ (m : TreeMessage). m.number ≡ c.in-Some.made.number) (map message_of ms)) (sym c.as_slice-2.ensures) (refl, tt)) c.put_all.ensures newer
+  below = bound_after c.reserve.new.self c.put_near.new.self c.in-Some.made.number (message_of c.in-Some.made ∷ []) c.args.self.now.last (refl, tt) c.put_near.ensures newer
       (bound_under (pins_in c.args.pins.now) (tree_messages c.args.self.now.tree) (tree_messages c.reserve.new.self) c.args.self.now.last c.reserve.ensures.agrees c.args.self.now.below);
-  room = (let after = ap (λ (s : Shape). s.buffer) c.put_all.ensures.shape in let shape = ap (λ (s : Shape). s.buffer) c.reserve.ensures.shape in let room = c.args.self.now.room in omega (arith, after, shape, room));
+  room = (let after = ap (λ (s : Shape). s.buffer) c.put_near.ensures.shape in let shape = ap (λ (s : Shape). s.buffer) c.reserve.ensures.shape in let room = c.args.self.now.room in omega (arith, after, shape, room));
 }
   where
     newer : c.args.self.now.last < c.in-Some.made.number
