@@ -6,6 +6,7 @@ ghost use Rattle.stow_core.specs.State.{IsNewCore};
 use std::alloc::{AllocError, Allocator, Global};
 use std::process::Abort;
 use std::sync::{Arc, Wait};
+use std::test::Fail;
 use stow_core::Core;
 use stow_house::door::Door;
 use stow_house::request::Request;
