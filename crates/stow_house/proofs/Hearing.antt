@@ -1,16 +1,15 @@
 -- What a conversation makes of what comes.
-use Rattle.std.proofs.Common.{◌≡◌, ℕ, Bool, true, false, not, List, Option, Some, None, refl, ap, ◌∙◌, sym, subst}
+use Rattle.std.proofs.Common.{◌≡◌, ℕ, Bool, true, false, not, List, Option, Some, None, refl, ◌∙◌, sym, subst}
 use mathlib.Core.Bool.{false≢true}
 use Rattle.std.specs.Prelude.{IsSome}
 use Rattle.std.specs.Bool.{then_some}
-use Rattle.stow_model.specs.Login.{Entry, login}
+use Rattle.stow_model.specs.Login.{Entry}
 use Rattle.stow_model.specs.Message.{Message}
 use Rattle.stow_model.specs.Message as message
 use Rattle.stow_model.specs.Command.{Kind, Login, Quit, Malformed, ForStore, kind_of}
 use Rattle.stow_model.specs.Reply.{Reply}
-use Rattle.stow_model.specs.Reply as reply
 use Rattle.stow_model.specs.Store.{Asked, is_out_of_memory}
-use Rattle.stow_model.specs.History.{Status, IsOpen, Closed, Service, status_after_kind, status_after_message, served_after_message, request_as, request_of_message, kind_reply, message_reply}
+use Rattle.stow_model.specs.History.{Status, IsOpen, Service, status_after_kind, status_after_message, served_after_message, request_as, request_of_message, kind_reply, message_reply}
 use Rattle.stow_resp.specs.declared.next.Next.{Next}
 use Rattle.stow_resp.specs.declared.next.Next.TheVariants as next
 use Rattle.stow_resp.specs.Next.{IsTaken, IsNext}
@@ -18,7 +17,7 @@ use Rattle.stow_house.specs.declared.stop.Stop.{Stop}
 use Rattle.stow_house.specs.declared.stop.Stop.TheVariants as stopped
 use Rattle.stow_house.specs.Seen.{status_by}
 use Rattle.stow_house.specs.Sessions.{Whole, arrival_of, Taken, Told, ForStoreOf, taking, taking_words}
-use Rattle.stow_house.specs.Conversations.{Served, Talk, status_at, Alone, Tells, Asks}
+use Rattle.stow_house.specs.Conversations.{Talk, status_at, Alone, Tells, Asks}
 
 -- What a message asks of a store, the status afterwards, and what is told, by what is made of it: an answer, or words
 -- for a tenant's store, whose reply is told

@@ -6,7 +6,7 @@ use Rattle.stow_model.specs.Event.{ConnectionEvent}
 use Rattle.stow_model.specs.Event as event
 use Rattle.stow_model.specs.Reply.{Reply}
 use Rattle.stow_model.specs.Reply as reply
-use Rattle.stow_model.specs.Store.{Answer, OwnEvent, Asked, step, answer_with, is_out_of_memory}
+use Rattle.stow_model.specs.Store.{Answer, OwnEvent, Asked, step, is_out_of_memory}
 use Rattle.stow_model.specs.History.{Plain, Status, Unused, IsOpen, Closed, Service, event_of_own, status_after_message, status_after_event, stream_after_event, request_of, request_of_message, message_reply, told_by}
 use Rattle.stow_model.proofs.Refused.{want_of_memory_lem}
 use Rattle.stow_core.specs.State.{CoreState, store_of, shared_of, Calls, Answers, AnswersRequest}

@@ -1,9 +1,8 @@
 -- A run of events so far.
-use Rattle.std.proofs.Common.{zero, suc, get_or, take, ◌≡◌, ◌≢◌, ℕ, ◌<◌, ◌≤◌, Bool, true, false, List, [], ◌∷◌, ◌++◌, map, reverse, length, filter, Option, Some, None, option_map, refl, ap, ◌∙◌, sym, subst, arith, append-nil, inl, inr, is_some}
-use mathlib.Core.Bool.{false≢true}
+use Rattle.std.proofs.Common.{zero, suc, get_or, take, ◌≡◌, ◌≢◌, ℕ, ◌<◌, ◌≤◌, Bool, true, false, List, [], ◌∷◌, ◌++◌, map, reverse, length, filter, Option, Some, None, option_map, refl, ap, ◌∙◌, sym, subst, arith, append-nil, inl, inr}
 use Rattle.std.specs.Result.{OnOk, is_err}
 use Rattle.std.specs.declared.alloc.AllocError.{AllocError}
-use Rattle.std.specs.Prelude.{Result, Ok, Err, IsSome, if◌then◌else◌, ◌==◌}
+use Rattle.std.specs.Prelude.{Result, Ok, Err, IsSome, if◌then◌else◌}
 use Rattle.std.specs.List.{flat_map}
 use Rattle.std.proofs.lemmas.Grind.{flat_map-append}
 use Rattle.std.proofs.lemmas.Bool.{eq-eqb, ne_eqb}
@@ -16,10 +15,9 @@ use Rattle.stow_model.specs.Command.{Kind, Login, Quit, Malformed, ForStore, kin
 use Rattle.stow_model.specs.Reply.{Reply, encoding}
 use Rattle.stow_model.specs.Event.{Event, ConnectionEvent, FlusherEvent}
 use Rattle.stow_model.specs.Event as event
-use Rattle.stow_model.specs.Store.{answer_with, store_after, usage, is_out_of_memory}
-use Rattle.stow_model.specs.History.{Step, Void, At, Flushed, Ordered, ConnectionStep, Plain, Took, Broke, event_of_step, is_void, is_refused, is_refused_own, Status, Unused, IsOpen, Closed, part_of, status_of, served_as, request_as, request_of_message, MayBeRefused, CanLead, Follows, IsStep, IsHistory, login_reply, kind_reply, quoted_reply, message_reply, told_by, reply_in_line, told_at, Telling, telling_of, with_telling, tellings, is_tenant, answers_to, line_of, may_be_given, OneHistory}
+use Rattle.stow_model.specs.Store.{store_after, usage, is_out_of_memory}
+use Rattle.stow_model.specs.History.{Step, Void, At, Flushed, Ordered, ConnectionStep, Plain, Took, Broke, event_of_step, is_void, is_refused, is_refused_own, Status, Unused, IsOpen, Closed, part_of, status_of, served_as, request_as, MayBeRefused, Follows, IsStep, IsHistory, login_reply, kind_reply, quoted_reply, message_reply, told_by, reply_in_line, told_at, Telling, telling_of, with_telling, tellings, is_tenant, answers_to, line_of, may_be_given, OneHistory}
 use Rattle.stow_model.proofs.Refused.{want_of_memory_lem}
-use Rattle.stow_core.specs.State.{store_of}
 use Rattle.stow_house.specs.declared.mark.Mark.{Mark}
 use Rattle.stow_house.specs.declared.mark.Mark.TheVariants as mark
 use Rattle.stow_house.specs.StepResult.{StepResult, Done, More, Job, NoJob, Installed, Stale, Refused, NoMemory, answer_to_event, answer_to_own, answer_to_order, CanAnswer, answered, when_open, when_unused, MayAnswer, IsAnswer}

@@ -11,7 +11,7 @@ use Rattle.stow_model.specs.Reply.{Reply}
 use Rattle.stow_model.specs.Event.{Event, ConnectionEvent, FlusherEvent}
 use Rattle.stow_model.specs.Event as event
 use Rattle.stow_model.specs.Wire.{SpellsAll}
-use Rattle.stow_model.specs.Store.{OwnEvent, GivenQuota, answer_with, empty_store, store_after}
+use Rattle.stow_model.specs.Store.{OwnEvent, GivenQuota, answer_with, store_after}
 use Rattle.stow_model.specs.History.{Step, Void, At, Flushed, Ordered, ConnectionStep, Plain, Took, Broke, Status, Unused, IsOpen, Closed, with_own, part_of, status_of, status_after, served_as, served_after, taken_by, taken_after, stream_of, stream_after, stream_with, stream_after_event, Service, request_of, may_be_given, given_to, with_service, service_of, line_of, told_by, reply_in_line, told_at, CanLead, MayTakeNothing, CanBeVoid, MayBeVoid, Follows, IsStep, IsHistory}
 use Rattle.stow_core.specs.State.{CoreState, store_of, shared_of, IsNewCore, Keeps}
 use Rattle.stow_core.specs.State as in_core
@@ -21,9 +21,9 @@ use Rattle.stow_state.specs.Steps as in_state
 use Rattle.stow_state.proofs.Steps.{run_sound, step_is_there_law}
 use Rattle.stow_house.specs.SharedRuns.{IsCalled, call_of, shared_steps}
 use Rattle.stow_house.specs.Seen.{Seen, IsServedTenant, never_opened}
-use Rattle.stow_house.specs.StepResult.{StepResult, Done, Refused, NoMemory, answer_to_own, answer_to_order, MayAnswer, IsAnswer}
+use Rattle.stow_house.specs.StepResult.{StepResult, Done, Refused, answer_to_own, answer_to_order, MayAnswer, IsAnswer}
 use Rattle.stow_house.specs.Conversations.{Reads, CanWait, Can}
-use Rattle.stow_house.specs.Connections.{moved, reply_in_core, MovesConnection, Leads, AsksMemory, IsVoid, Happens}
+use Rattle.stow_house.specs.Connections.{moved, MovesConnection, Leads, AsksMemory, IsVoid, Happens}
 use Rattle.stow_house.specs.Steps.{HouseState, StandsAt, Stands, GoesOn, FlusherBy, IsStepOf}
 use Rattle.stow_house.proofs.Here.{moves_by}
 use Rattle.stow_house.proofs.Tenants.{served_tenant}

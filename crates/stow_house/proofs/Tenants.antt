@@ -1,12 +1,12 @@
 -- Whoever is served is a tenant.
-use Rattle.std.proofs.Common.{◌≡◌, ℕ, ◌+◌, ◌<◌, ◌≤◌, Bool, true, false, List, [], ◌∷◌, length, Option, Some, None, is_some, ap, sym, ◌∙◌, arith}
+use Rattle.std.proofs.Common.{◌≡◌, ℕ, ◌+◌, ◌<◌, ◌≤◌, Bool, true, false, List, [], ◌∷◌, length, Option, Some, None, is_some, ap, arith}
 use mathlib.Core.Bool.{false≢true}
 use Rattle.std.specs.Prelude.{if◌then◌else◌}
 use Rattle.std.specs.Option.{unwrap_or}
 use Rattle.std.specs.Str.{bytes_eq}
 use Rattle.stow_model.specs.Message as message
 use Rattle.stow_model.specs.Command.{Kind, Login, Quit, Malformed, ForStore, kind_of}
-use Rattle.stow_model.specs.Login.{Entry, IsTenant, checked, login_from, login}
+use Rattle.stow_model.specs.Login.{Entry, checked, login_from, login}
 use Rattle.stow_model.specs.Message.{Message}
 use Rattle.stow_model.specs.History.{ConnectionStep, Plain, Took, Broke, served_after_login, served_after_kind, served_after_message, served_as}
 use Rattle.stow_house.specs.Seen.{IsServedTenant}

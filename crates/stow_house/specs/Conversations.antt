@@ -1,5 +1,5 @@
 -- A conversation: what a connection does with its bytes, one message after another.
-use Rattle.std.specs.Prelude.{◌≡◌, ℕ, Bool, true, false, List, [], option_map, Option, Some, None}
+use Rattle.std.specs.Prelude.{◌≡◌, ℕ, List, [], option_map, Option, Some, None}
 use Rattle.stow_model.specs.declared.stream_fault.StreamFault.{StreamFault}
 use Rattle.stow_model.specs.Login.{Entry}
 use Rattle.stow_model.specs.Message.{Message}

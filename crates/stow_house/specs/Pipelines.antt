@@ -1,5 +1,5 @@
 -- Requests that a door is asked one after another.
-use Rattle.std.specs.Prelude.{◌≡◌, ℕ, List, [], ◌∷◌, length, take}
+use Rattle.std.specs.Prelude.{◌≡◌, List, [], ◌∷◌, length, take}
 use Rattle.stow_model.specs.Reply.{Reply}
 use Rattle.stow_house.specs.Conversations.{DoorCall}
 use Rattle.stow_house.specs.declared.request.Request.{Request}

@@ -1,5 +1,5 @@
 -- What an event is answered.
-use Rattle.std.specs.Prelude.{◌≡◌, ℕ, ◌<◌, ◌≤◌, Bool, true, false, List, Option, Some, None, ◌⊎◌}
+use Rattle.std.specs.Prelude.{◌≡◌, ◌<◌, ◌≤◌, Bool, true, false, List, Option, Some, None, ◌⊎◌}
 use Rattle.stow_bytes.specs.Limits.{cache_limit}
 use Rattle.stow_model.specs.Reply.{Reply, reply_of}
 use Rattle.stow_model.specs.Login.{Entry}

@@ -1,5 +1,5 @@
 -- A desk answers requests as its seat is told.
-use Rattle.std.proofs.Common.{◌≡◌, ℕ, ◌<◌, Bool, List, [], ◌∷◌, length, take, refl, ap, ◌∙◌, sym, subst, arith}
+use Rattle.std.proofs.Common.{◌≡◌, ◌<◌, Bool, List, [], ◌∷◌, length, take, refl, ◌∙◌, arith}
 use Rattle.stow_model.specs.Reply.{Reply}
 use Rattle.stow_house.specs.Pipelines.{AnswersAll, AnswersFront}
 use Rattle.stow_house.specs.declared.request.Request.{Request}

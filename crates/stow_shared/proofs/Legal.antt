@@ -10,7 +10,7 @@ use Rattle.stow_model.specs.Login.{IsTenant, quota_of}
 use Rattle.stow_model.specs.Reply.{Reply}
 use Rattle.stow_model.specs.Store.{Store, OwnEvent, Asked, GivenQuota, Answer, answer, answer_with, store_after, replies_after}
 use Rattle.stow_core.specs.State.{CoreState, store_of, shared_of, IsNewCore, GivesQuota, Keeps}
-use Rattle.stow_state.specs.State.{SharedState, IsSound}
+use Rattle.stow_state.specs.State.{IsSound}
 use Rattle.stow_state.specs.Steps.{Call, Maintenance}
 use Rattle.stow_state.proofs.Steps.{step_is_there_law, stays_sound_law}
 use Rattle.stow_state.specs.Steps as in_state

@@ -8,7 +8,7 @@ use Rattle.stow_model.specs.Login as login
 use Rattle.stow_model.specs.Login.{IsTenant}
 use Rattle.stow_model.specs.Reply.{Reply, reply_of}
 use Rattle.stow_model.specs.Reply as reply
-use Rattle.stow_model.specs.Store.{Store, Request, Answer, Asked, answer, answer_with, step, is_out_of_memory}
+use Rattle.stow_model.specs.Store.{Request, Answer, Asked, answer, answer_with, is_out_of_memory}
 use Rattle.stow_model.proofs.Refused.{want_of_memory_lem}
 use Rattle.stow_core.specs.declared.prepared.Prepared.{Prepared}
 use Rattle.stow_core.specs.Prepared.{effect, prepared_answer, RefusesStranger}
@@ -20,7 +20,7 @@ use Rattle.stow_shared.specs.Books.{BookState, ServesCall, CallStep}
 use Rattle.stow_shared.specs.Copies.{AreCopies, AreAlike, copied}
 use Rattle.stow_shared.specs.Entries.{Entry, call_entry}
 use Rattle.stow_shared.specs.Journals.{with_entry}
-use Rattle.stow_shared.specs.Seats.{SeatState, SeatCalls, with_receipt, with_refusal}
+use Rattle.stow_shared.specs.Seats.{SeatState, SeatCalls, with_refusal}
 use Rattle.stow_shared.proofs.Legal.{tenant_or_not}
 
 pub alike : {A : Type 0} (keeps : Bool) (words : List (List ℕ)) (copies : Option (Copies A)) → AreCopies keeps words copies → AreAlike keeps copies

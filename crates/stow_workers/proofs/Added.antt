@@ -9,7 +9,7 @@ use Rattle.stow_house.specs.Conversations.{DoorCall}
 use Rattle.stow_house.specs.Pipelines.{AnswersAll, AnswersFront}
 use Rattle.stow_house.proofs.Pipelines.{answers_join}
 use Rattle.stow_workers.specs.Pipelined.{encodings, SendsFront, AnswersHeard, AnswersPart}
-use Rattle.stow_workers.specs.Sent.{Begins, Sent, HasSent, Sends, StaysSent}
+use Rattle.stow_workers.specs.Sent.{Sent, HasSent, Sends, StaysSent}
 
 pub encodings-append : (xs ys : List Reply) → encodings (xs ++ ys) ≡ encodings xs ++ encodings ys
 encodings-append [] ys = refl

@@ -12,10 +12,10 @@ use Rattle.stow_house.specs.Conversations.{Exchange, DoorCall, Talk, as_seen, As
 use Rattle.stow_house.specs.Pipelines.{AnswersAll}
 use Rattle.stow_house.specs.Steps.{StandsAt}
 use Rattle.stow_workers.specs.Exchanges.{steps_of, told_in, spelled}
-use Rattle.stow_workers.specs.Pipelined.{AsksAll, End, HearsAll, encodings, SendsFront, TellsOrStops, AnswersHeard, AnswersPart}
-use Rattle.stow_workers.specs.Sent.{Begins, Written, Sent, HasSent, Sends, StaysSent, SendsReply}
+use Rattle.stow_workers.specs.Pipelined.{AsksAll, End, HearsAll, encodings, TellsOrStops, AnswersHeard, AnswersPart}
+use Rattle.stow_workers.specs.Sent.{Begins, Sent, HasSent, StaysSent, SendsReply}
 use Rattle.stow_workers.specs.Talks.{Course, bytes_told}
-use Rattle.stow_workers.specs.Turns.{State, IsAfter, Shortens, GoesTo}
+use Rattle.stow_workers.specs.Turns.{State, Shortens, GoesTo}
 use Rattle.stow_workers.proofs.Turning.{asked_turn, asked_shortens, told_turn, told_shortens, sent, not_sent}
 
 -- ---- what was heard

@@ -1,5 +1,5 @@
 -- A desk that wakes flushers answers as its desk does.
-use Rattle.std.proofs.Common.{ℕ, ◌<◌, Bool, List, [], ◌∷◌, length, take, arith}
+use Rattle.std.proofs.Common.{◌<◌, Bool, List, [], ◌∷◌, length, take, arith}
 use Rattle.stow_model.specs.Reply.{Reply}
 use Rattle.stow_house.specs.Pipelines.{AnswersAll, AnswersFront}
 use Rattle.stow_house.specs.declared.request.Request.{Request}

@@ -1,4 +1,4 @@
-use Rattle.std.proofs.Common.{Ok, Err, ap, sym, ◌∙◌, rules}
+use Rattle.std.proofs.Common.{Ok, ap, ◌∙◌, rules}
 use Rattle.stow_workers.proofs.Flushed.{unplanned, unmerged, merged, uninstalled}
 use Rattle.stow_workers.proofs.flushing.flush.Goals as goal
 

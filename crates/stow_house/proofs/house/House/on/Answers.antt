@@ -1,6 +1,6 @@
-use Rattle.std.proofs.Common.{rules, ◌≡◌, ◌≢◌, ℕ, Some, refl, ap, sym, subst, ◌∙◌}
+use Rattle.std.proofs.Common.{rules, ◌≡◌, ℕ, Some, refl, ap, sym, subst, ◌∙◌}
 use Rattle.stow_model.specs.History.{IsOpen, Unused}
-use Rattle.stow_house.specs.Seen.{Seen, seen, seen_at, never_opened}
+use Rattle.stow_house.specs.Seen.{seen, seen_at, never_opened}
 use Rattle.stow_house.specs.StepResult.{step_result_of, Refused}
 use Rattle.stow_house.specs.Connections.{meaning, Happens}
 use Rattle.stow_house.proofs.Here.{refused}

@@ -1,4 +1,4 @@
-use Rattle.std.proofs.Common.{◌≤◌, ◌<◌, refl, inl, inr, arith}
+use Rattle.std.proofs.Common.{refl, inl, inr, arith}
 use Rattle.stow_model.specs.Event as event
 use Rattle.stow_house.specs.StepResult.{Done, Refused, NoMemory}
 use Rattle.stow_house.proofs.Stood.{flushed, kept_as, kept_by}

@@ -1,4 +1,4 @@
-use Rattle.std.proofs.Common.{◌≡◌, ◌<◌, ◌≤◌, length, refl, ap, ◌∙◌, inl, inr, arith}
+use Rattle.std.proofs.Common.{◌≡◌, ◌≤◌, length, refl, ap, ◌∙◌, inl, inr, arith}
 use Rattle.stow_house.proofs.Stood.{given, not_given, may_give, may_not}
 use Rattle.stow_house.proofs.house.House.set_quota.Goals.{then-tenant-eq0-via-then-tenant-eq0, then-tenant-eq0-via-else-tenant-eq0+then-tenant-count, then-tenant-eq0-via-else-tenant-eq0+else-tenant-count+then-quota-gt-NUMBER_LIMIT}
 use Rattle.stow_house.proofs.house.House.set_quota.Goals as goal

@@ -1,4 +1,4 @@
-use Rattle.std.proofs.Common.{◌≡◌, true, refl, List, ◌∷◌, ap, sym, ◌∙◌, subst, rules}
+use Rattle.std.proofs.Common.{◌≡◌, true, refl, List, ap, sym, ◌∙◌, subst, rules}
 use Rattle.stow_shared.specs.Entries.{Entry, resize_entry, entries_of}
 use Rattle.stow_shared.specs.Books.{IsBook}
 use Rattle.stow_shared.proofs.Added.{err_so, is_kept, one_more}

@@ -1,5 +1,4 @@
-use Rattle.std.proofs.Common.{◌≡◌, ◌<◌, ◌+◌, List, length, get_or, refl, ap, sym, ◌∙◌, arith}
-use Rattle.stow_workers.specs.Sent.{sent_of, Sent}
+use Rattle.std.proofs.Common.{get_or, ap, ◌∙◌, arith}
 use Rattle.stow_workers.specs.declared.client.Client.{Client}
 use Rattle.stow_workers.proofs.Added.{on_err, none_added, part_added, one_added, all_added}
 use Rattle.stow_workers.proofs.client.Client.add_all.Goals as goal

@@ -1,5 +1,4 @@
 use Rattle.std.proofs.Common.{◌≡◌}
-use Rattle.stow_model.specs.Reply.{reply_of}
 use Rattle.stow_workers.specs.Pipelined.{encodings}
 use Rattle.stow_workers.specs.Sent.{Sends, sent_of}
 use Rattle.stow_workers.proofs.Added.{added}

@@ -1,4 +1,4 @@
-use Rattle.std.proofs.Common.{◌≡◌, ◌<◌, length, refl, ap, sym, ◌∙◌, subst}
+use Rattle.std.proofs.Common.{◌<◌, length, refl, ap, sym, ◌∙◌, subst}
 use Rattle.stow_house.specs.Conversations.{Talk, talk_of}
 use Rattle.stow_workers.specs.declared.client.Client.{Client}
 use Rattle.stow_workers.specs.Pipelined.{AsksAll}
