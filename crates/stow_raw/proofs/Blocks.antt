@@ -73,15 +73,16 @@ module _ (n : ℕ) (bs : List ℕ) (long : length bs ≡ 4 * n) where
       ∙ ap (λ l. l ++ x ∷ drop (suc i) (words n bs)) (sym (take-words n i bs (omega arith) long))
       ∙ sym (set_split (words n bs) i x (omega (arith, length-words n bs)))
 
-  -- the first f numbers are moved up by c places
-  pub words_closed : (f c : ℕ) → f + c ≤ n → words n (take (4 * c) bs ++ (take (4 * f) bs ++ drop (4 * (f + c)) bs)) ≡ take c (words n bs) ++ (take f (words n bs) ++ drop (f + c) (words n bs))
-  words_closed f c le = let tail = drop (4 * (f + c)) bs in let low = take (4 * c) bs in let front = take (4 * f) bs in
-      let few : n - c - f ≡ n - (f + c) = omega arith in
-      words-append n c (n - c) low (front ++ tail) (omega arith) (omega (arith, length-take (4 * c) bs))
-      ∙ ap (λ l. words c low ++ l) (words-append (n - c) f (n - c - f) front tail (omega arith) (omega (arith, length-take (4 * f) bs)))
-      ∙ ap (λ l. l ++ (words f front ++ words (n - c - f) tail)) (sym (take-words n c bs (omega arith) long))
-      ∙ ap (λ l. take c (words n bs) ++ (l ++ words (n - c - f) tail)) (sym (take-words n f bs (omega arith) long))
-      ∙ ap (λ l. take c (words n bs) ++ (take f (words n bs) ++ l)) (ap (λ k. words k tail) few ∙ sym (drop-words n (f + c) bs le long))
+  -- c numbers from f on are moved to the places from t on
+  pub words_moved : (t f c : ℕ) → f + c ≤ n → t + c ≤ n → words n (take (4 * t) bs ++ (take (4 * c) (drop (4 * f) bs) ++ drop (4 * (t + c)) bs)) ≡ take t (words n bs) ++ (take c (drop f (words n bs)) ++ drop (t + c) (words n bs))
+  words_moved t f c from to = let tail = drop (4 * (t + c)) bs in let low = take (4 * t) bs in let later = drop (4 * f) bs in let some = take (4 * c) later in
+      let few : n - t - c ≡ n - (t + c) = omega arith in
+      let long_later : length later ≡ 4 * (n - f) = omega (arith, length-drop (4 * f) bs) in
+      words-append n t (n - t) low (some ++ tail) (omega arith) (omega (arith, length-take (4 * t) bs))
+      ∙ ap (λ l. words t low ++ l) (words-append (n - t) c (n - t - c) some tail (omega arith) (omega (arith, length-take (4 * c) later)))
+      ∙ ap (λ l. l ++ (words c some ++ words (n - t - c) tail)) (sym (take-words n t bs (omega arith) long))
+      ∙ ap (λ l. take t (words n bs) ++ (l ++ words (n - t - c) tail)) (sym (ap (take c) (drop-words n f bs (omega arith) long) ∙ take-words (n - f) c later (omega arith) long_later))
+      ∙ ap (λ l. take t (words n bs) ++ (take c (drop f (words n bs)) ++ l)) (ap (λ k. words k tail) few ∙ sym (drop-words n (t + c) bs to long))
 
 -- ---- the sizes of such rows
 
@@ -103,13 +104,14 @@ module _ (n : ℕ) (bs : List ℕ) (long : length bs ≡ 4 * n) where
       let rest = length-drop (4 * i + 4) bs in
       omega arith
 
-  pub length-closed_row : (f c : ℕ) → f + c ≤ n → length (take (4 * c) bs ++ (take (4 * f) bs ++ drop (4 * (f + c)) bs)) ≡ 4 * n
-  length-closed_row f c le =
-      let whole = length-append (take (4 * c) bs) (take (4 * f) bs ++ drop (4 * (f + c)) bs) in
-      let later = length-append (take (4 * f) bs) (drop (4 * (f + c)) bs) in
-      let low = length-take-le (4 * c) bs (omega arith) in
-      let front = length-take-le (4 * f) bs (omega arith) in
-      let rest = length-drop (4 * (f + c)) bs in
+  pub length-moved_row : (t f c : ℕ) → f + c ≤ n → t + c ≤ n → length (take (4 * t) bs ++ (take (4 * c) (drop (4 * f) bs) ++ drop (4 * (t + c)) bs)) ≡ 4 * n
+  length-moved_row t f c from to =
+      let whole = length-append (take (4 * t) bs) (take (4 * c) (drop (4 * f) bs) ++ drop (4 * (t + c)) bs) in
+      let later = length-append (take (4 * c) (drop (4 * f) bs)) (drop (4 * (t + c)) bs) in
+      let low = length-take-le (4 * t) bs (omega arith) in
+      let left = length-drop (4 * f) bs in
+      let some = length-take-le (4 * c) (drop (4 * f) bs) (omega arith) in
+      let rest = length-drop (4 * (t + c)) bs in
       omega arith
 
 -- ---- a block

@@ -9,7 +9,7 @@ ghost use Rattle.stow_raw.specs.Words.{words};
 
 use crate::cells::Cells;
 use crate::lease::Lease;
-use crate::words::{WORD, close_words, insert_word, set_word};
+use crate::words::{WORD, insert_word, move_words, set_word};
 use std::alloc::{AllocError, Allocator};
 use std::mem;
 
@@ -150,15 +150,16 @@ impl<A: Allocator> Block<A> {
         insert_in(&mut self.cells, start, len, index, slot);
     }
 
-    /// Moves the slots below `from` up by `count` places, over the `count` slots from `from` on.
-    pub(crate) fn close(&mut self, from: usize, count: usize)
-        requires { IsLaid self.old × (from + count ≤ self.old.slots) }
-        ensures { Becomes self.old self.new (front_of self.old) (take count (slots_of self.old)
-            ++ (take from (slots_of self.old) ++ drop (from + count) (slots_of self.old))) }
+    /// Moves the `count` slots from `from` on to the places from `to` on.
+    pub(crate) fn move_slots(&mut self, to: usize, from: usize, count: usize)
+        requires { IsLaid self.old × (from + count ≤ self.old.slots)
+            × (to + count ≤ self.old.slots) }
+        ensures { Becomes self.old self.new (front_of self.old) (take to (slots_of self.old)
+            ++ (take count (drop from (slots_of self.old)) ++ drop (to + count) (slots_of self.old))) }
     {
         let start = self.capacity - WORD * self.slots;
         let len = self.capacity - start;
-        close_in(&mut self.cells, start, len, from, count);
+        move_in(&mut self.cells, start, len, to, from, count);
     }
 }
 
@@ -226,14 +227,22 @@ fn insert_in(cells: &mut Cells, start: usize, len: usize, index: usize, word: u3
     insert_word(cells.slice_mut(start, len), index, word);
 }
 
-/// Moves the numbers below `from`, of those in the last `len` bytes, up by `count` places.
-fn close_in(cells: &mut Cells, start: usize, len: usize, from: usize, count: usize)
-    requires { (start + len ≡ length cells.old.bytes) × IsWritten (drop start cells.old.bytes)
-        × (4 * (from + count) ≤ len) }
+/// Moves `count` of the numbers in the last `len` bytes, from `from` on, to the places from `to` on.
+fn move_in(
+    cells: &mut Cells,
+    start: usize,
+    len: usize,
+    to: usize,
+    from: usize,
+    count: usize,
+)
+    requires row { (start + len ≡ length cells.old.bytes)
+        × IsWritten (drop start cells.old.bytes) }
+    requires within { (4 * (from + count) ≤ len) × (4 * (to + count) ≤ len) }
     ensures { cells.new ≡ with_tail cells.old start
-        (take (4 * count) (written (drop start cells.old.bytes))
-        ++ (take (4 * from) (written (drop start cells.old.bytes))
-        ++ drop (4 * (from + count)) (written (drop start cells.old.bytes)))) }
+        (take (4 * to) (written (drop start cells.old.bytes))
+        ++ (take (4 * count) (drop (4 * from) (written (drop start cells.old.bytes)))
+        ++ drop (4 * (to + count)) (written (drop start cells.old.bytes)))) }
 {
-    close_words(cells.slice_mut(start, len), from, count);
+    move_words(cells.slice_mut(start, len), to, from, count);
 }

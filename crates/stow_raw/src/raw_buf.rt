@@ -144,8 +144,19 @@ impl<A: Allocator> RawBuf<A> {
             ≡ raw_lists self.old.front (remove_range self.old.slots from (from + count))
             self.old.capacity }
     {
-        self.block.close(from, count);
+        self.block.move_slots(count, 0, from);
         self.block.drop_slots(count);
+    }
+
+    /// Moves the `count` slots from `from` on to the places from `to` on, at once.
+    pub fn move_slots(&mut self, to: usize, from: usize, count: usize)
+        requires { (to ≤ from) × (from + count ≤ length self.old.slots) }
+        ensures { self.new
+            ≡ raw_lists self.old.front
+            (take (to + count) (remove_range self.old.slots to from)
+            ++ drop (to + count) self.old.slots) self.old.capacity }
+    {
+        self.block.move_slots(to, from, count);
     }
 
     /// Empties the front. The slots stay.

@@ -38,13 +38,13 @@ pub(crate) fn insert_word(bytes: &mut [u8], index: usize, word: u32)
     set_word(bytes, index, word);
 }
 
-/// Moves the numbers below `from` up by `count` places, over the `count` numbers from `from` on.
-pub(crate) fn close_words(bytes: &mut [u8], from: usize, count: usize)
-    requires { 4 * (from + count) ≤ length bytes.old }
+/// Moves the `count` numbers from `from` on to the places from `to` on.
+pub(crate) fn move_words(bytes: &mut [u8], to: usize, from: usize, count: usize)
+    requires { (4 * (from + count) ≤ length bytes.old) × (4 * (to + count) ≤ length bytes.old) }
     ensures len { length bytes.new ≡ length bytes.old }
     ensures after { bytes.new
-        ≡ take (4 * count) bytes.old
-        ++ (take (4 * from) bytes.old ++ drop (4 * (from + count)) bytes.old) }
+        ≡ take (4 * to) bytes.old
+        ++ (take (4 * count) (drop (4 * from) bytes.old) ++ drop (4 * (to + count)) bytes.old) }
 {
-    bytes.copy_within(0..WORD * from, WORD * count);
+    bytes.copy_within(WORD * from..WORD * (from + count), WORD * to);
 }

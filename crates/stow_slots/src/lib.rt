@@ -11,7 +11,6 @@
 //! is a guess.
 #![tactic(auto)]
 
-mod moving;
 mod ranking;
 mod settling;
 pub mod slot_buf;

@@ -2,7 +2,6 @@
 ghost use Rattle.std.specs.Prelude.{◌≡◌, []};
 ghost use Rattle.stow_slots.specs.Young.{all_lists, IsYoung};
 
-use crate::moving::move_slots;
 use crate::young_slot::YoungSlot;
 use std::alloc::Allocator;
 use stow_raw::raw_buf::RawBuf;
@@ -22,7 +21,7 @@ pub(crate) fn settle<A: Allocator>(raw: &mut RawBuf<A>, young: &mut Vec<YoungSlo
     let mut past = 0;
     for i in 0..count {
         let slot = young[i];
-        move_slots(raw, past + i, count + past, slot.behind - past);
+        raw.move_slots(past + i, count + past, slot.behind - past);
         raw.set_slot(slot.behind + i, slot.slot);
         past = slot.behind;
     }

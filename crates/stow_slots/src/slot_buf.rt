@@ -3,7 +3,6 @@ ghost use Rattle.std.specs.Prelude.{◌≡◌, ◌+◌, ◌-◌, ◌*◌, ◌<�
 ghost use Rattle.std.specs.List.{insert, remove_range};
 ghost use Rattle.stow_raw.specs.RawBuf.{raw_lists, raw_used, RawFits};
 
-use crate::moving::move_slots;
 use crate::ranking::{put_young, rank_of};
 use crate::settling::settle;
 use crate::young_slot::YoungSlot;
@@ -154,7 +153,7 @@ impl<A: Allocator> SlotBuf<A> {
             ++ drop (to + count) self.old.slots) self.old.capacity }
     {
         settle(&mut self.raw, &mut self.young);
-        move_slots(&mut self.raw, to, from, count);
+        self.raw.move_slots(to, from, count);
     }
 
     /// Takes the `count` slots from `from` on out, by one move of the slots before them.

@@ -33,7 +33,7 @@ move_slots-requires g c = let raw = unadded c.add_slots.new.self c.len-count.res
     let lt : l.i < length young = omega (arith, c.loop-i-test.true, c.len-count.ensures) in let y = c.index-slot.result.now in
     let is : y ≡ get_or young l.i y = c.index-slot.ensures ∙ ap (λ (v : _). get_or v.items l.i y) l.invariant.young in
     let up = high raw l.raw young l.past l.i w lt y is in let down = low raw l.raw young l.past l.i w lt y is in
-    record { within = (omega (arith, lt, c.len-count.ensures), omega (arith, counts raw l.raw young l.past l.i w, up, down, c.len-count.ensures, w.within)) }
+    (omega (arith, lt, c.len-count.ensures), omega (arith, counts raw l.raw young l.past l.i w, up, down, c.len-count.ensures, w.within))
 
 pub overflow_add-slot : goal.overflow_add-slot
 overflow_add-slot g c = let raw = unadded c.add_slots.new.self c.len-count.result in let young = c.args.young.now.items in let l = c.loop-i in let w = l.invariant.settling in
