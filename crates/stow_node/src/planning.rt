@@ -83,28 +83,57 @@ fn deepest_of<A: Allocator>(child: &Child<A>) -> Option<u64>
     }
 }
 
-/// Whether the first height is lower, one that is there than none.
-fn is_lower(a: Option<u64>, b: Option<u64>) -> bool
-    ensures lower { result ≡ true → (lower_height b a ≡ a) × (a ≢ None) }
+/// The most bytes that the messages of a buffer at a height take, among those of a node and all below it.
+#[cycle(fullest)]
+fn fullest_buffer<A: Allocator>(node: &Node<A>, height: u64) -> usize {
+    if node.height() == height {
+        return node.buffer().live();
+    }
+    let children = node.children();
+    let mut most = 0;
+    for i in 0..children.len() {
+        let below = match &children[i] {
+            Child::Leaf(_) => 0,
+            Child::Node(lower) => fullest_buffer(lower, height),
+        };
+        most = most.max(below);
+    }
+    most
+}
+
+/// The same below a node, in a child and all below it, if a height is given.
+fn fullest_of<A: Allocator>(child: &Child<A>, height: Option<u64>) -> usize {
+    match (child, height) {
+        (Child::Node(node), Some(height)) => fullest_buffer(node, height),
+        _ => 0,
+    }
+}
+
+/// Whether the first height comes before the second one: where it is lower, one that is there than none, or the same where the
+/// first is asked for of equals.
+fn is_before(a: Option<u64>, b: Option<u64>, of_equals: bool) -> bool
+    ensures before { result ≡ true → (lower_height b a ≡ a) × (a ≢ None) }
     ensures not { result ≡ false → lower_height b a ≡ b }
 {
     match (a, b) {
         (None, _) => false,
         (Some(_), None) => true,
-        (Some(a), Some(b)) => a < b,
+        (Some(a), Some(b)) => a < b || (a == b && of_equals),
     }
 }
 
-/// The place of the child below which the deepest buffer stands that holds a message, if one does.
+/// The place of the child below which the deepest buffer stands that holds a message, if one does: of equals the fullest.
 pub(crate) fn deepest_child<A: Allocator>(children: &[Child<A>]) -> Option<usize>
     ensures { IsDeepestChild children.now result }
 {
-    let (mut best, mut lowest) = (0, None);
+    let (mut best, mut lowest, mut most) = (0, None, 0);
     for i in 0..children.len() {
         let height = deepest_of(&children[i]);
-        if is_lower(height, lowest) {
+        let bytes = fullest_of(&children[i], height);
+        if is_before(height, lowest, bytes > most) {
             best = i;
             lowest = height;
+            most = bytes;
         }
     }
     match lowest {

@@ -78,7 +78,7 @@ set_slot-requires g c = let l = c.loop-new in let v = c.args.self.now in let run
     omega (
       arith,
       ap (λ (r : RawLists). length r.slots) c.move_slots.ensures,
-      length-moved slots (l.old - gap) l.old (end - l.old) order fits (end - l.old) (omega arith),
+      length-moved slots (l.old - gap) l.old (end - l.old) order fits,
       ends.0,
       ends.1,
       place_here v run c.requires.room c.requires.valid l.self-inside.raw l.new l.old k l.at w,
