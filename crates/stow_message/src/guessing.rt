@@ -2,6 +2,7 @@
 ghost use Rattle.std.specs.Prelude.{Contains, IfSome};
 ghost use Rattle.stow_message.specs.MessageBuf.{IsPackedBuffer};
 
+use crate::key_words::KeyWords;
 use crate::slots::{key_at, number_in};
 use std::alloc::Allocator;
 use std::cmp::Ordering;
@@ -10,10 +11,15 @@ use stow_slots::slot_buf::SlotBuf;
 
 /// How many messages may stand below the key and number: as many as do of those whose slots aren't young, and of the others
 /// as many as stand before those and, side by side, behind them.
-pub(crate) fn guess<A: Allocator>(raw: &SlotBuf<A>, key: &[u8], number: u64) -> usize
+pub(crate) fn guess<A: Allocator>(
+    raw: &SlotBuf<A>,
+    words: &KeyWords<A>,
+    key: &[u8],
+    number: u64,
+) -> usize
     requires { IsPackedBuffer raw.now }
 {
-    let older = older_below(raw, key, number);
+    let older = older_below(raw, words.span(raw, key), key, number);
     older.saturating_add(young_below(raw, raw.young_behind(older), key, number))
 }
 
@@ -54,11 +60,21 @@ fn young_span<A: Allocator>(
     (low, high)
 }
 
-/// How many messages whose slots aren't young stand below the key and number.
-fn older_below<A: Allocator>(raw: &SlotBuf<A>, key: &[u8], number: u64) -> usize
+/// How many messages whose slots aren't young stand below the key and number, where that is between both ends of the span. It is
+/// looked for at its end first: most searches are for the newest message of a key.
+fn older_below<A: Allocator>(
+    raw: &SlotBuf<A>,
+    span: (usize, usize),
+    key: &[u8],
+    number: u64,
+) -> usize
     requires { IsPackedBuffer raw.now }
 {
-    let (mut low, mut high) = (0, raw.old_count());
+    let (from, end) = span;
+    let (mut low, mut high) = (from.min(end), end);
+    if high > 0 && is_below(raw, raw.old_slot(high - 1), key, number) {
+        return high;
+    }
     while low < high {
         let middle = low + (high - low) / 2;
         if is_below(raw, raw.old_slot(middle), key, number) {

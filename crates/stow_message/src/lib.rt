@@ -13,6 +13,7 @@ mod filter;
 mod guessing;
 mod hash;
 pub mod head;
+mod key_words;
 pub mod laws;
 pub mod message_buf;
 pub mod newest;

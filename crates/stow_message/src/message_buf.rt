@@ -13,6 +13,7 @@ ghost use Rattle.std.specs.List.{All, AllByRecursion, sum_by, remove_range};
 use crate::filter::Filter;
 use crate::guessing::guess;
 use crate::head::{HEAD, SLOT, kind, op_with, read_head, size, write_head};
+use crate::key_words::KeyWords;
 use crate::newest::Newest;
 use crate::run::Run;
 use crate::slots::{search_between, search_from};
@@ -31,6 +32,7 @@ use stow_tree_model::tenant_key::TenantKey;
 pub struct MessageBuf<A: Allocator = Global> {
     raw: SlotBuf<A>,
     filter: Filter<A>,
+    words: KeyWords<A>,
     /// How many bytes the messages take, their slots among them.
     live: usize,
 }
@@ -172,9 +174,11 @@ impl<A: Allocator + Copy> MessageBuf<A> {
     {
         let raw = SlotBuf::with_capacity(alloc, capacity)?;
         let filter = Filter::with_capacity(alloc, capacity)?;
+        let words = KeyWords::for_block(alloc, &raw)?;
         Ok(MessageBuf {
             raw,
             filter,
+            words,
             live: 0,
         })
     }
@@ -208,7 +212,17 @@ impl<A: Allocator> MessageBuf<A> {
     pub fn settle(&mut self)
         ensures { self.new ≡ self.old }
     {
+        self.words.settle(&self.raw);
         self.raw.settle();
+    }
+
+    /// The same where the next message that is put would do it.
+    fn settle_ripe(&mut self)
+        ensures { self.new ≡ self.old }
+    {
+        if self.raw.is_ripe() {
+            self.settle();
+        }
     }
 
     /// How many messages there are.
@@ -253,10 +267,10 @@ impl<A: Allocator> MessageBuf<A> {
         ensures small { length self.now.messages < 4294967296 }
     {
         let _known = self.len();
-        if self.raw.young_count() == 0 {
+        if self.raw.young_count() == 0 && !self.words.serve(&self.raw) {
             return self.search_all(key, number);
         }
-        let guess = guess(&self.raw, key, number);
+        let guess = guess(&self.raw, &self.words, key, number);
         if self.is_past(guess, key, number) {
             self.search_from(guess, key, number)
         } else {
@@ -345,6 +359,16 @@ impl<A: Allocator> MessageBuf<A> {
             × IsNew (message_of message) self.old.messages }
         ensures { self.new ≡ with_message (message_of message.entry) self.old }
     {
+        self.settle_ripe();
+        self.put(message, guess);
+    }
+
+    /// The same, where no slot is to come to the others by it.
+    fn put(&mut self, message: Message<'_>, guess: usize)
+        requires { Fits self.old (message_of message)
+            × IsNew (message_of message) self.old.messages }
+        ensures { self.new ≡ with_message (message_of message.entry) self.old }
+    {
         let index = self.count_below(message.key, message.number, guess);
         let at = self.raw.front_len() as u32;
         append(&mut self.raw, message);
@@ -422,6 +446,17 @@ impl<A: Allocator> MessageBuf<A> {
             ≡ message_list (remove_range self.old.messages index (index + count))
             (self.old.used - 4 * count) self.old.capacity }
     {
+        self.settle();
+        self.remove_ordered(index, count);
+    }
+
+    /// The same, where none of their slots is to be young.
+    fn remove_ordered(&mut self, index: usize, count: usize)
+        requires { index + count ≤ length self.old.messages }
+        ensures { self.new
+            ≡ message_list (remove_range self.old.messages index (index + count))
+            (self.old.used - 4 * count) self.old.capacity }
+    {
         let _known = self.len();
         let gone = bytes_in(&Run {
             buf: self,
@@ -429,6 +464,7 @@ impl<A: Allocator> MessageBuf<A> {
             to: index + count,
         });
         self.raw.remove_slots(index, count);
+        self.words.remove(index, count);
         self.live -= gone;
     }
 
@@ -443,6 +479,7 @@ impl<A: Allocator> MessageBuf<A> {
             (self.old.used + sum_by message_size run.now) self.old.capacity }
     {
         self.filter.add_all(run);
+        self.words.clear();
         let mut at = self.raw.front_len();
         append_all(&mut self.raw, run);
         let count = run.len();
@@ -568,6 +605,7 @@ impl<A: Allocator> MessageBuf<A> {
         ensures { self.new ≡ message_list (without batch.now.messages self.old.messages)
             (self.old.used - 4 * length batch.now.messages) self.old.capacity }
     {
+        self.words.clear();
         let (mut kept, mut from) = (0, 0);
         for i in 0..batch.len() {
             let gone = batch.message(i);
@@ -601,6 +639,18 @@ impl<A: Allocator> MessageBuf<A> {
             (sum_by message_size self.old.messages) self.old.capacity }
         ensures spare { spare.new.capacity ≡ spare.old.capacity }
     {
+        self.settle();
+        self.squeeze_ordered(spare);
+    }
+
+    /// The same, where no slot is to be young.
+    fn squeeze_ordered(&mut self, spare: &mut RawBuf<A>)
+        requires { self.old.capacity ≤ spare.old.capacity }
+        ensures squeezed { self.new
+            ≡ message_list self.old.messages
+            (sum_by message_size self.old.messages) self.old.capacity }
+        ensures spare { spare.new.capacity ≡ spare.old.capacity }
+    {
         spare.reset();
         for i in 0..self.raw.slot_count() {
             let at = spare.front_len() as u32;
@@ -618,6 +668,7 @@ impl<A: Allocator> MessageBuf<A> {
     {
         self.raw.reset();
         self.filter.clear();
+        self.words.clear();
         self.live = 0;
     }
 }

@@ -189,6 +189,16 @@ impl<A: Allocator> SlotBuf<A> {
         settle(&mut self.raw, &mut self.young);
     }
 
+    /// Whether slots may be young: a block of few bytes has no list for them.
+    pub fn takes_young(&self) -> bool {
+        self.young.capacity() > 0
+    }
+
+    /// Whether the next slot that is put brings the young ones to the others.
+    pub fn is_ripe(&self) -> bool {
+        self.young.len() == self.young.capacity()
+    }
+
     /// How many slots aren't young.
     pub fn old_count(&self) -> usize {
         self.raw.slot_count()
@@ -218,6 +228,15 @@ impl<A: Allocator> SlotBuf<A> {
             Some(self.young[place].slot)
         } else {
             None
+        }
+    }
+
+    /// How many of the older ones the young slot at this place among the young ones stands behind.
+    pub fn young_place(&self, place: usize) -> usize {
+        if place < self.young.len() {
+            self.young[place].behind
+        } else {
+            0
         }
     }
 

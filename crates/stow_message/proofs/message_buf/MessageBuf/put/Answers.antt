@@ -8,7 +8,7 @@ use Rattle.stow_message.proofs.RisingLists.{sum-placed}
 use Rattle.stow_message.proofs.Counted.{is_counted}
 use Rattle.stow_message.proofs.Covered.{covered, covers_more, covers_placed}
 use Rattle.stow_message.proofs.Pushed.{bytes_fit, push}
-use Rattle.stow_message.proofs.message_buf.MessageBuf.push_near.Goals as goal
+use Rattle.stow_message.proofs.message_buf.MessageBuf.put.Goals as goal
 
 pub append-requires : goal.append-requires
 append-requires g c = bytes_fit c.self.inside.raw c.self.invariant.filled c.args.self.now c.self.view_is c.args.message c.requires

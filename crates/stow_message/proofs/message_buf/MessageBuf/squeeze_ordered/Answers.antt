@@ -7,7 +7,7 @@ use Rattle.stow_message.specs.Packed.{message_size}
 use Rattle.stow_message.proofs.Counted.{is_counted}
 use Rattle.stow_message.proofs.Covered.{covered}
 use Rattle.stow_message.proofs.Squeezed.{turn, end}
-use Rattle.stow_message.proofs.message_buf.MessageBuf.squeeze.Goals as goal
+use Rattle.stow_message.proofs.message_buf.MessageBuf.squeeze_ordered.Goals as goal
 
 pub slot-requires : goal.slot-requires
 slot-requires g c = (turn c.self.inside.raw c.self.invariant.filled c.args.self.now c.self.view_is c.loop-i.i c.loop-i.self-inside.raw c.loop-i.invariant.raw c.loop-i.spare _ c.loop-i.invariant.spare (omega (arith, c.loop-i-test.true, c.slot_count-i-end.ensures))).slot

@@ -1,7 +1,7 @@
 use Rattle.std.proofs.Common.{◌≡◌, [], ◌++◌, take, drop}
 use Rattle.stow_raw.specs.RawBuf.{raw_lists}
 use Rattle.stow_message.specs.Packed.{all_bytes, places_from}
-use Rattle.stow_message.proofs.message_buf.MessageBuf.squeeze.Given as goal
+use Rattle.stow_message.proofs.message_buf.MessageBuf.squeeze_ordered.Given as goal
 
 abbrev pub invariant-loop-i : goal.invariant-loop-i
 invariant-loop-i g l = let old = l.initial.self-inside.raw in let ms = l.fn.self.messages in let old_marks = l.initial.self-inside.filter in record {

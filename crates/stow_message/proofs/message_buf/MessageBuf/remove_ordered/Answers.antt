@@ -8,7 +8,7 @@ use Rattle.stow_message.proofs.Counted.{rest_counted, gone_counted}
 use Rattle.stow_message.proofs.Covered.{covers_rest}
 use Rattle.stow_message.proofs.Pushed.{slots_of_messages}
 use Rattle.stow_message.proofs.Removed.{removed, removed_messages, removed_used, removed_filled}
-use Rattle.stow_message.proofs.message_buf.MessageBuf.remove.Goals as goal
+use Rattle.stow_message.proofs.message_buf.MessageBuf.remove_ordered.Goals as goal
 
 pub remove_slots-requires : goal.remove_slots-requires
 remove_slots-requires g c = omega (arith, c.requires, slots_of_messages c.self.inside.raw, ap (λ (w : MessageList). length w.messages) c.self.view_is)

@@ -1,0 +1,265 @@
+//! Words of keys, by which most steps of a search look at no message.
+ghost use Rattle.std.specs.Prelude.{Contains, IfSome};
+ghost use Rattle.stow_message.specs.MessageBuf.{IsPackedBuffer};
+
+use crate::slots::key_at;
+use std::alloc::{AllocError, Allocator, Global};
+use stow_slots::slot_buf::SlotBuf;
+
+/// How many bytes of a buffer there are for each word.
+const BYTES: usize = 64;
+
+/// Where a key's own bytes begin, behind its tenant's index.
+const INDEX: usize = 4;
+
+/// How many of a key's own bytes its word has.
+const OWN: usize = 6;
+
+/// A word of each message whose slot isn't young, in the order of the slots, as far as there is room: the lower half of its tenant's
+/// index, and some of the key behind what all keys share behind that index. They rise as the keys do, but where tenants are
+/// more than 65,536. They are a hint: nothing is known of them, and what is found by them is looked at.
+#[derive(Drop)]
+pub(crate) struct KeyWords<A: Allocator = Global> {
+    words: Vec<u64, A>,
+    /// How many own bytes all keys share that have a word.
+    shared: usize,
+}
+
+/// A key's bytes behind its tenant's index.
+fn own(key: &[u8]) -> &[u8] {
+    if key.len() < INDEX {
+        return &[];
+    }
+    &key[INDEX..]
+}
+
+/// A byte of a key, or 0 behind its end.
+fn byte_at(key: &[u8], at: usize) -> u64 {
+    match key.get(at) {
+        Some(byte) => u64::from(*byte),
+        None => 0,
+    }
+}
+
+/// The word of a key, of whose own bytes so many are left out.
+fn word_of(key: &[u8], shared: usize) -> u64 {
+    let mut word = (byte_at(key, 2) << 8) | byte_at(key, 3);
+    let from = shared.saturating_add(INDEX);
+    for i in 0..OWN {
+        word = (word << 8) | byte_at(key, from.saturating_add(i));
+    }
+    word
+}
+
+/// How many bytes at the front of both are the same, of so many.
+fn shared_of(one: &[u8], other: &[u8], most: usize) -> usize {
+    let most = most.min(one.len()).min(other.len());
+    for i in 0..most {
+        if one[i] != other[i] {
+            return i;
+        }
+    }
+    most
+}
+
+/// The own bytes of the key of a slot, none where there is no slot.
+fn own_at<A: Allocator>(raw: &SlotBuf<A>, slot: Option<u32>) -> &[u8]
+    requires filled { IsPackedBuffer raw.now }
+    requires there { IfSome slot (Contains raw.now.slots) }
+{
+    match slot {
+        Some(slot) => own(key_at(raw, slot as usize)),
+        None => &[],
+    }
+}
+
+/// The own bytes of the first key.
+fn first_own<A: Allocator>(raw: &SlotBuf<A>) -> &[u8]
+    requires { IsPackedBuffer raw.now }
+{
+    if raw.old_count() == 0 {
+        return own_at(raw, raw.young_slot(0));
+    }
+    own_at(raw, raw.old_slot(0))
+}
+
+/// How many own bytes, of so many, the keys share whose slots are young.
+fn shared_by_young<A: Allocator>(raw: &SlotBuf<A>, most: usize) -> usize
+    requires { IsPackedBuffer raw.now }
+{
+    let first = first_own(raw);
+    let mut shared = most;
+    for i in 0..raw.young_count() {
+        shared = shared_of(own_at(raw, raw.young_slot(i)), first, shared);
+    }
+    shared
+}
+
+/// How many own bytes the other keys share.
+fn shared_by_older<A: Allocator>(raw: &SlotBuf<A>) -> usize
+    requires { IsPackedBuffer raw.now }
+{
+    let first = first_own(raw);
+    let mut shared = first.len();
+    for i in 0..raw.old_count() {
+        shared = shared_of(own_at(raw, raw.old_slot(i)), first, shared);
+    }
+    shared
+}
+
+/// The word of the key of a slot.
+fn word_at<A: Allocator>(raw: &SlotBuf<A>, slot: Option<u32>, shared: usize) -> u64
+    requires filled { IsPackedBuffer raw.now }
+    requires there { IfSome slot (Contains raw.now.slots) }
+{
+    match slot {
+        Some(slot) => word_of(key_at(raw, slot as usize), shared),
+        None => 0,
+    }
+}
+
+impl<A: Allocator> KeyWords<A> {
+    /// No word, for the slots of a block. For a block whose slots are never young no memory is asked for.
+    pub(crate) fn for_block<B: Allocator>(alloc: A, raw: &SlotBuf<B>) -> Result<KeyWords<A>, AllocError> {
+        let most = if raw.takes_young() {
+            raw.capacity() / BYTES
+        } else {
+            0
+        };
+        let words = Vec::with_capacity(alloc, most)?;
+        Ok(KeyWords {
+            words,
+            shared: usize::MAX,
+        })
+    }
+
+    /// Forgets all words.
+    pub(crate) fn clear(&mut self) {
+        self.words.clear();
+        self.shared = usize::MAX;
+    }
+
+    /// Whether there are words of all slots that aren't young, as far as there is room.
+    fn covers<B: Allocator>(&self, raw: &SlotBuf<B>) -> bool {
+        self.words.len() == raw.old_count().min(self.words.capacity())
+    }
+
+    /// Whether a search in these slots can begin with words.
+    pub(crate) fn serve<B: Allocator>(&self, raw: &SlotBuf<B>) -> bool {
+        self.words.len() > 0 && self.covers(raw)
+    }
+
+    /// Words of all slots that aren't young, as far as there is room.
+    fn renew<B: Allocator>(&mut self, raw: &SlotBuf<B>)
+        requires { IsPackedBuffer raw.now }
+    {
+        self.words.clear();
+        for i in 0..raw.old_count().min(self.words.capacity()) {
+            let word = word_at(raw, raw.old_slot(i), self.shared);
+            let _ = self.words.push(word);
+        }
+    }
+
+    /// Makes room for so many words more, behind the others.
+    fn grow(&mut self, count: usize) {
+        let more = count.min(self.words.capacity() - self.words.len());
+        for _ in 0..more {
+            let _ = self.words.push(0);
+        }
+    }
+
+    /// Moves the words from one place on and before another up by so many places. Those beyond the room are lost.
+    fn move_up(&mut self, from: usize, end: usize, by: usize) {
+        let end = end.min(self.words.len().saturating_sub(by));
+        if from < end {
+            self.words.copy_within(from..end, from + by);
+        }
+    }
+
+    /// Writes the word at a place, if it is there.
+    fn set(&mut self, at: usize, word: u64) {
+        if at < self.words.len() {
+            self.words[at] = word;
+        }
+    }
+
+    /// Puts the words of young slots between the others, where these slots are about to come.
+    fn put_young<B: Allocator>(&mut self, raw: &SlotBuf<B>)
+        requires { IsPackedBuffer raw.now }
+    {
+        let count = raw.young_count();
+        let mut end = self.words.len();
+        self.grow(count);
+        for i in 0..count {
+            let place = count - 1 - i;
+            let behind = raw.young_place(place);
+            self.move_up(behind, end, place + 1);
+            let word = word_at(raw, raw.young_slot(place), self.shared);
+            self.set(behind.saturating_add(place), word);
+            end = behind;
+        }
+    }
+
+    /// Takes the words of the young slots up, which are about to come to the others.
+    pub(crate) fn settle<B: Allocator>(&mut self, raw: &SlotBuf<B>)
+        requires { IsPackedBuffer raw.now }
+    {
+        if raw.young_count() == 0 || self.words.capacity() == 0 {
+            return;
+        }
+        let known = self.covers(raw);
+        let most = if known { self.shared } else { shared_by_older(raw) };
+        let shared = shared_by_young(raw, most);
+        if !known || shared < self.shared {
+            self.shared = shared;
+            self.renew(raw);
+        }
+        self.put_young(raw);
+    }
+
+    /// Forgets the words of the `count` slots from `from` on, which go. None of the slots is young.
+    pub(crate) fn remove(&mut self, from: usize, count: usize) {
+        let len = self.words.len();
+        let end = from.saturating_add(count).min(len);
+        if from < end {
+            self.words.copy_within(end..len, from);
+            self.words.truncate(len - (end - from));
+        }
+    }
+
+    /// How many words are below one.
+    fn count_below(&self, word: u64) -> usize {
+        let words = self.words.as_slice();
+        let (mut low, mut high) = (0, words.len());
+        while low < high {
+            let middle = low + (high - low) / 2;
+            if words[middle] < word {
+                low = middle + 1;
+            } else {
+                high = middle;
+            }
+        }
+        low
+    }
+
+    /// Whether the key shares with the others what they share.
+    fn is_alike<B: Allocator>(&self, raw: &SlotBuf<B>, key: &[u8]) -> bool
+        requires { IsPackedBuffer raw.now }
+    {
+        shared_of(own(key), first_own(raw), self.shared) == self.shared
+    }
+
+    /// Between which of the slots that aren't young those of messages of the key stand, by words, or else by nothing.
+    pub(crate) fn span<B: Allocator>(&self, raw: &SlotBuf<B>, key: &[u8]) -> (usize, usize)
+        requires { IsPackedBuffer raw.now }
+    {
+        let count = raw.old_count();
+        if !self.serve(raw) || !self.is_alike(raw, key) {
+            return (0, count);
+        }
+        let word = word_of(key, self.shared);
+        let high = self.count_below(word.saturating_add(1));
+        let low = self.count_below(word);
+        (low, if high < self.words.len() { high } else { count })
+    }
+}
