@@ -2,6 +2,7 @@
 ghost use Rattle.std.specs.Prelude.{Contains, IfSome};
 ghost use Rattle.stow_message.specs.MessageBuf.{IsPackedBuffer};
 
+use crate::run::Run;
 use crate::slots::key_at;
 use std::alloc::{AllocError, Allocator, Global};
 use stow_slots::slot_buf::SlotBuf;
@@ -95,6 +96,30 @@ fn shared_by_young<A: Allocator>(raw: &SlotBuf<A>, most: usize) -> usize
     shared
 }
 
+/// How many own bytes, of so many, the keys of a run share with those of the block, or else among themselves.
+fn shared_by_run<A: Allocator, B: Allocator>(
+    raw: &SlotBuf<A>,
+    run: &Run<'_, B>,
+    most: usize,
+) -> usize
+    requires { IsPackedBuffer raw.now }
+{
+    let count = run.len();
+    if count == 0 {
+        return most;
+    }
+    let first = if raw.old_count() == 0 {
+        own(run.get(0).key.bytes)
+    } else {
+        first_own(raw)
+    };
+    let mut shared = most;
+    for i in 0..count {
+        shared = shared_of(own(run.get(i).key.bytes), first, shared);
+    }
+    shared
+}
+
 /// How many own bytes the other keys share.
 fn shared_by_older<A: Allocator>(raw: &SlotBuf<A>) -> usize
     requires { IsPackedBuffer raw.now }
@@ -176,7 +201,20 @@ impl<A: Allocator> KeyWords<A> {
         }
     }
 
-    /// Writes the word at a place, if it is there.
+    /// Moves the `count` words from `from` on down to the places from `to` on, as far as there are words.
+    pub(crate) fn move_down(&mut self, to: usize, from: usize, count: usize) {
+        let end = from.saturating_add(count).min(self.words.len());
+        if to <= from && from < end {
+            self.words.copy_within(from..end, to);
+        }
+    }
+
+    /// Writes the word of a key at a place, if it is there.
+    pub(crate) fn put(&mut self, at: usize, key: &[u8]) {
+        self.set(at, word_of(key, self.shared));
+    }
+
+    /// Writes a word at a place, if it is there.
     fn set(&mut self, at: usize, word: u64) {
         if at < self.words.len() {
             self.words[at] = word;
@@ -197,6 +235,36 @@ impl<A: Allocator> KeyWords<A> {
             let word = word_at(raw, raw.young_slot(place), self.shared);
             self.set(behind.saturating_add(place), word);
             end = behind;
+        }
+    }
+
+    /// Makes room before the words for those of a run, for `move_down` and `put`. Where there isn't as much, or slots are young,
+    /// all words are forgotten.
+    pub(crate) fn admit<B: Allocator, C: Allocator>(&mut self, raw: &SlotBuf<B>, run: &Run<'_, C>)
+        requires { IsPackedBuffer raw.now }
+    {
+        let (count, len) = (run.len(), self.words.len());
+        let room = self.words.capacity() - len;
+        if raw.young_count() > 0 || !self.covers(raw) || count > room {
+            self.clear();
+            return;
+        }
+        let shared = shared_by_run(raw, run, self.shared);
+        if shared < self.shared {
+            self.shared = shared;
+            self.renew(raw);
+        }
+        self.grow(count);
+        self.move_up(0, len, count);
+    }
+
+    /// Words of all slots, of which none is young, where they were forgotten.
+    pub(crate) fn mend<B: Allocator>(&mut self, raw: &SlotBuf<B>)
+        requires { IsPackedBuffer raw.now }
+    {
+        if self.words.capacity() > 0 && !self.covers(raw) {
+            self.shared = shared_by_older(raw);
+            self.renew(raw);
         }
     }
 

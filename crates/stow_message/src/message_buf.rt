@@ -479,7 +479,7 @@ impl<A: Allocator> MessageBuf<A> {
             (self.old.used + sum_by message_size run.now) self.old.capacity }
     {
         self.filter.add_all(run);
-        self.words.clear();
+        self.words.admit(&self.raw, run);
         let mut at = self.raw.front_len();
         append_all(&mut self.raw, run);
         let count = run.len();
@@ -492,6 +492,8 @@ impl<A: Allocator> MessageBuf<A> {
             let gap = count - new;
             self.raw.move_slots(old - gap, old, end - old);
             self.raw.set_slot(end - gap, at as u32);
+            self.words.move_down(old - gap, old, end - old);
+            self.words.put(end - gap, message.key.bytes);
             at += size(message) - SLOT;
             old = end;
         }
@@ -605,16 +607,17 @@ impl<A: Allocator> MessageBuf<A> {
         ensures { self.new ≡ message_list (without batch.now.messages self.old.messages)
             (self.old.used - 4 * length batch.now.messages) self.old.capacity }
     {
-        self.words.clear();
         let (mut kept, mut from) = (0, 0);
         for i in 0..batch.len() {
             let gone = batch.message(i);
             let at = search_from(&self.raw, from, gone.key.bytes, gone.number);
             self.raw.move_slots(kept, from, at - from);
+            self.words.move_down(kept, from, at - from);
             kept += at - from;
             from = at + 1;
         }
         self.raw.remove_slots(kept, from - kept);
+        self.words.remove(kept, from - kept);
         self.live -= batch.live();
     }
 
@@ -627,6 +630,7 @@ impl<A: Allocator> MessageBuf<A> {
         if !self.holds(batch) {
             return false;
         }
+        self.settle();
         self.remove_all(batch);
         true
     }
@@ -640,6 +644,7 @@ impl<A: Allocator> MessageBuf<A> {
         ensures spare { spare.new.capacity ≡ spare.old.capacity }
     {
         self.settle();
+        self.words.mend(&self.raw);
         self.squeeze_ordered(spare);
     }
 
