@@ -20,14 +20,20 @@ pub(crate) fn guess<A: Allocator>(
     requires { IsPackedBuffer raw.now }
 {
     let older = older_below(raw, words.span(raw, key), key, number);
-    older.saturating_add(young_below(raw, raw.young_behind(older), key, number))
+    older.saturating_add(young_below(raw, older, key, number))
 }
 
-/// How many young messages may stand below the key and number, of which so many do.
-fn young_below<A: Allocator>(raw: &SlotBuf<A>, from: usize, key: &[u8], number: u64) -> usize
+/// How many young messages stand below the key and number, of which so many others do: those that stand behind fewer, and some of
+/// those behind as many, of which the last is looked at first.
+fn young_below<A: Allocator>(raw: &SlotBuf<A>, older: usize, key: &[u8], number: u64) -> usize
     requires { IsPackedBuffer raw.now }
 {
-    let (mut low, mut high) = young_span(raw, from, key, number);
+    let from = raw.young_behind(older);
+    let end = raw.young_behind(older.saturating_add(1));
+    let (mut low, mut high) = (from.min(end), end);
+    if low < high && is_below(raw, raw.young_slot(high - 1), key, number) {
+        return high;
+    }
     while low < high {
         let middle = low + (high - low) / 2;
         if is_below(raw, raw.young_slot(middle), key, number) {
@@ -37,27 +43,6 @@ fn young_below<A: Allocator>(raw: &SlotBuf<A>, from: usize, key: &[u8], number: 
         }
     }
     low
-}
-
-/// Between which young messages those end that stand below the key and number. The steps from the first one double: few stand
-/// side by side, but where many of one key wait.
-fn young_span<A: Allocator>(
-    raw: &SlotBuf<A>,
-    from: usize,
-    key: &[u8],
-    number: u64,
-) -> (usize, usize)
-    requires { IsPackedBuffer raw.now }
-{
-    let count = raw.young_count();
-    let (mut low, mut high) = (from, from);
-    let mut step = 1usize;
-    while high < count && is_below(raw, raw.young_slot(high), key, number) {
-        low = high + 1;
-        high = low.saturating_add(step).min(count);
-        step = step.saturating_mul(2);
-    }
-    (low, high)
 }
 
 /// How many messages whose slots aren't young stand below the key and number, where that is between both ends of the span. It is
@@ -72,7 +57,7 @@ fn older_below<A: Allocator>(
 {
     let (from, end) = span;
     let (mut low, mut high) = (from.min(end), end);
-    if high > 0 && is_below(raw, raw.old_slot(high - 1), key, number) {
+    if low < high && is_below(raw, raw.old_slot(high - 1), key, number) {
         return high;
     }
     while low < high {

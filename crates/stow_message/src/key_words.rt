@@ -5,6 +5,8 @@ ghost use Rattle.stow_message.specs.MessageBuf.{IsPackedBuffer};
 use crate::run::Run;
 use crate::slots::key_at;
 use std::alloc::{AllocError, Allocator, Global};
+use std::cmp::Ordering;
+use stow_bytes::compare::compare;
 use stow_slots::slot_buf::SlotBuf;
 
 /// How many bytes of a buffer there are for each word.
@@ -310,11 +312,24 @@ impl<A: Allocator> KeyWords<A> {
         low
     }
 
+    /// Where those words end that are this one and begin at a place, if they do.
+    fn end_of(&self, from: usize, word: u64) -> usize {
+        if from < self.words.len() && self.words[from] == word {
+            self.count_below(word.saturating_add(1))
+        } else {
+            from
+        }
+    }
+
     /// Whether the key shares with the others what they share.
     fn is_alike<B: Allocator>(&self, raw: &SlotBuf<B>, key: &[u8]) -> bool
         requires { IsPackedBuffer raw.now }
     {
-        shared_of(own(key), first_own(raw), self.shared) == self.shared
+        let (one, other) = (own(key), first_own(raw));
+        if self.shared > one.len() || self.shared > other.len() {
+            return false;
+        }
+        compare(&one[..self.shared], &other[..self.shared]) == Ordering::Equal
     }
 
     /// Between which of the slots that aren't young those of messages of the key stand, by words, or else by nothing.
@@ -326,8 +341,8 @@ impl<A: Allocator> KeyWords<A> {
             return (0, count);
         }
         let word = word_of(key, self.shared);
-        let high = self.count_below(word.saturating_add(1));
         let low = self.count_below(word);
+        let high = self.end_of(low, word);
         (low, if high < self.words.len() { high } else { count })
     }
 }

@@ -2,6 +2,8 @@
 ghost use Rattle.std.specs.Prelude.{◌≡◌};
 ghost use Rattle.stow_tree_model.specs.Keys.{tenant_of, IsTenantKey};
 
+use stow_bytes::compare::compare;
+
 /// A tenant's key among the keys of all, lent: the tenant's index in four bytes, the highest first, then the key's
 /// own bytes. Where an interval ends, the index may be 0 or one above those of tenants.
 #[derive(Clone, Copy)]
@@ -32,6 +34,6 @@ impl<'a> TenantKey<'a> {
     pub fn is_same(self, other: TenantKey<'_>) -> bool
         ensures { result ≡ same_key self.entry.bytes.now other.entry.bytes.now }
     {
-        self.bytes.cmp(other.bytes).is_eq()
+        compare(self.bytes, other.bytes).is_eq()
     }
 }
