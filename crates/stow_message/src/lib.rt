@@ -3,7 +3,8 @@
 //! A `MessageBuf` is seen as a list of messages that rises by key and number, with its capacity and the bytes in use.
 //! Messages are lent out of the block and not copied. Every call but `with_capacity` takes no memory.
 //! A filter of the keys that were put in (Bloom 1970, in blocks of one word: Putze, Sanders and Singler 2007) spares most
-//! searches for a key that has no message; that each held key is in it is kept by the type.
+//! searches for a key that has no message; that each held key is in it is kept by the type. Beside the slots stand words of the keys,
+//! by which a search begins: a hint, of which no contract speaks (`key_words`).
 //! A body that always answers `AllocError` meets the contract of `with_capacity`: tests call it with ample memory. How much
 //! the filter spares stands in no contract: one of whose marks all are set is right too.
 #![tactic(auto)]

@@ -135,7 +135,7 @@ has_come done = false
 few_have_come : (done : List Flushing) → EndsInFew done → has_come done ≡ true
 few_have_come done few = ap has_come few.ends.is
 
-ends_in_many : (n : ℕ) (done : List Flushing) → 64 ≤ n → EndsIn n [] done → (earlier : List Flushing) → EndsInFew (done ++ earlier) → ⊥
+ends_in_many : (n : ℕ) (done : List Flushing) → 512 ≤ n → EndsIn n [] done → (earlier : List Flushing) → EndsInFew (done ++ earlier) → ⊥
 ends_in_many n done many ends earlier few =
     let same : n ≡ few.messages = sym (ap (λ d. count_in (d ++ earlier)) ends.is) ∙ ap count_in few.ends.is in
     absurd (omega (arith, same, few.few, many))
@@ -172,7 +172,7 @@ at_first flushes door = record { done = []; led = no_steps flushes door; in_turn
 goes_on_in : (n : ℕ) (done : List Flushing) → EndsIn n [] done → GoesOn done
 goes_on_in n done ends = subst GoesOn (sym ends.is) tt
 
-pub one_more : {D : Type 0} (flushes : D → Flushing → D → Type 0) (old mid new : D) (count : ℕ) (messages : Option ℕ) (n : ℕ) → messages ≡ Some n → 64 ≤ n → HasGoneOn flushes old count mid → FlushesOnce flushes mid messages new → HasGoneOn flushes old (count + 1) new
+pub one_more : {D : Type 0} (flushes : D → Flushing → D → Type 0) (old mid new : D) (count : ℕ) (messages : Option ℕ) (n : ℕ) → messages ≡ Some n → 512 ≤ n → HasGoneOn flushes old count mid → FlushesOnce flushes mid messages new → HasGoneOn flushes old (count + 1) new
 one_more flushes old mid new count messages n is lots before once =
     let whole = once.is_flush.whole n is in
     record {
@@ -200,7 +200,7 @@ at_last flushes old mid new count messages below is before once =
     }
 
 -- or it ended behind a whole flush of few messages
-pub at_few : {D : Type 0} (flushes : D → Flushing → D → Type 0) (old mid new : D) (count : ℕ) (messages : Option ℕ) (n : ℕ) → count < 16 → messages ≡ Some n → n < 64 → HasGoneOn flushes old count mid → FlushesOnce flushes mid messages new → WakesOnce flushes old new
+pub at_few : {D : Type 0} (flushes : D → Flushing → D → Type 0) (old mid new : D) (count : ℕ) (messages : Option ℕ) (n : ℕ) → count < 16 → messages ≡ Some n → n < 512 → HasGoneOn flushes old count mid → FlushesOnce flushes mid messages new → WakesOnce flushes old new
 at_few flushes old mid new count messages n below is few before once =
     let whole = once.is_flush.whole n is in
     record {

@@ -48,10 +48,10 @@ pub record EndsIn (messages : ℕ) (earlier done : List Flushing) : Type 0 where
   pub told : Installed
   pub is : done ≡ Came told ∷ Planned (Some messages) ∷ earlier
 
--- the last flush was of fewer messages than a worker's requests between two wakes
+-- the last flush was of fewer messages than a worker's requests in eight wakes
 pub record EndsInFew (done : List Flushing) : Type 0 where
   pub messages : ℕ
-  pub few : messages < 64
+  pub few : messages < 512
   pub earlier : List Flushing
   pub ends : EndsIn messages earlier done
 

@@ -12,11 +12,15 @@ use stow_house::flush_door::FlushDoor;
 /// The most flushes of one wake.
 const FLUSHES: u32 = 16;
 
-/// The fewest messages of a flush behind which a wake goes on: as many as a worker's requests between two wakes. A flush of
-/// fewer merges a page for little, so what waits is left to grow.
-const MANY: usize = 64;
+/// The fewest messages of a flush behind which a wake goes on: as many as a worker's requests in eight wakes. A flush of fewer
+/// merges a page for little, so what waits is left to grow.
+const MANY: usize = 512;
 
-/// Serves one wake after another, until no more can come.
+/// How many wakes are passed over behind one that ended in a flush of few messages.
+const PASSED: u32 = 7;
+
+/// Serves one wake after another, until no more can come; of those behind one that ended in a flush of few messages some are
+/// passed over.
 pub fn flush_loop<R: Wait, D: FlushDoor<A>, G: Gate, A: Allocator + Copy>(
     rt: &R,
     alloc: A,
@@ -26,24 +30,34 @@ pub fn flush_loop<R: Wait, D: FlushDoor<A>, G: Gate, A: Allocator + Copy>(
 )
     ensures { HasFlushed D.flushes door.old door.new }
 {
+    let mut passed = PASSED;
     for _ in wakes.iter(rt) {
-        serve_wake(alloc, door, gate);
+        if passed < PASSED {
+            passed += 1;
+        } else if serve_wake(alloc, door, gate) {
+            passed = 0;
+        }
     }
 }
 
 /// Plans, merges and installs up to 16 flushes, one after the other, until there is none, memory is refused or a flush was of
-/// few messages.
-pub fn serve_wake<D: FlushDoor<A>, G: Gate, A: Allocator + Copy>(alloc: A, door: &mut D, gate: &G)
+/// few messages, and tells whether one was.
+pub fn serve_wake<D: FlushDoor<A>, G: Gate, A: Allocator + Copy>(
+    alloc: A,
+    door: &mut D,
+    gate: &G,
+) -> bool
     ensures { WakesOnce D.flushes door.old door.new }
 {
     for _ in 0..FLUSHES {
         let Some(messages) = flush(alloc, door, gate) else {
-            return;
+            return false;
         };
         if messages < MANY {
-            return;
+            return true;
         }
     }
+    false
 }
 
 /// Plans, merges and installs one flush, and tells of how many messages it was. `None` where there is none, or memory is

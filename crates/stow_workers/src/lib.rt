@@ -21,7 +21,7 @@
 //!
 //! - Bytes are written whole (`writing::write_all`), or a beginning of them where a call of the writer failed.
 //! - One wake of a flusher (`flushing::serve_wake`, `specs/Flushes.antt`) is a plan and an install in turn, until
-//!   there is no job, memory is refused, there were 16 of each, or a flush was of fewer than 64 messages; its door goes from its
+//!   there is no job, memory is refused, there were 16 of each, or a flush was of fewer than 512 messages; its door goes from its
 //!   state before to that after by these, each in its relation.
 //! - A pool (`pool::Pool`) gives each seat back in its place, at a fault too. From a worker's nothing but calls was done:
 //!   it gained the receipt of each, where receipts are kept, or counted that memory was refused to it. From a flusher's

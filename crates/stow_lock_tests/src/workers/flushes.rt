@@ -62,13 +62,13 @@ impl FlushDoor<Global> for Waiting {
 // How many changes of a row wait, how many jobs there are, to which plan and install memory is refused, and how many of both there are.
 // Behind a job of few changes a wake ends.
 const WAKES: [(usize, usize, (usize, usize), (usize, usize)); 8] = [
-    (64, 0, (0, 0), (1, 0)),
-    (64, 3, (0, 0), (4, 3)),
-    (64, 16, (0, 0), (16, 16)),
-    (64, 1_000, (0, 0), (16, 16)),
-    (64, 1_000, (3, 0), (3, 2)),
-    (64, 1_000, (0, 3), (3, 3)),
-    (63, 1_000, (0, 0), (1, 1)),
+    (512, 0, (0, 0), (1, 0)),
+    (512, 3, (0, 0), (4, 3)),
+    (512, 16, (0, 0), (16, 16)),
+    (512, 1_000, (0, 0), (16, 16)),
+    (512, 1_000, (3, 0), (3, 2)),
+    (512, 1_000, (0, 3), (3, 3)),
+    (511, 1_000, (0, 0), (1, 1)),
     (1, 1_000, (0, 0), (1, 1)),
 ];
 
@@ -86,7 +86,7 @@ fn woken(
         plans: 0,
         installs: 0,
     };
-    serve_wake(alloc, &mut door, &OpenGate);
+    let _few = serve_wake(alloc, &mut door, &OpenGate);
     (door.plans, door.installs)
 }
 
