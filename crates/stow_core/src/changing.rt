@@ -18,6 +18,7 @@ use crate::Core;
 use crate::charging::sized;
 use crate::found_change::FoundChange;
 use crate::given::Given;
+use crate::places::Places;
 use crate::prepared::Prepared;
 use crate::preparing::only_counted;
 use crate::row_answer::{RowAnswer, append, made, set};
@@ -90,12 +91,12 @@ impl<A: Allocator + Copy> Core<A> {
                 Ok(FoundChange { answer, row })
             }
             Update::Add(_) => {
-                let found = self.row(buffer, alloc, self.present(tenant), key)?;
+                let mut place = usize::MAX;
+                let rows = self.present(tenant);
+                let found = self.row_with_place(buffer, alloc, rows, key, &mut place)?;
                 let answer = made(alloc, update, value_in(&found));
-                let row = SizedRow {
-                    version: sized(&found),
-                    place: usize::MAX,
-                };
+                let version = sized(&found);
+                let row = SizedRow { version, place };
                 Ok(FoundChange { answer, row })
             }
         }
@@ -126,12 +127,14 @@ impl<A: Allocator + Copy> Core<A> {
         let length = given.kept_length(change.after);
         let mut keys = self.spare_keys(alloc);
         keys.push(key)?;
+        let mut places = Places::none();
+        places.set(0, row.place);
         let write = Write {
             keys,
             given,
             charge,
             length,
-            place: row.place,
+            places,
         };
         self.prepare_write(alloc, tenant, write, reply)
     }

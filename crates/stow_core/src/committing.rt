@@ -40,11 +40,11 @@ impl<A: Allocator + Copy> Core<A> {
             given,
             charge,
             length,
-            place,
+            places,
         } = write;
         let index = tenant as usize - 1;
         let number = self.tenancies[index].versions.last() + 1;
-        put(&mut self.tree, number, given.op(), keys.lent(), place);
+        put(&mut self.tree, number, given.op(), keys.lent(), &places);
         self.keys = keys;
         self.tenancies[index].write(charge);
         self.lengths.keep(tenant, number, length);

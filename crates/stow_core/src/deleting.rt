@@ -14,6 +14,7 @@ ghost use Rattle.stow_core.specs.Taken.{AreTaken};
 
 use crate::Core;
 use crate::given::Given;
+use crate::places::Places;
 use crate::prepared::Prepared;
 use crate::preparing::only_counted;
 use crate::write::Write;
@@ -39,7 +40,8 @@ impl<A: Allocator + Copy> Core<A> {
         ensures { IsPrepared self.old tenant (serves (Del (words_in keys.entry))) self.new result }
     {
         let spare = self.spare_keys(alloc);
-        let (taken, charge) = self.taken(spare, buffer, alloc, tenant, keys)?;
+        let mut places = Places::none();
+        let (taken, charge) = self.taken(spare, buffer, alloc, tenant, keys, &mut places)?;
         if taken.len() == 0 {
             self.keep_keys(taken);
             return Ok(only_counted(tenant, Reply::Integer(0)));
@@ -50,13 +52,13 @@ impl<A: Allocator + Copy> Core<A> {
             given: Given::Gone,
             charge,
             length: None,
-            place: usize::MAX,
+            places,
         };
         self.prepare_write(alloc, tenant, write, reply)
     }
 
     /// Those of the keys that have a row, each once, among the keys of all, in a list that had none, and the charge
-    /// without these rows.
+    /// without these rows. The places are then those of their next messages.
     fn taken(
         &self,
         spare: Words<A>,
@@ -64,6 +66,7 @@ impl<A: Allocator + Copy> Core<A> {
         alloc: A,
         tenant: u32,
         keys: LentWords<'_>,
+        places: &mut Places,
     ) -> Result<(Words<A>, Charge), AllocError>
         requires is_tenant { IsTenant self.now.entries tenant }
         requires short { AreShortKeys (words_in keys) }
@@ -80,6 +83,7 @@ impl<A: Allocator + Copy> Core<A> {
                 if !is_among(buffer.as_slice(), taken.lent()) {
                     let own = (buffer.len() - 4) as u32;
                     charge = self.charge_without(tenant, charge, own, version);
+                    places.set(taken.len(), row.place);
                     taken.push(buffer.as_slice())?;
                 }
             }

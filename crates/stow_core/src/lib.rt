@@ -27,7 +27,7 @@
 //! A body of `prepare`, `prepare_command` or `prepare_change` that prepares the same twice is right too, since
 //! a prepared answer that is never carried out changes nothing.
 //! So is one of `told_version`, `length_of` or `kept_length` that tells nothing, and one of `keep` that holds nothing: values
-//! are then read. Another place of a `SizedRow` or a `Write` makes a search longer, and changes nothing else.
+//! are then read. Other places of a `SizedRow` or a `Write` make a search longer, and change nothing else.
 #![tactic(auto)]
 
 ghost use Rattle.std.specs.Prelude.{◌≡◌, ◌<◌, Err, IfOk, OnErr, OnOk, length, map};
@@ -74,6 +74,7 @@ mod keys;
 mod length_entry;
 mod lengths;
 mod pinning;
+pub mod places;
 pub mod prepared;
 mod preparing;
 mod ranging;

@@ -74,10 +74,30 @@ impl<A: Allocator + Copy> Core<A> {
         ensures buffer { OnOk result (buffer.new.items ≡ packed rows.tenant key.now) }
         ensures is_key { OnOk result (IsTenantKey buffer.new.items) }
     {
+        self.row_with_place(buffer, alloc, rows, key, &mut 0)
+    }
+
+    /// What `row` answers. The place is then where the key's next message may come to stand: a guess, beyond all where none was
+    /// made.
+    pub(crate) fn row_with_place(
+        &self,
+        buffer: &mut Vec<u8, A>,
+        alloc: A,
+        rows: RowsAt,
+        key: &[u8],
+        place: &mut usize,
+    ) -> Result<Option<Found<'_, A>>, AllocError>
+        requires is_tenant { IsTenant self.now.entries rows.tenant }
+        requires short { IsShortKey key.now }
+        ensures row { IfOk result (λ row. row_of row ≡ finite.get (rows_in self.now rows) key.now) }
+        ensures short { IfOk result (λ row. IsValue (value_in (row_of row))) }
+        ensures buffer { OnOk result (buffer.new.items ≡ packed rows.tenant key.now) }
+        ensures is_key { OnOk result (IsTenantKey buffer.new.items) }
+    {
         let tree = &self.tree;
         pack_into(buffer, rows.tenant, key)?;
         let key = TenantKey::from_packed(buffer.as_slice());
-        tree.get(alloc, key, rows.number)
+        tree.get_with_place(alloc, key, rows.number, place)
     }
 
     /// What the newest message of a key, or its row in a leaf, tells of the row that the key has. The buffer then has the key among

@@ -10,6 +10,7 @@ ghost use Rattle.stow_tree_model.specs.Op.{op_of};
 ghost use Rattle.stow_tree_model.specs.TreeMessage.{message_of};
 ghost use Rattle.stow_core.specs.Writes.{write_of, writes_of, AreMessages};
 
+use crate::places::Places;
 use std::alloc::{AllocError, Allocator};
 use stow_merge::pins::Pins;
 use stow_model::lent_words::LentWords;
@@ -90,13 +91,13 @@ fn put_one<A: Allocator + Copy>(
 }
 
 /// Does this to the values of these keys in the tree. It takes no memory and cannot fail. The searches are the shorter the
-/// nearer the guess is to the places of the messages.
+/// nearer the places are to those of the messages: one that an earlier key's message moved on is found in two or three steps.
 pub fn put<A: Allocator + Copy>(
     tree: &mut Tree<A>,
     number: u64,
     op: Op<'_>,
     keys: LentWords<'_>,
-    guess: usize,
+    places: &Places,
 )
     requires messages { AreMessages (writes_of number (op_of op) (words_in keys)) }
     requires room { IsReserved tree.old (writes_of number (op_of op) (words_in keys)) }
@@ -105,6 +106,6 @@ pub fn put<A: Allocator + Copy>(
     ensures shape { tree.new.root.shape ≡ tree.old.root.shape }
 {
     for index in 0..keys.len() {
-        put_one(tree, number, op, keys.get(index), guess);
+        put_one(tree, number, op, keys.get(index), places.of(index));
     }
 }

@@ -97,6 +97,7 @@ pub fn get<'a, A: Allocator + Copy>(
         return Ok(Lookup {
             found: None,
             leaf: None,
+            place: usize::MAX,
         });
     }
     let mut suffixes = Suffixes::new(alloc);
@@ -104,5 +105,6 @@ pub fn get<'a, A: Allocator + Copy>(
     Ok(Lookup {
         found: suffixes.on(alloc, end.base)?,
         leaf: end.leaf,
+        place: suffixes.place,
     })
 }

@@ -10,4 +10,6 @@ pub struct Lookup<'a, A: Allocator = Global> {
     pub found: Option<Found<'a, A>>,
     /// The leaf that was looked into, if any was.
     pub leaf: Option<&'a Leaf<A>>,
+    /// Where the key's next message may come to stand in the node's own buffer: a guess, beyond all where none was made.
+    pub place: usize,
 }

@@ -25,6 +25,8 @@ pub(crate) struct Suffixes<'a, A: Allocator> {
     /// The newest append's number.
     pub(crate) number: u64,
     pub(crate) suffixes: Vec<&'a [u8], A>,
+    /// Behind how many messages of the first buffer the key's next one may come to stand: a guess, beyond all where none was made.
+    pub(crate) place: usize,
 }
 
 /// What a key's messages in one buffer come to.
@@ -44,6 +46,16 @@ impl<'a, A: Allocator + Copy> Suffixes<'a, A> {
         Suffixes {
             number: 0,
             suffixes: Vec::new(alloc),
+            place: usize::MAX,
+        }
+    }
+
+    /// Keeps where the first search ended.
+    fn keep_place(&mut self, place: usize)
+        ensures { suffixes_of self.new ≡ suffixes_of self.old }
+    {
+        if self.place == usize::MAX {
+            self.place = place;
         }
     }
 
@@ -73,6 +85,7 @@ impl<'a, A: Allocator + Copy> Suffixes<'a, A> {
     {
         let _known = buffer.len();
         let count = count_up_to(buffer, key, at, guess);
+        self.keep_place(count);
         for i in 0..count {
             let message = buffer.message(count - 1 - i);
             if !message.key.is_same(key) {

@@ -238,7 +238,25 @@ impl<A: Allocator + Copy> Tree<A> {
             ≡ value (tree_messages self.now) key.entry.bytes.now at) }
         ensures short { IfOk result (λ found. IsValue (value_in (option_map found_value found))) }
     {
-        Ok(get(alloc, &self.root, key, at)?.found)
+        self.get_with_place(alloc, key, at, &mut 0)
+    }
+
+    /// What `get` answers. The place is then where the key's next message may come to stand in the root's buffer: a guess,
+    /// beyond all where none was made.
+    pub fn get_with_place(
+        &self,
+        alloc: A,
+        key: TenantKey<'_>,
+        at: u64,
+        place: &mut usize,
+    ) -> Result<Option<Found<'_, A>>, AllocError>
+        ensures value { IfOk result (λ found. option_map found_value found
+            ≡ value (tree_messages self.now) key.entry.bytes.now at) }
+        ensures short { IfOk result (λ found. IsValue (value_in (option_map found_value found))) }
+    {
+        let lookup = get(alloc, &self.root, key, at)?;
+        *place = lookup.place;
+        Ok(lookup.found)
     }
 
     /// What the key's newest message or row up to a number tells of the value that it has there. It takes no memory, and no

@@ -11,8 +11,9 @@ use Rattle.stow_read.proofs.suffixes.Suffixes.look.Goals as goal
 pub loop-i-init : goal.loop-i-init
 loop-i-init g c =
     let all : c.count_up_to-count.result ≡ c.count_up_to-count.result - 0 = omega arith in
-    subst (λ left. IsLooking c.args.buffer.now.messages c.args.key.bytes.now c.args.at left (suffixes_of c.args.self.now) (suffixes_of c.args.self.now)) all
-    (looking_first c.args.buffer.now.messages c.args.key.bytes.now c.args.at c.count_up_to-count.result (suffixes_of c.args.self.now) c.len-known.ensures.rising c.count_up_to-count.ensures)
+    subst (IsLooking c.args.buffer.now.messages c.args.key.bytes.now c.args.at (c.count_up_to-count.result - 0) (suffixes_of c.args.self.now)) (sym c.keep_place.ensures)
+    (subst (λ left. IsLooking c.args.buffer.now.messages c.args.key.bytes.now c.args.at left (suffixes_of c.args.self.now) (suffixes_of c.args.self.now)) all
+    (looking_first c.args.buffer.now.messages c.args.key.bytes.now c.args.at c.count_up_to-count.result (suffixes_of c.args.self.now) c.len-known.ensures.rising c.count_up_to-count.ensures))
 
 pub returns-then-not-is_same : goal.returns-then-not-is_same
 returns-then-not-is_same g c =
