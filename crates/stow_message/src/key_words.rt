@@ -147,7 +147,10 @@ fn word_at<A: Allocator>(raw: &SlotBuf<A>, slot: Option<u32>, shared: usize) -> 
 
 impl<A: Allocator> KeyWords<A> {
     /// No word, for the slots of a block. For a block whose slots are never young no memory is asked for.
-    pub(crate) fn for_block<B: Allocator>(alloc: A, raw: &SlotBuf<B>) -> Result<KeyWords<A>, AllocError> {
+    pub(crate) fn for_block<B: Allocator>(
+        alloc: A,
+        raw: &SlotBuf<B>,
+    ) -> Result<KeyWords<A>, AllocError> {
         let most = if raw.takes_young() {
             raw.capacity() / BYTES
         } else {
@@ -278,7 +281,11 @@ impl<A: Allocator> KeyWords<A> {
             return;
         }
         let known = self.covers(raw);
-        let most = if known { self.shared } else { shared_by_older(raw) };
+        let most = if known {
+            self.shared
+        } else {
+            shared_by_older(raw)
+        };
         let shared = shared_by_young(raw, most);
         if !known || shared < self.shared {
             self.shared = shared;

@@ -228,14 +228,7 @@ fn insert_in(cells: &mut Cells, start: usize, len: usize, index: usize, word: u3
 }
 
 /// Moves `count` of the numbers in the last `len` bytes, from `from` on, to the places from `to` on.
-fn move_in(
-    cells: &mut Cells,
-    start: usize,
-    len: usize,
-    to: usize,
-    from: usize,
-    count: usize,
-)
+fn move_in(cells: &mut Cells, start: usize, len: usize, to: usize, from: usize, count: usize)
     requires row { (start + len ≡ length cells.old.bytes)
         × IsWritten (drop start cells.old.bytes) }
     requires within { (4 * (from + count) ≤ len) × (4 * (to + count) ≤ len) }
