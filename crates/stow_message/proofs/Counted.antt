@@ -1,5 +1,5 @@
 -- The bytes of a buffer's messages, which are counted.
-use Rattle.std.proofs.Common.{◌≡◌, ℕ, ◌+◌, ◌-◌, ◌≤◌, ◌∙◌, List, [], ◌∷◌, ◌++◌, Bool, true, false, length, take, drop, refl, sym, ap, arith, drop-drop}
+use Rattle.std.proofs.Common.{◌≡◌, ℕ, ◌+◌, ◌-◌, ◌∙◌, List, [], ◌∷◌, Bool, true, false, take, drop, refl, sym, ap, arith, drop-drop}
 use Rattle.std.specs.Prelude.{if◌then◌else◌}
 use Rattle.std.specs.List.{sum_by, remove_range}
 use Rattle.std.proofs.lemmas.List.Sums.{sum_by-cons, sum_by-append, sum_by-take-drop}
@@ -7,7 +7,7 @@ use Rattle.stow_raw.specs.RawBuf.{RawLists, raw_used}
 use Rattle.stow_tree_model.specs.TreeMessage.{TreeMessage}
 use Rattle.stow_message.specs.Packed.{message_size}
 use Rattle.stow_message.specs.MessageBuf.{MessageList, message_list, messages_in}
-use Rattle.stow_message.specs.Rising.{is_same, is_first}
+use Rattle.stow_message.specs.Rising.{is_same}
 use Rattle.stow_message.proofs.Placed.{itself}
 use Rattle.stow_message.proofs.Taken.{kept, unfound, same_is}
 
