@@ -6,7 +6,9 @@ use Rattle.std.proofs.lemmas.List.{length-append, length-map, get_or-map, take_a
 use Rattle.stow_leaf.specs.declared.leaf.Leaf.{Leaf}
 use Rattle.stow_node.specs.declared.child.Child.{Child}
 use Rattle.stow_node.specs.declared.child.Child.TheVariants as in_child
-use Rattle.stow_node.specs.Nodes.{part_of, parts_of, AreChildren}
+use Rattle.stow_node.specs.declared.shape.Shape.{Shape}
+use Rattle.std.specs.List.{AllByRecursion}
+use Rattle.stow_node.specs.Nodes.{part_of, parts_of, AreChildren, IsBelow}
 use Rattle.stow_node.specs.Parts.{Part, leaves_in, messages_in}
 use Rattle.stow_node.specs.Subtree.{Subtree}
 use Rattle.stow_tree.specs.declared.counting.Counts.{Counts}
@@ -100,3 +102,10 @@ counted_all t children i counts are l so = record {
   where
     all : take i (parts_of children) ≡ parts_of children
     all = take_all i (parts_of children) (subst (λ n. n ≤ i) (sym (length-map children part_of)) l)
+
+-- a child is lower than its parent
+pub child_lower : {A : Type 0} (height : ℕ) (shape : Shape) (cs : List (Child A)) (i : ℕ) (c : Child A) (z : Subtree) → AllByRecursion (IsBelow height shape) cs → i < length cs → c ≡ get_or cs i c → c ≡ in_child.Node z → z.height < height
+child_lower height shape [] i c z all lt at is = absurd (omega (arith, lt))
+child_lower {A} height shape (d ∷ cs) zero c z all lt at is = let level : (part_of d).height + 1 ≡ height = all.0.level in
+    omega (arith, level, ap (λ (k : Child A). (part_of k).height) (sym at ∙ is))
+child_lower height shape (d ∷ cs) (suc i) c z all lt at is = child_lower height shape cs i c z all.1 (omega (arith, lt)) at is

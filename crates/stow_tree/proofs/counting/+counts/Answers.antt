@@ -1,6 +1,6 @@
-use Rattle.std.proofs.Common.{◌+◌, ap, ◌∙◌, sym, subst, length}
+use Rattle.std.proofs.Common.{rules, ◌+◌, ◌<◌, ap, ◌∙◌, sym, subst, length}
 use Rattle.stow_message.specs.MessageBuf.{MessageList}
-use Rattle.stow_tree.proofs.Counted.{IsCounting, ChildCounts, leaf_counts, node_counts, counting_first, counting_on, counted_all}
+use Rattle.stow_tree.proofs.Counted.{IsCounting, ChildCounts, leaf_counts, node_counts, counting_first, counting_on, counted_all, child_lower}
 use Rattle.stow_tree.proofs.counting.+counts.Goals as goal
 use Rattle.stow_tree.proofs.counting.+counts.Goals.{in-Leaf, in-Node}
 
@@ -19,3 +19,8 @@ loop-i-preserved g t c =
 
 pub returns : goal.returns
 returns g t c = counted_all c.args.node.now c.children-children.result.now c.loop-i.i c.loop-i.counts c.children-children.ensures c.loop-i-test.false c.loop-i.invariant
+
+pub counts_of-below-requires : goal.counts_of-below-requires
+counts_of-below-requires g t c κs within =
+    let less : c.in-Node.lower.height < c.args.node.now.height = child_lower c.args.node.now.height c.args.node.now.shape c.children-children.result.now c.loop-i.i c.index-children-i.result c.in-Node.lower c.children-children.ensures.level c.loop-i-test.true c.index-children-i.is c.in-Node.is in
+    search (rules, less)
