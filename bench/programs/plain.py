@@ -2,7 +2,7 @@
 import bisect
 
 OOM = b"-OOM memory was refused\r\n"
-KEY, VALUE, NUMBER = 1024, 65_535, 2 ** 63 - 1
+KEY, VALUE, NUMBER = 1024, 1_048_576, 2 ** 63 - 1
 REFUSED = {
     "name": b"-ERR unknown command\r\n", "words": b"-ERR wrong number of arguments\r\n", "option": b"-ERR syntax error\r\n",
     "integer": b"-ERR value is not an integer or out of range\r\n", "overflow": b"-ERR increment or decrement would overflow\r\n",
