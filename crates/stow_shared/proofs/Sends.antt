@@ -8,6 +8,7 @@ use Rattle.std.proofs.CrossingOver.{crosses}
 use Rattle.stow_core.proofs.Sends.{core_sends}
 use Rattle.stow_login.proofs.tenants.Tenants.TheSendSync as tenants
 use Rattle.stow_shared.proofs.entry.Entry.TheSendSync as entry
+use Rattle.stow_shared.proofs.turns.Turns.TheSendSync as turns
 use Rattle.stow_shared.specs.declared.journal.Journal as journal
 use Rattle.stow_shared.specs.contracts.book.Book as book
 use Rattle.stow_shared.specs.contracts.book.Book.TheInside as in_book
@@ -30,7 +31,7 @@ module _ (K A : RattleType) (k : journal.Ghosts K.Denot) (g : Ghosts A.Denot) wh
       let b = book_sends own sent synced free in
       struct_sync (shape (in_shared.the_type K A k g)) (
         search (tenants.the_send, tenants.the_sync, crosses, sendable) depth 8,
-        (search sendable, (search (at_heap.crosses, sendable) depth 8, tt)),
+        (search sendable, (search (turns.the_sync, sendable) depth 8, (search (at_heap.crosses, sendable) depth 8, tt))),
       )
 
   pub shared_syncs : IsSend K → IsSend A → IsSync A → Frees g g.dealloc_token → IsSync (shared.the_field K A k g).row

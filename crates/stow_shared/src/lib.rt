@@ -39,4 +39,5 @@ mod pipelined;
 pub mod seat;
 pub mod shared;
 pub mod step;
+mod turns;
 pub mod unkept;

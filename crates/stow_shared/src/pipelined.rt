@@ -8,6 +8,7 @@ use crate::book::Book;
 use crate::copies::Copies;
 use crate::journal::Journal;
 use crate::seat::Seat;
+use crate::turns::asks_for_many;
 use std::alloc::Allocator;
 use stow_house::request::Request;
 use stow_model::reply::Reply;
@@ -43,7 +44,7 @@ fn answer<J: Journal, A: Allocator + Copy>(
 }
 
 /// Answers requests one after another, the first of them at least: its reply, and those of the next ones, for as many as `more`
-/// has room and no reply before them may be long.
+/// has room, no reply before them may be long, and none of them asks for many rows: for such a one a turn is taken first.
 pub(crate) fn answer_all<J: Journal, A: Allocator + Copy>(
     book: &mut Book<J, A>,
     alloc: A,
@@ -60,10 +61,11 @@ pub(crate) fn answer_all<J: Journal, A: Allocator + Copy>(
     let first = answer(book, alloc, seat, &requests[0]);
     let mut is_last = is_long(&first);
     for i in 1..requests.len() {
-        if is_last || more.len() == more.capacity() {
+        let request = &requests[i];
+        if is_last || more.len() == more.capacity() || asks_for_many(&request.words) {
             return first;
         }
-        let reply = answer(book, alloc, seat, &requests[i]);
+        let reply = answer(book, alloc, seat, request);
         is_last = is_long(&reply);
         more.push_reserved(reply);
     }

@@ -17,6 +17,7 @@ use crate::journal::Journal;
 use crate::open_fault::OpenFault;
 use crate::pipelined::answer_all;
 use crate::seat::Seat;
+use crate::turns::{Turns, asks_for_many, bytes_of};
 use std::alloc::{AllocError, Allocator, Global};
 use std::marker::Model;
 use std::sync::{Arc, Mutex, Wait};
@@ -37,6 +38,7 @@ const SEAT_LIMIT: u32 = 1024;
 pub struct Shared<J: Journal, A: Allocator + Copy = Global> {
     tenants: Arc<Tenants<A>, A>,
     seats: u32,
+    turns: Turns,
     book: Mutex<Book<J, A>>,
 }
 
@@ -75,6 +77,7 @@ impl<J: Journal, A: Allocator + Copy> Shared<J, A> {
                     Shared {
                         tenants,
                         seats,
+                        turns: Turns::new(),
                         book,
                     },
                     handed,
@@ -92,8 +95,28 @@ impl<J: Journal, A: Allocator + Copy> Shared<J, A> {
     }
 
     /// Answers a tenant's words, whole, while the lock is held. The seat gains the receipt of it where entries are
-    /// kept; where memory was refused it gains none, and counts the call.
+    /// kept; where memory was refused it gains none, and counts the call. Requests that ask for many rows take turns.
     pub fn call<R: Wait>(
+        &self,
+        rt: &R,
+        alloc: A,
+        seat: &mut Seat<J, A>,
+        tenant: u32,
+        words: &Words<A>,
+    ) -> Reply<A>
+        ensures { SeatCalls J.keeps seat.old tenant words.now (reply_of result) seat.new }
+    {
+        if !asks_for_many(words) {
+            return self.answer(rt, alloc, seat, tenant, words);
+        }
+        let mut turn = self.turns.take(rt);
+        let reply = self.answer(rt, alloc, seat, tenant, words);
+        *turn = bytes_of(&reply);
+        reply
+    }
+
+    /// The same, without a turn.
+    fn answer<R: Wait>(
         &self,
         rt: &R,
         alloc: A,
@@ -110,8 +133,32 @@ impl<J: Journal, A: Allocator + Copy> Shared<J, A> {
     }
 
     /// Answers requests one after another while the lock is held, each as `call` does: the first of them at least, and the next
-    /// ones for as many as `more` has room and no reply before them may be long.
+    /// ones for as many as `more` has room, no reply before them may be long, and none of them asks for many rows.
     pub fn call_all<R: Wait>(
+        &self,
+        rt: &R,
+        alloc: A,
+        seat: &mut Seat<J, A>,
+        requests: &[Request<A>],
+        more: &mut Vec<Reply<A>, A>,
+    ) -> Reply<A>
+        requires some { 0 < length requests.now }
+        requires none { more.old.items ≡ [] }
+        ensures answers { AnswersFront (SeatCalls J.keeps) seat.old requests.now
+            (reply_of result ∷ map reply_of more.new.items) seat.new }
+        ensures within { length more.new.items < length requests.now }
+    {
+        if !asks_for_many(&requests[0].words) {
+            return self.answer_all(rt, alloc, seat, requests, more);
+        }
+        let mut turn = self.turns.take(rt);
+        let first = self.answer_all(rt, alloc, seat, requests, more);
+        *turn = bytes_of(&first);
+        first
+    }
+
+    /// The same, without a turn.
+    fn answer_all<R: Wait>(
         &self,
         rt: &R,
         alloc: A,
@@ -207,6 +254,7 @@ impl<J: Journal, A: Allocator + Copy> Shared<J, A> {
         let Shared {
             tenants,
             seats: count,
+            turns,
             book,
         } = self;
         let book = book.into_inner();
@@ -216,6 +264,7 @@ impl<J: Journal, A: Allocator + Copy> Shared<J, A> {
         let shared = Shared {
             tenants,
             seats: count,
+            turns,
             book: Mutex::new(book),
         };
         Err((shared, seats))
