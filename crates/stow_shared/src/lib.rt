@@ -17,6 +17,9 @@
 //! journal. Two such journals in which a tenant calls alike tell it the same and leave it the same store
 //! (`laws::two_journals`). `Desk` is the door of a session over a seat, and that of a flusher.
 //!
+//! Requests that ask for many rows take turns (`Turns`) before they take the lock, so that others wait for one of them at most; no clause
+//! speaks of that.
+//!
 //! Not said: that a call returns, since it waits for the lock, nor in which order steps of different seats come. A
 //! body that answers want of memory, or a `close` that always gives all back, meets its contract; so does a `Shared::call`
 //! that does nothing under the lock and makes its receipt up, whose journal `close` then refuses. Tests call each with
