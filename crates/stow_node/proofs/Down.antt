@@ -36,7 +36,7 @@ stays_then s t = record {
   count = t.count ∙ s.count;
 }
 
-stays_itself : (x : Subtree) → StaysInMeaning x x
+pub stays_itself : (x : Subtree) → StaysInMeaning x x
 stays_itself x = record { low = refl; height = refl; width = refl; shape = refl; capacity = refl; leaves = refl; messages = λ key n. refl; count = refl }
 
 squeezed_stays : (x : Subtree) (used : ℕ) → StaysInMeaning x (record x { buffer = message_list x.buffer.messages used x.buffer.capacity })

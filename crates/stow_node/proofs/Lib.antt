@@ -33,3 +33,4 @@ pub mod Raising
 pub mod Planned
 pub mod Mergeable
 pub mod PlanSteps
+pub mod Eased

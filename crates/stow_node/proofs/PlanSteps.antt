@@ -38,10 +38,12 @@ use Rattle.stow_node.proofs.Stayed.{child_stays, level_at}
 use Rattle.stow_node.proofs.Ways.{are_children}
 
 -- what stays in meaning keeps its values within the limit
+-- what stays in meaning has of each key what it had
+pub same_messages : (x y : Subtree) → StaysInMeaning x y → (key : List ℕ) (n : ℕ) → ops_in (messages_of x) key n ≡ ops_in (messages_of y) key n
+same_messages x y s key n = parts_ops x key n ∙ (λ i. or_else (sym (s.messages key n) i) (ops_in (row_messages (sym s.leaves i)) key n)) ∙ sym (parts_ops y key n)
+
 pub stays_short : (x y : Subtree) → StaysInMeaning x y → AreShort (messages_of x) → AreShort (messages_of y)
-stays_short x y s short key = subst HasShortValues (λ j n. (same n) j) (short key) where
-  same : (n : ℕ) → ops_in (messages_of x) key n ≡ ops_in (messages_of y) key n
-  same n = parts_ops x key n ∙ (λ i. or_else (sym (s.messages key n) i) (ops_in (row_messages (sym s.leaves i)) key n)) ∙ sym (parts_ops y key n)
+stays_short x y s short key = subst HasShortValues (λ j n. same_messages x y s key n j) (short key)
 
 -- ---- a child's plan
 

@@ -79,6 +79,11 @@ next_is {A} a i bytes x c lent lent' node high_up many e heavy here is e' given 
 
 -- ---- a step of the child's own
 
+-- a child that lacks room, of a node that has messages for it, has messages
+pub next_filled : {A : Type 0} (a : Inside A) (i bytes ample : ℕ) (x y : Subtree) → IsNode a → IsNext a i bytes x → IsSqueezed x y → y.buffer.capacity < sum_by message_size y.buffer.messages + ample → (bytes ≤ a.shape.buffer → ample ≤ a.shape.buffer) → 0 < length y.buffer.messages
+next_filled a i bytes ample x y node n q full most =
+    full_has_messages y ample full (let b = node.fits in let f = most (let l = n.few in omega (arith, l, b)) in let k = (squeezed_same x y q).0.capacity in let c = n.capacity in omega (arith, b, f, k, c))
+
 pub record CanStep (y : Subtree) (height capacity fan_out : ℕ) : Type 0 where
   pub filled : 0 < length y.buffer.messages
   pub few : y.width ≤ y.shape.fan_out
@@ -89,7 +94,7 @@ pub record CanStep (y : Subtree) (height capacity fan_out : ℕ) : Type 0 where
 
 pub can_step : {A : Type 0} (a : Inside A) (i bytes ample : ℕ) (x y : Subtree) → IsNode a → IsNext a i bytes x → IsSqueezed x y → y.buffer.capacity < sum_by message_size y.buffer.messages + ample → (bytes ≤ a.shape.buffer → ample ≤ a.shape.buffer) → AreShort (messages_of (subtree_of a)) → CanStep y a.height a.buffer.capacity a.shape.fan_out
 can_step {A} a i bytes ample x y node n q full most short = record {
-  filled = full_has_messages y ample full (let b = node.fits in let f = most (let l = n.few in omega (arith, l, b)) in let k = squeezed.capacity in let c = n.capacity in omega (arith, b, f, k, c));
+  filled = next_filled a i bytes ample x y node n q full most;
   few = let e = fan_out in let w = squeezed.width in let f = level.same.3 in omega (arith, e, w, f);
   wide = fan_out;
   short = rw q.is (child_short a i x node n.at short);

@@ -10,4 +10,5 @@ pub mod Rooms
 pub mod Ways
 pub mod Jobs
 pub mod Installs
+pub mod Eases
 pub mod Plans

@@ -1,8 +1,9 @@
 //! Which child most bytes are buffered for, and the way of its messages.
-ghost use Rattle.std.specs.Prelude.{◌≡◌, ◌<◌, length};
+ghost use Rattle.std.specs.Prelude.{◌≡◌, ◌<◌, length, slice_index_or, IsTrue};
+ghost use Rattle.stow_message.specs.Rising.{in_range, AreNew};
 ghost use Rattle.stow_node.specs.Moves.{bytes_for, IsHeaviest, CanHandDown, HandsDown};
 ghost use Rattle.stow_node.specs.Nodes.{parts_of};
-ghost use Rattle.stow_node.specs.Parts.{Part};
+ghost use Rattle.stow_node.specs.Parts.{Part, high_of};
 
 use crate::child::{Child, first_low, high_after};
 use std::alloc::Allocator;
@@ -34,6 +35,21 @@ pub(crate) fn heaviest<A: Allocator>(children: &[Child<A>], buffer: &MessageBuf<
         }
     }
     best
+}
+
+/// Whether the buffer holds none of the batch's messages of a child's keys.
+pub(crate) fn is_apart<A: Allocator>(
+    children: &[Child<A>],
+    index: usize,
+    buffer: &MessageBuf<A>,
+    batch: &MessageBuf<A>,
+) -> bool
+    requires { index < length children.now }
+    ensures { (d : Part) → IsTrue result → AreNew (in_range
+        (slice_index_or (parts_of children.now) index d).low
+        (high_of (parts_of children.now) index) batch.now.messages) buffer.now.messages }
+{
+    buffer.are_new(&batch.in_range(children[index].low(), high_after(children, index)))
 }
 
 /// Moves the messages for a child, a node, into its buffer.

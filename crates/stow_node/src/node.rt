@@ -10,6 +10,7 @@ ghost use Rattle.stow_message.specs.Packed.{message_size};
 ghost use Rattle.stow_message.specs.Rising.{in_range};
 ghost use Rattle.stow_tree_model.specs.Agreement.{TenantPins};
 ghost use Rattle.stow_tree_model.specs.TreeMessage.{message_of};
+ghost use Rattle.stow_node.specs.Eases.{Eases};
 ghost use Rattle.stow_node.specs.Flushes.{AreShort, Flushes, KeepsRoot};
 ghost use Rattle.stow_node.specs.Halves.{AreHalves};
 ghost use Rattle.stow_node.specs.Installs.{AreGone, BatchIsGone, CanComeIn, CanInstall, CoversAll};
@@ -32,7 +33,7 @@ use crate::counting::room_for;
 use crate::fence::Fence;
 use crate::installed::Installed;
 use crate::installing::can_install;
-use crate::moving::{bytes_for, hand_down, heaviest};
+use crate::moving::{bytes_for, hand_down, heaviest, is_apart};
 use crate::planning::{deepest_child, is_drained, job_for};
 use crate::room::Room;
 use crate::shape::Shape;
@@ -576,18 +577,65 @@ impl<A: Allocator + Copy> Node<A> {
         Ok(())
     }
 
+    /// One move of its messages towards the leaves that merges nothing: those for the child for which most bytes are buffered
+    /// move into that child's buffer. Where they don't fit there, dead bytes dropped, the move is that child's own; right
+    /// above leaves nothing moves, nor does what holds a message of the batch. It asks for no memory.
+    fn ease_below(&mut self, batch: &MessageBuf<A>, spare: &mut RawBuf<A>)
+        requires some { 0 < length self.old.buffer.messages }
+        requires spare { self.old.buffer.capacity ≤ spare.old.capacity }
+        ensures eases { Eases batch.now.messages self.old self.new }
+        ensures spare { spare.new.capacity ≡ spare.old.capacity }
+    {
+        let _known = self.buffer.used();
+        let _known = self.buffer.len();
+        if self.height == 1 {
+            return;
+        }
+        let index = heaviest(self.children.as_slice(), &self.buffer);
+        let bytes = bytes_for(self.children.as_slice(), index, &self.buffer);
+        let ample = self.shape.ample(bytes);
+        match &mut self.children[index] {
+            Child::Leaf(_) => unreachable!(),
+            Child::Node(node) => {
+                if !node.makes_room(bytes, ample, spare) {
+                    node.ease_below(batch, spare);
+                    return;
+                }
+            }
+        }
+        if is_apart(self.children.as_slice(), index, &self.buffer, batch) {
+            hand_down(&mut self.children, index, &mut self.buffer);
+        }
+    }
+
+    /// Eases a root in which a job's batch came in, where its own messages take more than half of its block (`ease_below`): the
+    /// next request that wants room there is to find it.
+    fn ease(&mut self, batch: &MessageBuf<A>, spare: &mut RawBuf<A>)
+        requires spare { self.old.buffer.capacity ≤ spare.old.capacity }
+        ensures eases { Eases batch.now.messages self.old self.new }
+        ensures spare { spare.new.capacity ≡ spare.old.capacity }
+    {
+        if self.buffer.live() > self.buffer.capacity() / 2 {
+            self.order();
+            self.ease_below(batch, spare);
+        }
+    }
+
     /// Puts the pages of a job's result in its leaf's place, of a root, and takes the job's batch out of the buffer right above the
-    /// leaf: the root means the same under the pins. Where it can't come any more the result is stale, and nothing changes.
-    /// Where memory is refused the result comes back, and no message has moved.
+    /// leaf: the root means the same under the pins. Then some of its messages may move towards the leaves (`ease`). Where
+    /// it can't come any more the result is stale, and nothing changes. Where memory is refused the result comes back, and no
+    /// message has moved.
     pub fn install(
         &mut self,
         alloc: A,
         merge: FlushResult<A>,
         pins: &Pins<A>,
+        spare: &mut RawBuf<A>,
         cache: &mut LeafCache<A>,
     ) -> Result<Installed, (FlushResult<A>, AllocError)>
         requires few { self.old.width ≤ self.old.shape.fan_out }
         requires fan_out { 4 ≤ self.old.shape.fan_out }
+        requires spare { self.old.buffer.capacity ≤ spare.old.capacity }
         ensures root { KeepsRoot (pins_in pins.now) self.old self.new }
         ensures stale { IfOk result (λ r. r ≡ installed.Stale
             ↔ ¬ CanInstall self.old merge.job (pins_in pins.now)) }
@@ -597,12 +645,16 @@ impl<A: Allocator + Copy> Node<A> {
             → BatchIsGone merge.job.batch.messages self.new) }
         ensures err { IfErr result (λ e. (e.0 ≡ merge) × (self.new ≡ self.old)) }
         ensures cache { Forgets self.old.leaves self.new.leaves cache.old cache.new }
+        ensures spare { spare.new.capacity ≡ spare.old.capacity }
     {
         if !can_install(self, &merge.job, pins) {
             return Ok(Installed::Stale);
         }
         match self.install_result(alloc, &merge, cache) {
-            Ok(()) => Ok(Installed::Done),
+            Ok(()) => {
+                self.ease(&merge.job.batch, spare);
+                Ok(Installed::Done)
+            }
             Err(refused) => Err((merge, refused)),
         }
     }

@@ -207,7 +207,8 @@ impl<A: Allocator + Copy> Tree<A> {
         ensures shape { self.new.root.shape ≡ self.old.root.shape }
         ensures limit { self.new.cache.limit ≡ self.old.cache.limit }
     {
-        self.root.install(alloc, merge, pins, &mut self.cache)
+        let (spare, cache) = (&mut self.spare, &mut self.cache);
+        self.root.install(alloc, merge, pins, spare, cache)
     }
 
     /// All versions of the key, from the oldest: at each number the newest one up to it has what the key has there. A
