@@ -1,5 +1,5 @@
 -- A node some of whose messages moved towards the leaves, where none of a batch does.
-use Rattle.std.proofs.Common.{zero, suc, ◌≡◌, ◌≢◌, ℕ, ◌+◌, ◌<◌, ◌≤◌, true, false, List, [], ◌∷◌, ◌++◌, length, set, Option, Some, None, refl, sym, ap, ◌∙◌, subst, arith, ⊎_elim}
+use Rattle.std.proofs.Common.{zero, suc, ◌≡◌, ◌≢◌, ℕ, ◌≤◌, true, false, List, [], ◌∷◌, set, Option, Some, None, refl, sym, ap, ◌∙◌, subst, arith, ⊎_elim}
 use Rattle.std.specs.Prelude.{slice_get, IsSome}
 use Rattle.std.specs.List.{AllByRecursion}
 use Rattle.std.specs.Ordering.{is_eq, eq_by_cmp}
@@ -19,7 +19,7 @@ use Rattle.stow_tree_model.specs.Order.{VersionPlace, MessagesRise, place_cmp, p
 use Rattle.stow_tree_model.specs.TreeMessage.{TreeMessage}
 use Rattle.stow_leaf.specs.Intervals.{top_key, spans}
 use Rattle.stow_leaf.specs.LeafRows.{row_messages}
-use Rattle.stow_leaf.proofs.Found.{both_none, none_some, some_left}
+use Rattle.stow_leaf.proofs.Found.{both_none, some_left}
 use Rattle.stow_leaf.proofs.Intervals.{by_test}
 use Rattle.stow_leaf.proofs.Ops.{Other, ops-append, ops-all_placed}
 use Rattle.stow_leaf.proofs.Over.{or_none_left, or_none_right, same_pointwise, same_then}
@@ -34,7 +34,6 @@ use Rattle.stow_node.specs.Parts.{low_or, high_of}
 use Rattle.stow_node.specs.Subtree.{Subtree, nearest_at, buffered, messages_of, right_above_leaves}
 use Rattle.stow_node.proofs.Down.{stays_itself, stays_then, squeezed_same, MadeRoom, WentInto}
 use Rattle.stow_node.proofs.HandedDown.{same_node}
-use Rattle.stow_node.proofs.Lowered.{for_child}
 use Rattle.stow_node.proofs.Nearest.{in_own, out_of_own, nearest_up}
 use Rattle.stow_node.proofs.Newer.{all_new_to, newer_than_part}
 use Rattle.stow_node.proofs.PlanSteps.{same_messages}

@@ -22,6 +22,9 @@
 //! result is stale: that exactly where `CanInstall` doesn't hold, and then nothing changes. Of each key newer messages stay.
 //! Then nodes regroup as after a step. The root means the same under the present pins (`KeepsRoot`), and no message of the
 //! batch is left right above the leaves (`BatchIsGone`). Where memory is refused the result comes back, and the node is as it was.
+//! Behind a result that came in a root that is more than half full is eased (`Eases`): messages for one child move into its
+//! buffer, or into one further down where they don't fit. A body of `ease` that does nothing meets its contract: `bench/flushers`
+//! tells it.
 //!
 //! Which way a step goes stands in `specs/Ways.antt`, and `step` promises it (`StepsDown`): to the child for which most
 //! bytes are buffered, the leftmost of equals. A node gets all its messages, or, where it lacks room, the step is its

@@ -1,9 +1,8 @@
-use Rattle.std.proofs.Common.{rules, ℕ, ◌≡◌, ◌+◌, ◌<◌, ◌≤◌, List, length, set, sym, ap, ◌∙◌, subst, arith}
+use Rattle.std.proofs.Common.{rules, ℕ, ◌<◌, length, set, sym, ap, subst, arith}
 use Rattle.std.specs.Vec.{with_item, with_items}
 use Rattle.std.proofs.lemmas.List.{length-map, length-set}
 use Rattle.stow_message.specs.Rising.{in_range, AreNew}
 use Rattle.stow_node.specs.declared.child.Child.TheVariants as in_child
-use Rattle.stow_node.specs.declared.child.Child.{Child}
 use Rattle.stow_node.specs.Eases.{Eases}
 use Rattle.stow_node.specs.Moves.{HandsDown}
 use Rattle.stow_node.specs.Nodes.{part_of, node_part, parts_of, subtree_of}

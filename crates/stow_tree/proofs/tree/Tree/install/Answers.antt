@@ -15,12 +15,15 @@ install-requires-clause-few g c = c.self.invariant.few
 pub install-requires-clause-fan_out : goal.install-requires-clause-fan_out
 install-requires-clause-fan_out g c = c.self.invariant.sizes.fan_out.0
 
+pub install-requires-clause-spare : goal.install-requires-clause-spare
+install-requires-clause-spare g c = c.self.invariant.block
+
 pub invariant_of-self : goal.invariant_of-self
-invariant_of-self g c = room_kept c.self.inside (record { root = c.install.new.self; spare = c.self.inside.spare; cache = c.install.new.cache }) (pins_in c.args.pins.now) c.self.invariant
-    (root_stands (pins_in c.args.pins.now) c.self.inside.root c.install.new.self c.install.ensures.root) c.install.ensures.cache refl c.install.ensures.root.few
+invariant_of-self g c = room_kept c.self.inside (record { root = c.install.new.self; spare = c.install.new.spare; cache = c.install.new.cache }) (pins_in c.args.pins.now) c.self.invariant
+    (root_stands (pins_in c.args.pins.now) c.self.inside.root c.install.new.self c.install.ensures.root) c.install.ensures.cache c.install.ensures.spare c.install.ensures.root.few
 
 pub returns-clause-agrees : goal.returns-clause-agrees
-returns-clause-agrees g c = room_agrees c.args.self.now c.self.inside (record { root = c.install.new.self; spare = c.self.inside.spare; cache = c.install.new.cache }) (pins_in c.args.pins.now) c.self.view_is
+returns-clause-agrees g c = room_agrees c.args.self.now c.self.inside (record { root = c.install.new.self; spare = c.install.new.spare; cache = c.install.new.cache }) (pins_in c.args.pins.now) c.self.view_is
     (root_stands (pins_in c.args.pins.now) c.self.inside.root c.install.new.self c.install.ensures.root)
 
 pub returns-clause-stale : goal.returns-clause-stale
