@@ -509,3 +509,33 @@ fn requests_are_answered_together(rt: HostRuntime) -> Result<(), Fail> {
     assert_eq!(rt; seat.receipts().len(), 5);
     Ok(())
 }
+
+/// An addition, a request that asks for many rows, and an addition.
+fn many_rows_amid<A: Allocator + Copy>(alloc: A) -> Result<Vec<Request<A>, A>, AllocError> {
+    let mut requests = Vec::new(alloc);
+    requests.push(addition(alloc)?)?;
+    let words = words_of(alloc, "RANGE a z 100")?;
+    requests.push(Request { tenant: 1, words })?;
+    requests.push(addition(alloc)?)?;
+    Ok(requests)
+}
+
+// A hold ends before a request that asks for many rows, since a turn is taken first, and behind its reply.
+#[test]
+fn a_request_for_many_rows_has_a_hold_of_its_own(rt: HostRuntime) -> Result<(), Fail> {
+    let alloc: Global = rt.alloc();
+    let (shared, mut seat) = opened_for_one::<_, Kept, Global>(&rt, alloc, alloc);
+    let requests = many_rows_amid(alloc)?;
+    assert_eq!(rt; requests.len(), 3);
+    let mut more = Vec::with_capacity(alloc, 8)?;
+    let first = shared.call_all(&rt, alloc, &mut seat, requests.as_slice(), &mut more);
+    assert!(rt; same_reply(&first, &Reply::Integer(1)) && more.is_empty());
+    let mut none = Vec::with_capacity(alloc, 8)?;
+    let rows = shared.call_all(&rt, alloc, &mut seat, &requests.as_slice()[1..], &mut none);
+    assert!(rt; matches!(&rows, Reply::Array(told) if told.len() == 2) && none.is_empty());
+    let mut none = Vec::with_capacity(alloc, 8)?;
+    let last = shared.call_all(&rt, alloc, &mut seat, &requests.as_slice()[2..], &mut none);
+    assert!(rt; same_reply(&last, &Reply::Integer(2)));
+    assert_eq!(rt; seat.receipts().len(), 3);
+    Ok(())
+}
