@@ -1,4 +1,5 @@
-//! What no clause says: that the calls succeed where there is memory, and which of them ask for none.
+//! What no clause says: that the calls succeed where there is memory, which of them ask for none, and that memory is given back.
+use linked_list_allocator::LocalHeap;
 use std::alloc::{AllocError, Allocator};
 use std::test::Fail;
 use stow_leaf_cache::leaf_cache::LeafCache;
@@ -7,8 +8,6 @@ use stow_page::rows::Rows;
 use stow_refusing::{Plan, Refusing};
 use stow_tree_model::plain::version;
 use stow_tree_model::tenant_key_buf::TenantKeyBuf;
-
-mod held;
 
 /// The rows of one version, by this write.
 fn rows_of<A: Allocator + Copy>(alloc: A, number: u8) -> Result<Rows<A>, AllocError> {
@@ -127,21 +126,11 @@ fn hold<A: Allocator + Copy>(alloc: A, limit: usize, rows: &[Row]) -> Result<boo
     Shelf::new(alloc, limit)?.work(rows)
 }
 
-/// How many of 4,000 leaves are held where as many may be as ever.
-fn held_of_many<A: Allocator + Copy>(alloc: A) -> Result<usize, AllocError> {
-    let mut shelf = Shelf::new(alloc, 65_536)?;
-    for number in 0..4_000u32 {
-        shelf.cache.keep(&number.to_be_bytes(), rows_of(alloc, 1)?);
-    }
-    Ok(shelf.cache.len())
-}
-
 #[test]
 fn the_last_used_stay(rt: HostRuntime) -> Result<(), Fail> {
     let heap = Refusing::new(rt.alloc());
     assert!(rt; hold(&heap, 2, &OF_TWO)?);
     assert!(rt; hold(&heap, 0, &OF_NONE)?);
-    assert_eq!(rt; held_of_many(&heap)?, 4_000);
     heap.set(Plan::RefuseAt(0));
     assert!(rt; hold(&heap, 2, &OF_TWO).is_err());
     Ok(())
@@ -202,5 +191,36 @@ fn withstands_refusals(rt: HostRuntime) -> Result<(), Fail> {
     let refused = refusals(&heap, &heap)?;
     assert!(rt; refused >= 2, "{refused} refusals");
     assert!(rt; asks_for_none(&heap, &heap)?);
+    Ok(())
+}
+
+/// Keeps leaves under fences that come and go, and under limits that change; then forgets all.
+fn round<A: Allocator + Copy>(shelf: &mut Shelf<A>) -> Result<(), AllocError> {
+    for number in 0..2_000usize {
+        for fence in b'a'..b'e' {
+            shelf.call(Call::Keep(fence, 1))?;
+            shelf.call(Call::Use(b'a'))?;
+        }
+        shelf.call(Call::Resize(2 + number % 3))?;
+    }
+    for fence in b'a'..b'e' {
+        shelf.call(Call::Forget(fence))?;
+    }
+    Ok(())
+}
+
+/// Whether a cache holds no more of the heap after a second round than after the first.
+fn holds_no_more<A: Allocator + Copy>(heap: &LocalHeap, alloc: A) -> Result<bool, AllocError> {
+    let mut shelf = Shelf::new(alloc, 2)?;
+    round(&mut shelf)?;
+    let used = heap.used();
+    round(&mut shelf)?;
+    Ok(heap.used() <= used)
+}
+
+#[test]
+fn a_second_round_holds_no_more(rt: HostRuntime) -> Result<(), Fail> {
+    let heap = LocalHeap::new(rt.alloc(), 1_048_576)?;
+    assert!(rt; holds_no_more(&heap, &heap)?);
     Ok(())
 }

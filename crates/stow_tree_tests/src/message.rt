@@ -9,7 +9,6 @@ use stow_tree_model::message::Message;
 use stow_tree_model::op::Op;
 use stow_tree_model::plain::message;
 use stow_tree_model::tenant_key::TenantKey;
-use stow_tree_model::tenant_key_buf::TenantKeyBuf;
 
 /// A put: the place of its key, four to a tenant, its number, and which value it has.
 type Put = (usize, u64, u8);
@@ -86,7 +85,7 @@ const WORKED: [Row; 25] = [
 ];
 
 /// Puts a message, where it fits and is new. Whether it did.
-pub(crate) fn pushed<A: Allocator>(buf: &mut MessageBuf<A>, made: Message<'_>) -> bool {
+fn pushed<A: Allocator>(buf: &mut MessageBuf<A>, made: Message<'_>) -> bool {
     let may_push = buf.fits(made) && buf.is_new(made);
     if may_push {
         buf.push(made);
@@ -131,22 +130,22 @@ fn squeezed<A: Allocator>(buf: &mut MessageBuf<A>, spare: &mut RawBuf<A>) -> boo
 
 /// Two buffers, a batch and a spare block.
 #[derive(Drop)]
-struct All<A: Allocator, B: Allocator> {
+struct All<A: Allocator> {
     left: MessageBuf<A>,
     right: MessageBuf<A>,
     batch: MessageBuf<A>,
     spare: RawBuf<A>,
-    keys: Keys<B>,
+    keys: Keys<A>,
 }
 
-impl<A: Allocator + Copy, B: Allocator + Copy> All<A, B> {
-    fn new(heap: A, alloc: B, (left, right): (u16, u16)) -> Result<All<A, B>, AllocError> {
+impl<A: Allocator + Copy> All<A> {
+    fn new(alloc: A, (left, right): (u16, u16)) -> Result<All<A>, AllocError> {
         Ok(All {
-            left: MessageBuf::with_capacity(heap, usize::from(left))?,
-            right: MessageBuf::with_capacity(heap, usize::from(right))?,
-            batch: MessageBuf::with_capacity(heap, 60)?,
-            spare: RawBuf::with_capacity(heap, usize::from(left))?,
-            keys: Keys::new(alloc, 4, b"abcd")?,
+            left: MessageBuf::with_capacity(alloc, usize::from(left))?,
+            right: MessageBuf::with_capacity(alloc, usize::from(right))?,
+            batch: MessageBuf::with_capacity(alloc, 60)?,
+            spare: RawBuf::with_capacity(alloc, usize::from(left))?,
+            keys: Keys::new(alloc, b"abcd")?,
         })
     }
 
@@ -217,72 +216,29 @@ impl<A: Allocator + Copy, B: Allocator + Copy> All<A, B> {
 
 /// How many rows hold in buffers of these capacities, whether the left one lends one message then, and how many requests that
 /// makes.
-fn held<A: Allocator + Copy, B: Allocator + Copy, C: Allocator>(
-    heap: &Refusing<C>,
-    (lent, alloc): (A, B),
-    capacities: (u16, u16),
-    rows: &[Row],
+fn held<A: Allocator + Copy, B: Allocator>(
+    heap: &Refusing<B>,
+    alloc: A,
+    (capacities, rows): ((u16, u16), &[Row]),
 ) -> Result<(usize, bool, u64), AllocError> {
     heap.set(Plan::Grant);
-    let mut all = All::new(lent, alloc, capacities)?;
+    let mut all = All::new(alloc, capacities)?;
     heap.set(Plan::RefuseAll);
-    let worked = all.work(rows);
-    Ok((worked, all.lends_one(), heap.asked()))
+    Ok((all.work(rows), all.lends_one(), heap.asked()))
+}
+
+/// The capacities of a buffer and of a batch.
+pub(crate) fn capacities<A: Allocator + Copy>(alloc: A) -> Result<(usize, usize), AllocError> {
+    let all = All::new(alloc, (200, 200))?;
+    Ok((all.left.capacity(), all.batch.capacity()))
 }
 
 #[test]
 fn worked_calls(rt: HostRuntime) -> Result<(), Fail> {
     let heap = Refusing::new(rt.alloc());
-    let lent = (&heap, rt.alloc());
-    let tight = held(&heap, lent, (40, 0), &TIGHT)?;
+    let tight = held(&heap, &heap, ((40, 0), &TIGHT))?;
     assert_eq!(rt; tight, (TIGHT.len(), false, 0));
-    let worked = held(&heap, lent, (200, 200), &WORKED)?;
+    let worked = held(&heap, &heap, ((200, 200), &WORKED))?;
     assert_eq!(rt; worked, (WORKED.len(), true, 0));
-    Ok(())
-}
-
-/// Puts the key of this number.
-fn put_number<A: Allocator + Copy>(
-    alloc: A,
-    buf: &mut MessageBuf<A>,
-    number: u16,
-) -> Result<bool, AllocError> {
-    let key = TenantKeyBuf::new(alloc, 1, &number.to_be_bytes())?;
-    Ok(match message(key.as_key(), 1, Op::Put(b"x")) {
-        Some(made) => pushed(buf, made),
-        None => false,
-    })
-}
-
-/// How many messages the key of this number has.
-fn count_of<A: Allocator + Copy>(
-    alloc: A,
-    buf: &MessageBuf<A>,
-    number: u16,
-) -> Result<usize, AllocError> {
-    let key = TenantKeyBuf::new(alloc, 1, &number.to_be_bytes())?;
-    Ok(buf.of_key(key.as_key()).len())
-}
-
-/// Whether a buffer takes 1,000 keys, finds each, and finds none of 1,000 others.
-fn finds_each<A: Allocator + Copy>(alloc: A) -> Result<bool, AllocError> {
-    let mut buf = MessageBuf::with_capacity(alloc, 65_536)?;
-    let mut same = true;
-    for number in 0..1_000u16 {
-        same = put_number(alloc, &mut buf, number)? && same;
-    }
-    for number in 0..2_000u16 {
-        let is_there = count_of(alloc, &buf, number)? == 1;
-        same = same && is_there == (number < 1_000);
-    }
-    Ok(same)
-}
-
-#[test]
-fn a_filter_grows_and_hides_none(rt: HostRuntime) -> Result<(), Fail> {
-    let heap = Refusing::new(rt.alloc());
-    assert!(rt; finds_each(&heap)?);
-    heap.set(Plan::RefuseAt(0));
-    assert!(rt; finds_each(&heap).is_err());
     Ok(())
 }
