@@ -83,7 +83,7 @@ pub(crate) struct Run<A: Allocator + Copy> {
 }
 
 /// A read of a tree.
-#[derive(Clone, Copy, Debug)]
+#[derive(Clone, Copy)]
 pub(crate) enum Read {
     Get,
     Versions,
@@ -320,9 +320,7 @@ impl<A: Allocator + Copy> Run<A> {
         let last = self.tree.last;
         let held = self.pins.of(tenant);
         let mut fits = held.len() < 4;
-        for pin in held {
-            fits = fits && *pin < last;
-        }
+        fits = fits && held.iter().all(|pin| *pin < last);
         if fits {
             self.pins.add(tenant, last);
         }

@@ -10,7 +10,7 @@ use stow_testing::random::Random;
 use stow_tree::shape_report::ShapeReport;
 
 /// A call of one of two trees, at first of that here, which is the one that results come into. Keys are told by their places.
-#[derive(Clone, Copy, Debug)]
+#[derive(Clone, Copy)]
 pub(crate) enum Call {
     /// From now on the other tree is called, or that here again.
     There,
@@ -51,7 +51,7 @@ pub(crate) enum Call {
 }
 
 /// What is wanted of the tree that is called.
-#[derive(Clone, Copy, Debug)]
+#[derive(Clone, Copy)]
 pub(crate) enum Want {
     /// It tells what the list does.
     Agrees,
@@ -242,10 +242,10 @@ impl<A: Allocator + Copy> Trees<A> {
     }
 
     fn late(&mut self, alloc: A, count: u32) -> Result<bool, AllocError> {
-        for _ in 0..count {
+        for turn in 0..count {
             self.is_there = self.random.below(2) == 0;
             self.come_late(alloc)?;
-            if !self.called().agrees(alloc)? {
+            if turn % 4 == 0 && !self.called().agrees(alloc)? {
                 return Ok(false);
             }
         }
