@@ -14,6 +14,8 @@ pub(crate) struct Keys<A: Allocator> {
     behind: Vec<TenantKeyBuf<A>, A>,
     /// Of each tenant, of 0 and of the one above them the lowest key.
     lows: Vec<TenantKeyBuf<A>, A>,
+    /// Above the keys of all tenants.
+    beyond: TenantKeyBuf<A>,
 }
 
 fn lows_of<A: Allocator + Copy>(alloc: A) -> Result<Vec<TenantKeyBuf<A>, A>, AllocError> {
@@ -41,20 +43,13 @@ fn keys_of<A: Allocator + Copy>(
     Ok(keys)
 }
 
-/// The key at a place; the lowest of all past the last one.
-fn lent<A: Allocator>(keys: &[TenantKeyBuf<A>], place: usize) -> TenantKey<'_> {
-    match keys.get(place) {
-        Some(key) => key.as_key(),
-        None => TenantKey::from_packed(&[0, 0, 0, 0]),
-    }
-}
-
 impl<A: Allocator + Copy> Keys<A> {
     pub(crate) fn new(alloc: A, letters: &[u8]) -> Result<Keys<A>, AllocError> {
         Ok(Keys {
             all: keys_of(alloc, letters, false)?,
             behind: keys_of(alloc, letters, true)?,
             lows: lows_of(alloc)?,
+            beyond: TenantKeyBuf::new(alloc, 65_536, b"a")?,
         })
     }
 
@@ -63,18 +58,26 @@ impl<A: Allocator + Copy> Keys<A> {
         self.all.len()
     }
 
+    /// The key at a place, or one above those of all tenants.
+    fn lent<'k>(&'k self, keys: &'k [TenantKeyBuf<A>], place: usize) -> TenantKey<'k> {
+        match keys.get(place) {
+            Some(key) => key.as_key(),
+            None => self.beyond.as_key(),
+        }
+    }
+
     /// The key at a place.
     pub(crate) fn at(&self, place: usize) -> TenantKey<'_> {
-        lent(self.all.as_slice(), place)
+        self.lent(self.all.as_slice(), place)
     }
 
     /// The key behind that at a place, which is none of these.
     pub(crate) fn behind(&self, place: usize) -> TenantKey<'_> {
-        lent(self.behind.as_slice(), place)
+        self.lent(self.behind.as_slice(), place)
     }
 
     /// The lowest key of a tenant: a tenant's keys are those from its lowest on and below the next one's.
     pub(crate) fn low(&self, tenant: u32) -> TenantKey<'_> {
-        lent(self.lows.as_slice(), tenant as usize)
+        self.lent(self.lows.as_slice(), tenant as usize)
     }
 }
