@@ -1,5 +1,6 @@
 //! What no clause says: that the format's definition gives the bytes of worked examples, and that the calls succeed where there
 //! is memory.
+use crate::keys::Keys;
 use std::alloc::{AllocError, Allocator};
 use std::test::Fail;
 use stow_page::packed_rows::PackedRows;
@@ -97,8 +98,7 @@ pub(crate) fn told<A: Allocator + Copy>(alloc: A) -> Result<usize, AllocError> {
 }
 
 /// Whether the rows of a removed key have a value at 1, and nothing before and after it.
-fn is_looked_up<A: Allocator>(rows: &Rows<A>) -> bool {
-    let key = TenantKey::from_packed(&[0, 0, 0, 1, b'a']);
+fn is_looked_up<A: Allocator>(rows: &Rows<A>, key: TenantKey<'_>) -> bool {
     at(rows, key, 0).is_none()
         && at(rows, key, 1) == Some(b"x".as_slice())
         && at(rows, key, 2).is_none()
@@ -112,8 +112,9 @@ fn are_looked_up<A: Allocator + Copy, B: Allocator>(
     let Ok(rows) = read(alloc, Vec::from_slice(alloc, REMOVED)?) else {
         return Ok(false);
     };
+    let keys = Keys::new(alloc, b"a")?;
     heap.set(Plan::RefuseAll);
-    let are = is_looked_up(&rows) && heap.asked() == 0;
+    let are = is_looked_up(&rows, keys.at(0)) && heap.asked() == 0;
     heap.set(Plan::Grant);
     Ok(are && is_pushed(alloc, &rows)?)
 }
