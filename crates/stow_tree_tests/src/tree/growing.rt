@@ -119,11 +119,12 @@ fn rows_are_read_in_each_shape(rt: HostRuntime) -> Result<(), Fail> {
 }
 
 /// A tree of three levels.
-const HIGH: [Call; 4] = [
+const HIGH: [Call; 5] = [
     Call::Random(500),
     Call::Want(Want::Agrees),
     Call::Random(500),
     Call::Want(Want::Grown(3, 12)),
+    Call::Want(Want::Agrees),
 ];
 
 const LONG: [Call; 3] = [
@@ -154,12 +155,13 @@ fn a_tree_tells_what_a_list_does(rt: HostRuntime) -> Result<(), Fail> {
 }
 
 /// Nearly all rows of a tree of three levels go.
-const SHRINKS: [Call; 5] = [
+const SHRINKS: [Call; 6] = [
     Call::Random(1_250),
     Call::Want(Want::Grown(3, 50)),
     Call::Unpin,
     Call::Shrink(40, false),
     Call::Want(Want::Shrunk(2)),
+    Call::Want(Want::Agrees),
 ];
 
 /// All jobs are installed.
