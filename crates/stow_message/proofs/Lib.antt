@@ -17,3 +17,4 @@ pub mod Squeezed
 pub mod Stored
 pub mod Taken
 pub mod TakenOut
+pub mod Neighbours

@@ -9,6 +9,7 @@
 //! the filter spares stands in no contract: one of whose marks all are set is right too.
 #![tactic(auto)]
 
+mod beside;
 pub mod copying;
 mod filter;
 mod guessing;

@@ -10,6 +10,7 @@ ghost use Rattle.stow_message.specs.Packed.{message_bytes, message_size, message
 ghost use Rattle.stow_message.specs.Rising.{is_below, below, placed, IsNew, of_key, in_range, out_of_range, all_placed, AreNew, is_same, is_first, AreHeld, AreOldest, without};
 ghost use Rattle.std.specs.List.{All, AllByRecursion, sum_by, remove_range};
 
+use crate::beside::is_place;
 use crate::filter::Filter;
 use crate::guessing::guess;
 use crate::head::{HEAD, SLOT, kind, op_with, read_head, size, write_head};
@@ -271,8 +272,8 @@ impl<A: Allocator> MessageBuf<A> {
             return self.search_all(key, number);
         }
         let guess = guess(&self.raw, &self.words, key, number);
-        if self.is_past(guess, key, number) {
-            self.search_from(guess, key, number)
+        if is_place(&self.raw, guess, key, number) {
+            guess
         } else {
             self.search_all(key, number)
         }
@@ -314,6 +315,9 @@ impl<A: Allocator> MessageBuf<A> {
         ensures valid { All IsMessage self.now.messages }
     {
         let _known = self.len();
+        if is_place(&self.raw, guess, key.bytes, number) {
+            return guess;
+        }
         if self.is_past(guess, key.bytes, number) {
             self.search_from(guess, key.bytes, number)
         } else {

@@ -1,3 +1,4 @@
+pub mod Beside
 pub mod Merged
 pub mod Moved
 pub mod Parts

@@ -11,6 +11,7 @@
 //! is a guess.
 #![tactic(auto)]
 
+mod around;
 mod ranking;
 mod settling;
 pub mod slot_buf;

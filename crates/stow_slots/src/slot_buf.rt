@@ -1,8 +1,9 @@
 //! One block, filled from both ends, into which slots are put fast.
-ghost use Rattle.std.specs.Prelude.{◌≡◌, ◌+◌, ◌-◌, ◌*◌, ◌<◌, ◌≤◌, [], ◌++◌, length, take, drop, replicate, slice_set, slice_index, IfOk, IfSome, Contains};
+ghost use Rattle.std.specs.Prelude.{◌≡◌, ◌+◌, ◌-◌, ◌*◌, ◌<◌, ◌≤◌, [], ◌++◌, length, take, drop, replicate, slice_set, slice_get, slice_index, IfOk, IfSome, None, Contains};
 ghost use Rattle.std.specs.List.{insert, remove_range};
 ghost use Rattle.stow_raw.specs.RawBuf.{raw_lists, raw_used, RawFits};
 
+use crate::around::{slot_at, slot_before};
 use crate::ranking::{put_young, rank_of};
 use crate::settling::settle;
 use crate::young_slot::YoungSlot;
@@ -109,6 +110,20 @@ impl<A: Allocator> SlotBuf<A> {
             return young[rank].slot;
         }
         self.raw.slot(index - rank)
+    }
+
+    /// The slots right before `index` and at it, where they are there.
+    pub fn around(&self, index: usize) -> (Option<u32>, Option<u32>)
+        ensures none { index ≡ 0 → result.0 ≡ None }
+        ensures before { 0 < index → result.0 ≡ slice_get self.now.slots (index - 1) }
+        ensures at { result.1 ≡ slice_get self.now.slots index }
+    {
+        let young = self.young.as_slice();
+        let rank = rank_of(young, index);
+        (
+            slot_before(&self.raw, young, index, rank),
+            slot_at(&self.raw, young, index, rank),
+        )
     }
 
     /// Writes over the slot at `index`.

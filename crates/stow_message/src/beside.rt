@@ -1,0 +1,77 @@
+//! Whether a place is that of a key and number, by the messages beside it.
+ghost use Rattle.std.specs.Prelude.{◌≡◌, ◌-◌, ◌^◌, ◌<◌, ◌≤◌, IsTrue, drop, length, slice_get};
+ghost use Rattle.stow_message.specs.MessageBuf.{messages_in, IsPackedBuffer};
+ghost use Rattle.stow_message.specs.Packed.{message_at, BeginsWith};
+ghost use Rattle.stow_message.specs.Rising.{below, is_below};
+
+use crate::slots::{key_at, number_in};
+use std::alloc::Allocator;
+use std::cmp::Ordering;
+use stow_bytes::compare::compare;
+use stow_slots::slot_buf::SlotBuf;
+
+/// Whether so many messages stand below the key and number: only those right before that place and at it are looked at.
+pub(crate) fn is_place<A: Allocator>(
+    raw: &SlotBuf<A>,
+    count: usize,
+    key: &[u8],
+    number: u64,
+) -> bool
+    requires { IsPackedBuffer raw.now }
+    ensures { IsTrue result → below (key.now, number) (messages_in raw.now) ≡ count }
+{
+    let (last, next) = raw.around(count);
+    reaches(raw, count, last, key, number) && ends(raw, count, next, key, number)
+}
+
+/// Whether so many messages at least stand below the key and number, by the slot of the last one of them.
+fn reaches<A: Allocator>(
+    raw: &SlotBuf<A>,
+    count: usize,
+    last: Option<u32>,
+    key: &[u8],
+    number: u64,
+) -> bool
+    requires filled { IsPackedBuffer raw.now }
+    requires last { 0 < count → last ≡ slice_get raw.now.slots (count - 1) }
+    ensures { IsTrue result → count ≤ below (key.now, number) (messages_in raw.now) }
+{
+    if count == 0 {
+        return true;
+    }
+    match last {
+        Some(slot) => names_below(raw, slot as usize, key, number),
+        None => false,
+    }
+}
+
+/// Whether no more messages than so many stand below the key and number, by the slot of the next one.
+fn ends<A: Allocator>(
+    raw: &SlotBuf<A>,
+    count: usize,
+    next: Option<u32>,
+    key: &[u8],
+    number: u64,
+) -> bool
+    requires filled { IsPackedBuffer raw.now }
+    requires next { next ≡ slice_get raw.now.slots count }
+    ensures { IsTrue result → below (key.now, number) (messages_in raw.now) ≤ count }
+{
+    match next {
+        Some(slot) => !names_below(raw, slot as usize, key, number),
+        None => true,
+    }
+}
+
+/// Whether the message that begins `at` bytes into the front stands below the key and number.
+fn names_below<A: Allocator>(raw: &SlotBuf<A>, at: usize, key: &[u8], number: u64) -> bool
+    requires begins { BeginsWith (drop at raw.now.front) }
+    requires small { length raw.now.front < 2 ^ 32 }
+    ensures { result ≡ is_below (key.now, number) (message_at (drop at raw.now.front)) }
+{
+    match compare(key_at(raw, at), key) {
+        Ordering::Less => true,
+        Ordering::Equal => number_in(raw, at) < number,
+        Ordering::Greater => false,
+    }
+}
