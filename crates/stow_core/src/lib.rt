@@ -43,6 +43,7 @@ ghost use Rattle.stow_tree.specs.Shapes.{IsInRange};
 ghost use Rattle.stow_tree.specs.TreeState.{new_tree};
 
 use change::Change;
+use held_back::HeldBack;
 use lengths::Lengths;
 use prepared::Prepared;
 use preparing::only_counted;
@@ -69,6 +70,7 @@ mod deleting;
 mod flushing;
 mod found_change;
 pub mod given;
+mod held_back;
 mod interval;
 mod keys;
 mod length_entry;
@@ -79,6 +81,7 @@ pub mod prepared;
 mod preparing;
 mod ranging;
 mod reading;
+mod recovering;
 mod row_answer;
 pub mod rows_at;
 mod sized_row;
@@ -106,6 +109,10 @@ pub struct Core<A: Allocator + Copy = Global> {
     lengths: Lengths<A>,
     /// Where a write's keys are listed. They mean nothing between calls, so that their memory serves one after another.
     keys: Words<A>,
+    /// Memory that is held back for removals.
+    held: HeldBack<A>,
+    /// What all tenants were charged together when memory was last refused, or leaves last drained.
+    full: u64,
 }
 
 impl<A: Allocator + Copy> Model for Core<A> {
@@ -150,6 +157,7 @@ impl<A: Allocator + Copy> Core<A> {
         let tenancies = new_tenancies(alloc, &tenants)?;
         let lengths = Lengths::new(alloc)?;
         let pins = Pins::new(alloc);
+        let held = HeldBack::new(alloc, shape.buffer)?;
         Ok(Core {
             tenants,
             tenancies,
@@ -159,6 +167,8 @@ impl<A: Allocator + Copy> Core<A> {
             lengths,
             buffer: Vec::new(alloc),
             keys: Words::new(alloc),
+            held,
+            full: 0,
         })
     }
 

@@ -2,6 +2,7 @@
 //! several tenants.
 mod alone;
 mod flushes;
+mod full;
 mod held;
 mod refusals;
 mod skipped;
