@@ -24,6 +24,10 @@
 //! (`specs/Flushing.antt`). Neither changes a tenant's store. A body of either that always answers want of memory meets its
 //! contract: tests call both with ample memory.
 //!
+//! Where memory is short removals still have some: it is held back (`HeldBack`) and given up by the removal that is refused memory,
+//! which is then tried once more. Every other write first gets back what is missing of it. No contract speaks of that, nor of when
+//! leaves are drained: a body of `drain`, `make_way` or `hold_back` that does nothing is right too, and a test fills a heap.
+//!
 //! A body of `prepare`, `prepare_command` or `prepare_change` that prepares the same twice is right too, since
 //! a prepared answer that is never carried out changes nothing.
 //! So is one of `told_version`, `length_of` or `kept_length` that tells nothing, and one of `keep` that holds nothing: values

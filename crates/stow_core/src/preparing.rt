@@ -47,15 +47,7 @@ impl<A: Allocator + Copy> Core<A> {
             return Ok(only_counted(tenant, Reply::Simple(SimpleString::Pong)));
         }
         let mut buffer = mem::replace(&mut self.buffer, Vec::new(alloc));
-        let prepared = match command {
-            Command::Del(_) | Command::DropSnapshot(_) => {
-                self.prepare_removal(&mut buffer, alloc, tenant, command)
-            }
-            Command::Change(_, _) | Command::TakeSnapshot => {
-                self.prepare_growth(&mut buffer, alloc, tenant, command)
-            }
-            _ => self.prepare_in(&mut buffer, alloc, tenant, command),
-        };
+        let prepared = self.prepare_by_kind(&mut buffer, alloc, tenant, command);
         self.buffer = buffer;
         prepared
     }

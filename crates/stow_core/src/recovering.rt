@@ -206,4 +206,41 @@ impl<A: Allocator + Copy> Core<A> {
         }
         self.prepare_freed(buffer, alloc, tenant, command)
     }
+
+    /// Finds what a command says: a removal has the memory that is held back, other writes get what is missing of it first, and
+    /// what only reads does neither.
+    pub(crate) fn prepare_by_kind<'a>(
+        &mut self,
+        buffer: &mut Vec<u8, A>,
+        alloc: A,
+        tenant: u32,
+        command: Command<'a>,
+    ) -> Result<Prepared<'a, A>, AllocError>
+        requires is_tenant { IsTenant self.old.entries tenant }
+        requires sound { IsSound (shared_of self.old) }
+        requires legal { HasLegalKeys (command_of command) }
+        ensures { IsPrepared self.old tenant (serves (command_of command.entry)) self.new result }
+    {
+        match kind_of(command) {
+            Kind::Removal => self.prepare_removal(buffer, alloc, tenant, command),
+            Kind::Growth => self.prepare_growth(buffer, alloc, tenant, command),
+            Kind::Read => self.prepare_in(buffer, alloc, tenant, command),
+        }
+    }
+}
+
+/// What a command may do to what rows take.
+#[derive(Clone, Copy)]
+enum Kind {
+    Removal,
+    Growth,
+    Read,
+}
+
+fn kind_of(command: Command<'_>) -> Kind {
+    match command {
+        Command::Del(_) | Command::DropSnapshot(_) => Kind::Removal,
+        Command::Change(_, _) | Command::TakeSnapshot => Kind::Growth,
+        _ => Kind::Read,
+    }
 }
