@@ -1,6 +1,5 @@
 //! What a drop leaves charged, where the snapshot showed more rows than are walked at once.
-use crate::merge::pinning::pinned;
-use crate::tree::calls::SMALLEST;
+
 use crate::tree::numbered::Numbered;
 use std::alloc::{AllocError, Allocator};
 use std::test::Fail;
@@ -10,6 +9,7 @@ use stow_ledger::row_change::RowChange;
 use stow_ledger::sized_version::SizedVersion;
 use stow_merge::pins::Pins;
 use stow_refusing::{Plan, Refusing};
+use stow_tree::tree_shape::TreeShape;
 use stow_tree_model::op::Op;
 use stow_tree_model::tenant_key_buf::TenantKeyBuf;
 
@@ -34,6 +34,16 @@ fn charge_write(account: &mut Account, before: Option<SizedVersion>, length: u32
     if account.allows(outcome) {
         account.commit(outcome);
     }
+}
+
+/// A pin of tenant 1 at the snapshot's number.
+fn pinned<A: Allocator + Copy>(alloc: A) -> Result<Pins<A>, AllocError> {
+    let mut pins = Pins::new(alloc);
+    pins.room(1)?;
+    if pins.of(1).is_empty() {
+        pins.add(1, 1_200);
+    }
+    Ok(pins)
 }
 
 /// A tree, and the account of its tenant 1.
@@ -80,10 +90,9 @@ impl<A: Allocator + Copy> Charged<A> {
 
     /// A value under each key, and behind the pin another under some.
     fn new(alloc: A) -> Result<Charged<A>, AllocError> {
-        let mut pins = Pins::new(alloc);
-        pinned(&mut pins, 1, 1_200)?;
+        let pins = pinned(alloc)?;
         let mut made = Charged {
-            tree: Numbered::new(alloc, SMALLEST)?,
+            tree: Numbered::new(alloc, TreeShape::SMALLEST)?,
             account: Account::new(1_000_000),
         };
         made.fill(alloc, &pins)?;
