@@ -255,10 +255,10 @@ fn held<A: Allocator + Copy, B: Allocator>(
     Ok((all.work(rows), all.lends_one(), heap.asked()))
 }
 
-/// The capacities of a buffer and of a batch.
+/// The capacities of two buffers.
 pub(crate) fn capacities<A: Allocator + Copy>(alloc: A) -> Result<(usize, usize), AllocError> {
-    let all = All::new(alloc, (200, 200))?;
-    Ok((all.pair.left.capacity(), all.aside.batch.capacity()))
+    let pair = pair_of(alloc, (200, 60))?;
+    Ok((pair.left.capacity(), pair.right.capacity()))
 }
 
 #[test]

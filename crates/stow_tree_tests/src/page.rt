@@ -117,17 +117,23 @@ fn number(text: &str) -> usize {
 }
 
 /// Puts another byte at a place.
+fn put_at(bytes: &mut [u8], at: usize, byte: u8) {
+    if at < bytes.len() {
+        bytes[at] = byte;
+    }
+}
+
+/// Changes a byte as a word says.
 fn change(bytes: &mut [u8], text: &str) {
-    let (at, byte) = text.split_once("=").unwrap_or((text, ""));
-    if let Some(changed) = bytes.get_mut(number(at)) {
-        *changed = (number(byte) % 256) as u8;
+    if let Some((at, byte)) = text.split_once("=") {
+        put_at(bytes, number(at), byte.parse::<u8>().unwrap_or(0));
     }
 }
 
 /// Adds what a word stands for, or changes what is there.
 fn push_word<A: Allocator>(bytes: &mut Vec<u8, A>, word: &str) -> Result<(), AllocError> {
     if let Some(text) = word.strip_prefix("@") {
-        change(bytes, text);
+        change(bytes.as_mut_slice(), text);
         return Ok(());
     }
     match word.strip_prefix("x") {
@@ -159,10 +165,11 @@ fn read<A: Allocator + Copy>(alloc: A, bytes: Vec<u8, A>) -> Result<Rows<A>, Pag
 /// The rows of the worked page, by this write.
 pub(crate) fn rows_of<A: Allocator + Copy>(alloc: A, number: u8) -> Result<Rows<A>, AllocError> {
     let mut bytes = Vec::from_slice(alloc, WORKED)?;
-    if let Some(changed) = bytes.get_mut(19) {
-        *changed = number;
+    put_at(bytes.as_mut_slice(), 19, number);
+    match read(alloc, bytes) {
+        Ok(rows) => Ok(rows),
+        Err(_) => Err(AllocError),
     }
-    read(alloc, bytes).map_err(|_| AllocError)
 }
 
 /// Whether rows are the page of these bytes, also once they are shared.
@@ -262,12 +269,26 @@ fn are_looked_up<A: Allocator + Copy, B: Allocator>(
     Ok(is_looked_up(&rows, keys.at(0)) && heap.asked() == 0)
 }
 
+/// Whether all pages are told their faults.
+fn are_all_told<A: Allocator + Copy>(alloc: A) -> Result<bool, AllocError> {
+    Ok(
+        are_told(alloc, FEW)?
+            && are_told(alloc, PAGES)?
+            && are_cut_off(alloc, WORKED)?
+            && are_cut_off(alloc, REMOVED)?,
+    )
+}
+
+/// Whether a long page is read and made.
+fn is_long_pushed<A: Allocator + Copy>(alloc: A) -> Result<bool, AllocError> {
+    is_pushed_anew(alloc, long_page(alloc, 3_000)?)
+}
+
 #[test]
 fn worked_pages(rt: HostRuntime) -> Result<(), Fail> {
     let heap = Refusing::new(rt.alloc());
-    assert!(rt; are_told(&heap, FEW)? && are_told(&heap, PAGES)?);
-    assert!(rt; are_cut_off(&heap, WORKED)? && are_cut_off(&heap, REMOVED)?);
-    assert!(rt; is_pushed_anew(&heap, long_page(&heap, 3_000)?)?);
+    assert!(rt; are_all_told(&heap)?);
+    assert!(rt; is_long_pushed(&heap)?);
     assert!(rt; are_looked_up(&heap, &heap)?);
     Ok(())
 }

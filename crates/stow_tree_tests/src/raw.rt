@@ -51,11 +51,16 @@ fn carry_out<A: Allocator>(buf: &mut RawBuf<A>, call: Call) {
     }
 }
 
+fn push_one<A: Allocator>(buf: &mut RawBuf<A>, byte: u8) {
+    let bytes = [byte];
+    if buf.room() > 0 {
+        buf.push_front(&bytes);
+    }
+}
+
 fn push<A: Allocator>(buf: &mut RawBuf<A>, first: u8, count: u8) {
     for i in 0..count {
-        if buf.room() > 0 {
-            buf.push_front(&[first.wrapping_add(i)]);
-        }
+        push_one(buf, first.wrapping_add(i));
     }
 }
 

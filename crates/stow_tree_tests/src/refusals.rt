@@ -21,7 +21,7 @@ enum Trial {
 const TRIALS: [(Trial, u64); 5] = [
     (Trial::Raw, 1),
     (Trial::Slots, 2),
-    (Trial::Message, 3),
+    (Trial::Message, 2),
     (Trial::Page, 40),
     (Trial::Tree, 3),
 ];

@@ -88,15 +88,20 @@ impl<A: Allocator + Copy> Charged<A> {
         Ok(())
     }
 
+    /// Puts a value under each key, and behind the pin another under some.
+    fn put_all(&mut self, alloc: A) -> Result<(), AllocError> {
+        let pins = pinned(alloc)?;
+        self.fill(alloc, &pins)?;
+        self.put_again(alloc, &pins)
+    }
+
     /// A value under each key, and behind the pin another under some.
     fn new(alloc: A) -> Result<Charged<A>, AllocError> {
-        let pins = pinned(alloc)?;
         let mut made = Charged {
             tree: Numbered::new(alloc, TreeShape::SMALLEST)?,
             account: Account::new(1_000_000),
         };
-        made.fill(alloc, &pins)?;
-        made.put_again(alloc, &pins)?;
+        made.put_all(alloc)?;
         Ok(made)
     }
 
@@ -141,13 +146,22 @@ fn is_refused<A: Allocator + Copy, B: Allocator>(
     Ok(are)
 }
 
-/// Whether a drop frees what nothing shows, and withstands refusals.
+/// Whether a drop frees what nothing shows, before and after its requests are refused.
+fn withstands<A: Allocator + Copy, B: Allocator>(
+    heap: &Refusing<B>,
+    alloc: A,
+    made: &Charged<A>,
+) -> Result<bool, AllocError> {
+    Ok(frees(alloc, made)? && is_refused(heap, alloc, made)? && frees(alloc, made)?)
+}
+
+/// Whether a new tree's does.
 fn is_dropped<A: Allocator + Copy, B: Allocator>(
     heap: &Refusing<B>,
     alloc: A,
 ) -> Result<bool, AllocError> {
     let made = Charged::new(alloc)?;
-    Ok(frees(alloc, &made)? && is_refused(heap, alloc, &made)? && frees(alloc, &made)?)
+    withstands(heap, alloc, &made)
 }
 
 #[test]

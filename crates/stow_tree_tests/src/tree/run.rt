@@ -91,6 +91,16 @@ pub(crate) enum Read {
     Walk,
 }
 
+/// What fills buffers: a value of so many of these bytes, or a removal where it has none.
+fn filler(bytes: &[u8], len: u32) -> Op<'_> {
+    let carried = &bytes[..bytes.len().min(len as usize)];
+    if carried.is_empty() {
+        Op::Gone
+    } else {
+        Op::Put(carried)
+    }
+}
+
 /// An interval of keys: from one on, or after it, and below another.
 #[derive(Clone, Copy)]
 pub(crate) struct Within {
@@ -234,12 +244,7 @@ impl<A: Allocator + Copy> Run<A> {
     /// Fills buffers with a value of so many bytes under the key behind that at a place, or removes it where it has none. No
     /// one looks at this key, so the list doesn't have it.
     pub(crate) fn fill(&mut self, alloc: A, place: usize, len: u32) -> Result<(), AllocError> {
-        let filler = &self.bytes[..self.bytes.len().min(len as usize)];
-        let op = if filler.is_empty() {
-            Op::Gone
-        } else {
-            Op::Put(filler)
-        };
+        let op = filler(self.bytes.as_slice(), len);
         self.tree
             .put(alloc, self.keys.behind(place), op, &self.pins)
     }
@@ -395,11 +400,19 @@ impl<A: Allocator + Copy> Run<A> {
         Ok(())
     }
 
-    /// Looks the key at a place up, as the service does.
+    /// Whether the key at a place has a value.
+    fn is_there(&self, alloc: A, place: usize) -> Result<bool, AllocError> {
+        let found = self
+            .tree
+            .tree
+            .get(alloc, self.keys.at(place), self.tree.last)?;
+        Ok(found.is_some())
+    }
+
+    /// Looks the key at a place up, and offers its leaf, as the service does.
     fn get(&mut self, alloc: A, place: usize) -> Result<bool, AllocError> {
-        let key = self.keys.at(place);
-        let is_there = self.tree.tree.get(alloc, key, self.tree.last)?.is_some();
-        self.tree.offer(key);
+        let is_there = self.is_there(alloc, place)?;
+        self.tree.offer(self.keys.at(place));
         Ok(is_there)
     }
 

@@ -87,10 +87,15 @@ pub(crate) struct Trees<A: Allocator + Copy> {
 impl<A: Allocator + Copy> Trees<A> {
     pub(crate) fn new(alloc: A, (here, there): (Course, Course)) -> Result<Trees<A>, AllocError> {
         let here = Run::new(alloc, here)?;
+        let there = Run::new(alloc, there)?;
+        Ok(Trees::of(alloc, here, there))
+    }
+
+    fn of(alloc: A, here: Run<A>, there: Run<A>) -> Trees<A> {
         let grown = here.tree.tree.shape();
-        Ok(Trees {
+        Trees {
             here,
-            there: Run::new(alloc, there)?,
+            there,
             is_there: false,
             job: None,
             results: Vec::new(alloc),
@@ -98,7 +103,7 @@ impl<A: Allocator + Copy> Trees<A> {
             stale: 0,
             grown,
             random: Random::new(5),
-        })
+        }
     }
 
     fn called(&mut self) -> &mut Run<A> {
