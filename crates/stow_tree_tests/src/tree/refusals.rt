@@ -7,6 +7,7 @@ use crate::tree::trees::{Call, Trees, Want};
 use std::alloc::{AllocError, Allocator};
 use std::test::Fail;
 use stow_refusing::{Plan, Refusing};
+use stow_tree::shape_report::ShapeReport;
 use stow_tree::tree_shape::TreeShape;
 
 /// What comes before, the calls of which each request is refused then, and how many requests the one with most of them makes,
@@ -114,57 +115,132 @@ const ROOM: [Row; 1] = [(SPREAD, &ROOT, &MAKES_ROOM, 301, 10_000)];
 
 const JOBS: [Row; 1] = [(SPREAD, &ROOT, &INSTALLS, 301, 10_000)];
 
+/// What became of a call whose nth request was refused.
+#[derive(Clone, Copy)]
+enum Tried {
+    /// It makes fewer, and did what is wanted.
+    Done,
+    /// It was refused, and nothing changed that is told.
+    Stands,
+    /// The same, and the tree has another size.
+    Moved,
+    Other,
+}
+
+/// What became of a call that was refused, if it was, in a tree that was so large before.
+fn refused<A: Allocator + Copy>(
+    alloc: A,
+    trees: &mut Trees<A>,
+    before: ShapeReport,
+    n: u64,
+) -> Result<Tried, AllocError> {
+    if !trees.stands(alloc, n)? {
+        return Ok(Tried::Other);
+    }
+    Ok(if trees.shape() == before {
+        Tried::Stands
+    } else {
+        Tried::Moved
+    })
+}
+
+/// Whether a call does what is wanted, and is refused, and whether it makes fewer requests than the refused one.
+fn carry_out<A: Allocator + Copy, B: Allocator>(
+    heap: &Refusing<B>,
+    alloc: A,
+    trees: &mut Trees<A>,
+    (call, n): (Call, u64),
+) -> (bool, bool, bool) {
+    heap.set(Plan::RefuseAt(n));
+    let done = trees.call(alloc, call);
+    let is_over = heap.asked() <= n;
+    heap.set(Plan::Grant);
+    match done {
+        Ok(is_done) => (is_done, false, is_over),
+        Err(_) => (false, true, is_over),
+    }
+}
+
+/// Carries out a call with its nth request refused, where no leaf is held.
+fn try_call<A: Allocator + Copy, B: Allocator>(
+    heap: &Refusing<B>,
+    alloc: A,
+    trees: &mut Trees<A>,
+    (call, is_holding, n): (Call, bool, u64),
+) -> Result<Tried, AllocError> {
+    trees.forget()?;
+    let before = trees.shape();
+    match carry_out(heap, alloc, trees, (call, n)) {
+        (true, _, true) => Ok(Tried::Done),
+        (_, _, true) => Ok(Tried::Other),
+        (_, is_refused, false) if is_refused || is_holding => refused(alloc, trees, before, n),
+        _ => Ok(Tried::Other),
+    }
+}
+
 /// Carries out a call with its first request refused, then with its second, and so on, until it makes fewer, and from the first
-/// again where a refused call changed how large the tree is. How many requests it makes at most, if it is refused each time but
-/// the last and nothing changes that is told; else which request it doesn't withstand.
+/// again where a refused call changed how large the tree is. Whether it is refused each time but the last and nothing changes
+/// that is told, and how many requests it makes at most; else which request it doesn't withstand.
 fn asked_by<A: Allocator + Copy, B: Allocator>(
     heap: &Refusing<B>,
     alloc: A,
     trees: &mut Trees<A>,
     (call, is_holding): (Call, bool),
-) -> Result<Result<u64, u64>, AllocError> {
+) -> Result<(bool, u64), AllocError> {
     let (mut n, mut most) = (0u64, 0u64);
     for _ in 0..20_000u32 {
-        trees.forget()?;
-        let before = trees.shape();
-        heap.set(Plan::RefuseAt(n));
-        let done = trees.call(alloc, call);
-        let is_over = heap.asked() <= n;
-        heap.set(Plan::Grant);
-        if is_over && matches!(done, Ok(true)) {
-            return Ok(Ok(most));
+        match try_call(heap, alloc, trees, (call, is_holding, n))? {
+            Tried::Done => return Ok((true, most)),
+            Tried::Stands => n = n.saturating_add(1),
+            Tried::Moved => n = 0,
+            Tried::Other => return Ok((false, n)),
         }
-        if is_over || (done.is_ok() && !is_holding) || !trees.stands(alloc, n)? {
-            return Ok(Err(n));
-        }
-        n = if trees.shape() == before {
-            n.saturating_add(1)
-        } else {
-            0
-        };
         most = most.max(n);
     }
-    Ok(Err(n))
+    Ok((false, n))
 }
 
-/// How many requests the calls make at most; else which call doesn't withstand which request.
-fn most_asked<A: Allocator + Copy, B: Allocator>(
+/// How many of the calls withstand each refusal before the first that does not, and how many requests one of them makes at most,
+/// or else which it doesn't withstand.
+fn withstood<A: Allocator + Copy, B: Allocator>(
+    heap: &Refusing<B>,
+    alloc: A,
+    trees: &mut Trees<A>,
+    (calls, is_holding): (&[Call], bool),
+) -> Result<(usize, u64), AllocError> {
+    let mut most = 0u64;
+    for i in 0..calls.len() {
+        let (withstands, asked) = asked_by(heap, alloc, trees, (calls[i], is_holding))?;
+        if !withstands {
+            return Ok((i, asked));
+        }
+        most = most.max(asked);
+    }
+    Ok((calls.len(), most))
+}
+
+/// The same of a row's calls, after what comes before them.
+fn withstood_after<A: Allocator + Copy, B: Allocator>(
+    heap: &Refusing<B>,
+    alloc: A,
+    trees: &mut Trees<A>,
+    (before, calls, is_holding): (&[Call], &[Call], bool),
+) -> Result<(usize, u64), AllocError> {
+    if trees.call_all(alloc, before)? != before.len() {
+        return Err(AllocError);
+    }
+    withstood(heap, alloc, trees, (calls, is_holding))
+}
+
+/// The same in new trees.
+fn withstood_anew<A: Allocator + Copy, B: Allocator>(
     heap: &Refusing<B>,
     alloc: A,
     (course, before, calls): (Course, &[Call], &[Call]),
-) -> Result<Result<u64, (usize, u64)>, AllocError> {
+) -> Result<(usize, u64), AllocError> {
     heap.set(Plan::Grant);
-    let mut trees = Trees::new(alloc, (course, course))?;
-    let made = trees.call_all(alloc, before)?;
-    let mut most = 0u64;
-    for i in 0..calls.len() {
-        match asked_by(heap, alloc, &mut trees, (calls[i], course.shape.cache > 0))? {
-            Ok(asked) if made == before.len() => most = most.max(asked),
-            Ok(_) => return Ok(Err((i, u64::MAX))),
-            Err(n) => return Ok(Err((i, n))),
-        }
-    }
-    Ok(Ok(most))
+    let row = (before, calls, course.shape.cache > 0);
+    withstood_after(heap, alloc, &mut Trees::new(alloc, (course, course))?, row)
 }
 
 /// The first row whose calls don't withstand each refusal, or make more requests or fewer, and what is told of it.
@@ -172,12 +248,12 @@ fn first_other<A: Allocator + Copy, B: Allocator>(
     heap: &Refusing<B>,
     alloc: A,
     rows: &[Row],
-) -> Result<Option<(usize, Result<u64, (usize, u64)>)>, AllocError> {
+) -> Result<Option<(usize, usize, u64)>, AllocError> {
     for i in 0..rows.len() {
         let (course, before, calls, least, most) = rows[i];
-        match most_asked(heap, alloc, (course, before, calls))? {
-            Ok(asked) if least <= asked && asked <= most => {}
-            other => return Ok(Some((i, other))),
+        let (count, asked) = withstood_anew(heap, alloc, (course, before, calls))?;
+        if count < calls.len() || asked < least || asked > most {
+            return Ok(Some((i, count, asked)));
         }
     }
     Ok(None)

@@ -71,6 +71,14 @@ pub(crate) enum Want {
     Format(u8),
 }
 
+/// A tree that has not grown.
+const NONE: ShapeReport = ShapeReport {
+    height: 0,
+    leaves: 0,
+    buffered: 0,
+    cached: 0,
+};
+
 #[derive(Drop)]
 pub(crate) struct Trees<A: Allocator + Copy> {
     here: Run<A>,
@@ -88,12 +96,7 @@ impl<A: Allocator + Copy> Trees<A> {
     pub(crate) fn new(alloc: A, (here, there): (Course, Course)) -> Result<Trees<A>, AllocError> {
         let here = Run::new(alloc, here)?;
         let there = Run::new(alloc, there)?;
-        Ok(Trees::of(alloc, here, there))
-    }
-
-    fn of(alloc: A, here: Run<A>, there: Run<A>) -> Trees<A> {
-        let grown = here.tree.tree.shape();
-        Trees {
+        Ok(Trees {
             here,
             there,
             is_there: false,
@@ -101,9 +104,9 @@ impl<A: Allocator + Copy> Trees<A> {
             results: Vec::new(alloc),
             done: 0,
             stale: 0,
-            grown,
+            grown: NONE,
             random: Random::new(5),
-        }
+        })
     }
 
     fn called(&mut self) -> &mut Run<A> {
