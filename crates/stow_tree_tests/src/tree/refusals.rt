@@ -115,7 +115,7 @@ const FEW: [Row; 5] = [
     (HOLDING, &APPENDED, &[Call::Resize(1)], 0, 9),
 ];
 
-const HIGH_TREE: [Row; 1] = [(OF_FORTY, &HIGH, &FILLS, 100, 10_000)];
+const HIGH_TREE: [Row; 1] = [(OF_FORTY, &HIGH, &FILLS, 50, 10_000)];
 
 const EMPTIED_LEAVES: [Row; 1] = [(SPREAD, &EMPTIED, &FLUSHES, 10, 10_000)];
 
