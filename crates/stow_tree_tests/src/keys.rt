@@ -1,9 +1,10 @@
-//! Keys of a few tenants.
-ghost use Rattle.std.specs.Prelude.{◌≤◌};
-
+//! Keys of three tenants.
 use std::alloc::{AllocError, Allocator};
 use stow_tree_model::tenant_key::TenantKey;
 use stow_tree_model::tenant_key_buf::TenantKeyBuf;
+
+/// How many tenants have keys.
+pub(crate) const TENANTS: u32 = 3;
 
 /// Keys of the tenants from 1 on: each tenant has one of each of some letters. Where these rise, so do the keys.
 #[derive(Drop)]
@@ -17,59 +18,44 @@ pub(crate) struct Keys<A: Allocator> {
     beyond: TenantKeyBuf<A>,
 }
 
-fn lows_of<A: Allocator + Copy>(
-    alloc: A,
-    tenants: u32,
-) -> Result<Vec<TenantKeyBuf<A>, A>, AllocError>
-    requires { tenants ≤ 9 }
-{
+/// Where an interval of keys begins or ends: at a tenant's lowest key, or at the key of a place.
+#[derive(Clone, Copy)]
+pub(crate) enum Bound {
+    Low(u32),
+    At(usize),
+}
+
+fn lows_of<A: Allocator + Copy>(alloc: A) -> Result<Vec<TenantKeyBuf<A>, A>, AllocError> {
     let mut lows = Vec::new(alloc);
-    for tenant in 0..tenants + 2 {
+    for tenant in 0..TENANTS + 2 {
         lows.push(TenantKeyBuf::new(alloc, tenant, &[])?)?;
     }
     Ok(lows)
 }
 
-fn all_of<A: Allocator + Copy>(
+/// Of each tenant each letter, and what stands behind it.
+fn keys_of<A: Allocator + Copy>(
     alloc: A,
-    tenants: u32,
     letters: &[u8],
-) -> Result<Vec<TenantKeyBuf<A>, A>, AllocError>
-    requires { tenants ≤ 9 }
-{
-    let mut all = Vec::new(alloc);
-    for tenant in 1..=tenants {
+    is_behind: bool,
+) -> Result<Vec<TenantKeyBuf<A>, A>, AllocError> {
+    let mut keys = Vec::new(alloc);
+    for tenant in 1..=TENANTS {
         for letter in letters {
-            all.push(TenantKeyBuf::new(alloc, tenant, &[*letter])?)?;
+            let key = [*letter, b'~'];
+            let len = if is_behind { 2 } else { 1 };
+            keys.push(TenantKeyBuf::new(alloc, tenant, &key[..len])?)?;
         }
     }
-    Ok(all)
-}
-
-fn behind_of<A: Allocator + Copy>(
-    alloc: A,
-    tenants: u32,
-    letters: &[u8],
-) -> Result<Vec<TenantKeyBuf<A>, A>, AllocError>
-    requires { tenants ≤ 9 }
-{
-    let mut behind = Vec::new(alloc);
-    for tenant in 1..=tenants {
-        for letter in letters {
-            behind.push(TenantKeyBuf::new(alloc, tenant, &[*letter, b'~'])?)?;
-        }
-    }
-    Ok(behind)
+    Ok(keys)
 }
 
 impl<A: Allocator + Copy> Keys<A> {
-    pub(crate) fn new(alloc: A, tenants: u32, letters: &[u8]) -> Result<Keys<A>, AllocError>
-        requires { tenants ≤ 9 }
-    {
+    pub(crate) fn new(alloc: A, letters: &[u8]) -> Result<Keys<A>, AllocError> {
         Ok(Keys {
-            all: all_of(alloc, tenants, letters)?,
-            behind: behind_of(alloc, tenants, letters)?,
-            lows: lows_of(alloc, tenants)?,
+            all: keys_of(alloc, letters, false)?,
+            behind: keys_of(alloc, letters, true)?,
+            lows: lows_of(alloc)?,
             beyond: TenantKeyBuf::new(alloc, 65_536, b"a")?,
         })
     }
@@ -79,27 +65,33 @@ impl<A: Allocator + Copy> Keys<A> {
         self.all.len()
     }
 
-    /// The key at a place. Past the last one that is a key above those of all tenants.
-    pub(crate) fn at(&self, place: usize) -> TenantKey<'_> {
-        match self.all.get(place) {
+    /// The key at a place, or one above those of all tenants.
+    fn lent<'k>(&'k self, keys: &'k [TenantKeyBuf<A>], place: usize) -> TenantKey<'k> {
+        match keys.get(place) {
             Some(key) => key.as_key(),
             None => self.beyond.as_key(),
         }
+    }
+
+    /// The key at a place.
+    pub(crate) fn at(&self, place: usize) -> TenantKey<'_> {
+        self.lent(self.all.as_slice(), place)
     }
 
     /// The key behind that at a place, which is none of these.
     pub(crate) fn behind(&self, place: usize) -> TenantKey<'_> {
-        match self.behind.get(place) {
-            Some(key) => key.as_key(),
-            None => self.beyond.as_key(),
-        }
+        self.lent(self.behind.as_slice(), place)
     }
 
     /// The lowest key of a tenant: a tenant's keys are those from its lowest on and below the next one's.
     pub(crate) fn low(&self, tenant: u32) -> TenantKey<'_> {
-        match self.lows.get(tenant as usize) {
-            Some(key) => key.as_key(),
-            None => self.beyond.as_key(),
+        self.lent(self.lows.as_slice(), tenant as usize)
+    }
+
+    pub(crate) fn bound(&self, bound: Bound) -> TenantKey<'_> {
+        match bound {
+            Bound::Low(tenant) => self.low(tenant),
+            Bound::At(place) => self.at(place),
         }
     }
 }

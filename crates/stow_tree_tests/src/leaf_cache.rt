@@ -1,26 +1,10 @@
-//! What no clause says: that the calls succeed where there is memory, and which of them ask for none.
+//! What no clause says: that the calls succeed where there is memory, which of them ask for none, and that memory is given back.
+use crate::page::rows_of;
+use linked_list_allocator::LocalHeap;
 use std::alloc::{AllocError, Allocator};
 use std::test::Fail;
 use stow_leaf_cache::leaf_cache::LeafCache;
-use stow_page::packed_rows::PackedRows;
-use stow_page::rows::Rows;
 use stow_refusing::{Plan, Refusing};
-use stow_tree_model::plain::version;
-use stow_tree_model::tenant_key_buf::TenantKeyBuf;
-
-mod held;
-
-/// The rows of one version, by this write.
-fn rows_of<A: Allocator + Copy>(alloc: A, number: u8) -> Result<Rows<A>, AllocError> {
-    let key = TenantKeyBuf::new(alloc, 1, b"a")?;
-    let mut packed = PackedRows::new(alloc)?;
-    if let Some(row) = version(key.as_key(), u64::from(number), None) {
-        if packed.is_below(row) && packed.has_room_for(row) {
-            packed.push(row)?;
-        }
-    }
-    Rows::new(alloc, packed)
-}
 
 /// A call of a cache. Fences are of one letter.
 #[derive(Clone, Copy)]
@@ -202,5 +186,42 @@ fn withstands_refusals(rt: HostRuntime) -> Result<(), Fail> {
     let refused = refusals(&heap, &heap)?;
     assert!(rt; refused >= 2, "{refused} refusals");
     assert!(rt; asks_for_none(&heap, &heap)?);
+    Ok(())
+}
+
+/// Keeps and uses leaves.
+fn fill<A: Allocator + Copy>(shelf: &mut Shelf<A>) -> Result<(), AllocError> {
+    for fence in b'a'..b'e' {
+        shelf.call(Call::Keep(fence, 1))?;
+        shelf.call(Call::Use(b'a'))?;
+    }
+    Ok(())
+}
+
+/// Keeps leaves under fences that come and go, and under limits that change; then forgets all.
+fn round<A: Allocator + Copy>(shelf: &mut Shelf<A>) -> Result<(), AllocError> {
+    for number in 0..2_000usize {
+        fill(shelf)?;
+        shelf.call(Call::Resize(2 + number % 3))?;
+    }
+    for fence in b'a'..b'e' {
+        shelf.call(Call::Forget(fence))?;
+    }
+    Ok(())
+}
+
+/// Whether a cache holds no more of the heap after a second round than after the first.
+fn holds_no_more<A: Allocator + Copy>(heap: &LocalHeap, alloc: A) -> Result<bool, AllocError> {
+    let mut shelf = Shelf::new(alloc, 2)?;
+    round(&mut shelf)?;
+    let used = heap.used();
+    round(&mut shelf)?;
+    Ok(heap.used() <= used)
+}
+
+#[test]
+fn a_second_round_holds_no_more(rt: HostRuntime) -> Result<(), Fail> {
+    let heap = LocalHeap::new(rt.alloc(), 1_048_576)?;
+    assert!(rt; holds_no_more(&heap, &heap)?);
     Ok(())
 }

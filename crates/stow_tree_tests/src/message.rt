@@ -9,7 +9,6 @@ use stow_tree_model::message::Message;
 use stow_tree_model::op::Op;
 use stow_tree_model::plain::message;
 use stow_tree_model::tenant_key::TenantKey;
-use stow_tree_model::tenant_key_buf::TenantKeyBuf;
 
 /// A put: the place of its key, four to a tenant, its number, and which value it has.
 type Put = (usize, u64, u8);
@@ -86,7 +85,7 @@ const WORKED: [Row; 25] = [
 ];
 
 /// Puts a message, where it fits and is new. Whether it did.
-pub(crate) fn pushed<A: Allocator>(buf: &mut MessageBuf<A>, made: Message<'_>) -> bool {
+fn pushed<A: Allocator>(buf: &mut MessageBuf<A>, made: Message<'_>) -> bool {
     let may_push = buf.fits(made) && buf.is_new(made);
     if may_push {
         buf.push(made);
@@ -129,42 +128,68 @@ fn squeezed<A: Allocator>(buf: &mut MessageBuf<A>, spare: &mut RawBuf<A>) -> boo
     may_squeeze
 }
 
-/// Two buffers, a batch and a spare block.
+/// Two buffers.
 #[derive(Drop)]
-struct All<A: Allocator, B: Allocator> {
+struct Pair<A: Allocator> {
     left: MessageBuf<A>,
     right: MessageBuf<A>,
-    batch: MessageBuf<A>,
-    spare: RawBuf<A>,
-    keys: Keys<B>,
 }
 
-impl<A: Allocator + Copy, B: Allocator + Copy> All<A, B> {
-    fn new(heap: A, alloc: B, (left, right): (u16, u16)) -> Result<All<A, B>, AllocError> {
-        Ok(All {
-            left: MessageBuf::with_capacity(heap, usize::from(left))?,
-            right: MessageBuf::with_capacity(heap, usize::from(right))?,
-            batch: MessageBuf::with_capacity(heap, 60)?,
-            spare: RawBuf::with_capacity(heap, usize::from(left))?,
-            keys: Keys::new(alloc, 4, b"abcd")?,
-        })
+fn pair_of<A: Allocator + Copy>(
+    alloc: A,
+    (left, right): (u16, u16),
+) -> Result<Pair<A>, AllocError> {
+    Ok(Pair {
+        left: MessageBuf::with_capacity(alloc, usize::from(left))?,
+        right: MessageBuf::with_capacity(alloc, usize::from(right))?,
+    })
+}
+
+/// A batch and a spare block.
+#[derive(Drop)]
+struct Aside<A: Allocator> {
+    batch: MessageBuf<A>,
+    spare: RawBuf<A>,
+}
+
+fn aside_of<A: Allocator + Copy>(alloc: A, capacity: u16) -> Result<Aside<A>, AllocError> {
+    Ok(Aside {
+        batch: MessageBuf::with_capacity(alloc, 60)?,
+        spare: RawBuf::with_capacity(alloc, usize::from(capacity))?,
+    })
+}
+
+/// Two buffers, a batch, a spare block and the keys.
+#[derive(Drop)]
+struct All<A: Allocator> {
+    pair: Pair<A>,
+    aside: Aside<A>,
+    keys: Keys<A>,
+}
+
+impl<A: Allocator + Copy> All<A> {
+    fn new(alloc: A, capacities: (u16, u16)) -> Result<All<A>, AllocError> {
+        let pair = pair_of(alloc, capacities)?;
+        let aside = aside_of(alloc, capacities.0)?;
+        let keys = Keys::new(alloc, b"abcd")?;
+        Ok(All { pair, aside, keys })
     }
 
     /// Carries out a call. Whether it could be carried out, or what it told.
     fn call(&mut self, call: Call) -> bool {
         match call {
-            Call::PutLeft(one) => put(&mut self.left, &self.keys, one),
-            Call::PutRight(one) => put(&mut self.right, &self.keys, one),
-            Call::PutBatch(one) => put(&mut self.batch, &self.keys, one),
+            Call::PutLeft(one) => put(&mut self.pair.left, &self.keys, one),
+            Call::PutRight(one) => put(&mut self.pair.right, &self.keys, one),
+            Call::PutBatch(one) => put(&mut self.aside.batch, &self.keys, one),
             Call::MoveRight((from, to)) => {
                 let interval = (self.keys.at(from), self.keys.at(to));
-                moves(&mut self.left, interval, &mut self.right)
+                moves(&mut self.pair.left, interval, &mut self.pair.right)
             }
-            Call::Oldest => self.left.holds_oldest(&self.batch),
-            Call::Take => self.left.take_out(&self.batch),
+            Call::Oldest => self.pair.left.holds_oldest(&self.aside.batch),
+            Call::Take => self.pair.left.take_out(&self.aside.batch),
             Call::Squeeze => {
-                squeezed(&mut self.left, &mut self.spare)
-                    && squeezed(&mut self.right, &mut self.spare)
+                squeezed(&mut self.pair.left, &mut self.aside.spare)
+                    && squeezed(&mut self.pair.right, &mut self.aside.spare)
             }
             Call::DropRight(places) => self.drop_right(places),
             Call::ResetLeft => self.reset_left(),
@@ -173,17 +198,19 @@ impl<A: Allocator + Copy, B: Allocator + Copy> All<A, B> {
     }
 
     fn drop_right(&mut self, (from, to): Places) -> bool {
-        self.right.drop_range(self.keys.at(from), self.keys.at(to));
+        self.pair
+            .right
+            .drop_range(self.keys.at(from), self.keys.at(to));
         true
     }
 
     fn reset_left(&mut self) -> bool {
-        self.left.reset();
+        self.pair.left.reset();
         true
     }
 
     fn reset_batch(&mut self) -> bool {
-        self.batch.reset();
+        self.aside.batch.reset();
         true
     }
 
@@ -199,90 +226,47 @@ impl<A: Allocator + Copy, B: Allocator + Copy> All<A, B> {
     }
 
     fn sizes(&self) -> [usize; 4] {
-        let (left, right) = (&self.left, &self.right);
+        let (left, right) = (&self.pair.left, &self.pair.right);
         [left.len(), left.used(), right.len(), right.used()]
     }
 
     /// Whether the left buffer lends its one message, by its key and by an interval.
     fn lends_one(&self) -> bool {
         let (from, to) = (self.keys.at(2), self.keys.at(3));
-        let run = self.left.in_range(from, to);
+        let run = self.pair.left.in_range(from, to);
         run.len() == 1
             && run.get(0).number == 9
             && run.get(0).op.carried() == b"new".as_slice()
-            && self.left.range_bytes(from, to) == 27
-            && self.left.of_key(from).len() == 1
+            && self.pair.left.range_bytes(from, to) == 27
+            && self.pair.left.of_key(from).len() == 1
     }
 }
 
 /// How many rows hold in buffers of these capacities, whether the left one lends one message then, and how many requests that
 /// makes.
-fn held<A: Allocator + Copy, B: Allocator + Copy, C: Allocator>(
-    heap: &Refusing<C>,
-    (lent, alloc): (A, B),
-    capacities: (u16, u16),
-    rows: &[Row],
+fn held<A: Allocator + Copy, B: Allocator>(
+    heap: &Refusing<B>,
+    alloc: A,
+    (capacities, rows): ((u16, u16), &[Row]),
 ) -> Result<(usize, bool, u64), AllocError> {
     heap.set(Plan::Grant);
-    let mut all = All::new(lent, alloc, capacities)?;
+    let mut all = All::new(alloc, capacities)?;
     heap.set(Plan::RefuseAll);
-    let worked = all.work(rows);
-    Ok((worked, all.lends_one(), heap.asked()))
+    Ok((all.work(rows), all.lends_one(), heap.asked()))
+}
+
+/// The capacities of two buffers.
+pub(crate) fn capacities<A: Allocator + Copy>(alloc: A) -> Result<(usize, usize), AllocError> {
+    let pair = pair_of(alloc, (200, 60))?;
+    Ok((pair.left.capacity(), pair.right.capacity()))
 }
 
 #[test]
 fn worked_calls(rt: HostRuntime) -> Result<(), Fail> {
     let heap = Refusing::new(rt.alloc());
-    let lent = (&heap, rt.alloc());
-    let tight = held(&heap, lent, (40, 0), &TIGHT)?;
+    let tight = held(&heap, &heap, ((40, 0), &TIGHT))?;
     assert_eq!(rt; tight, (TIGHT.len(), false, 0));
-    let worked = held(&heap, lent, (200, 200), &WORKED)?;
+    let worked = held(&heap, &heap, ((200, 200), &WORKED))?;
     assert_eq!(rt; worked, (WORKED.len(), true, 0));
-    Ok(())
-}
-
-/// Puts the key of this number.
-fn put_number<A: Allocator + Copy>(
-    alloc: A,
-    buf: &mut MessageBuf<A>,
-    number: u16,
-) -> Result<bool, AllocError> {
-    let key = TenantKeyBuf::new(alloc, 1, &number.to_be_bytes())?;
-    Ok(match message(key.as_key(), 1, Op::Put(b"x")) {
-        Some(made) => pushed(buf, made),
-        None => false,
-    })
-}
-
-/// How many messages the key of this number has.
-fn count_of<A: Allocator + Copy>(
-    alloc: A,
-    buf: &MessageBuf<A>,
-    number: u16,
-) -> Result<usize, AllocError> {
-    let key = TenantKeyBuf::new(alloc, 1, &number.to_be_bytes())?;
-    Ok(buf.of_key(key.as_key()).len())
-}
-
-/// Whether a buffer takes 1,000 keys, finds each, and finds none of 1,000 others.
-fn finds_each<A: Allocator + Copy>(alloc: A) -> Result<bool, AllocError> {
-    let mut buf = MessageBuf::with_capacity(alloc, 65_536)?;
-    let mut same = true;
-    for number in 0..1_000u16 {
-        same = put_number(alloc, &mut buf, number)? && same;
-    }
-    for number in 0..2_000u16 {
-        let is_there = count_of(alloc, &buf, number)? == 1;
-        same = same && is_there == (number < 1_000);
-    }
-    Ok(same)
-}
-
-#[test]
-fn a_filter_grows_and_hides_none(rt: HostRuntime) -> Result<(), Fail> {
-    let heap = Refusing::new(rt.alloc());
-    assert!(rt; finds_each(&heap)?);
-    heap.set(Plan::RefuseAt(0));
-    assert!(rt; finds_each(&heap).is_err());
     Ok(())
 }

@@ -51,11 +51,16 @@ fn carry_out<A: Allocator>(buf: &mut RawBuf<A>, call: Call) {
     }
 }
 
+fn push_one<A: Allocator>(buf: &mut RawBuf<A>, byte: u8) {
+    let bytes = [byte];
+    if buf.room() > 0 {
+        buf.push_front(&bytes);
+    }
+}
+
 fn push<A: Allocator>(buf: &mut RawBuf<A>, first: u8, count: u8) {
     for i in 0..count {
-        if buf.room() > 0 {
-            buf.push_front(&[first.wrapping_add(i)]);
-        }
+        push_one(buf, first.wrapping_add(i));
     }
 }
 
@@ -94,32 +99,20 @@ fn worked_calls(rt: HostRuntime) -> Result<(), Fail> {
     Ok(())
 }
 
-fn send<T: Send>(x: T) -> T {
-    x
-}
-
-/// The room of a block whose first no bytes are none, or why there is no block, and how many requests that made or was refused.
-fn room_of<A: Allocator + Copy, B: Allocator>(
-    heap: &Refusing<B>,
-    alloc: A,
-    capacity: usize,
-) -> (Result<usize, AllocError>, u64) {
-    let room = match RawBuf::with_capacity(alloc, capacity) {
-        Ok(buf) if buf.bytes(0, 0).is_empty() => Ok(buf.room()),
-        _ => Err(AllocError),
-    };
-    (room, heap.asked())
+/// The room of a block of so many bytes. Refused memory is an `Err`.
+pub(crate) fn room_of<A: Allocator>(alloc: A, capacity: usize) -> Result<usize, AllocError> {
+    let buf = RawBuf::with_capacity(alloc, capacity)?;
+    Ok(buf.room().saturating_add(buf.bytes(0, 0).len()))
 }
 
 #[test]
 fn only_making_asks_for_memory(rt: HostRuntime) -> Result<(), Fail> {
-    let large = send(RawBuf::with_capacity(rt.alloc(), 16_777_216)?);
-    assert_eq!(rt; large.room(), 16_777_216);
     let heap = Refusing::new(rt.alloc());
-    assert_eq!(rt; room_of(&heap, &heap, 64), (Ok(64), 1));
+    assert_eq!(rt; room_of(&heap, 16_777_216), Ok(16_777_216));
+    assert_eq!(rt; (room_of(&heap, 64), heap.asked()), (Ok(64), 2));
+    assert_eq!(rt; room_of(&heap, usize::MAX), Err(AllocError));
     heap.set(Plan::RefuseAll);
-    assert_eq!(rt; room_of(&heap, &heap, 64), (Err(AllocError), 1));
-    assert_eq!(rt; room_of(&heap, &heap, usize::MAX), (Err(AllocError), 1));
-    assert_eq!(rt; room_of(&heap, &heap, 0), (Ok(0), 1));
+    assert_eq!(rt; room_of(&heap, 64), Err(AllocError));
+    assert_eq!(rt; room_of(&heap, 0), Ok(0));
     Ok(())
 }

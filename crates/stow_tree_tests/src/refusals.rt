@@ -1,136 +1,79 @@
-//! Calls with ample memory, and with each request for it refused in turn.
-use crate::flush::makes_room;
-use crate::leaf::gives_way;
-use crate::{merge, node, page, read, tree};
+//! Calls that ask for all of their memory themselves, with each request for it refused in turn.
+use crate::{message, page, raw};
 use std::alloc::{AllocError, Allocator};
 use std::test::Fail;
 use stow_refusing::{Plan, Refusing};
+use stow_slots::slot_buf::SlotBuf;
+use stow_tree::tree_fault::TreeFault;
+use stow_tree::tree_shape::TreeShape;
 
-/// What is carried out from its beginning, where it has a `Whole`; else a call with something to stand on.
+/// What is done.
 #[derive(Clone, Copy)]
 enum Trial {
-    Whole(Whole),
-    Room,
-    Merge,
-    Job,
-    Join,
-    Spread,
-    Walk,
-    Plan,
-    Install,
-}
-
-/// What asks for all of its memory itself.
-#[derive(Clone, Copy)]
-enum Whole {
-    Leaf,
-    FirstNode,
-    Join,
-    Flush,
-    Read,
+    Raw,
+    Slots,
+    Message,
     Page,
     Tree,
 }
 
-/// What is tried, and how many requests it makes at least.
-const TRIALS: [(Trial, u64); 15] = [
-    (Trial::Whole(Whole::Leaf), 10),
-    (Trial::Whole(Whole::FirstNode), 6),
-    (Trial::Whole(Whole::Join), 10),
-    (Trial::Whole(Whole::Flush), 6),
-    (Trial::Whole(Whole::Read), 10),
-    (Trial::Whole(Whole::Page), 6),
-    (Trial::Whole(Whole::Tree), 3),
-    (Trial::Room, 2),
-    (Trial::Merge, 10),
-    (Trial::Job, 10),
-    (Trial::Join, 11),
-    (Trial::Spread, 1_001),
-    (Trial::Walk, 3),
-    (Trial::Plan, 3),
-    (Trial::Install, 901),
+/// What is done, and how many requests it makes at least.
+const TRIALS: [(Trial, u64); 5] = [
+    (Trial::Raw, 1),
+    (Trial::Slots, 2),
+    (Trial::Message, 2),
+    (Trial::Page, 40),
+    (Trial::Tree, 3),
 ];
 
+fn is_tree<A: Allocator + Copy>(alloc: A) -> Result<bool, AllocError> {
+    match crate::tree::refusals::new_report(alloc, TreeShape::SMALLEST) {
+        Ok(report) => Ok(report.leaves == 1),
+        Err(TreeFault::Memory) => Err(AllocError),
+        Err(TreeFault::Shape) => Ok(false),
+    }
+}
+
 /// Whether all that it is to do is done.
-fn carry_out<A: Allocator + Copy>(alloc: A, whole: Whole) -> Result<bool, AllocError> {
-    match whole {
-        Whole::Leaf => gives_way(alloc),
-        Whole::FirstNode => node::takes_messages(alloc),
-        Whole::Join => node::joins_leaves(alloc),
-        Whole::Flush => makes_room(alloc),
-        Whole::Read => read::are_read(alloc),
-        Whole::Page => page::are_read(alloc),
-        Whole::Tree => tree::calls::is_made(alloc),
-    }
+fn carry_out<A: Allocator + Copy>(alloc: A, trial: Trial) -> Result<bool, AllocError> {
+    Ok(match trial {
+        Trial::Raw => raw::room_of(alloc, 16)? == 16,
+        Trial::Slots => SlotBuf::with_capacity(alloc, 65_536)?.slot_count() == 0,
+        Trial::Message => message::capacities(alloc)? == (200, 60),
+        Trial::Page => page::are_told(alloc, page::FEW)?,
+        Trial::Tree => is_tree(alloc)?,
+    })
 }
 
-/// Whether it is refused where its nth request is. `None` where it makes fewer, and does all.
-fn withstands_whole<A: Allocator + Copy, B: Allocator>(
-    heap: &Refusing<B>,
-    alloc: A,
-    (whole, n): (Whole, u64),
-) -> Option<bool> {
-    heap.set(Plan::RefuseAt(n));
-    let done = carry_out(alloc, whole);
-    if heap.asked() <= n && matches!(done, Ok(true)) {
-        return None;
-    }
-    Some(done.is_err() && heap.asked() > n)
-}
-
-/// Whether it withstands that its nth request is refused. `None` where it makes fewer.
-fn withstands<A: Allocator + Copy, B: Allocator>(
-    heap: &Refusing<B>,
-    alloc: A,
-    (trial, n): (Trial, u64),
-) -> Result<Option<bool>, AllocError> {
-    match trial {
-        Trial::Whole(whole) => Ok(withstands_whole(heap, alloc, (whole, n))),
-        Trial::Room => merge::pinning::withstands_room(heap, alloc, n),
-        Trial::Merge => merge::withstands(heap, alloc, n),
-        Trial::Job => merge::jobs::withstands(heap, alloc, n),
-        Trial::Join => node::withstands_join(heap, alloc, n),
-        Trial::Spread => node::withstands_spread(heap, alloc, n),
-        Trial::Walk => tree::walking::withstands(heap, alloc, n),
-        Trial::Plan => tree::planning::withstands(heap, alloc, n),
-        Trial::Install => tree::installing::withstands(heap, alloc, n),
-    }
-}
-
-/// How many requests it makes, where it withstands each; else the first that it doesn't.
+/// How many requests it makes, where each is refused in turn and is told so; else the first that isn't.
 fn refusals<A: Allocator + Copy, B: Allocator>(
     heap: &Refusing<B>,
     alloc: A,
     trial: Trial,
 ) -> Result<u64, u64> {
     for n in 0..5_000u64 {
-        match withstands(heap, alloc, (trial, n)) {
-            Ok(None) => return Ok(n),
-            Ok(Some(true)) => {}
-            _ => return Err(n),
+        heap.set(Plan::RefuseAt(n));
+        let done = carry_out(alloc, trial);
+        let is_over = heap.asked() <= n;
+        if is_over && matches!(done, Ok(true)) {
+            return Ok(n);
+        }
+        if is_over || done.is_ok() {
+            return Err(n);
         }
     }
     Err(5_000)
 }
 
-/// The first that doesn't withstand each refusal or makes fewer requests, and how far it came.
-fn first_other<A: Allocator + Copy, B: Allocator>(
-    heap: &Refusing<B>,
-    alloc: A,
-) -> Option<(usize, Result<u64, u64>)> {
-    for i in 0..TRIALS.len() {
-        let (trial, least) = TRIALS[i];
-        match refusals(heap, alloc, trial) {
-            Ok(asked) if asked >= least => {}
-            other => return Some((i, other)),
-        }
-    }
-    None
-}
-
 #[test]
 fn each_request_may_be_refused(rt: HostRuntime) -> Result<(), Fail> {
     let heap = Refusing::new(rt.alloc());
-    assert_eq!(rt; first_other(&heap, &heap), None);
+    for (trial, least) in TRIALS {
+        let refused = refusals(&heap, &heap, trial);
+        assert!(rt;
+            matches!(refused, Ok(asked) if asked >= least),
+            "{refused:?}"
+        );
+    }
     Ok(())
 }

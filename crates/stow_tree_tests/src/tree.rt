@@ -1,15 +1,11 @@
-//! What no clause says: that the calls succeed where there is memory, withstand each refusal, and hold leaves; and that a
-//! tree which grows through all its shapes tells what a plain list of its messages tells.
-pub(crate) mod calls;
-mod changes;
+//! Whole trees: what no clause says of them and of the crates below them.
 mod dropping;
-mod few;
-mod formats;
-mod grown;
-pub(crate) mod installing;
+mod growing;
+mod late;
 mod numbered;
-pub(crate) mod planning;
-mod random;
-mod refusals;
+pub(crate) mod refusals;
 mod run;
-pub(crate) mod walking;
+mod shapes;
+mod small;
+mod trees;
+mod walking;

@@ -1,6 +1,5 @@
 //! What a drop leaves charged, where the snapshot showed more rows than are walked at once.
-use crate::merge::pinning::pinned;
-use crate::tree::calls::SMALLEST;
+
 use crate::tree::numbered::Numbered;
 use std::alloc::{AllocError, Allocator};
 use std::test::Fail;
@@ -10,6 +9,7 @@ use stow_ledger::row_change::RowChange;
 use stow_ledger::sized_version::SizedVersion;
 use stow_merge::pins::Pins;
 use stow_refusing::{Plan, Refusing};
+use stow_tree::tree_shape::TreeShape;
 use stow_tree_model::op::Op;
 use stow_tree_model::tenant_key_buf::TenantKeyBuf;
 
@@ -34,6 +34,16 @@ fn charge_write(account: &mut Account, before: Option<SizedVersion>, length: u32
     if account.allows(outcome) {
         account.commit(outcome);
     }
+}
+
+/// A pin of tenant 1 at the snapshot's number.
+fn pinned<A: Allocator + Copy>(alloc: A) -> Result<Pins<A>, AllocError> {
+    let mut pins = Pins::new(alloc);
+    pins.room(1)?;
+    if pins.of(1).is_empty() {
+        pins.add(1, 1_200);
+    }
+    Ok(pins)
 }
 
 /// A tree, and the account of its tenant 1.
@@ -78,16 +88,20 @@ impl<A: Allocator + Copy> Charged<A> {
         Ok(())
     }
 
+    /// Puts a value under each key, and behind the pin another under some.
+    fn put_all(&mut self, alloc: A) -> Result<(), AllocError> {
+        let pins = pinned(alloc)?;
+        self.fill(alloc, &pins)?;
+        self.put_again(alloc, &pins)
+    }
+
     /// A value under each key, and behind the pin another under some.
     fn new(alloc: A) -> Result<Charged<A>, AllocError> {
-        let mut pins = Pins::new(alloc);
-        pinned(&mut pins, 1, 1_200)?;
         let mut made = Charged {
-            tree: Numbered::new(alloc, SMALLEST)?,
+            tree: Numbered::new(alloc, TreeShape::SMALLEST)?,
             account: Account::new(1_000_000),
         };
-        made.fill(alloc, &pins)?;
-        made.put_again(alloc, &pins)?;
+        made.put_all(alloc)?;
         Ok(made)
     }
 
@@ -132,13 +146,22 @@ fn is_refused<A: Allocator + Copy, B: Allocator>(
     Ok(are)
 }
 
-/// Whether a drop frees what nothing shows, and withstands refusals.
+/// Whether a drop frees what nothing shows, before and after its requests are refused.
+fn withstands<A: Allocator + Copy, B: Allocator>(
+    heap: &Refusing<B>,
+    alloc: A,
+    made: &Charged<A>,
+) -> Result<bool, AllocError> {
+    Ok(frees(alloc, made)? && is_refused(heap, alloc, made)? && frees(alloc, made)?)
+}
+
+/// Whether a new tree's does.
 fn is_dropped<A: Allocator + Copy, B: Allocator>(
     heap: &Refusing<B>,
     alloc: A,
 ) -> Result<bool, AllocError> {
     let made = Charged::new(alloc)?;
-    Ok(frees(alloc, &made)? && is_refused(heap, alloc, &made)? && frees(alloc, &made)?)
+    withstands(heap, alloc, &made)
 }
 
 #[test]

@@ -1,253 +1,307 @@
-//! Each call with each of its requests for memory refused in turn.
-use crate::keys::Keys;
-use crate::tree::calls::SMALLEST;
-use crate::tree::changes::Change;
-use crate::tree::numbered::Numbered;
-use crate::tree::run::{Course, Read, Run};
+//! Calls of trees with each request for memory refused in turn.
+use crate::tree::growing::OF_FORTY;
+use crate::tree::run::{Course, Read};
+pub(crate) use crate::tree::shapes::new_report;
+use crate::tree::small::COURSE;
+use crate::tree::trees::{Call, Trees, Want};
 use std::alloc::{AllocError, Allocator};
 use std::test::Fail;
-use stow_merge::pins::Pins;
 use stow_refusing::{Plan, Refusing};
 use stow_tree::shape_report::ShapeReport;
 use stow_tree::tree_shape::TreeShape;
-use stow_tree_model::op::Op;
 
-/// How many requests a put makes into a new tree, which has the room.
-fn asked_by_put<A: Allocator + Copy, B: Allocator>(
-    heap: &Refusing<B>,
-    alloc: A,
-) -> Result<u64, AllocError> {
-    let keys = Keys::new(alloc, 1, b"a")?;
-    let pins = Pins::new(alloc);
-    let mut tree = Numbered::new(alloc, SMALLEST)?;
-    heap.set(Plan::RefuseAll);
-    tree.put(alloc, keys.at(0), Op::Put(b"x"), &pins)?;
-    Ok(heap.asked())
-}
+/// What comes before, the calls of which each request is refused then, and how many requests the one with most of them makes,
+/// at least and at most.
+type Row = (Course, &'static [Call], &'static [Call], u64, u64);
 
-#[test]
-fn putting_asks_for_no_memory(rt: HostRuntime) -> Result<(), Fail> {
-    let heap = Refusing::new(rt.alloc());
-    assert_eq!(rt; asked_by_put(&heap, &heap)?, 0);
-    Ok(())
-}
+/// Thirty-four keys of each tenant, of which each row takes a page of its own.
+const SPREAD: Course = Course {
+    letters: b"0123456789ABCDEFGHIJKLMNOPQRSTUVWX",
+    ..COURSE
+};
 
-/// How long a value is that only fills buffers.
-const FILLER: u32 = 480_000;
+/// Leaves may be held, so a read whose request for one is refused holds none.
+const HOLDING: Course = Course {
+    shape: TreeShape {
+        cache: 8,
+        ..TreeShape::SMALLEST
+    },
+    ..COURSE
+};
 
-/// A tree after so many random changes.
-fn after<A: Allocator + Copy>(alloc: A, cache: u32, turns: u32) -> Result<Run<A>, AllocError> {
-    let course = Course {
-        shape: TreeShape { cache, ..SMALLEST },
-        letters: b"abcdefgh",
-        longest: 8_000,
-        filler: FILLER,
-        number: 11,
-    };
-    let mut run = Run::new(alloc, course)?;
-    for turn in 0..turns {
-        run.take_turn(alloc, turn)?;
-        run.move_pins()?;
-    }
-    Ok(run)
-}
+const ROOT: [Call; 2] = [Call::PutAll(2_100), Call::Want(Want::Sizes(1, 1, 102))];
 
-/// What is put: a change, or what fills buffers behind the key at a place.
+const HIGH: [Call; 2] = [Call::Random(900), Call::Want(Want::Grown(3, 12))];
+
+/// Messages of which few are above the leaves.
+const APPENDED: [Call; 4] = [
+    Call::PutAll(2_000),
+    Call::Drain,
+    Call::Append(0, 20),
+    Call::Append(1, 20),
+];
+
+/// Four keys to a leaf, and messages that remove them.
+const EMPTIED: [Call; 4] = [
+    Call::PutAll(1_000),
+    Call::Drain,
+    Call::Want(Want::Grown(1, 20)),
+    Call::GoneFrom(1, 102),
+];
+
+/// What fills buffers is removed at once, since the list doesn't have it.
+const FILLS: [Call; 18] = [
+    Call::Fill(0, 480_000),
+    Call::Fill(0, 0),
+    Call::Random(1),
+    Call::Fill(30, 480_000),
+    Call::Fill(30, 0),
+    Call::Random(1),
+    Call::Fill(60, 480_000),
+    Call::Fill(60, 0),
+    Call::Random(1),
+    Call::Fill(90, 480_000),
+    Call::Fill(90, 0),
+    Call::Random(1),
+    Call::Fill(110, 480_000),
+    Call::Fill(110, 0),
+    Call::GoneBoth(7),
+    Call::Fill(20, 480_000),
+    Call::Fill(20, 0),
+    Call::Random(1),
+];
+
+const READS: [Call; 4] = [
+    Call::Read(Read::Get, 0),
+    Call::Read(Read::Versions, 1),
+    Call::Read(Read::Range, 0),
+    Call::Read(Read::Walk, 0),
+];
+
+/// Room for a message moves all others to the leaves.
+const MAKES_ROOM: [Call; 4] = [
+    Call::Fill(100, 1_000_000),
+    Call::Fill(100, 0),
+    Call::Fill(101, 1_000_000),
+    Call::Want(Want::Sizes(4, 102, 1)),
+];
+
+// 102 leaves stand under 26 nodes, these under 7, these under 2, and these under a new root.
+const INSTALLS: [Call; 4] = [
+    Call::Plan,
+    Call::Merge,
+    Call::Install(0),
+    Call::Want(Want::Sizes(4, 102, 0)),
+];
+
+const FLUSHES: [Call; 6] = [
+    Call::Plan,
+    Call::Merge,
+    Call::Install(0),
+    Call::Plan,
+    Call::Merge,
+    Call::Install(0),
+];
+
+/// Calls that take no memory: it is all refused to a put.
+const PUTS: [Call; 2] = [Call::Put(0, 1), Call::Gone(0)];
+
+/// Rows of few requests.
+const FEW: [Row; 5] = [
+    (COURSE, &[], &PUTS, 0, 0),
+    (COURSE, &[], &[Call::Pin(2)], 2, 9),
+    (COURSE, &APPENDED, &READS, 2, 1_000),
+    (HOLDING, &APPENDED, &READS, 3, 1_000),
+    (HOLDING, &APPENDED, &[Call::Resize(1)], 0, 9),
+];
+
+const HIGH_TREE: [Row; 1] = [(OF_FORTY, &HIGH, &FILLS, 50, 10_000)];
+
+const EMPTIED_LEAVES: [Row; 1] = [(SPREAD, &EMPTIED, &FLUSHES, 10, 10_000)];
+
+const ROOM: [Row; 1] = [(SPREAD, &ROOT, &MAKES_ROOM, 301, 10_000)];
+
+const JOBS: [Row; 1] = [(SPREAD, &ROOT, &INSTALLS, 301, 10_000)];
+
+/// What became of a call whose nth request was refused.
 #[derive(Clone, Copy)]
-enum Step {
-    Change(Change),
-    Filler(usize),
+enum Tried {
+    /// It makes fewer, and did what is wanted.
+    Done,
+    /// It was refused, and nothing changed that is told.
+    Stands,
+    /// The same, and the tree has another size.
+    Moved,
+    Other,
 }
 
-fn take_step<A: Allocator + Copy>(
+/// What became of a call that was refused, if it was, in a tree that was so large before.
+fn refused<A: Allocator + Copy>(
     alloc: A,
-    run: &mut Run<A>,
-    what: Step,
-) -> Result<(), AllocError> {
-    match what {
-        Step::Change(change) => run.put(alloc, change),
-        Step::Filler(place) => run.put_filler(alloc, (place, FILLER)),
+    trees: &mut Trees<A>,
+    before: ShapeReport,
+    n: u64,
+) -> Result<Tried, AllocError> {
+    if !trees.stands(alloc, n)? {
+        return Ok(Tried::Other);
     }
-}
-
-/// Puts it with its first request refused, then with its second, and so on, until it makes fewer, and from the first again
-/// where a refused put changed how large the tree is. How many requests it makes at most, if all but the last are refused and
-/// change nothing that is told; else which request it doesn't withstand.
-fn put_refusals<A: Allocator + Copy, B: Allocator>(
-    heap: &Refusing<B>,
-    alloc: A,
-    run: &mut Run<A>,
-    what: Step,
-) -> Result<Result<u64, u64>, AllocError> {
-    let (mut n, mut most) = (0u64, 0u64);
-    for _ in 0..5_000u32 {
-        let before: ShapeReport = run.tree.tree.shape();
-        heap.set(Plan::RefuseAt(n));
-        let is_refused = take_step(alloc, run, what).is_err();
-        let is_over = heap.asked() <= n;
-        heap.set(Plan::Grant);
-        if is_over && !is_refused {
-            return Ok(Ok(most));
-        }
-        if is_over || !is_refused || !run.agrees(alloc)? {
-            return Ok(Err(n));
-        }
-        n = if run.tree.tree.shape() == before {
-            n.saturating_add(1)
-        } else {
-            0
-        };
-        most = most.max(n);
-    }
-    Ok(Err(n))
-}
-
-/// Puts the random change of a turn, and before some of them what fills buffers, with each request refused in turn. How many
-/// requests they make at most, if they withstand that; else which they don't withstand.
-fn turn_refusals<A: Allocator + Copy, B: Allocator>(
-    heap: &Refusing<B>,
-    alloc: A,
-    run: &mut Run<A>,
-    turn: u32,
-) -> Result<Result<u64, u64>, AllocError> {
-    let mut most = 0u64;
-    if turn % 4 == 0 {
-        let place = run.place();
-        most = match put_refusals(heap, alloc, run, Step::Filler(place))? {
-            Ok(asked) => asked,
-            Err(n) => return Ok(Err(n)),
-        };
-        run.remove_filler(alloc, place)?;
-    }
-    let change = run.draw();
-    match put_refusals(heap, alloc, run, Step::Change(change))? {
-        Ok(asked) => most = most.max(asked),
-        Err(n) => return Ok(Err(n)),
-    }
-    Ok(if run.agrees(alloc)? {
-        Ok(most)
+    let shape = ShapeReport {
+        cached: before.cached,
+        ..trees.shape()
+    };
+    Ok(if shape == before {
+        Tried::Stands
     } else {
-        Err(most)
+        Tried::Moved
     })
 }
 
-/// The most requests that one of many puts makes, and how many flush, if all withstand that each is refused; else which turn's
-/// doesn't, and which request.
-fn all_put_refusals<A: Allocator + Copy, B: Allocator>(
+/// Whether a call does what is wanted, and is refused, and whether it makes fewer requests than the refused one.
+fn carry_out<A: Allocator + Copy, B: Allocator>(
     heap: &Refusing<B>,
     alloc: A,
-) -> Result<Result<(u64, u32), (u32, u64)>, AllocError> {
-    let mut run = after(alloc, 0, 20)?;
-    let (mut most, mut flushes) = (0, 0u32);
-    for turn in 20..120 {
-        let asked = match turn_refusals(heap, alloc, &mut run, turn)? {
-            Ok(asked) => asked,
-            Err(n) => return Ok(Err((turn, n))),
-        };
-        most = asked.max(most);
-        flushes = flushes.saturating_add(u32::from(asked >= 5));
-        run.move_pins()?;
+    trees: &mut Trees<A>,
+    (call, n): (Call, u64),
+) -> (bool, bool, bool) {
+    heap.set(Plan::RefuseAt(n));
+    let done = trees.call(alloc, call);
+    let is_over = heap.asked() <= n;
+    heap.set(Plan::Grant);
+    match done {
+        Ok(is_done) => (is_done, false, is_over),
+        Err(_) => (false, true, is_over),
     }
-    Ok(Ok((most, flushes)))
 }
 
-// Two of these turns flush at least, and one of them makes a hundred requests or more.
+/// Carries out a call with its nth request refused, where no leaf is held.
+fn try_call<A: Allocator + Copy, B: Allocator>(
+    heap: &Refusing<B>,
+    alloc: A,
+    trees: &mut Trees<A>,
+    (call, is_holding, n): (Call, bool, u64),
+) -> Result<Tried, AllocError> {
+    trees.forget()?;
+    let before = trees.shape();
+    match carry_out(heap, alloc, trees, (call, n)) {
+        (true, _, true) => Ok(Tried::Done),
+        (_, _, true) => Ok(Tried::Other),
+        (_, is_refused, false) if is_refused || is_holding => refused(alloc, trees, before, n),
+        _ => Ok(Tried::Other),
+    }
+}
+
+/// Carries out a call with its first request refused, then with its second, and so on, until it makes fewer, and from the first
+/// again where a refused call changed how large the tree is. Whether it is refused each time but the last and nothing changes
+/// that is told, and how many requests it makes at most; else which request it doesn't withstand.
+fn asked_by<A: Allocator + Copy, B: Allocator>(
+    heap: &Refusing<B>,
+    alloc: A,
+    trees: &mut Trees<A>,
+    (call, is_holding): (Call, bool),
+) -> Result<(bool, u64), AllocError> {
+    let (mut n, mut most) = (0u64, 0u64);
+    for _ in 0..20_000u32 {
+        match try_call(heap, alloc, trees, (call, is_holding, n))? {
+            Tried::Done => return Ok((true, most)),
+            Tried::Stands => n = n.saturating_add(1),
+            Tried::Moved => n = 0,
+            Tried::Other => return Ok((false, n)),
+        }
+        most = most.max(n);
+    }
+    Ok((false, n))
+}
+
+/// How many of the calls withstand each refusal before the first that does not, and how many requests one of them makes at most,
+/// or else which it doesn't withstand.
+fn withstood<A: Allocator + Copy, B: Allocator>(
+    heap: &Refusing<B>,
+    alloc: A,
+    trees: &mut Trees<A>,
+    (calls, is_holding): (&[Call], bool),
+) -> Result<(usize, u64), AllocError> {
+    let mut most = 0u64;
+    for i in 0..calls.len() {
+        let (withstands, asked) = asked_by(heap, alloc, trees, (calls[i], is_holding))?;
+        if !withstands {
+            return Ok((i, asked));
+        }
+        most = most.max(asked);
+    }
+    Ok((calls.len(), most))
+}
+
+/// The same of a row's calls, after what comes before them.
+fn withstood_after<A: Allocator + Copy, B: Allocator>(
+    heap: &Refusing<B>,
+    alloc: A,
+    trees: &mut Trees<A>,
+    (before, calls, is_holding): (&[Call], &[Call], bool),
+) -> Result<(usize, u64), AllocError> {
+    if trees.call_all(alloc, before)? != before.len() {
+        return Err(AllocError);
+    }
+    withstood(heap, alloc, trees, (calls, is_holding))
+}
+
+/// The same in new trees.
+fn withstood_anew<A: Allocator + Copy, B: Allocator>(
+    heap: &Refusing<B>,
+    alloc: A,
+    (course, before, calls): (Course, &[Call], &[Call]),
+) -> Result<(usize, u64), AllocError> {
+    heap.set(Plan::Grant);
+    let row = (before, calls, course.shape.cache > 0);
+    withstood_after(heap, alloc, &mut Trees::new(alloc, (course, course))?, row)
+}
+
+/// The first row whose calls don't withstand each refusal, or make more requests or fewer, and what is told of it.
+fn first_other<A: Allocator + Copy, B: Allocator>(
+    heap: &Refusing<B>,
+    alloc: A,
+    rows: &[Row],
+) -> Result<Option<(usize, usize, u64)>, AllocError> {
+    for i in 0..rows.len() {
+        let (course, before, calls, least, most) = rows[i];
+        let (count, asked) = withstood_anew(heap, alloc, (course, before, calls))?;
+        if count < calls.len() || asked < least || asked > most {
+            return Ok(Some((i, count, asked)));
+        }
+    }
+    Ok(None)
+}
+
 #[test]
-fn reserving_withstands_each_refusal(rt: HostRuntime) -> Result<(), Fail> {
+fn reads_and_puts_may_be_refused(rt: HostRuntime) -> Result<(), Fail> {
     let heap = Refusing::new(rt.alloc());
-    let refused = all_put_refusals(&heap, &heap)?;
-    assert!(rt;
-        matches!(refused, Ok((most, flushes)) if most >= 100 && flushes >= 2),
-        "{refused:?}"
-    );
+    assert_eq!(rt; first_other(&heap, &heap, &FEW)?, None);
     Ok(())
 }
 
-/// Whether a read whose nth request is refused, where no leaf is held, is refused, or holds no leaf where that was asked for;
-/// and changes nothing that is told, and then succeeds. `None` where it makes fewer.
-fn withstands_read<A: Allocator + Copy, B: Allocator>(
-    heap: &Refusing<B>,
-    alloc: A,
-    run: &mut Run<A>,
-    (read, cache, n): (Read, u32, u64),
-) -> Result<Option<bool>, AllocError> {
-    run.tree.resize(0)?;
-    run.tree.resize(cache as usize)?;
-    heap.set(Plan::RefuseAt(n));
-    let is_refused = run.read(alloc, read).is_err();
-    let is_over = heap.asked() <= n;
-    heap.set(Plan::Grant);
-    let stands = run.agrees(alloc)?;
-    run.read(alloc, read)?;
-    if is_over && !is_refused && stands {
-        return Ok(None);
-    }
-    Ok(Some((is_refused || cache > 0) && stands))
-}
-
-/// How many requests a read makes, if it withstands that each is refused; else which it doesn't.
-fn read_refusals<A: Allocator + Copy, B: Allocator>(
-    heap: &Refusing<B>,
-    alloc: A,
-    (read, cache): (Read, u32),
-) -> Result<Result<u64, u64>, AllocError> {
-    heap.set(Plan::Grant);
-    let mut run = after(alloc, cache, 60)?;
-    for n in 0..1_000u64 {
-        match withstands_read(heap, alloc, &mut run, (read, cache, n))? {
-            None => return Ok(Ok(n)),
-            Some(is_right) if is_right => {}
-            Some(_) => return Ok(Err(n)),
-        }
-    }
-    Ok(Err(1_000))
-}
-
-/// Reads, and how many leaves may be held.
-const READS: [(Read, u32); 6] = [
-    (Read::Get, 0),
-    (Read::Get, 8),
-    (Read::Versions, 0),
-    (Read::Versions, 8),
-    (Read::Range, 0),
-    (Read::Range, 8),
-];
-
-/// Whether the cache gets another size with every request refused, and the tree tells what it did.
-fn is_resized<A: Allocator + Copy, B: Allocator>(
-    heap: &Refusing<B>,
-    alloc: A,
-    leaves: usize,
-) -> Result<bool, AllocError> {
-    heap.set(Plan::Grant);
-    let mut run = after(alloc, 8, 60)?;
-    run.agrees(alloc)?;
-    heap.set(Plan::RefuseAll);
-    run.tree.resize(leaves)?;
-    heap.set(Plan::Grant);
-    run.agrees(alloc)
-}
-
-/// How many reads come before the first that makes no request, or doesn't withstand that each is refused.
-fn reads_refused<A: Allocator + Copy, B: Allocator>(
-    heap: &Refusing<B>,
-    alloc: A,
-) -> Result<usize, AllocError> {
-    for i in 0..READS.len() {
-        match read_refusals(heap, alloc, READS[i])? {
-            Ok(asked) if asked >= 1 => {}
-            _ => return Ok(i),
-        }
-    }
-    Ok(READS.len())
+#[test]
+fn puts_that_flush_may_be_refused(rt: HostRuntime) -> Result<(), Fail> {
+    let heap = Refusing::new(rt.alloc());
+    assert_eq!(rt; first_other(&heap, &heap, &HIGH_TREE)?, None);
+    Ok(())
 }
 
 #[test]
-fn reads_and_sizes_withstand_refusals(rt: HostRuntime) -> Result<(), Fail> {
+fn jobs_that_empty_leaves_may_be_refused(rt: HostRuntime) -> Result<(), Fail> {
     let heap = Refusing::new(rt.alloc());
-    assert_eq!(rt; reads_refused(&heap, &heap)?, READS.len());
-    assert!(rt; is_resized(&heap, &heap, 0)?);
-    assert!(rt; is_resized(&heap, &heap, 1)?);
-    assert!(rt; is_resized(&heap, &heap, 65_536)?);
+    assert_eq!(rt; first_other(&heap, &heap, &EMPTIED_LEAVES)?, None);
+    Ok(())
+}
+
+#[test]
+fn room_that_makes_a_high_tree_may_be_refused(rt: HostRuntime) -> Result<(), Fail> {
+    let heap = Refusing::new(rt.alloc());
+    assert_eq!(rt; first_other(&heap, &heap, &ROOM)?, None);
+    Ok(())
+}
+
+#[test]
+fn a_job_that_makes_a_high_tree_may_be_refused(rt: HostRuntime) -> Result<(), Fail> {
+    let heap = Refusing::new(rt.alloc());
+    assert_eq!(rt; first_other(&heap, &heap, &JOBS)?, None);
     Ok(())
 }

@@ -1,34 +1,60 @@
 //! A tree under changes, beside the plain list of them.
-ghost use Rattle.std.specs.Prelude.{◌≤◌};
-
-use crate::keys::Keys;
-use crate::merge::pinning::pinned;
-use crate::tree::changes::{Change, Kind, messages_of};
+use crate::keys::{Bound, Keys, TENANTS};
 use crate::tree::numbered::{Interval, Numbered};
 use std::alloc::{AllocError, Allocator};
-use stow_bytes::byte_string::ByteString;
+use stow_merge::flush_job::FlushJob;
 use stow_merge::flush_result::FlushResult;
 use stow_merge::pins::Pins;
 use stow_node::installed::Installed;
+use stow_read::found::Found;
 use stow_read::newest::Newest;
 use stow_read::row::Row;
+use stow_read::row_head::RowHead;
+use stow_read::start::Start;
 use stow_testing::random::Random;
 use stow_tree::tree_shape::TreeShape;
+use stow_tree_model::message::Message;
+use stow_tree_model::numbered_value::NumberedValue;
 use stow_tree_model::op::Op;
-use stow_tree_model::plain::value_of_key;
-use stow_tree_model::tenant_key_buf::TenantKeyBuf;
+use stow_tree_model::plain::{message, value_of_key};
+use stow_tree_model::tenant_key::TenantKey;
 use stow_tree_model::version_buf::VersionBuf;
-
-const TENANTS: u32 = 3;
 
 /// How many places there are at which what a change carries may begin.
 const PLACES: u32 = 1_000;
 
-/// How long a value is that fills buffers as a key is removed.
-const SHORT: u32 = 16_000;
+/// What is done to a key.
+#[derive(Clone, Copy)]
+pub(crate) enum Kind {
+    Put,
+    Gone,
+    Append,
+}
 
-/// Before every so many random changes comes a value that only fills buffers.
-const STRIDE: u32 = 8;
+/// A message that was put, or is to be.
+#[derive(Clone, Copy)]
+struct Change {
+    /// The place of its key.
+    key: usize,
+    number: u64,
+    kind: Kind,
+    /// Where what it carries begins among the bytes that all share, and how long it is.
+    from: u32,
+    len: u32,
+}
+
+impl Change {
+    /// What it does, with what it carries lent from the shared bytes.
+    fn op(self, bytes: &[u8]) -> Op<'_> {
+        let rest = &bytes[bytes.len().min(self.from as usize)..];
+        let carried = &rest[..rest.len().min(self.len as usize)];
+        match self.kind {
+            Kind::Put => Op::Put(carried),
+            Kind::Gone => Op::Gone,
+            Kind::Append => Op::Append(carried),
+        }
+    }
+}
 
 /// What a run is of.
 #[derive(Clone, Copy)]
@@ -38,67 +64,76 @@ pub(crate) struct Course {
     pub(crate) letters: &'static [u8],
     /// Random values are shorter than this.
     pub(crate) longest: u32,
-    /// How long the values are that only fill buffers, or 0 where there are none.
+    /// How long the values are that only fill buffers, before each eighth random change, or 0 where there are none.
     pub(crate) filler: u32,
     /// The number of its source of random numbers.
     pub(crate) number: u64,
 }
 
-/// Forty letters.
-pub(crate) const FORTY: &[u8] = b"0123456789ABCDEFGHIJKLMNOPQRSTUVWXYZabcd";
-
-/// A tree under changes of some keys of several tenants, beside the plain list of them.
+/// A tree under changes of some keys of three tenants, beside the plain list of them.
 #[derive(Drop)]
 pub(crate) struct Run<A: Allocator + Copy> {
     pub(crate) tree: Numbered<A>,
+    pub(crate) pins: Pins<A>,
     pub(crate) keys: Keys<A>,
     bytes: Vec<u8, A>,
-    pub(crate) pins: Pins<A>,
     changes: Vec<Change, A>,
     random: Random,
-    longest: u32,
-    filler: u32,
+    course: Course,
 }
 
 /// A read of a tree.
-#[derive(Clone, Copy, PartialEq, Eq)]
+#[derive(Clone, Copy)]
 pub(crate) enum Read {
     Get,
     Versions,
     Range,
+    Walk,
 }
 
-/// So many bytes at least: twice as many random ones as there are places, again and again.
-fn random_bytes<A: Allocator + Copy>(
-    alloc: A,
-    random: &mut Random,
-    count: u32,
-) -> Result<Vec<u8, A>, AllocError> {
-    let mut block = Vec::new(alloc);
-    for _ in 0..2 * PLACES {
-        block.push(random.below(256) as u8)?;
+/// What fills buffers: a value of so many of these bytes, or a removal where it has none.
+fn filler(bytes: &[u8], len: u32) -> Op<'_> {
+    let carried = &bytes[..bytes.len().min(len as usize)];
+    if carried.is_empty() {
+        Op::Gone
+    } else {
+        Op::Put(carried)
     }
+}
+
+/// An interval of keys: from one on, or after it, and below another.
+#[derive(Clone, Copy)]
+pub(crate) struct Within {
+    pub(crate) from: Bound,
+    pub(crate) after: bool,
+    pub(crate) to: Bound,
+}
+
+/// All keys of a tenant.
+fn own(tenant: u32) -> Within {
+    Within {
+        from: Bound::Low(tenant),
+        after: false,
+        to: Bound::Low(tenant.saturating_add(1)),
+    }
+}
+
+/// Twice as many random bytes as there are places.
+fn random_bytes<A: Allocator>(alloc: A, random: &mut Random) -> Result<Vec<u8, A>, AllocError> {
     let mut bytes = Vec::new(alloc);
-    for _ in 0..=count / (2 * PLACES) {
-        bytes.extend_from_slice(block.as_slice())?;
+    for _ in 0..2 * PLACES {
+        bytes.push(random.below(256) as u8)?;
     }
     Ok(bytes)
 }
 
-/// Whether both are the same bytes, or none.
-fn is_same<A: Allocator>(bytes: Option<&[u8]>, wanted: &Option<ByteString<A>>) -> bool {
-    match (bytes, wanted) {
-        (None, None) => true,
-        (Some(bytes), Some(wanted)) => bytes == wanted.as_slice(),
-        _ => false,
+/// These bytes again and again.
+fn repeated<A: Allocator>(alloc: A, block: &[u8]) -> Result<Vec<u8, A>, AllocError> {
+    let mut bytes = Vec::new(alloc);
+    for _ in 0..510u32 {
+        bytes.extend_from_slice(block)?;
     }
-}
-
-fn bytes_of<A: Allocator>(value: &Option<ByteString<A>>) -> Option<&[u8]> {
-    match value {
-        Some(bytes) => Some(bytes.as_slice()),
-        None => None,
-    }
+    Ok(bytes)
 }
 
 /// What the newest of the versions up to a number has.
@@ -115,25 +150,107 @@ fn shown<A: Allocator>(versions: &[VersionBuf<A>], at: u64) -> Option<&[u8]> {
     shown
 }
 
+/// Whether what was found has these bytes, or there is nothing.
+fn has_bytes<A: Allocator>(found: &Option<Found<'_, A>>, bytes: Option<&[u8]>) -> bool {
+    match (found, bytes) {
+        (None, None) => true,
+        (Some(found), Some(bytes)) => found.bytes() == bytes,
+        _ => false,
+    }
+}
+
+fn wanted_bytes<A: Allocator>(wanted: &Option<NumberedValue<A>>) -> Option<&[u8]> {
+    match wanted {
+        Some(wanted) => Some(wanted.value.as_slice()),
+        None => None,
+    }
+}
+
+/// Adds the message of a change to a key.
+fn push_change<'a, A: Allocator>(
+    messages: &mut Vec<Message<'a>, A>,
+    key: TenantKey<'a>,
+    change: Change,
+    bytes: &'a [u8],
+) -> Result<(), AllocError> {
+    if let Some(made) = message(key, change.number, change.op(bytes)) {
+        messages.push(made)?;
+    }
+    Ok(())
+}
+
+/// Whether these tell of the rows, in order.
+fn are_heads<A: Allocator>(heads: &[RowHead<A>], rows: &[Row<A>]) -> bool {
+    let mut are = heads.len() == rows.len();
+    for i in 0..rows.len() {
+        are = are
+            && i < heads.len()
+            && heads[i].key.as_key().bytes == rows[i].key.as_key().bytes
+            && heads[i].length as usize == rows[i].value.as_slice().len();
+    }
+    are
+}
+
 impl<A: Allocator + Copy> Run<A> {
     /// No changes yet.
     pub(crate) fn new(alloc: A, course: Course) -> Result<Run<A>, AllocError> {
         let mut random = Random::new(course.number);
-        let longest = course.longest.max(course.filler).max(SHORT);
         Ok(Run {
             tree: Numbered::new(alloc, course.shape)?,
-            keys: Keys::new(alloc, TENANTS, course.letters)?,
-            bytes: random_bytes(alloc, &mut random, PLACES.saturating_add(longest))?,
             pins: Pins::new(alloc),
-            changes: Vec::new(alloc),
+            keys: Keys::new(alloc, course.letters)?,
+            bytes: repeated(alloc, random_bytes(alloc, &mut random)?.as_slice())?,
+            changes: Vec::with_capacity(alloc, 4_000)?,
             random,
-            longest: course.longest,
-            filler: course.filler,
+            course,
         })
     }
 
+    /// How many keys there are.
+    pub(crate) fn keys(&self) -> usize {
+        self.keys.len()
+    }
+
+    /// Puts what is done to the key at a place, with so many of the bytes that all share, from a place on.
+    fn put(
+        &mut self,
+        alloc: A,
+        (kind, key): (Kind, usize),
+        (from, len): (u32, u32),
+    ) -> Result<(), AllocError> {
+        let change = Change {
+            key,
+            number: self.tree.last.saturating_add(1),
+            kind,
+            from,
+            len,
+        };
+        self.changes.reserve(1)?;
+        let op = change.op(self.bytes.as_slice());
+        self.tree.put(alloc, self.keys.at(key), op, &self.pins)?;
+        self.changes.push(change)?;
+        Ok(())
+    }
+
+    /// Puts what is done to the key at a place.
+    pub(crate) fn change(
+        &mut self,
+        alloc: A,
+        (kind, key, len): (Kind, usize, u32),
+    ) -> Result<(), AllocError> {
+        self.put(alloc, (kind, key), (0, len))
+    }
+
+    /// Fills buffers with a value of so many bytes under the key behind that at a place, or removes it where it has none. No
+    /// one looks at this key, so the list doesn't have it.
+    pub(crate) fn fill(&mut self, alloc: A, place: usize, len: u32) -> Result<(), AllocError> {
+        let op = filler(self.bytes.as_slice(), len);
+        self.tree
+            .put(alloc, self.keys.behind(place), op, &self.pins)
+    }
+
     /// The place of a random key.
-    pub(crate) fn place(&mut self) -> usize {
+    fn place(&mut self) -> usize {
         let count = self.keys.len();
         if count == 0 || count > 1_000 {
             return 0;
@@ -141,98 +258,74 @@ impl<A: Allocator + Copy> Run<A> {
         self.random.below(count as u32) as usize
     }
 
-    /// The next change.
-    pub(crate) fn draw(&mut self) -> Change {
-        let kind = match self.random.below(8) {
-            0 => Kind::Gone,
-            1 | 2 => Kind::Append,
-            _ => Kind::Put,
+    /// Puts a random change.
+    fn put_random(&mut self, alloc: A) -> Result<(), AllocError> {
+        let (kind, longest) = match self.random.below(8) {
+            0 => (Kind::Gone, 1),
+            1 | 2 => (Kind::Append, 100),
+            _ => (Kind::Put, self.course.longest.max(1)),
         };
-        let longest = if kind == Kind::Append {
-            100
-        } else {
-            self.longest.max(1)
-        };
-        Change {
-            key: self.place(),
-            number: self.tree.last.saturating_add(1),
-            kind,
-            from: self.random.below(PLACES),
-            len: self.random.below(longest),
-        }
+        let key = self.place();
+        let from = self.random.below(PLACES);
+        let len = self.random.below(longest);
+        self.put(alloc, (kind, key), (from, len))
     }
 
-    /// Puts a change into the tree and the list.
-    pub(crate) fn put(&mut self, alloc: A, change: Change) -> Result<(), AllocError> {
-        self.changes.reserve(1)?;
-        let key = self.keys.at(change.key);
-        let op = change.op(self.bytes.as_slice());
-        self.tree.put(alloc, key, op, &self.pins)?;
-        self.changes.push(change)?;
+    /// Puts so many random changes, as pins come and go.
+    pub(crate) fn go_on(&mut self, alloc: A, count: u32) -> Result<(), AllocError> {
+        for turn in 0..count {
+            if self.random.below(20) == 0 {
+                self.move_pins()?;
+            }
+            if self.course.filler > 0 && turn % 8 == 0 {
+                let place = self.place();
+                self.fill(alloc, place, self.course.filler)?;
+                self.fill(alloc, place, 0)?;
+            }
+            self.put_random(alloc)?;
+        }
         Ok(())
     }
 
-    /// Puts a change of a key into both, so many bytes of those that all share.
-    pub(crate) fn change(
+    /// How many leaves may be held at first.
+    pub(crate) fn leaves(&self) -> usize {
+        self.course.shape.cache as usize
+    }
+
+    /// A job, if a buffer holds a message.
+    pub(crate) fn plan(&mut self, alloc: A) -> Result<Option<FlushJob<A>>, AllocError> {
+        self.tree.plan(alloc, &self.pins)
+    }
+
+    /// Installs a result, which comes back where memory is refused.
+    pub(crate) fn install(
         &mut self,
         alloc: A,
-        (kind, key, len): (Kind, usize, u32),
-    ) -> Result<(), AllocError> {
-        let number = self.tree.last.saturating_add(1);
-        let from = 0;
-        self.put(
-            alloc,
-            Change {
-                key,
-                number,
-                kind,
-                from,
-                len,
-            },
-        )
+        merge: FlushResult<A>,
+    ) -> Result<Installed, (FlushResult<A>, AllocError)> {
+        self.tree.install(alloc, merge, &self.pins)
     }
 
-    /// Fills buffers with a value of so many bytes, under the key behind that at a place. No one looks at this key, so the list
-    /// doesn't have it.
-    pub(crate) fn put_filler(
-        &mut self,
-        alloc: A,
-        (place, len): (usize, u32),
-    ) -> Result<(), AllocError> {
-        let key = self.keys.behind(place);
-        let filler = &self.bytes[..self.bytes.len().min(len as usize)];
-        self.tree.put(alloc, key, Op::Put(filler), &self.pins)
-    }
-
-    /// Removes what fills buffers under the key behind that at a place.
-    pub(crate) fn remove_filler(&mut self, alloc: A, place: usize) -> Result<(), AllocError> {
-        let key = self.keys.behind(place);
-        self.tree.put(alloc, key, Op::Gone, &self.pins)
-    }
-
-    fn fill(&mut self, alloc: A, (place, len): (usize, u32)) -> Result<(), AllocError> {
-        self.put_filler(alloc, (place, len))?;
-        self.remove_filler(alloc, place)
-    }
-
-    /// Puts the random change of a turn. Before some of them comes a value that only fills buffers, if there are such.
-    pub(crate) fn take_turn(&mut self, alloc: A, turn: u32) -> Result<(), AllocError> {
-        if self.filler > 0 && turn % STRIDE == 0 {
-            let place = self.place();
-            self.fill(alloc, (place, self.filler))?;
+    /// Plans, merges and installs at once. Whether there was a job whose result was done.
+    pub(crate) fn flush(&mut self, alloc: A) -> Result<bool, AllocError> {
+        let Some(job) = self.plan(alloc)? else {
+            return Ok(false);
+        };
+        let result = match job.merge(alloc) {
+            Ok(result) => result,
+            Err((_, refused)) => return Err(refused),
+        };
+        match self.install(alloc, result) {
+            Ok(installed) => Ok(installed == Installed::Done),
+            Err((_, refused)) => Err(refused),
         }
-        let change = self.draw();
-        self.put(alloc, change)
     }
 
     /// Removes two keys with one number.
-    pub(crate) fn remove_both(
-        &mut self,
-        alloc: A,
-        first: usize,
-        second: usize,
-    ) -> Result<(), AllocError> {
+    pub(crate) fn remove_both(&mut self, alloc: A, first: usize) -> Result<(), AllocError> {
+        let second = first.saturating_add(1);
         let (from, to) = (self.keys.at(first), self.keys.at(second));
+        self.changes.reserve(2)?;
         self.tree.remove_both(alloc, from, to, &self.pins)?;
         for key in [first, second] {
             self.changes.push(Change {
@@ -250,7 +343,8 @@ impl<A: Allocator + Copy> Run<A> {
     pub(crate) fn remove_most(&mut self, alloc: A) -> Result<(), AllocError> {
         for place in 0..self.keys.len() {
             if place % 20 != 0 {
-                self.fill(alloc, (place, SHORT))?;
+                self.fill(alloc, place, 16_000)?;
+                self.fill(alloc, place, 0)?;
                 self.change(alloc, (Kind::Gone, place, 0))?;
             }
         }
@@ -259,14 +353,19 @@ impl<A: Allocator + Copy> Run<A> {
 
     /// Adds a pin of a tenant at the last number, if there are few.
     pub(crate) fn pin(&mut self, tenant: u32) -> Result<(), AllocError> {
-        if self.pins.of(tenant).len() < 4 {
-            pinned(&mut self.pins, tenant, self.tree.last)?;
+        self.pins.room(tenant)?;
+        let last = self.tree.last;
+        let held = self.pins.of(tenant);
+        let mut fits = held.len() < 4;
+        fits = fits && held.iter().all(|pin| *pin < last);
+        if fits {
+            self.pins.add(tenant, last);
         }
         Ok(())
     }
 
-    /// Adds a pin of a tenant at the last number, or removes one.
-    pub(crate) fn move_pins(&mut self) -> Result<(), AllocError> {
+    /// Adds a pin of a tenant at the last number, or removes its first.
+    fn move_pins(&mut self) -> Result<(), AllocError> {
         let tenant = 1 + self.random.below(TENANTS);
         if self.random.below(2) == 0 {
             return self.pin(tenant);
@@ -275,7 +374,6 @@ impl<A: Allocator + Copy> Run<A> {
         Ok(())
     }
 
-    /// Removes a tenant's first pin, if it has one.
     fn unpin_first(&mut self, tenant: u32) {
         if let Some(pin) = self.pins.of(tenant).first() {
             let pin = *pin;
@@ -290,111 +388,88 @@ impl<A: Allocator + Copy> Run<A> {
         }
     }
 
-    /// A job's result, if a buffer holds a message.
-    pub(crate) fn merged(&mut self, alloc: A) -> Result<Option<FlushResult<A>>, AllocError> {
-        self.tree.merged(alloc, &self.pins)
-    }
-
-    /// Installs a result, which comes back where memory is refused.
-    pub(crate) fn install(
-        &mut self,
-        alloc: A,
-        merge: FlushResult<A>,
-    ) -> Result<Installed, (FlushResult<A>, AllocError)> {
-        self.tree.install(alloc, merge, &self.pins)
-    }
-
-    /// Installs a result.
-    pub(crate) fn installed(
-        &mut self,
-        alloc: A,
-        merge: FlushResult<A>,
-    ) -> Result<Installed, AllocError> {
-        match self.install(alloc, merge) {
-            Ok(installed) => Ok(installed),
-            Err((_, refused)) => Err(refused),
-        }
-    }
-
-    /// Plans and installs until no buffer holds a message. Whether it comes to that, and all are installed.
-    pub(crate) fn drain(&mut self, alloc: A) -> Result<bool, AllocError> {
-        self.tree.drain(alloc, &self.pins)
-    }
-
-    /// Reads the key that was last appended to, or the rows below it.
-    pub(crate) fn read(&mut self, alloc: A, read: Read) -> Result<(), AllocError> {
-        let place = self.appended();
+    /// Reads the key at a place, or all rows of the first tenant.
+    pub(crate) fn read(&mut self, alloc: A, read: Read, place: usize) -> Result<(), AllocError> {
         let last = self.tree.last;
         match read {
-            Read::Get => {
-                self.value(alloc, place, last)?;
-            }
-            Read::Versions => {
-                self.versions(alloc, place)?;
-            }
-            Read::Range => {
-                let interval = Interval {
-                    from: self.keys.low(1),
-                    to: self.keys.at(place),
-                };
-                self.tree.range(alloc, interval, last, 100)?;
-            }
-        }
+            Read::Get => self.get(alloc, place)?,
+            Read::Versions => self.tree.versions(alloc, self.keys.at(place))?.is_empty(),
+            Read::Range => self.rows(alloc, own(1), (last, 100))?.is_empty(),
+            Read::Walk => self.heads(alloc, own(1), (last, 100))?.is_empty(),
+        };
         Ok(())
     }
 
-    /// All versions of the key at a place.
-    pub(crate) fn versions(
-        &mut self,
-        alloc: A,
-        place: usize,
-    ) -> Result<Vec<VersionBuf<A>, A>, AllocError> {
-        self.tree.versions(alloc, self.keys.at(place))
+    /// Whether the key at a place has a value.
+    fn is_there(&self, alloc: A, place: usize) -> Result<bool, AllocError> {
+        let found = self
+            .tree
+            .tree
+            .get(alloc, self.keys.at(place), self.tree.last)?;
+        Ok(found.is_some())
     }
 
-    /// The first rows of a tenant.
+    /// Looks the key at a place up, and offers its leaf, as the service does.
+    fn get(&mut self, alloc: A, place: usize) -> Result<bool, AllocError> {
+        let is_there = self.is_there(alloc, place)?;
+        self.tree.offer(self.keys.at(place));
+        Ok(is_there)
+    }
+
+    /// The first rows of an interval.
     pub(crate) fn rows(
         &mut self,
         alloc: A,
-        tenant: u32,
+        within: Within,
         (at, count): (u64, usize),
     ) -> Result<Vec<Row<A>, A>, AllocError> {
         let interval = Interval {
-            from: self.keys.low(tenant),
-            to: self.keys.low(tenant.saturating_add(1)),
+            from: self.keys.bound(within.from),
+            to: self.keys.bound(within.to),
         };
         self.tree.range(alloc, interval, at, count)
     }
 
-    /// The place of the key that was last appended to.
-    fn appended(&self) -> usize {
-        let mut place = 0;
+    /// What is told of the first rows of an interval.
+    pub(crate) fn heads(
+        &self,
+        alloc: A,
+        within: Within,
+        (at, count): (u64, usize),
+    ) -> Result<Vec<RowHead<A>, A>, AllocError> {
+        let start = Start {
+            key: self.keys.bound(within.from),
+            after: within.after,
+        };
+        let to = self.keys.bound(within.to);
+        self.tree.tree.walk(alloc, start, to, at, count)
+    }
+
+    /// The messages of the key at a place.
+    fn messages<'a>(
+        &'a self,
+        alloc: A,
+        place: usize,
+        key: TenantKey<'a>,
+    ) -> Result<Vec<Message<'a>, A>, AllocError> {
+        let mut messages = Vec::new(alloc);
         for change in self.changes.as_slice() {
-            if change.kind == Kind::Append {
-                place = change.key;
+            if change.key == place {
+                push_change(&mut messages, key, *change, self.bytes.as_slice())?;
             }
         }
-        place
+        Ok(messages)
     }
 
-    /// The numbers at which the tree is to tell what the list does: a tenant's pins and the last.
-    fn numbers(&self, alloc: A, tenant: u32) -> Result<Vec<u64, A>, AllocError> {
-        let mut numbers = Vec::from_slice(alloc, self.pins.of(tenant))?;
-        numbers.push(self.tree.last)?;
-        Ok(numbers)
-    }
-
-    /// What the tree has of the key at a place, at a number.
-    pub(crate) fn value(
+    /// What the list gives the key at a place, at a number.
+    fn plain_value(
         &self,
         alloc: A,
         place: usize,
         at: u64,
-    ) -> Result<Option<ByteString<A>>, AllocError> {
-        match self.tree.tree.get(alloc, self.keys.at(place), at)? {
-            Some(found) => Ok(Some(ByteString::from_slice(alloc, found.bytes())?)),
-            None => Ok(None),
-        }
+    ) -> Result<Option<NumberedValue<A>>, AllocError> {
+        let key = self.keys.at(place);
+        value_of_key(alloc, self.messages(alloc, place, key)?.as_slice(), key, at)
     }
 
     /// Whether a glance at the key at a place tells of the value that it has at a number, as far as it tells it.
@@ -407,74 +482,99 @@ impl<A: Allocator + Copy> Run<A> {
         }
     }
 
-    /// What the list gives the key at a place, at a number.
-    fn plain_value(
+    /// Whether the key at a place has what the list gives it at a number, by `get`, by its versions, and by `glance`.
+    fn has_value(
         &self,
         alloc: A,
-        place: usize,
-        at: u64,
-    ) -> Result<Option<ByteString<A>>, AllocError> {
-        let key = self.keys.at(place);
-        let changes = self.changes.as_slice();
-        let messages = messages_of(alloc, changes, place, key, self.bytes.as_slice())?;
-        match value_of_key(alloc, messages.as_slice(), key, at)? {
-            Some(numbered) => Ok(Some(numbered.value)),
-            None => Ok(None),
+        versions: &[VersionBuf<A>],
+        (place, at): (usize, u64),
+    ) -> Result<bool, AllocError> {
+        let wanted = self.plain_value(alloc, place, at)?;
+        let found = self.tree.tree.get(alloc, self.keys.at(place), at)?;
+        let bytes = wanted_bytes(&wanted);
+        Ok(
+            has_bytes(&found, bytes)
+                && shown(versions, at) == bytes
+                && self.is_told(place, at, bytes),
+        )
+    }
+
+    /// A tenant's pin at a place, or the last number.
+    fn number(&self, tenant: u32, place: usize) -> u64 {
+        match self.pins.of(tenant).get(place) {
+            Some(pin) => *pin,
+            None => self.tree.last,
         }
     }
 
-    /// The tenant of the key at a place.
-    fn tenant(&self, place: usize) -> u32 {
-        self.keys.at(place).tenant()
-    }
-
-    /// Whether the key at a place has what the list gives it, by `get`, by `versions`, and by `glance` as far as that tells it.
-    fn is_key(&mut self, alloc: A, place: usize) -> Result<bool, AllocError> {
-        let versions = self.versions(alloc, place)?;
-        let numbers = self.numbers(alloc, self.tenant(place))?;
-        for at in numbers.as_slice() {
-            let wanted = self.plain_value(alloc, place, *at)?;
-            let value = self.value(alloc, place, *at)?;
-            if !is_same(bytes_of(&value), &wanted)
-                || !is_same(shown(versions.as_slice(), *at), &wanted)
-                || !self.is_told(place, *at, bytes_of(&wanted))
-            {
+    /// Whether the key at a place has what the list gives it, at its tenant's pins and at the last number.
+    pub(crate) fn is_key(&mut self, alloc: A, place: usize) -> Result<bool, AllocError> {
+        let key = self.keys.at(place);
+        let versions = self.tree.versions(alloc, key)?;
+        let tenant = key.tenant();
+        let pins = self.pins.of(tenant).len();
+        for i in 0..=pins {
+            let at = self.number(tenant, i);
+            if !self.has_value(alloc, versions.as_slice(), (place, at))? {
                 return Ok(false);
             }
         }
         Ok(true)
     }
 
-    /// The first rows of a tenant that the list gives at a number.
-    fn plain_rows(
+    /// Whether the row is that of the key at a place, if the list gives that a value.
+    fn is_row(
         &self,
         alloc: A,
-        tenant: u32,
-        (at, count): (u64, usize),
-    ) -> Result<Vec<Row<A>, A>, AllocError> {
-        let mut rows = Vec::new(alloc);
+        row: Option<&Row<A>>,
+        (place, at): (usize, u64),
+    ) -> Result<Option<bool>, AllocError> {
+        let key = self.keys.at(place);
+        Ok(match (self.plain_value(alloc, place, at)?, row) {
+            (None, _) => None,
+            (Some(_), None) => Some(false),
+            (Some(wanted), Some(row)) => Some(
+                row.key.as_key().bytes == key.bytes
+                    && row.value.as_slice() == wanted.value.as_slice(),
+            ),
+        })
+    }
+
+    /// Whether these are a tenant's first rows by the list, at a number.
+    fn are_rows(
+        &self,
+        alloc: A,
+        rows: &[Row<A>],
+        (tenant, at, count): (u32, u64, usize),
+    ) -> Result<bool, AllocError> {
+        let mut next = 0usize;
         for place in 0..self.keys.len() {
-            if self.tenant(place) == tenant && rows.len() < count {
-                if let Some(value) = self.plain_value(alloc, place, at)? {
-                    let key = TenantKeyBuf::from_key(alloc, self.keys.at(place))?;
-                    rows.push(Row { key, value })?;
+            if self.keys.at(place).tenant() == tenant && next < count {
+                match self.is_row(alloc, rows.get(next), (place, at))? {
+                    None => {}
+                    Some(true) => next = next.saturating_add(1),
+                    Some(false) => return Ok(false),
                 }
             }
         }
-        Ok(rows)
+        Ok(next == rows.len())
     }
 
-    /// Whether a tenant's first rows are those of the list.
-    fn is_range(&mut self, alloc: A, tenant: u32, count: usize) -> Result<bool, AllocError> {
-        let numbers = self.numbers(alloc, tenant)?;
-        for at in numbers.as_slice() {
-            let rows = self.rows(alloc, tenant, (*at, count))?;
-            let wanted = self.plain_rows(alloc, tenant, (*at, count))?;
-            if !are_same_rows(rows.as_slice(), wanted.as_slice()) {
-                return Ok(false);
-            }
-        }
-        Ok(true)
+    /// Whether a tenant's first rows at a number are those of the list, and a walk tells of the same.
+    fn is_range(
+        &mut self,
+        alloc: A,
+        tenant: u32,
+        (at, count): (u64, usize),
+    ) -> Result<bool, AllocError> {
+        let rows = self.rows(alloc, own(tenant), (at, count))?;
+        Ok(
+            self.are_rows(alloc, rows.as_slice(), (tenant, at, count))?
+                && are_heads(
+                    self.heads(alloc, own(tenant), (at, count))?.as_slice(),
+                    rows.as_slice(),
+                ),
+        )
     }
 
     /// Whether the tree tells what the list does, of each key and of each tenant's rows.
@@ -485,41 +585,13 @@ impl<A: Allocator + Copy> Run<A> {
             }
         }
         for tenant in 1..=TENANTS {
-            if !self.is_range(alloc, tenant, 9)? || !self.is_range(alloc, tenant, 100)? {
+            let (first, last) = (self.number(tenant, 0), self.tree.last);
+            if !self.is_range(alloc, tenant, (first, 9))?
+                || !self.is_range(alloc, tenant, (last, 1_000))?
+            {
                 return Ok(false);
             }
         }
         Ok(true)
     }
-
-    /// Puts so many changes, as pins come and go. Answers whether the tree tells what the list does, now and then and at
-    /// the end.
-    pub(crate) fn go_on(&mut self, alloc: A, count: u32) -> Result<bool, AllocError> {
-        for turn in 0..count {
-            if self.random.below(20) == 0 {
-                self.move_pins()?;
-            }
-            self.take_turn(alloc, turn)?;
-            if turn % 500 == 499 && !self.agrees(alloc)? {
-                return Ok(false);
-            }
-        }
-        self.agrees(alloc)
-    }
-}
-
-/// Whether both have the same keys and values.
-fn are_same_rows<A: Allocator>(rows: &[Row<A>], wanted: &[Row<A>]) -> bool {
-    if rows.len() != wanted.len() {
-        return false;
-    }
-    for i in 0..rows.len() {
-        let (row, other) = (&rows[i], &wanted[i]);
-        if row.key.as_key().bytes != other.key.as_key().bytes
-            || row.value.as_slice() != other.value.as_slice()
-        {
-            return false;
-        }
-    }
-    true
 }

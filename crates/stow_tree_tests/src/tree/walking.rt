@@ -1,13 +1,12 @@
-//! The walk over a tenant's keys.
-use crate::keys::Keys;
-use crate::tree::calls::COURSE;
-use crate::tree::changes::Kind;
-use crate::tree::run::Run;
+//! The walk over a tenant's keys, and ranges, by worked rows.
+use crate::keys::{Bound, Keys};
+use crate::tree::run::{Kind, Run, Within};
+use crate::tree::small::COURSE;
 use std::alloc::{AllocError, Allocator};
 use std::test::Fail;
+use stow_read::row::Row;
 use stow_read::row_head::RowHead;
-use stow_read::start::Start;
-use stow_refusing::{Plan, Refusing};
+use stow_refusing::Refusing;
 
 /// What is done to three keys, with how many bytes, and whether all of it is pinned then. The root's buffer can't hold all
 /// values up to the pin; behind it the second key is removed, and there is more of the third.
@@ -35,118 +34,118 @@ fn changed<A: Allocator + Copy>(alloc: A) -> Result<Run<A>, AllocError> {
 /// What is to be told of a key: its place, its value's number and length, and its next number.
 type Told = (usize, u64, u32, Option<u64>);
 
-/// What is told at the pin, and at the end.
-const AT_PIN: [Told; 3] = [
+/// What is told at the pin, and then at the end.
+const TOLD: [Told; 5] = [
     (0, 3, 960_001, None),
     (1, 2, 960_000, Some(5)),
     (2, 4, 960_000, Some(6)),
+    (0, 3, 960_001, None),
+    (2, 6, 960_001, None),
 ];
 
-const AT_END: [Told; 2] = [(0, 3, 960_001, None), (2, 6, 960_001, None)];
+/// The number of the pin, and the last one.
+const PIN: u64 = 4;
 
-/// A walk from a key on, or after it, of so many keys; then of which of those that may be told it tells, from one on and
-/// before another. At `LOWEST` stands the lowest key.
-type Walk = (usize, bool, usize, usize, usize);
+const LAST: u64 = 6;
 
-const LOWEST: usize = 9;
+/// A walk: from a key on, or after it, and before another; at a number, and of so many keys; then of which of those that may be
+/// told it tells, from one on and before another.
+type Walk = (Bound, bool, Bound, (u64, usize), (usize, usize));
 
-const WALKS_AT_PIN: [Walk; 7] = [
-    (LOWEST, false, 9, 0, 3),
-    (0, false, 3, 0, 3),
-    (0, false, 2, 0, 2),
-    (0, false, 0, 0, 0),
-    (0, true, 9, 1, 3),
-    (1, true, 1, 2, 3),
-    (2, true, 9, 3, 3),
+const LOWEST: Bound = Bound::Low(1);
+
+const END: Bound = Bound::Low(2);
+
+const FIRST: Bound = Bound::At(0);
+
+const SECOND: Bound = Bound::At(1);
+
+const THIRD: Bound = Bound::At(2);
+
+const WALKS: [Walk; 15] = [
+    (LOWEST, false, END, (PIN, 9), (0, 3)),
+    (FIRST, false, END, (PIN, 3), (0, 3)),
+    (FIRST, false, END, (PIN, 2), (0, 2)),
+    (FIRST, false, END, (PIN, 0), (0, 0)),
+    (FIRST, true, END, (PIN, 9), (1, 3)),
+    (SECOND, true, END, (PIN, 1), (2, 3)),
+    (THIRD, true, END, (PIN, 9), (3, 3)),
+    (FIRST, false, THIRD, (PIN, 9), (0, 2)),
+    (SECOND, false, THIRD, (PIN, 9), (1, 2)),
+    (END, false, END, (PIN, 9), (3, 3)),
+    (THIRD, false, FIRST, (PIN, 9), (3, 3)),
+    (LOWEST, true, END, (LAST, 9), (3, 5)),
+    (FIRST, true, END, (LAST, 1), (4, 5)),
+    (SECOND, false, END, (LAST, 9), (4, 5)),
+    (SECOND, false, THIRD, (LAST, 9), (4, 4)),
 ];
-
-const WALKS_AT_END: [Walk; 3] = [
-    (LOWEST, true, 9, 0, 2),
-    (0, true, 1, 1, 2),
-    (1, false, 9, 1, 2),
-];
-
-/// The heads of tenant 1's keys at a number.
-fn heads<A: Allocator + Copy>(
-    alloc: A,
-    run: &Run<A>,
-    (place, after, count, _, _): Walk,
-    at: u64,
-) -> Result<Vec<RowHead<A>, A>, AllocError> {
-    let key = if place == LOWEST {
-        run.keys.low(1)
-    } else {
-        run.keys.at(place)
-    };
-    let tree = &run.tree.tree;
-    tree.walk(alloc, Start { key, after }, run.keys.low(2), at, count)
-}
 
 /// Whether this is told of a key.
-fn is_told<A: Allocator>(head: &RowHead<A>, keys: &Keys<A>, told: Told) -> bool
-where
-    A: Copy,
-{
+fn is_told<A: Allocator + Copy>(head: &RowHead<A>, keys: &Keys<A>, told: Told) -> bool {
     head.key.as_key().bytes == keys.at(told.0).bytes
         && head.number == told.1
         && head.length == told.2
         && head.next == told.3
 }
 
-/// Whether a walk tells what it is to tell.
-fn tells<A: Allocator + Copy>(
-    alloc: A,
-    run: &Run<A>,
-    walk: Walk,
-    (at, all): (u64, &[Told]),
-) -> Result<bool, AllocError> {
-    let heads = heads(alloc, run, walk, at)?;
-    let (from, to) = (walk.3, walk.4);
-    let mut tells = from <= to && to <= all.len() && heads.len() == to - from;
+/// Whether a walk tells these of those that may be told.
+fn are_told<A: Allocator + Copy>(
+    heads: &[RowHead<A>],
+    keys: &Keys<A>,
+    (from, to): (usize, usize),
+) -> bool {
+    let mut are = from <= to && to <= TOLD.len() && heads.len() == to - from;
     for i in 0..heads.len() {
         let place = from.saturating_add(i);
-        tells = tells && place < all.len() && is_told(&heads[i], &run.keys, all[place]);
+        are = are && place < TOLD.len() && is_told(&heads[i], keys, TOLD[place]);
     }
-    Ok(tells)
+    are
 }
 
-/// Whether all walks tell what they are to tell.
-fn are_told<A: Allocator + Copy>(alloc: A, run: &Run<A>) -> Result<bool, AllocError> {
-    let mut are = true;
-    for walk in WALKS_AT_PIN {
-        are = are && tells(alloc, run, walk, (4, &AT_PIN))?;
+/// Whether a range has the values of these.
+fn have_values<A: Allocator + Copy>(
+    rows: &[Row<A>],
+    keys: &Keys<A>,
+    (from, to): (usize, usize),
+) -> bool {
+    let mut have = from <= to && to <= TOLD.len() && rows.len() == to - from;
+    for i in 0..rows.len() {
+        let place = from.saturating_add(i);
+        have = have
+            && place < TOLD.len()
+            && rows[i].key.as_key().bytes == keys.at(TOLD[place].0).bytes
+            && rows[i].value.as_slice().len() == TOLD[place].2 as usize;
     }
-    for walk in WALKS_AT_END {
-        are = are && tells(alloc, run, walk, (6, &AT_END))?;
-    }
-    Ok(are)
+    have
 }
 
-/// Whether walks tell the first keys with a value.
-fn is_walked<A: Allocator + Copy>(alloc: A) -> Result<bool, AllocError> {
-    are_told(alloc, &changed(alloc)?)
-}
-
-/// Whether a walk whose nth request is refused is refused, and then is not. `None` where it makes fewer.
-pub(crate) fn withstands<A: Allocator + Copy, B: Allocator>(
-    heap: &Refusing<B>,
+/// Whether a walk tells what it is to tell, and a range from its first key on has the same rows.
+fn tells<A: Allocator + Copy>(
     alloc: A,
-    n: u64,
-) -> Result<Option<bool>, AllocError> {
-    heap.set(Plan::Grant);
-    let run = changed(alloc)?;
-    heap.set(Plan::RefuseAt(n));
-    let is_refused = heads(alloc, &run, WALKS_AT_PIN[0], 4).is_err();
-    if heap.asked() <= n {
-        return Ok(None);
+    run: &mut Run<A>,
+    (from, after, to, read, told): Walk,
+) -> Result<bool, AllocError> {
+    let within = Within { from, after, to };
+    let heads = run.heads(alloc, within, read)?;
+    let is_walk = are_told(heads.as_slice(), &run.keys, told);
+    let rows = run.rows(alloc, within, read)?;
+    Ok(is_walk && (after || have_values(rows.as_slice(), &run.keys, told)))
+}
+
+/// How many walks come before the first that tells something else.
+fn told<A: Allocator + Copy>(alloc: A) -> Result<usize, AllocError> {
+    let mut run = changed(alloc)?;
+    for i in 0..WALKS.len() {
+        if !tells(alloc, &mut run, WALKS[i])? {
+            return Ok(i);
+        }
     }
-    heap.set(Plan::Grant);
-    Ok(Some(is_refused && are_told(alloc, &run)?))
+    Ok(WALKS.len())
 }
 
 #[test]
 fn a_walk_tells_the_first_keys_with_a_value(rt: HostRuntime) -> Result<(), Fail> {
     let heap = Refusing::new(rt.alloc());
-    assert!(rt; is_walked(&heap)?);
+    assert_eq!(rt; told(&heap)?, WALKS.len());
     Ok(())
 }
