@@ -9,3 +9,4 @@ pub mod Flushes
 pub mod Pools
 pub mod WakingDesks
 pub mod Pipelined
+pub mod Waiting

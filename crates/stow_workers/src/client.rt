@@ -8,6 +8,7 @@ ghost use Rattle.stow_workers.specs.Sent.{Sends, sent_of};
 ghost use Rattle.stow_workers.specs.Turns.{Turns, Shortens, GoesTo, ServesPiece, CanEndPiece, outcome_of, state_of};
 
 use crate::gate::Gate;
+use crate::outlet::Outlet;
 use crate::place::Place;
 use crate::replies::Replies;
 use crate::served::Served;
@@ -28,9 +29,12 @@ pub struct Client<A: Allocator = Global> {
     alloc: A,
     conversation: Conversation<A>,
     replies: Replies<A>,
-    /// Requests that were heard together. They mean nothing between calls, so that their memory serves one after another.
+    /// Requests that were heard together, and how many of them the door was asked.
     requests: Vec<Request<A>, A>,
-    /// What the door replied to some of them. The same holds of it.
+    done: usize,
+    /// What came behind them, until it is told.
+    end: Option<(Option<Reply<A>>, Option<Stop>)>,
+    /// What the door replied to some of them. It means nothing between calls, so that its memory serves one after another.
     told: Vec<Reply<A>, A>,
     /// Words of earlier requests, whose memory serves the next ones.
     words: Vec<Words<A>, A>,
@@ -38,6 +42,9 @@ pub struct Client<A: Allocator = Global> {
 
 /// The most requests that are heard before the door is asked.
 const PIPELINED: usize = 64;
+
+/// The most steps of one turn.
+const STEPS: u32 = 1024;
 
 impl<A: Allocator + Copy> Client<A> {
     /// Nothing has come, and nobody is logged in.
@@ -52,6 +59,8 @@ impl<A: Allocator + Copy> Client<A> {
             conversation: Conversation::new(alloc),
             replies: Replies::new(alloc),
             requests: Vec::new(alloc),
+            done: 0,
+            end: None,
             told: Vec::new(alloc),
             words: Vec::new(alloc),
         }
@@ -81,7 +90,7 @@ impl<A: Allocator + Copy> Client<A> {
         outcome(stop, self.replies.has_failed())
     }
 
-    /// Serves messages until the conversation goes no further.
+    /// Serves messages until the conversation goes no further, and writes once more than 65,536 bytes wait.
     fn serve_all<W: Sink, D: Door<A>, G: Gate>(
         &mut self,
         writer: &mut W,
@@ -89,91 +98,116 @@ impl<A: Allocator + Copy> Client<A> {
         door: &mut D,
         gate: &G,
     ) -> Stop
-        ensures goes { GoesTo D.answers tenants.now (Some result)
-            (state_of door.old (W.contents writer.old) (W.failures writer.old) self.old)
-            (state_of door.new (W.contents writer.new) (W.failures writer.new) self.new) }
-        ensures same_borrow { W.borrow writer.new ≡ W.borrow writer.old }
     {
         loop {
-            if let Some(stop) = self.serve_next(writer, tenants, door, gate) {
+            if let Some(stop) = self.step(tenants, door, gate) {
                 return stop;
+            }
+            if self.replies.is_long() {
+                self.replies.flush(writer);
             }
         }
     }
 
-    /// Serves the next messages that are whole: requests up to as many as there is room for, which the door may answer together,
-    /// and what comes behind them. `None` where the conversation goes on.
-    fn serve_next<W: Sink, D: Door<A>, G: Gate>(
+    /// Adds a piece of the stream. An `Err` changes nothing.
+    pub fn feed(&mut self, piece: &[u8]) -> Result<(), AllocError> {
+        self.conversation.feed(piece)
+    }
+
+    /// Whether bytes wait for the writer.
+    pub fn is_waiting(&self) -> bool {
+        self.replies.waiting() > 0
+    }
+
+    /// Whether a write has failed.
+    pub fn has_failed(&self) -> bool {
+        self.replies.has_failed()
+    }
+
+    /// Writes what waits, as far as the writer takes it.
+    pub fn send<W: Outlet>(&mut self, writer: &mut W) {
+        self.replies.send(writer);
+    }
+
+    /// Serves messages until the conversation goes no further, or more than 65,536 bytes wait.
+    pub fn serve_some<D: Door<A>, G: Gate>(
         &mut self,
-        writer: &mut W,
         tenants: &Tenants<A>,
         door: &mut D,
         gate: &G,
     ) -> Option<Stop>
-        ensures shorter { Shortens result (talk_of self.old.conversation)
-            (talk_of self.new.conversation) }
-        ensures goes { GoesTo D.answers tenants.now result
-            (state_of door.old (W.contents writer.old) (W.failures writer.old) self.old)
-            (state_of door.new (W.contents writer.new) (W.failures writer.new) self.new) }
-        ensures same_borrow { W.borrow writer.new ≡ W.borrow writer.old }
     {
-        self.requests.clear();
-        let _room = self.requests.reserve(PIPELINED);
-        let _room = self.told.reserve(PIPELINED);
-        let _room = self.words.reserve(PIPELINED);
-        match self.hear_all(tenants, gate) {
-            None if self.requests.is_empty() => self.serve_one(writer, tenants, door, gate),
-            end => self.serve_heard(writer, door, gate, end),
+        for _ in 0..STEPS {
+            if self.replies.is_long() {
+                return None;
+            }
+            if let Some(stop) = self.step(tenants, door, gate) {
+                return Some(stop);
+            }
+        }
+        None
+    }
+
+    /// Takes one step: asks the door for requests that were heard, or tells what came behind them, or hears the next
+    /// ones. `None` where the conversation goes on.
+    fn step<D: Door<A>, G: Gate>(
+        &mut self,
+        tenants: &Tenants<A>,
+        door: &mut D,
+        gate: &G,
+    ) -> Option<Stop>
+    {
+        if self.done < self.requests.len() {
+            return self.ask(door, gate);
+        }
+        match self.end.take() {
+            Some((reply, stop)) => self.tell(&reply, stop),
+            None => self.hear_next(tenants, door, gate),
         }
     }
 
-    /// Serves requests that were heard, and tells what came behind them.
-    fn serve_heard<W: Sink, D: Door<A>, G: Gate>(
-        &mut self,
-        writer: &mut W,
-        door: &mut D,
-        gate: &G,
-        end: Option<(Option<Reply<A>>, Option<Stop>)>,
-    ) -> Option<Stop>
-        ensures shorter { (entries : List Entry) (first : Talk)
-            → HearsAll entries self.old.requests.items end first (talk_of self.old.conversation)
-            → HasHeard self.old.requests.items end
-            → Shortens result first (talk_of self.new.conversation) }
-        ensures goes { (entries : List Entry) (first : Talk)
-            → HearsAll entries self.old.requests.items end first (talk_of self.old.conversation)
-            → GoesTo D.answers entries result
-            (record (state_of door.old (W.contents writer.old) (W.failures writer.old) self.old) {
-              talk = first;
-            })
-            (state_of door.new (W.contents writer.new) (W.failures writer.new) self.new) }
-        ensures same_borrow { W.borrow writer.new ≡ W.borrow writer.old }
+    /// Asks the door for the requests that were heard, as many as it answers together.
+    fn ask<D: Door<A>, G: Gate>(&mut self, door: &mut D, gate: &G) -> Option<Stop>
     {
-        match self.answer_all(writer, door, gate) {
-            Ok(()) => self.reuse_words(),
-            Err(_) => return Some(Stop::NoMemory),
-        }
-        match end {
-            Some((reply, stop)) => self.tell(writer, &reply, stop),
-            None => None,
+        self.told.clear();
+        let left = &self.requests.as_slice()[self.done..];
+        let first = door.call_all(self.alloc, left, &mut self.told);
+        self.done += 1 + self.told.len();
+        match self.add_all(gate, first) {
+            Ok(()) => None,
+            Err(_) => Some(Stop::NoMemory),
         }
     }
 
     /// Adds a reply, if there is one. Why the conversation goes no further then, if it doesn't.
-    fn tell<W: Sink>(
-        &mut self,
-        writer: &mut W,
-        reply: &Option<Reply<A>>,
-        stop: Option<Stop>,
-    ) -> Option<Stop>
-        ensures told { TellsOrStops (option_map reply_of reply.now) stop result
-            (sent_of (W.contents writer.old) (W.failures writer.old) self.old.replies)
-            (sent_of (W.contents writer.new) (W.failures writer.new) self.new.replies) }
-        ensures conversation { self.new.conversation ≡ self.old.conversation }
-        ensures same_borrow { W.borrow writer.new ≡ W.borrow writer.old }
+    fn tell(&mut self, reply: &Option<Reply<A>>, stop: Option<Stop>) -> Option<Stop>
     {
-        match self.replies.add(writer, reply) {
+        match self.replies.add(reply) {
             Ok(()) => stop,
             Err(_) => Some(Stop::NoMemory),
+        }
+    }
+
+    /// Hears the next messages that are whole: requests up to as many as there is room for, and what comes behind them.
+    fn hear_next<D: Door<A>, G: Gate>(
+        &mut self,
+        tenants: &Tenants<A>,
+        door: &mut D,
+        gate: &G,
+    ) -> Option<Stop>
+    {
+        self.reuse_words();
+        self.done = 0;
+        let _room = self.requests.reserve(PIPELINED);
+        let _room = self.told.reserve(PIPELINED);
+        let _room = self.words.reserve(PIPELINED);
+        match self.hear_all(tenants, gate) {
+            Some((reply, stop)) if self.requests.is_empty() => self.tell(&reply, stop),
+            None if self.requests.is_empty() => self.serve_one(tenants, door, gate),
+            end => {
+                self.end = end;
+                None
+            }
         }
     }
 
@@ -242,80 +276,28 @@ impl<A: Allocator + Copy> Client<A> {
         None
     }
 
-    /// Asks the door each of the requests, and adds the replies.
-    fn answer_all<W: Sink, D: Door<A>, G: Gate>(
-        &mut self,
-        writer: &mut W,
-        door: &mut D,
-        gate: &G,
-    ) -> Result<(), AllocError>
-        ensures ok { OnOk result (AnswersHeard D.answers self.old.requests.items door.old door.new
-            (sent_of (W.contents writer.old) (W.failures writer.old) self.old.replies)
-            (sent_of (W.contents writer.new) (W.failures writer.new) self.new.replies)) }
-        ensures err { OnErr result (AnswersPart D.answers self.old.requests.items door.old door.new
-            (sent_of (W.contents writer.old) (W.failures writer.old) self.old.replies)
-            (sent_of (W.contents writer.new) (W.failures writer.new) self.new.replies)) }
-        ensures conversation { self.new.conversation ≡ self.old.conversation }
-        ensures same_borrow { W.borrow writer.new ≡ W.borrow writer.old }
-    {
-        let mut done = 0;
-        while done < self.requests.len() {
-            self.told.clear();
-            let left = &self.requests.as_slice()[done..];
-            let first = door.call_all(self.alloc, left, &mut self.told);
-            done += 1 + self.told.len();
-            self.add_all(writer, gate, first)?;
-        }
-        Ok(())
-    }
-
     /// Adds a reply, and those that the door gave with it. The gate is passed for each.
-    fn add_all<W: Sink, G: Gate>(
-        &mut self,
-        writer: &mut W,
-        gate: &G,
-        first: Reply<A>,
-    ) -> Result<(), AllocError>
-        ensures ok { OnOk result (Sends
-            (sent_of (W.contents writer.old) (W.failures writer.old) self.old.replies)
-            (sent_of (W.contents writer.new) (W.failures writer.new) self.new.replies)
-            (encodings (reply_of first ∷ map reply_of self.old.told.items))) }
-        ensures err { OnErr result (SendsFront
-            (sent_of (W.contents writer.old) (W.failures writer.old) self.old.replies)
-            (sent_of (W.contents writer.new) (W.failures writer.new) self.new.replies)
-            (reply_of first ∷ map reply_of self.old.told.items)) }
-        ensures same { self.new ≡ record self.old { replies = self.new.replies } }
-        ensures same_borrow { W.borrow writer.new ≡ W.borrow writer.old }
+    fn add_all<G: Gate>(&mut self, gate: &G, first: Reply<A>) -> Result<(), AllocError>
     {
         gate.pass(Place::Replied);
-        self.replies.add_reply(writer, &first)?;
+        self.replies.add_reply(&first)?;
         for i in 0..self.told.len() {
             gate.pass(Place::Replied);
-            self.replies.add_reply(writer, &self.told[i])?;
+            self.replies.add_reply(&self.told[i])?;
         }
         Ok(())
     }
 
     /// Serves the next message, if it is whole. `None` where the conversation goes on.
-    fn serve_one<W: Sink, D: Door<A>, G: Gate>(
+    fn serve_one<D: Door<A>, G: Gate>(
         &mut self,
-        writer: &mut W,
         tenants: &Tenants<A>,
         door: &mut D,
         gate: &G,
     ) -> Option<Stop>
-        ensures shorter { Shortens result (talk_of self.old.conversation)
-            (talk_of self.new.conversation) }
-        ensures goes { GoesTo D.answers tenants.now result
-            (state_of door.old (W.contents writer.old) (W.failures writer.old) self.old)
-            (state_of door.new (W.contents writer.new) (W.failures writer.new) self.new) }
-        ensures same_borrow { W.borrow writer.new ≡ W.borrow writer.old }
     {
         let (reply, stop) = self.turn(tenants, door, gate);
-        match self.replies.add(writer, &reply) {
-            Ok(()) => stop,
-            Err(_) => Some(Stop::NoMemory),
-        }
+        self.tell(&reply, stop)
     }
 
     /// Hears what comes next, and asks the door where that is a request: what is told, and why the conversation goes no

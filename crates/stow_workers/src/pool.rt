@@ -12,7 +12,7 @@ use crate::worker::Worker;
 use crate::workplace::Workplace;
 use crossbeam_channel::bounded;
 use std::alloc::Allocator;
-use std::net::TcpListener;
+use std::net::{Net, TcpListener};
 use std::sync::Wait;
 use std::thread;
 use std::thread::{Scope, Threads};
@@ -20,21 +20,21 @@ use stow_shared::journal::Journal;
 use stow_shared::seat::Seat;
 use stow_shared::shared::Shared;
 
-/// How many connections that were accepted may wait for a worker, and how many wakes for a flusher.
+/// How many wakes may wait for a flusher.
 const WAITING: usize = 16;
 
 /// Threads that serve the connections of a listener, and threads that flush, each from a seat of its own.
 pub struct Pool;
 
 impl Pool {
-    /// Serves the listener's connections, each by one worker from its first request to its end, with a worker for
-    /// each seat but the last `flushers`. From each of these a flusher flushes, woken by every 64th call of a worker.
+    /// Serves the listener's connections, so many at once, each by one worker from its first request to its end, with a worker
+    /// for each seat but the last `flushers`. A connection goes to a worker that has fewest, and those of a worker take turns. From each of these a flusher flushes, woken by every 64th call of a worker.
     /// Returns once so many connections were served, or never at 0, and all its threads have ended; so does a fault,
     /// once the connections that were accepted are served. Each seat comes back in its place. Nothing but calls was
     /// done from a worker's, and nothing but plans and installs from a flusher's.
     pub fn run<
         'a,
-        R: Threads + Wait + Sync,
+        R: Threads + Wait + Net + Sync,
         J: Journal + Send + Sync,
         G: Gate + Sync,
         A: Allocator + Copy + Send + Sync,
@@ -45,6 +45,7 @@ impl Pool {
         shared: &'a Shared<J, A>,
         seats: Vec<Seat<J, A>, A>,
         flushers: usize,
+        clients: u32,
         connections: u64,
         gate: &'a G,
     ) -> (Vec<Seat<J, A>, A>, Option<PoolFault>)
@@ -58,17 +59,27 @@ impl Pool {
         let Ok(returned) = Vec::with_capacity(alloc, seats.len()) else {
             return (seats, Some(PoolFault::Refused));
         };
-        let Ok((sender, receiver)) = bounded(alloc, WAITING) else {
+        let Ok(ports) = Vec::with_capacity(alloc, count) else {
+            return (seats, Some(PoolFault::Refused));
+        };
+        let Ok((departing, departures)) = bounded(alloc, clients as usize) else {
             return (seats, Some(PoolFault::Refused));
         };
         let Ok((waking, wakes)) = bounded(alloc, WAITING) else {
             return (seats, Some(PoolFault::Refused));
         };
-        let senders = Senders::new(sender, waking, flushers);
+        let senders = Senders {
+            alloc,
+            ports,
+            departures,
+            departing,
+            wakes: if flushers > 0 { Some(waking) } else { None },
+            count: 0,
+            clients,
+        };
         let place = Workplace {
             rt,
             alloc,
-            streams: &receiver,
             wakes: &wakes,
             shared,
             gate,
@@ -86,8 +97,8 @@ impl Pool {
             {
                 let mut senders = Some(senders);
                 let workers = start_all(scope, place, count, seats, &mut senders, workers);
-                let fault = match &senders {
-                    Some(senders) => accept(rt, listener, &senders.streams, connections),
+                let fault = match &mut senders {
+                    Some(senders) => accept(rt, listener, senders, connections),
                     None => Some(PoolFault::Refused),
                 };
                 drop(senders);
@@ -108,7 +119,7 @@ fn start_all<'s, E, R, J, G, A>(
     mut workers: Vec<Worker<J, A>, A>,
 ) -> Vec<Worker<J, A>, A>
 where
-    R: Threads + Wait + Sync,
+    R: Threads + Wait + Net + Sync,
     J: Journal + Send + Sync,
     G: Gate + Sync,
     A: Allocator + Copy + Send + Sync,

@@ -1,8 +1,9 @@
 //! Replies on their way to a writer.
-ghost use Rattle.std.specs.Prelude.{◌≡◌, false, [], length, OnOk, OnErr, option_map};
+ghost use Rattle.std.specs.Prelude.{◌≡◌, ◌≤◌, vec_len, false, [], length, OnOk, OnErr, option_map};
 ghost use Rattle.stow_model.specs.Reply.{encoding, reply_of};
 ghost use Rattle.stow_workers.specs.Sent.{Sends, SendsReply, StaysSent, NoneWaits, sent_of};
 
+use crate::outlet::Outlet;
 use crate::sink::Sink;
 use crate::writing::write_all;
 use std::alloc::{AllocError, Allocator, Global};
@@ -18,7 +19,10 @@ const KEPT: usize = 65_536;
 pub struct Replies<A: Allocator = Global> {
     alloc: A,
     bytes: Vec<u8, A>,
+    /// How many of the bytes were written.
+    passed: usize,
     has_failed: bool,
+    ghost within: { passed ≤ vec_len bytes },
 }
 
 impl<A: Allocator + Copy> Replies<A> {
@@ -30,6 +34,7 @@ impl<A: Allocator + Copy> Replies<A> {
         Replies {
             alloc,
             bytes: Vec::new(alloc),
+            passed: 0,
             has_failed: false,
         }
     }
@@ -43,9 +48,8 @@ impl<A: Allocator + Copy> Replies<A> {
 
     /// How many bytes wait.
     pub fn waiting(&self) -> usize
-        ensures { result ≡ length self.now.bytes.items }
     {
-        self.bytes.len()
+        self.bytes.len() - self.passed
     }
 
     /// How many bytes there is room for.
@@ -53,58 +57,59 @@ impl<A: Allocator + Copy> Replies<A> {
         self.bytes.capacity()
     }
 
-    /// Adds a reply, if there is one, and writes what waits if that is much. An `Err` adds and writes nothing.
-    pub fn add<W: Sink>(
-        &mut self,
-        writer: &mut W,
-        reply: &Option<Reply<A>>,
-    ) -> Result<(), AllocError>
-        ensures ok { OnOk result (SendsReply (option_map reply_of reply.now)
-            (sent_of (W.contents writer.old) (W.failures writer.old) self.old)
-            (sent_of (W.contents writer.new) (W.failures writer.new) self.new)) }
-        ensures err { OnErr result
-            (StaysSent (sent_of (W.contents writer.old) (W.failures writer.old) self.old)
-            (sent_of (W.contents writer.new) (W.failures writer.new) self.new)) }
-        ensures same_borrow { W.borrow writer.new ≡ W.borrow writer.old }
+    /// Whether more bytes wait than are to be written at once.
+    pub fn is_long(&self) -> bool {
+        self.waiting() > KEPT
+    }
+
+    /// Adds a reply, if there is one. An `Err` adds nothing.
+    pub fn add(&mut self, reply: &Option<Reply<A>>) -> Result<(), AllocError>
     {
         match reply {
-            Some(reply) => self.add_reply(writer, reply),
+            Some(reply) => self.add_reply(reply),
             None => Ok(()),
         }
     }
 
-    /// Adds a reply, and writes what waits if that is much. An `Err` adds and writes nothing.
-    pub fn add_reply<W: Sink>(&mut self, writer: &mut W, reply: &Reply<A>) -> Result<(), AllocError>
-        ensures ok { OnOk result (Sends
-            (sent_of (W.contents writer.old) (W.failures writer.old) self.old)
-            (sent_of (W.contents writer.new) (W.failures writer.new) self.new)
-            (encoding (reply_of reply.now))) }
-        ensures err { OnErr result
-            (StaysSent (sent_of (W.contents writer.old) (W.failures writer.old) self.old)
-            (sent_of (W.contents writer.new) (W.failures writer.new) self.new)) }
-        ensures same_borrow { W.borrow writer.new ≡ W.borrow writer.old }
+    /// Adds a reply. An `Err` adds nothing.
+    pub fn add_reply(&mut self, reply: &Reply<A>) -> Result<(), AllocError>
     {
         if self.has_failed {
             return Ok(());
         }
-        reply.write(&mut self.bytes)?;
-        if self.bytes.len() > KEPT {
-            self.flush(writer);
-        }
-        Ok(())
+        reply.write(&mut self.bytes)
     }
 
     /// Writes what waits.
     pub fn flush<W: Sink>(&mut self, writer: &mut W)
-        ensures sent { StaysSent (sent_of (W.contents writer.old) (W.failures writer.old) self.old)
-            (sent_of (W.contents writer.new) (W.failures writer.new) self.new) }
-        ensures written { NoneWaits self.new.has_failed self.new.bytes.items }
-        ensures same_borrow { W.borrow writer.new ≡ W.borrow writer.old }
     {
         if self.has_failed {
             return;
         }
-        self.has_failed = write_all(writer, self.bytes.as_slice()).is_err();
+        self.has_failed = write_all(writer, &self.bytes.as_slice()[self.passed..]).is_err();
+        self.clear();
+    }
+
+    /// Writes what waits, as far as the writer takes it without waiting.
+    pub fn send<W: Outlet>(&mut self, writer: &mut W)
+    {
+        while self.passed < self.bytes.len() {
+            match writer.give(&self.bytes.as_slice()[self.passed..]) {
+                Ok(Some(count)) if count > 0 => self.passed += count,
+                Ok(None) => return,
+                _ => {
+                    self.has_failed = true;
+                    break;
+                }
+            }
+        }
+        self.clear();
+    }
+
+    /// Nothing waits any more.
+    fn clear(&mut self)
+    {
+        self.passed = 0;
         if self.bytes.capacity() > KEPT {
             self.bytes = Vec::new(self.alloc);
         } else {

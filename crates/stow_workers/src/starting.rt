@@ -9,7 +9,10 @@ use crate::seat_promise::SeatPromise;
 use crate::senders::Senders;
 use crate::worker::Worker;
 use crate::workplace::Workplace;
+use crate::hall::Hall;
+use crate::waker::Waker;
 use std::alloc::Allocator;
+use std::net::Net;
 use std::snapshot::Snapshot;
 use std::sync::Wait;
 use std::thread::{Scope, Threads};
@@ -25,7 +28,7 @@ pub(crate) fn start<'s, E, R, J, G, A>(
     senders: &mut Option<Senders<A>>,
 ) -> Worker<J, A>
 where
-    R: Threads + Wait + Sync,
+    R: Threads + Wait + Net + Sync,
     J: Journal + Send + Sync,
     G: Gate + Sync,
     A: Allocator + Copy + Send + Sync,
@@ -39,7 +42,7 @@ where
     }
 }
 
-/// A worker, with a thread where there are senders. Where the thread is refused they are dropped.
+/// A worker, with a thread where there are senders. Where the thread, or what it needs, is refused they are dropped.
 fn start_worker<'s, E, R, J, G, A>(
     scope: &Scope<'s, E>,
     place: &'s Workplace<'s, R, J, G, A>,
@@ -47,20 +50,20 @@ fn start_worker<'s, E, R, J, G, A>(
     senders: &mut Option<Senders<A>>,
 ) -> Worker<J, A>
 where
-    R: Threads + Wait + Sync,
+    R: Threads + Wait + Net + Sync,
     J: Journal + Send + Sync,
     G: Gate + Sync,
     A: Allocator + Copy + Send + Sync,
     ensures { IsWorkerOf J.keeps seat result }
 {
-    let waker = match senders {
-        Some(senders) => senders.waker(),
-        None => return Worker::Idle(seat),
+    let Some((waker, hall)) = equipped(place.rt, senders) else {
+        *senders = None;
+        return Worker::Idle(seat);
     };
     let promise = SeatPromise {
         seat: Snapshot::of(&seat),
     };
-    match scope.spawn_with(promise, move || place.work(seat, waker)) {
+    match scope.spawn_with(promise, move || place.work(seat, waker, hall)) {
         Ok(thread) => Worker::Serving(thread),
         Err(refused) => {
             *senders = None;
@@ -78,7 +81,7 @@ fn start_flusher<'s, E, R, J, G, A>(
     senders: &mut Option<Senders<A>>,
 ) -> Worker<J, A>
 where
-    R: Threads + Wait + Sync,
+    R: Threads + Wait + Net + Sync,
     J: Journal + Send + Sync,
     G: Gate + Sync,
     A: Allocator + Copy + Send + Sync,
@@ -97,4 +100,15 @@ where
             Worker::Idle((refused.value)())
         }
     }
+}
+
+/// What a worker needs beside its seat, where there are senders.
+fn equipped<R: Net, A: Allocator + Copy>(
+    rt: &R,
+    senders: &mut Option<Senders<A>>,
+) -> Option<(Waker<A>, Hall<A>)> {
+    let senders = senders.as_mut()?;
+    let waker = senders.waker();
+    let hall = senders.hall(rt)?;
+    Some((waker, hall))
 }

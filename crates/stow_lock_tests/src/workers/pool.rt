@@ -117,7 +117,7 @@ fn one_thread_serves_all(rt: HostRuntime) -> Result<(), Fail> {
                 || write_until_over(&rt, address, alloc, &hold),
             )
         },
-        || Pool::run(&rt, alloc, &listener, &shared, seats, 0, 2, &hold),
+        || Pool::run(&rt, alloc, &listener, &shared, seats, 0, 100, 2, &hold),
     );
     assert!(rt; fault.is_none() && one? && other?);
     assert!(rt; hold.were_answered());
@@ -141,7 +141,7 @@ fn lock_held_while_reading_or_merging(rt: HostRuntime) -> Result<(), Fail> {
                 || write_until_over(&rt, address, alloc, &hold),
             )
         },
-        || Pool::run(&rt, alloc, &listener, &shared, seats, 1, 2, &hold),
+        || Pool::run(&rt, alloc, &listener, &shared, seats, 1, 100, 2, &hold),
     );
     assert!(rt; fault.is_none() && one? && other?);
     assert!(rt; hold.were_answered());
@@ -310,7 +310,7 @@ fn two_workers_leave_a_legal_journal(rt: HostRuntime) -> Result<(), Fail> {
             let filled = map_indices(&rt, alloc, 4, &|at| fill(&rt, address, alloc, at))?;
             are_told_right(&rt, address, alloc, filled)
         },
-        || Pool::run(&rt, alloc, &listener, &shared, seats, 0, 6, &OpenGate),
+        || Pool::run(&rt, alloc, &listener, &shared, seats, 0, 100, 6, &OpenGate),
     );
     assert!(rt; fault.is_none() && are_right?);
     let Ok(closed) = shared.close(seats) else {
@@ -378,7 +378,7 @@ fn a_worker_outlives_its_clients(rt: HostRuntime) -> Result<(), Fail> {
     let (are_right, (_, fault)) = join(
         &rt,
         || broken_clients(&rt, address, alloc),
-        || Pool::run(&rt, alloc, &listener, &shared, seats, 0, 5, &OpenGate),
+        || Pool::run(&rt, alloc, &listener, &shared, seats, 0, 100, 5, &OpenGate),
     );
     assert!(rt; fault.is_none() && are_right?);
     Ok(())
@@ -402,7 +402,7 @@ fn seats_come_back_at_a_fault(rt: HostRuntime) -> Result<(), Fail> {
     let alloc = rt.alloc();
     let listener = at_once(&rt)?;
     let (shared, seats) = opened::<Unkept, Global>(alloc, alloc, 3)?;
-    let (seats, fault) = Pool::run(&rt, alloc, &listener, &shared, seats, 1, 0, &OpenGate);
+    let (seats, fault) = Pool::run(&rt, alloc, &listener, &shared, seats, 1, 100, 0, &OpenGate);
     let Some(PoolFault::AcceptFailed(error)) = fault else {
         panic!(rt; "another fault, or none");
     };
@@ -413,7 +413,7 @@ fn seats_come_back_at_a_fault(rt: HostRuntime) -> Result<(), Fail> {
 
 /// Whether a pool that this request for memory is refused to gives all its seats back and tells so, or nothing where
 /// it asks for fewer.
-fn withstands<R: Threads + Wait + Sync, A: Allocator + Copy + Send + Sync, B: Allocator>(
+fn withstands<R: Threads + Wait + Net + Sync, A: Allocator + Copy + Send + Sync, B: Allocator>(
     rt: &R,
     heap: &Refusing<B>,
     (alloc, global): (A, Global),
@@ -423,7 +423,7 @@ fn withstands<R: Threads + Wait + Sync, A: Allocator + Copy + Send + Sync, B: Al
     heap.set(Plan::Grant);
     let (shared, seats) = opened::<Unkept, A>(alloc, global, 3)?;
     heap.set(Plan::RefuseAt(at));
-    let (seats, fault) = Pool::run(rt, alloc, listener, &shared, seats, 1, 0, &OpenGate);
+    let (seats, fault) = Pool::run(rt, alloc, listener, &shared, seats, 1, 100, 0, &OpenGate);
     let asked = heap.asked();
     heap.set(Plan::Grant);
     let is_told = matches!(fault, Some(PoolFault::Refused)) && are_three(seats.as_slice());
