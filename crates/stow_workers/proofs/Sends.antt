@@ -4,7 +4,6 @@ use denote.RattleType.{RattleType}
 use denote.Param.Send.{IsSend, IsSync, Frees, sendable, struct_sync}
 use denote.Struct.Declared.{shape}
 use Rattle.crossbeam_channel.proofs.channel.Receiver.TheSendSync as receiver
-use Rattle.std.proofs.net.tcp.TcpStream.TheSendSync as stream
 use Rattle.std.specs.declared.alloc.Allocator.{Ghosts}
 use Rattle.stow_shared.specs.declared.journal.Journal as journal
 use Rattle.stow_shared.proofs.Sends.{shared_syncs}
@@ -19,6 +18,6 @@ module _ (κ : NamedLft) (R K G A : RattleType) (k : journal.Ghosts K.Denot) (g 
         search sendable,
         (
           search sendable,
-          (search (receiver.the_sync, stream.the_send, sendable) depth 8, (search (receiver.the_sync, wake.the_send, sendable) depth 8, (search sendable, (search sendable, tt)))),
+          (search (receiver.the_sync, wake.the_send, sendable) depth 8, (search sendable, (search sendable, tt))),
         ),
       )

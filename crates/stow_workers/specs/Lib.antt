@@ -4,6 +4,7 @@ pub mod Exchanges
 pub mod Sent
 pub mod Talks
 pub mod Turns
+pub mod Links
 pub mod Laws
 pub mod Flushes
 pub mod Pools

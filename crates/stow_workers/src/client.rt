@@ -1,11 +1,11 @@
 //! A connection that is being served.
-ghost use Rattle.std.specs.Prelude.{◌≡◌, List, [], ◌∷◌, map, None, Some, false, option_map, IfSome, OnOk, OnErr};
+ghost use Rattle.std.specs.Prelude.{◌≡◌, ◌↔◌, IsTrue, ◌++◌, ◌<◌, List, [], ◌∷◌, length, map, drop, None, Some, false, option_map, IfSome, OnOk, OnErr};
 ghost use Rattle.stow_model.specs.Login.{Entry};
 ghost use Rattle.stow_model.specs.Reply.{reply_of};
-ghost use Rattle.stow_house.specs.Conversations.{Talk, talk_of};
-ghost use Rattle.stow_workers.specs.Pipelined.{HearsAll, HasHeard, AnswersHeard, AnswersPart, SendsFront, TellsOrStops, encodings};
-ghost use Rattle.stow_workers.specs.Sent.{Sends, sent_of};
-ghost use Rattle.stow_workers.specs.Turns.{Turns, Shortens, GoesTo, ServesPiece, CanEndPiece, outcome_of, state_of};
+ghost use Rattle.stow_house.specs.Conversations.{talk_of};
+ghost use Rattle.stow_workers.specs.Pipelined.{HearsAll, SendsFront, TellsOrStops, encodings};
+ghost use Rattle.stow_workers.specs.Sent.{Written, written_of, Sends, StaysSent, sent_of, sent_at};
+ghost use Rattle.stow_workers.specs.Turns.{Turns, Shortens, StepsTo, IsRested, Lightens, HasLed, RestsBehind, ServesPiece, CanEndPiece, outcome_of, state_of};
 
 use crate::gate::Gate;
 use crate::outlet::Outlet;
@@ -51,8 +51,9 @@ impl<A: Allocator + Copy> Client<A> {
     pub fn new(alloc: A) -> Client<A>
         ensures unread { (talk_of result.conversation).unread ≡ [] }
         ensures tenant { (talk_of result.conversation).tenant ≡ None }
-        ensures waiting { result.replies.bytes.items ≡ [] }
+        ensures waiting { drop result.replies.passed result.replies.bytes.items ≡ [] }
         ensures failed { result.replies.has_failed ≡ false }
+        ensures rested { IsRested result }
     {
         Client {
             alloc,
@@ -76,6 +77,9 @@ impl<A: Allocator + Copy> Client<A> {
         door: &mut D,
         gate: &G,
     ) -> Option<Served>
+        requires rested { IsRested self.old }
+        ensures rests { RestsBehind D.answers tenants.now result
+            (state_of door.old (W.contents writer.old) (W.failures writer.old) self.old) self.new }
         ensures ends { IfSome result CanEndPiece }
         ensures serves { ServesPiece D.answers tenants.now piece.now result
             (state_of door.old (W.contents writer.old) (W.failures writer.old) self.old)
@@ -98,6 +102,10 @@ impl<A: Allocator + Copy> Client<A> {
         door: &mut D,
         gate: &G,
     ) -> Stop
+        ensures goes { StepsTo D.answers tenants.now (Some result)
+            door.old self.old (sent_of (W.contents writer.old) (W.failures writer.old) self.old.replies)
+            door.new self.new (sent_of (W.contents writer.new) (W.failures writer.new) self.new.replies) }
+        ensures same_borrow { W.borrow writer.new ≡ W.borrow writer.old }
     {
         loop {
             if let Some(stop) = self.step(tenants, door, gate) {
@@ -110,22 +118,37 @@ impl<A: Allocator + Copy> Client<A> {
     }
 
     /// Adds a piece of the stream. An `Err` changes nothing.
-    pub fn feed(&mut self, piece: &[u8]) -> Result<(), AllocError> {
+    pub fn feed(&mut self, piece: &[u8]) -> Result<(), AllocError>
+        ensures ok { OnOk result ((talk_of self.new.conversation).unread
+            ≡ (talk_of self.old.conversation).unread ++ piece.now) }
+        ensures err { OnErr result (talk_of self.new.conversation ≡ talk_of self.old.conversation) }
+        ensures tenant { (talk_of self.new.conversation).tenant ≡ (talk_of self.old.conversation).tenant }
+        ensures same { self.new ≡ record self.old { conversation = self.new.conversation } }
+    {
         self.conversation.feed(piece)
     }
 
     /// Whether bytes wait for the writer.
-    pub fn is_waiting(&self) -> bool {
+    pub fn is_waiting(&self) -> bool
+        ensures { IsTrue result ↔ (0 < length (drop self.now.replies.passed self.now.replies.bytes.items)) }
+    {
         self.replies.waiting() > 0
     }
 
     /// Whether a write has failed.
-    pub fn has_failed(&self) -> bool {
+    pub fn has_failed(&self) -> bool
+        ensures { result ≡ self.now.replies.has_failed }
+    {
         self.replies.has_failed()
     }
 
     /// Writes what waits, as far as the writer takes it.
-    pub fn send<W: Outlet>(&mut self, writer: &mut W) {
+    pub fn send<W: Outlet>(&mut self, writer: &mut W)
+        ensures sent { StaysSent
+            (sent_at (written_of (W.held writer.old) (W.failed writer.old)) self.old.replies)
+            (sent_at (written_of (W.held writer.new) (W.failed writer.new)) self.new.replies) }
+        ensures same { self.new ≡ record self.old { replies = self.new.replies } }
+    {
         self.replies.send(writer);
     }
 
@@ -136,6 +159,10 @@ impl<A: Allocator + Copy> Client<A> {
         door: &mut D,
         gate: &G,
     ) -> Option<Stop>
+        ensures goes { (writer : Written) → StepsTo D.answers tenants.now result
+            door.old self.old (sent_at writer self.old.replies)
+            door.new self.new (sent_at writer self.new.replies) }
+        ensures led { HasLed D.answers door.old door.new }
     {
         for _ in 0..STEPS {
             if self.replies.is_long() {
@@ -156,6 +183,11 @@ impl<A: Allocator + Copy> Client<A> {
         door: &mut D,
         gate: &G,
     ) -> Option<Stop>
+        ensures lighter { Lightens result self.old self.new }
+        ensures goes { (writer : Written) → StepsTo D.answers tenants.now result
+            door.old self.old (sent_at writer self.old.replies)
+            door.new self.new (sent_at writer self.new.replies) }
+        ensures led { HasLed D.answers door.old door.new }
     {
         if self.done < self.requests.len() {
             return self.ask(door, gate);
@@ -168,6 +200,12 @@ impl<A: Allocator + Copy> Client<A> {
 
     /// Asks the door for the requests that were heard, as many as it answers together.
     fn ask<D: Door<A>, G: Gate>(&mut self, door: &mut D, gate: &G) -> Option<Stop>
+        requires some { 0 < length (drop self.old.done self.old.requests.items) }
+        ensures lighter { Lightens result self.old self.new }
+        ensures goes { (entries : List Entry) (writer : Written) → StepsTo D.answers entries result
+            door.old self.old (sent_at writer self.old.replies)
+            door.new self.new (sent_at writer self.new.replies) }
+        ensures led { HasLed D.answers door.old door.new }
     {
         self.told.clear();
         let left = &self.requests.as_slice()[self.done..];
@@ -181,6 +219,9 @@ impl<A: Allocator + Copy> Client<A> {
 
     /// Adds a reply, if there is one. Why the conversation goes no further then, if it doesn't.
     fn tell(&mut self, reply: &Option<Reply<A>>, stop: Option<Stop>) -> Option<Stop>
+        ensures told { (writer : Written) → TellsOrStops (option_map reply_of reply.now) stop result
+            (sent_at writer self.old.replies) (sent_at writer self.new.replies) }
+        ensures same { self.new ≡ record self.old { replies = self.new.replies } }
     {
         match self.replies.add(reply) {
             Ok(()) => stop,
@@ -195,6 +236,12 @@ impl<A: Allocator + Copy> Client<A> {
         door: &mut D,
         gate: &G,
     ) -> Option<Stop>
+        requires rested { IsRested self.old }
+        ensures lighter { Lightens result self.old self.new }
+        ensures goes { (writer : Written) → StepsTo D.answers tenants.now result
+            door.old self.old (sent_at writer self.old.replies)
+            door.new self.new (sent_at writer self.new.replies) }
+        ensures led { HasLed D.answers door.old door.new }
     {
         self.reuse_words();
         self.done = 0;
@@ -215,12 +262,16 @@ impl<A: Allocator + Copy> Client<A> {
     fn reuse_words(&mut self)
         ensures talk { talk_of self.new.conversation ≡ talk_of self.old.conversation }
         ensures replies { self.new.replies ≡ self.old.replies }
+        ensures done { self.new.done ≡ self.old.done }
+        ensures end { self.new.end ≡ self.old.end }
+        ensures none { self.new.requests.items ≡ [] }
     {
         for _ in 0..self.requests.len() {
             if let Some(request) = self.requests.pop() {
                 self.keep_words(request.words);
             }
         }
+        self.requests.clear();
     }
 
     /// Keeps words where there is room for them, and else hands them back.
@@ -262,6 +313,8 @@ impl<A: Allocator + Copy> Client<A> {
         ensures hears { HearsAll tenants.now self.new.requests.items result
             (talk_of self.old.conversation) (talk_of self.new.conversation) }
         ensures replies { self.new.replies ≡ self.old.replies }
+        ensures done { self.new.done ≡ self.old.done }
+        ensures end { self.new.end ≡ self.old.end }
     {
         while self.requests.len() < self.requests.capacity() {
             self.lend_words();
@@ -278,6 +331,13 @@ impl<A: Allocator + Copy> Client<A> {
 
     /// Adds a reply, and those that the door gave with it. The gate is passed for each.
     fn add_all<G: Gate>(&mut self, gate: &G, first: Reply<A>) -> Result<(), AllocError>
+        ensures ok { (writer : Written) → OnOk result (Sends
+            (sent_at writer self.old.replies) (sent_at writer self.new.replies)
+            (encodings (reply_of first ∷ map reply_of self.old.told.items))) }
+        ensures err { (writer : Written) → OnErr result (SendsFront
+            (sent_at writer self.old.replies) (sent_at writer self.new.replies)
+            (reply_of first ∷ map reply_of self.old.told.items)) }
+        ensures same { self.new ≡ record self.old { replies = self.new.replies } }
     {
         gate.pass(Place::Replied);
         self.replies.add_reply(&first)?;
@@ -295,6 +355,12 @@ impl<A: Allocator + Copy> Client<A> {
         door: &mut D,
         gate: &G,
     ) -> Option<Stop>
+        requires rested { IsRested self.old }
+        ensures lighter { Lightens result self.old self.new }
+        ensures goes { (writer : Written) → StepsTo D.answers tenants.now result
+            door.old self.old (sent_at writer self.old.replies)
+            door.new self.new (sent_at writer self.new.replies) }
+        ensures led { HasLed D.answers door.old door.new }
     {
         let (reply, stop) = self.turn(tenants, door, gate);
         self.tell(&reply, stop)
@@ -312,7 +378,8 @@ impl<A: Allocator + Copy> Client<A> {
             (talk_of self.new.conversation) }
         ensures turns { Turns D.answers tenants.now (option_map reply_of result.0) result.1
             door.old (talk_of self.old.conversation) door.new (talk_of self.new.conversation) }
-        ensures replies { self.new.replies ≡ self.old.replies }
+        ensures same { self.new ≡ record self.old { conversation = self.new.conversation } }
+        ensures led { HasLed D.answers door.old door.new }
     {
         match self.conversation.hear(self.alloc, tenants) {
             Heard::Told(told, stop) => (told, stop),
@@ -328,7 +395,7 @@ impl<A: Allocator + Copy> Client<A> {
 }
 
 /// How a piece ended, once its replies were written or a write has failed.
-fn outcome(stop: Stop, has_failed: bool) -> Option<Served>
+pub(crate) fn outcome(stop: Stop, has_failed: bool) -> Option<Served>
     ensures { result ≡ outcome_of stop has_failed }
 {
     match stop {

@@ -1,4 +1,6 @@
 //! A client that a worker serves between others.
+ghost use Rattle.stow_workers.specs.Turns.{HasLed};
+
 use crate::counted::Counted;
 use crate::gate::Gate;
 use crate::link::Link;
@@ -53,7 +55,9 @@ impl<A: Allocator + Copy> Guest<A> {
         tenants: &Tenants<A>,
         door: &mut D,
         gate: &G,
-    ) -> Turned {
+    ) -> Turned
+        ensures { HasLed D.answers door.old door.new }
+    {
         let (mut input, mut output) = (&self.stream, &self.stream);
         let mut reader = Counted::new(&mut input);
         let mut writer = Counted::new(&mut output);

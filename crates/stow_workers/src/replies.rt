@@ -1,7 +1,5 @@
 //! Replies on their way to a writer.
-ghost use Rattle.std.specs.Prelude.{◌≡◌, ◌≤◌, vec_len, false, [], length, OnOk, OnErr, option_map};
-ghost use Rattle.stow_model.specs.Reply.{encoding, reply_of};
-ghost use Rattle.stow_workers.specs.Sent.{Sends, SendsReply, StaysSent, NoneWaits, sent_of};
+ghost use Rattle.std.specs.Prelude.{◌≡◌, ◌≤◌, vec_len, false, [], length, drop, IsTrue, ◌<◌, OnOk, OnErr, option_map};
 
 use crate::outlet::Outlet;
 use crate::sink::Sink;
@@ -26,9 +24,13 @@ pub struct Replies<A: Allocator = Global> {
 }
 
 impl<A: Allocator + Copy> Replies<A> {
+    ghost use Rattle.stow_model.specs.Reply.{encoding, reply_of};
+    ghost use Rattle.stow_workers.specs.Sent.{Written, written_of, Sends, SendsReply, StaysSent, NoneWaits, sent_of, sent_at};
+
     /// Nothing waits.
     pub fn new(alloc: A) -> Replies<A>
         ensures bytes { result.bytes.items ≡ [] }
+        ensures passed { result.passed ≡ 0 }
         ensures failed { result.has_failed ≡ false }
     {
         Replies {
@@ -48,6 +50,7 @@ impl<A: Allocator + Copy> Replies<A> {
 
     /// How many bytes wait.
     pub fn waiting(&self) -> usize
+        ensures { result ≡ length (drop self.now.passed self.now.bytes.items) }
     {
         self.bytes.len() - self.passed
     }
@@ -58,12 +61,18 @@ impl<A: Allocator + Copy> Replies<A> {
     }
 
     /// Whether more bytes wait than are to be written at once.
-    pub fn is_long(&self) -> bool {
+    pub fn is_long(&self) -> bool
+        ensures same { IsTrue result → 0 < length (drop self.now.passed self.now.bytes.items) }
+    {
         self.waiting() > KEPT
     }
 
     /// Adds a reply, if there is one. An `Err` adds nothing.
     pub fn add(&mut self, reply: &Option<Reply<A>>) -> Result<(), AllocError>
+        ensures ok { (writer : Written) → OnOk result (SendsReply (option_map reply_of reply.now)
+            (sent_at writer self.old) (sent_at writer self.new)) }
+        ensures err { (writer : Written) → OnErr result
+            (sent_at writer self.new ≡ sent_at writer self.old) }
     {
         match reply {
             Some(reply) => self.add_reply(reply),
@@ -73,6 +82,10 @@ impl<A: Allocator + Copy> Replies<A> {
 
     /// Adds a reply. An `Err` adds nothing.
     pub fn add_reply(&mut self, reply: &Reply<A>) -> Result<(), AllocError>
+        ensures ok { (writer : Written) → OnOk result (Sends
+            (sent_at writer self.old) (sent_at writer self.new) (encoding (reply_of reply.now))) }
+        ensures err { (writer : Written) → OnErr result
+            (sent_at writer self.new ≡ sent_at writer self.old) }
     {
         if self.has_failed {
             return Ok(());
@@ -82,6 +95,10 @@ impl<A: Allocator + Copy> Replies<A> {
 
     /// Writes what waits.
     pub fn flush<W: Sink>(&mut self, writer: &mut W)
+        ensures sent { StaysSent (sent_of (W.contents writer.old) (W.failures writer.old) self.old)
+            (sent_of (W.contents writer.new) (W.failures writer.new) self.new) }
+        ensures written { NoneWaits self.new.has_failed (drop self.new.passed self.new.bytes.items) }
+        ensures same_borrow { W.borrow writer.new ≡ W.borrow writer.old }
     {
         if self.has_failed {
             return;
@@ -92,22 +109,51 @@ impl<A: Allocator + Copy> Replies<A> {
 
     /// Writes what waits, as far as the writer takes it without waiting.
     pub fn send<W: Outlet>(&mut self, writer: &mut W)
+        ensures sent { StaysSent
+            (sent_at (written_of (W.held writer.old) (W.failed writer.old)) self.old)
+            (sent_at (written_of (W.held writer.new) (W.failed writer.new)) self.new) }
     {
+        if self.has_failed {
+            return;
+        }
         while self.passed < self.bytes.len() {
-            match writer.give(&self.bytes.as_slice()[self.passed..]) {
-                Ok(Some(count)) if count > 0 => self.passed += count,
-                Ok(None) => return,
-                _ => {
-                    self.has_failed = true;
-                    break;
-                }
+            if !self.give(writer) {
+                return;
             }
         }
         self.clear();
     }
 
+    /// Writes as much of what waits as the writer takes at once: whether it took any. Where it fails nothing waits any more.
+    fn give<W: Outlet>(&mut self, writer: &mut W) -> bool
+        requires right { self.old.has_failed ≡ false }
+        requires some { self.old.passed < vec_len self.old.bytes }
+        ensures sent { StaysSent
+            (sent_at (written_of (W.held writer.old) (W.failed writer.old)) self.old)
+            (sent_at (written_of (W.held writer.new) (W.failed writer.new)) self.new) }
+        ensures bytes { self.new.bytes ≡ self.old.bytes }
+        ensures on { IsTrue result → (self.old.passed < self.new.passed)
+            × (self.new.has_failed ≡ false) }
+    {
+        match writer.give(&self.bytes.as_slice()[self.passed..]) {
+            Ok(Some(count)) if count > 0 => {
+                self.passed += count;
+                true
+            }
+            Ok(None) => false,
+            Ok(Some(_)) | Err(_) => {
+                self.has_failed = true;
+                self.passed = self.bytes.len();
+                false
+            }
+        }
+    }
+
     /// Nothing waits any more.
     fn clear(&mut self)
+        ensures bytes { self.new.bytes.items ≡ [] }
+        ensures passed { self.new.passed ≡ 0 }
+        ensures failed { self.new.has_failed ≡ self.old.has_failed }
     {
         self.passed = 0;
         if self.bytes.capacity() > KEPT {

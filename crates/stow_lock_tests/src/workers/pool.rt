@@ -12,7 +12,7 @@ use std::process::Abort;
 use std::sync::{Arc, Wait};
 use std::test::Fail;
 use std::thread::{Threads, join, map_indices};
-use std::time::Clock;
+use std::time::{Clock, Duration};
 use stow_core::Core;
 use stow_login::tenants::Tenants;
 use stow_model::item::Item;
@@ -379,6 +379,116 @@ fn a_worker_outlives_its_clients(rt: HostRuntime) -> Result<(), Fail> {
         &rt,
         || broken_clients(&rt, address, alloc),
         || Pool::run(&rt, alloc, &listener, &shared, seats, 0, 100, 5, &OpenGate),
+    );
+    assert!(rt; fault.is_none() && are_right?);
+    Ok(())
+}
+
+/// Five clients say nothing, and a sixth one is served; then the first one is, too.
+fn silent_clients<R: Net<Stream = TcpStream>>(
+    rt: &R,
+    address: SocketAddr,
+    alloc: Global,
+) -> io::Result<bool> {
+    let first = connected(rt, address)?;
+    let mut silent = Vec::new(alloc);
+    for _ in 0..4 {
+        silent.push(connected(rt, address)?)?;
+    }
+    let stream = connected(rt, address)?;
+    Ok(
+        is_told(alloc, &stream, ANN, "+OK\r\n")?
+            && is_told(alloc, &stream, "SET k v\n", "+OK\r\n")?
+            && is_told(alloc, &first, ANN, "+OK\r\n")?
+            && is_told(alloc, &first, "GET k\n", "$1\r\nv\r\n")?
+            && silent.len() == 4,
+    )
+}
+
+// A silent client holds no worker.
+#[test]
+fn silent_clients_keep_nobody_waiting(rt: HostRuntime) -> Result<(), Fail> {
+    let alloc = rt.alloc();
+    let (shared, seats) = opened::<Unkept, Global>(alloc, alloc, 2)?;
+    let listener = TcpListener::bind(&rt, "127.0.0.1:0")?;
+    let address = listener.local_addr()?;
+    let (are_right, (_, fault)) = join(
+        &rt,
+        || silent_clients(&rt, address, alloc),
+        || Pool::run(&rt, alloc, &listener, &shared, seats, 0, 100, 6, &OpenGate),
+    );
+    assert!(rt; fault.is_none() && are_right?);
+    Ok(())
+}
+
+/// A client asks for megabytes and reads none of them before another one is served; then it is told all of them.
+fn slow_client<R: Net<Stream = TcpStream>>(
+    rt: &R,
+    address: SocketAddr,
+    alloc: Global,
+) -> io::Result<bool> {
+    let value = "v".repeat(alloc, 60_000)?;
+    let mut many = format!(in alloc; "{ANN}SET k {value}\n")?;
+    many.push_str("GET k\n".repeat(alloc, 200)?.as_str())?;
+    let mut want = String::from_str(alloc, "+OK\r\n+OK\r\n")?;
+    let told = format!(in alloc; "$60000\r\n{value}\r\n")?;
+    want.push_str(told.as_str().repeat(alloc, 200)?.as_str())?;
+    let mut slow = connected(rt, address)?;
+    slow.write_all(many.as_bytes())?;
+    let stream = connected(rt, address)?;
+    Ok(
+        is_told(alloc, &stream, ANN, "+OK\r\n")?
+            && is_told(alloc, &stream, "GET k\n", told.as_str())?
+            && is_told(alloc, &slow, "QUIT\n", format!(in alloc; "{want}+OK\r\n")?.as_str())?,
+    )
+}
+
+// Where the replies of one client wait, others are served; none of the replies is lost, or told twice.
+#[test]
+fn a_client_that_reads_nothing_keeps_nobody_waiting(rt: HostRuntime) -> Result<(), Fail> {
+    let alloc = rt.alloc();
+    let (shared, seats) = opened::<Unkept, Global>(alloc, alloc, 1)?;
+    let listener = TcpListener::bind(&rt, "127.0.0.1:0")?;
+    let address = listener.local_addr()?;
+    let (are_right, (_, fault)) = join(
+        &rt,
+        || slow_client(&rt, address, alloc),
+        || Pool::run(&rt, alloc, &listener, &shared, seats, 0, 100, 2, &OpenGate),
+    );
+    assert!(rt; fault.is_none() && are_right?);
+    Ok(())
+}
+
+/// While one client is there another one isn't answered; once it has gone it is.
+fn one_by_one<R: Net<Stream = TcpStream>>(
+    rt: &R,
+    address: SocketAddr,
+    alloc: Global,
+) -> io::Result<bool> {
+    let first = connected(rt, address)?;
+    let mut is_right = is_told(alloc, &first, ANN, "+OK\r\n")?;
+    let mut other = connected(rt, address)?;
+    other.write_all(BEN.as_bytes())?;
+    other.set_read_timeout(Some(Duration::from_millis(100)))?;
+    is_right = is_right && other.read(&mut [0u8; 1]).is_err();
+    other.set_read_timeout(None)?;
+    drop(first);
+    let mut told = [0u8; 5];
+    other.read_exact(&mut told)?;
+    Ok(is_right && told.as_slice() == b"+OK\r\n".as_slice())
+}
+
+// No more clients are served at once than may be there.
+#[test]
+fn a_client_waits_for_room(rt: HostRuntime) -> Result<(), Fail> {
+    let alloc = rt.alloc();
+    let (shared, seats) = opened::<Unkept, Global>(alloc, alloc, 2)?;
+    let listener = TcpListener::bind(&rt, "127.0.0.1:0")?;
+    let address = listener.local_addr()?;
+    let (are_right, (_, fault)) = join(
+        &rt,
+        || one_by_one(&rt, address, alloc),
+        || Pool::run(&rt, alloc, &listener, &shared, seats, 0, 1, 2, &OpenGate),
     );
     assert!(rt; fault.is_none() && are_right?);
     Ok(())

@@ -3,4 +3,4 @@ use Rattle.stow_workers.proofs.Workers.{at_the_seat}
 use Rattle.stow_workers.proofs.workplace.Workplace.serve.Goals as goal
 
 pub returns : goal.returns
-returns g c = at_the_seat (λ desk. desk.desk.seat.ghost_name) (λ desk. desk.desk.seat.now) _ _ _ _ _ c.serve_connection.ensures.serves.served.course.door (λ same. search rules)
+returns g c = at_the_seat (λ desk. desk.desk.seat.ghost_name) (λ desk. desk.desk.seat.now) _ _ _ _ _ c.turn.ensures.1 (λ same. search rules)
