@@ -262,7 +262,7 @@ rested_turn answers entries told stop result old new before mid after writer res
     (subst (λ (c : Conversation _). Turns answers entries told stop old (talk_of before.conversation) new (talk_of c)) (sym talk) turns)
     (subst (λ (r : Replies _). TellsOrStops told stop result (sent_at writer r) (sent_at writer after.replies)) replies tells)
 
-rested_weight : {A : Type 0} (client : Client A) → IsRested client → weight client ≡ 3 * length (talk_of client.conversation).unread
+pub rested_weight : {A : Type 0} (client : Client A) → IsRested client → weight client ≡ 3 * length (talk_of client.conversation).unread
 rested_weight client (none, no_end) =
     let w : unread_weight client.end (length (talk_of client.conversation).unread) ≡ 3 * length (talk_of client.conversation).unread = ap (λ e. unread_weight e (length (talk_of client.conversation).unread)) no_end in
     let l : length (drop client.done client.requests.items) ≡ 0 = ap length none in

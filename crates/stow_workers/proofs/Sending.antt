@@ -119,3 +119,7 @@ pub all_passed : (writer : Written) (was is : Bool) (passed none : ℕ) (bytes l
 all_passed writer was is passed none bytes left same zeroed empty all =
     let here : drop none left ≡ drop passed bytes = ap (λ n. drop n left) zeroed ∙ empty ∙ sym (drop_past bytes passed all) in
     stays (record { writer = writer; has_failed = was; waiting = drop passed bytes }) (record { writer = writer; has_failed = is; waiting = drop none left }) (λ i. record { writer = writer; has_failed = same i; waiting = here i })
+
+pub none_left : {X : Type 0} (xs : List X) → length xs ≡ 0 → ◌≡◌ {A = List X} xs []
+none_left [] zeroed = refl
+none_left (x ∷ xs) zeroed = absurd (omega (arith, zeroed))

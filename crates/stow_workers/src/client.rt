@@ -248,13 +248,14 @@ impl<A: Allocator + Copy> Client<A> {
         let _room = self.requests.reserve(PIPELINED);
         let _room = self.told.reserve(PIPELINED);
         let _room = self.words.reserve(PIPELINED);
-        match self.hear_all(tenants, gate) {
-            Some((reply, stop)) if self.requests.is_empty() => self.tell(&reply, stop),
-            None if self.requests.is_empty() => self.serve_one(tenants, door, gate),
-            end => {
-                self.end = end;
-                None
-            }
+        let end = self.hear_all(tenants, gate);
+        if !self.requests.is_empty() {
+            self.end = end;
+            return None;
+        }
+        match end {
+            Some((reply, stop)) => self.tell(&reply, stop),
+            None => self.serve_one(tenants, door, gate),
         }
     }
 

@@ -44,6 +44,8 @@ pub struct Hall<A: Allocator = Global> {
     pub(crate) parting: u32,
     pub(crate) rounds: u32,
     pub(crate) is_rung: bool,
+    /// The last wait was in vain.
+    pub(crate) is_quiet: bool,
 }
 
 impl<A: Allocator + Copy> Hall<A> {
@@ -99,7 +101,10 @@ impl<A: Allocator + Copy> Hall<A> {
     fn seat<R: Wait>(&mut self, rt: &R, at: usize, stream: net::TcpStream) {
         let mut stream = TcpStream::from_std(stream);
         let interests = Interest::READABLE | Interest::WRITABLE;
-        let registered = self.poll.registry().register(&mut stream, Token(at), interests);
+        let registered = self
+            .poll
+            .registry()
+            .register(&mut stream, Token(at), interests);
         if registered.is_ok() && at < self.guests.len() {
             self.guests[at] = Some(Guest::new(self.alloc, stream));
         } else {
@@ -109,7 +114,8 @@ impl<A: Allocator + Copy> Hall<A> {
 
     /// Waits until a client is ready, unless the turn of one is due.
     pub(crate) fn look(&mut self) {
-        let timeout = if !self.due.is_empty() {
+        let is_idle = self.due.is_empty() && !self.is_rung;
+        let timeout = if !is_idle {
             Some(Duration::from_millis(0))
         } else if self.parting > 0 {
             Some(Duration::from_millis(PATIENCE))
@@ -125,6 +131,7 @@ impl<A: Allocator + Copy> Hall<A> {
                 }
             }
         }
+        self.is_quiet = is_idle && self.events.is_empty();
     }
 
     /// The client whose turn it is, with its place.
@@ -183,7 +190,7 @@ impl<A: Allocator + Copy> Hall<A> {
         if self.parting == 0 {
             return;
         }
-        if self.due.is_empty() && self.events.is_empty() {
+        if self.is_quiet {
             self.close_parting(rt, u32::MAX);
         } else if self.rounds == 0 {
             self.close_parting(rt, 32);
@@ -193,6 +200,9 @@ impl<A: Allocator + Copy> Hall<A> {
     /// Counts so many reads of those who part.
     fn close_parting<R: Wait>(&mut self, rt: &R, reads: u32) {
         for at in 0..self.guests.len() {
+            if at >= self.guests.len() {
+                return;
+            }
             let is_over = match &mut self.guests[at] {
                 Some(guest) => guest.is_parting() && !guest.is_patient(reads),
                 None => false,

@@ -5,12 +5,14 @@ ghost use Rattle.stow_workers.specs.Pools.{AreEach, AreEachUpTo, ComeBack, Gives
 
 use crate::accepting::accept;
 use crate::gate::Gate;
+use crate::hall::Hall;
 use crate::pool_fault::PoolFault;
 use crate::senders::Senders;
 use crate::starting::start;
+use crate::wake::Wake;
 use crate::worker::Worker;
 use crate::workplace::Workplace;
-use crossbeam_channel::bounded;
+use crossbeam_channel::{Receiver, bounded};
 use std::alloc::Allocator;
 use std::net::{Net, TcpListener};
 use std::sync::Wait;
@@ -53,30 +55,10 @@ impl Pool {
         ensures { ComeBack J.keeps (vec_len seats - flushers) seats.items result.0.items }
     {
         let count = seats.len() - flushers;
-        let Ok(workers) = Vec::with_capacity(alloc, seats.len()) else {
+        let Some((senders, halls)) = equipment(rt, alloc, count, flushers, clients) else {
             return (seats, Some(PoolFault::Refused));
         };
-        let Ok(returned) = Vec::with_capacity(alloc, seats.len()) else {
-            return (seats, Some(PoolFault::Refused));
-        };
-        let Ok(ports) = Vec::with_capacity(alloc, count) else {
-            return (seats, Some(PoolFault::Refused));
-        };
-        let Ok((departing, departures)) = bounded(alloc, clients as usize) else {
-            return (seats, Some(PoolFault::Refused));
-        };
-        let Ok((waking, wakes)) = bounded(alloc, WAITING) else {
-            return (seats, Some(PoolFault::Refused));
-        };
-        let senders = Senders {
-            alloc,
-            ports,
-            departures,
-            departing,
-            wakes: if flushers > 0 { Some(waking) } else { None },
-            count: 0,
-            clients,
-        };
+        let (senders, wakes) = senders;
         let place = Workplace {
             rt,
             alloc,
@@ -84,28 +66,92 @@ impl Pool {
             shared,
             gate,
         };
-        let place = &place;
-        thread::scope(
-            thread::scope_env(),
-            rt,
-            move |scope| -> (Vec<Seat<J, A>, A>, Option<PoolFault>)
-                requires { IsSync R.row × IsSync J.row × IsSync G.row × IsSync A.row
-                    × IsSend J.row × IsSend A.row × Frees A.Allocator A.dealloc_token
-                    × (workers.items ≡ []) × (vec_len seats ≤ vec_capacity workers)
-                    × (returned.items ≡ []) × (vec_len seats ≤ vec_capacity returned) }
-                ensures { ComeBack J.keeps count seats.items result.0.items }
-            {
-                let mut senders = Some(senders);
-                let workers = start_all(scope, place, count, seats, &mut senders, workers);
-                let fault = match &mut senders {
-                    Some(senders) => accept(rt, listener, senders, connections),
-                    None => Some(PoolFault::Refused),
-                };
-                drop(senders);
-                (join_all(rt, workers, returned), fault)
-            },
-        )
+        serve(&place, listener, seats, count, connections, senders, halls)
     }
+}
+
+/// What the threads of a pool need: the ends by which they are reached, where wakes come from, and a hall for each worker.
+/// `None` where memory or the system refuses it.
+fn equipment<R: Net, A: Allocator + Copy>(
+    rt: &R,
+    alloc: A,
+    workers: usize,
+    flushers: usize,
+    clients: u32,
+) -> Option<((Senders<A>, Receiver<Wake, A>), Vec<Hall<A>, A>)> {
+    let (waking, wakes) = bounded(alloc, WAITING).ok()?;
+    let (departing, departures) = bounded(alloc, clients as usize).ok()?;
+    let mut senders = Senders {
+        alloc,
+        ports: Vec::new(alloc),
+        departures,
+        departing,
+        wakes: if flushers > 0 { Some(waking) } else { None },
+        count: 0,
+        clients,
+    };
+    let mut halls = Vec::new(alloc);
+    for _ in 0..workers {
+        let hall = senders.hall(rt)?;
+        halls.push(hall).ok()?;
+    }
+    Some(((senders, wakes), halls))
+}
+
+/// Serves and flushes from the seats, as `Pool::run` has it.
+fn serve<
+    'a,
+    R: Threads + Wait + Sync,
+    J: Journal + Send + Sync,
+    G: Gate + Sync,
+    A: Allocator + Copy + Send + Sync,
+>(
+    place: &'a Workplace<'a, R, J, G, A>,
+    listener: &'a TcpListener,
+    seats: Vec<Seat<J, A>, A>,
+    count: usize,
+    connections: u64,
+    senders: Senders<A>,
+    mut halls: Vec<Hall<A>, A>,
+) -> (Vec<Seat<J, A>, A>, Option<PoolFault>)
+    requires { count ≤ vec_len seats }
+    ensures { ComeBack J.keeps count seats.items result.0.items }
+{
+    let (rt, alloc) = (place.rt, place.alloc);
+    let Ok(workers) = Vec::with_capacity(alloc, seats.len()) else {
+        return (seats, Some(PoolFault::Refused));
+    };
+    let Ok(returned) = Vec::with_capacity(alloc, seats.len()) else {
+        return (seats, Some(PoolFault::Refused));
+    };
+    thread::scope(
+        thread::scope_env(),
+        rt,
+        move |scope| -> (Vec<Seat<J, A>, A>, Option<PoolFault>)
+            requires { IsSync R.row × IsSync J.row × IsSync G.row × IsSync A.row
+                × IsSend J.row × IsSend A.row × Frees A.Allocator A.dealloc_token
+                × (workers.items ≡ []) × (vec_len seats ≤ vec_capacity workers)
+                × (returned.items ≡ []) × (vec_len seats ≤ vec_capacity returned) }
+            ensures { ComeBack J.keeps count seats.items result.0.items }
+        {
+            let mut senders = Some(senders);
+            let workers = start_all(
+                scope,
+                place,
+                count,
+                seats,
+                &mut senders,
+                &mut halls,
+                workers,
+            );
+            let fault = match &mut senders {
+                Some(senders) => accept(rt, listener, senders, connections),
+                None => Some(PoolFault::Refused),
+            };
+            drop(senders);
+            (join_all(rt, workers, returned), fault)
+        },
+    )
 }
 
 /// A worker for each of the first `count` seats, and a flusher for each of the others. Where a thread is refused the
@@ -116,10 +162,11 @@ fn start_all<'s, E, R, J, G, A>(
     count: usize,
     seats: Vec<Seat<J, A>, A>,
     senders: &mut Option<Senders<A>>,
+    halls: &mut Vec<Hall<A>, A>,
     mut workers: Vec<Worker<J, A>, A>,
 ) -> Vec<Worker<J, A>, A>
 where
-    R: Threads + Wait + Net + Sync,
+    R: Threads + Wait + Sync,
     J: Journal + Send + Sync,
     G: Gate + Sync,
     A: Allocator + Copy + Send + Sync,
@@ -129,7 +176,7 @@ where
     ensures count { vec_len result ≡ vec_len seats }
 {
     for seat in seats {
-        let worker = start(scope, place, workers.len() < count, seat, senders);
+        let worker = start(scope, place, workers.len() < count, seat, senders, halls);
         workers.push_reserved(worker);
     }
     workers

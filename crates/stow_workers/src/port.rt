@@ -45,6 +45,7 @@ impl<A: Allocator + Copy> Port<A> {
             parting: 0,
             rounds: 0,
             is_rung: false,
+            is_quiet: false,
         };
         let port = Port {
             streams,

@@ -33,7 +33,7 @@ impl<A: Allocator + Copy> Senders<A> {
 
     /// A hall for one more worker. `None` where memory or the system refuses it.
     pub(crate) fn hall<R: Net>(&mut self, rt: &R) -> Option<Hall<A>> {
-        let number = self.ports.len() as u32;
+        let number = u32::try_from(self.ports.len()).ok()?;
         let (port, hall) = Port::new(rt, self.alloc, number, &self.departing)?;
         self.ports.push(port).ok()?;
         Some(hall)

@@ -5,14 +5,13 @@ ghost use Rattle.stow_workers.specs.Pools.{IsFlusherOf, IsWorkerOf};
 
 use crate::flush_promise::FlushPromise;
 use crate::gate::Gate;
+use crate::hall::Hall;
 use crate::seat_promise::SeatPromise;
 use crate::senders::Senders;
+use crate::waker::Waker;
 use crate::worker::Worker;
 use crate::workplace::Workplace;
-use crate::hall::Hall;
-use crate::waker::Waker;
 use std::alloc::Allocator;
-use std::net::Net;
 use std::snapshot::Snapshot;
 use std::sync::Wait;
 use std::thread::{Scope, Threads};
@@ -26,9 +25,10 @@ pub(crate) fn start<'s, E, R, J, G, A>(
     is_serving: bool,
     seat: Seat<J, A>,
     senders: &mut Option<Senders<A>>,
+    halls: &mut Vec<Hall<A>, A>,
 ) -> Worker<J, A>
 where
-    R: Threads + Wait + Net + Sync,
+    R: Threads + Wait + Sync,
     J: Journal + Send + Sync,
     G: Gate + Sync,
     A: Allocator + Copy + Send + Sync,
@@ -36,7 +36,7 @@ where
     ensures flusher { is_serving ≡ false → IsFlusherOf J.keeps seat result }
 {
     if is_serving {
-        start_worker(scope, place, seat, senders)
+        start_worker(scope, place, seat, senders, halls)
     } else {
         start_flusher(scope, place, seat, senders)
     }
@@ -48,15 +48,16 @@ fn start_worker<'s, E, R, J, G, A>(
     place: &'s Workplace<'s, R, J, G, A>,
     seat: Seat<J, A>,
     senders: &mut Option<Senders<A>>,
+    halls: &mut Vec<Hall<A>, A>,
 ) -> Worker<J, A>
 where
-    R: Threads + Wait + Net + Sync,
+    R: Threads + Wait + Sync,
     J: Journal + Send + Sync,
     G: Gate + Sync,
     A: Allocator + Copy + Send + Sync,
     ensures { IsWorkerOf J.keeps seat result }
 {
-    let Some((waker, hall)) = equipped(place.rt, senders) else {
+    let Some((waker, hall)) = equipped(senders, halls) else {
         *senders = None;
         return Worker::Idle(seat);
     };
@@ -81,7 +82,7 @@ fn start_flusher<'s, E, R, J, G, A>(
     senders: &mut Option<Senders<A>>,
 ) -> Worker<J, A>
 where
-    R: Threads + Wait + Net + Sync,
+    R: Threads + Wait + Sync,
     J: Journal + Send + Sync,
     G: Gate + Sync,
     A: Allocator + Copy + Send + Sync,
@@ -103,12 +104,11 @@ where
 }
 
 /// What a worker needs beside its seat, where there are senders.
-fn equipped<R: Net, A: Allocator + Copy>(
-    rt: &R,
-    senders: &mut Option<Senders<A>>,
+fn equipped<A: Allocator + Copy>(
+    senders: &Option<Senders<A>>,
+    halls: &mut Vec<Hall<A>, A>,
 ) -> Option<(Waker<A>, Hall<A>)> {
-    let senders = senders.as_mut()?;
-    let waker = senders.waker();
-    let hall = senders.hall(rt)?;
-    Some((waker, hall))
+    let senders = senders.as_ref()?;
+    let hall = halls.pop()?;
+    Some((senders.waker(), hall))
 }

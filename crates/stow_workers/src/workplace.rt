@@ -52,11 +52,7 @@ impl<'a, R: Wait, J: Journal, G: Gate, A: Allocator + Copy> Workplace<'a, R, J, 
     {
         for _ in 0..hall.due.len() {
             if let Some((at, mut guest)) = hall.next() {
-                let turned = if guest.is_parting() {
-                    guest.read_on()
-                } else {
-                    self.serve(&mut guest, seat, waker)
-                };
+                let turned = self.serve(&mut guest, seat, waker);
                 hall.put(self.rt, at, guest, turned);
             }
         }
@@ -79,6 +75,9 @@ impl<'a, R: Wait, J: Journal, G: Gate, A: Allocator + Copy> Workplace<'a, R, J, 
     fn serve(&self, guest: &mut Guest<A>, seat: &mut Seat<J, A>, waker: &mut Waker<A>) -> Turned
         ensures { HasCalled J.keeps seat.old seat.new }
     {
+        if guest.is_parting() {
+            return guest.read_on();
+        }
         let tenants = self.shared.tenants();
         let desk = Desk {
             rt: self.rt,

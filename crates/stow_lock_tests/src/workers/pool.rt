@@ -428,19 +428,19 @@ fn slow_client<R: Net<Stream = TcpStream>>(
     alloc: Global,
 ) -> io::Result<bool> {
     let value = "v".repeat(alloc, 60_000)?;
-    let mut many = format!(in alloc; "{ANN}SET k {value}\n")?;
-    many.push_str("GET k\n".repeat(alloc, 200)?.as_str())?;
-    let mut want = String::from_str(alloc, "+OK\r\n+OK\r\n")?;
+    let set = format!(in alloc; "{ANN}SET k {value}\n")?;
     let told = format!(in alloc; "$60000\r\n{value}\r\n")?;
-    want.push_str(told.as_str().repeat(alloc, 200)?.as_str())?;
-    let mut slow = connected(rt, address)?;
-    slow.write_all(many.as_bytes())?;
     let stream = connected(rt, address)?;
-    Ok(
-        is_told(alloc, &stream, ANN, "+OK\r\n")?
-            && is_told(alloc, &stream, "GET k\n", told.as_str())?
-            && is_told(alloc, &slow, "QUIT\n", format!(in alloc; "{want}+OK\r\n")?.as_str())?,
-    )
+    let mut is_right = is_told(alloc, &stream, set.as_str(), "+OK\r\n+OK\r\n")?;
+    let mut slow = connected(rt, address)?;
+    slow.write_all(ANN.as_bytes())?;
+    slow.write_all("GET k\n".repeat(alloc, 80)?.as_bytes())?;
+    is_right = is_right && is_told(alloc, &stream, "GET k\n", told.as_str())?;
+    is_right = is_right && is_told(alloc, &slow, "QUIT\n", "+OK\r\n")?;
+    for _ in 0..80 {
+        is_right = is_right && is_told(alloc, &slow, "", told.as_str())?;
+    }
+    Ok(is_right && is_told(alloc, &slow, "", "+OK\r\n")?)
 }
 
 // Where the replies of one client wait, others are served; none of the replies is lost, or told twice.

@@ -7,8 +7,8 @@ use Rattle.stow_workers.proofs.hall.Hall.TheSendSync as hall
 use Rattle.stow_workers.proofs.waker.Waker.TheSendSync as waker
 use Rattle.stow_workers.proofs.starting.start_worker.Goals as goal
 
-pub returns-in-None : goal.returns-in-None
-returns-in-None g c = no_calls _ _
+pub returns-in_default : goal.returns-in_default
+returns-in_default g c = no_calls _ _
 
 pub spawn_with-requires-send-F : goal.spawn_with-requires-send-F
 spawn_with-requires-send-F g c κs within =
