@@ -186,7 +186,7 @@ impl<A: Allocator + Copy> Hall<A> {
 
     /// Closes connections that part, where a wait was in vain, or many rounds have passed.
     pub(crate) fn see_off<R: Wait>(&mut self, rt: &R) {
-        self.rounds = (self.rounds + 1) % ROUNDS;
+        self.rounds = self.rounds.wrapping_add(1) % ROUNDS;
         if self.parting == 0 {
             return;
         }

@@ -5,7 +5,6 @@ ghost use Rattle.stow_workers.specs.Pools.{AreEach, AreEachUpTo, ComeBack, Gives
 
 use crate::accepting::accept;
 use crate::gate::Gate;
-use crate::hall::Hall;
 use crate::pool_fault::PoolFault;
 use crate::senders::Senders;
 use crate::starting::start;
@@ -55,10 +54,9 @@ impl Pool {
         ensures { ComeBack J.keeps (vec_len seats - flushers) seats.items result.0.items }
     {
         let count = seats.len() - flushers;
-        let Some((senders, halls)) = equipment(rt, alloc, count, flushers, clients) else {
+        let Some((senders, wakes)) = equipment(rt, alloc, count, flushers, clients) else {
             return (seats, Some(PoolFault::Refused));
         };
-        let (senders, wakes) = senders;
         let place = Workplace {
             rt,
             alloc,
@@ -66,7 +64,7 @@ impl Pool {
             shared,
             gate,
         };
-        serve(&place, listener, seats, count, connections, senders, halls)
+        serve(&place, listener, seats, count, connections, senders)
     }
 }
 
@@ -78,24 +76,23 @@ fn equipment<R: Net, A: Allocator + Copy>(
     workers: usize,
     flushers: usize,
     clients: u32,
-) -> Option<((Senders<A>, Receiver<Wake, A>), Vec<Hall<A>, A>)> {
+) -> Option<(Senders<A>, Receiver<Wake, A>)> {
     let (waking, wakes) = bounded(alloc, WAITING).ok()?;
     let (departing, departures) = bounded(alloc, clients as usize).ok()?;
     let mut senders = Senders {
         alloc,
         ports: Vec::new(alloc),
+        halls: Vec::new(alloc),
         departures,
         departing,
         wakes: if flushers > 0 { Some(waking) } else { None },
         count: 0,
         clients,
     };
-    let mut halls = Vec::new(alloc);
     for _ in 0..workers {
-        let hall = senders.hall(rt)?;
-        halls.push(hall).ok()?;
+        senders.add_hall(rt)?;
     }
-    Some(((senders, wakes), halls))
+    Some((senders, wakes))
 }
 
 /// Serves and flushes from the seats, as `Pool::run` has it.
@@ -112,7 +109,6 @@ fn serve<
     count: usize,
     connections: u64,
     senders: Senders<A>,
-    mut halls: Vec<Hall<A>, A>,
 ) -> (Vec<Seat<J, A>, A>, Option<PoolFault>)
     requires { count ≤ vec_len seats }
     ensures { ComeBack J.keeps count seats.items result.0.items }
@@ -140,10 +136,7 @@ fn serve<
                 place,
                 count,
                 seats,
-                &mut senders,
-                &mut halls,
-                workers,
-            );
+                &mut senders, workers);
             let fault = match &mut senders {
                 Some(senders) => accept(rt, listener, senders, connections),
                 None => Some(PoolFault::Refused),
@@ -162,7 +155,6 @@ fn start_all<'s, E, R, J, G, A>(
     count: usize,
     seats: Vec<Seat<J, A>, A>,
     senders: &mut Option<Senders<A>>,
-    halls: &mut Vec<Hall<A>, A>,
     mut workers: Vec<Worker<J, A>, A>,
 ) -> Vec<Worker<J, A>, A>
 where
@@ -176,7 +168,7 @@ where
     ensures count { vec_len result ≡ vec_len seats }
 {
     for seat in seats {
-        let worker = start(scope, place, workers.len() < count, seat, senders, halls);
+        let worker = start(scope, place, workers.len() < count, seat, senders);
         workers.push_reserved(worker);
     }
     workers

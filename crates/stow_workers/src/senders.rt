@@ -13,6 +13,8 @@ use std::sync::Wait;
 pub(crate) struct Senders<A: Allocator = Global> {
     pub(crate) alloc: A,
     pub(crate) ports: Vec<Port<A>, A>,
+    /// The halls of workers that aren't started yet.
+    pub(crate) halls: Vec<Hall<A>, A>,
     /// The numbers of workers that a client has left.
     pub(crate) departures: Receiver<u32, A>,
     pub(crate) departing: Sender<u32, A>,
@@ -31,12 +33,12 @@ impl<A: Allocator + Copy> Senders<A> {
         }
     }
 
-    /// A hall for one more worker. `None` where memory or the system refuses it.
-    pub(crate) fn hall<R: Net>(&mut self, rt: &R) -> Option<Hall<A>> {
+    /// Makes a hall for one more worker. `None` where memory or the system refuses it.
+    pub(crate) fn add_hall<R: Net>(&mut self, rt: &R) -> Option<()> {
         let number = u32::try_from(self.ports.len()).ok()?;
         let (port, hall) = Port::new(rt, self.alloc, number, &self.departing)?;
         self.ports.push(port).ok()?;
-        Some(hall)
+        self.halls.push(hall).ok()
     }
 
     /// Waits until there is room for one more client.

@@ -25,7 +25,6 @@ pub(crate) fn start<'s, E, R, J, G, A>(
     is_serving: bool,
     seat: Seat<J, A>,
     senders: &mut Option<Senders<A>>,
-    halls: &mut Vec<Hall<A>, A>,
 ) -> Worker<J, A>
 where
     R: Threads + Wait + Sync,
@@ -36,7 +35,7 @@ where
     ensures flusher { is_serving ≡ false → IsFlusherOf J.keeps seat result }
 {
     if is_serving {
-        start_worker(scope, place, seat, senders, halls)
+        start_worker(scope, place, seat, senders)
     } else {
         start_flusher(scope, place, seat, senders)
     }
@@ -48,7 +47,6 @@ fn start_worker<'s, E, R, J, G, A>(
     place: &'s Workplace<'s, R, J, G, A>,
     seat: Seat<J, A>,
     senders: &mut Option<Senders<A>>,
-    halls: &mut Vec<Hall<A>, A>,
 ) -> Worker<J, A>
 where
     R: Threads + Wait + Sync,
@@ -57,7 +55,7 @@ where
     A: Allocator + Copy + Send + Sync,
     ensures { IsWorkerOf J.keeps seat result }
 {
-    let Some((waker, hall)) = equipped(senders, halls) else {
+    let Some((waker, hall)) = equipped(senders) else {
         *senders = None;
         return Worker::Idle(seat);
     };
@@ -103,12 +101,11 @@ where
     }
 }
 
-/// What a worker needs beside its seat, where there are senders.
+/// What a worker needs beside its seat, where there are senders and a hall is left.
 fn equipped<A: Allocator + Copy>(
-    senders: &Option<Senders<A>>,
-    halls: &mut Vec<Hall<A>, A>,
+    senders: &mut Option<Senders<A>>,
 ) -> Option<(Waker<A>, Hall<A>)> {
-    let senders = senders.as_ref()?;
-    let hall = halls.pop()?;
+    let senders = senders.as_mut()?;
+    let hall = senders.halls.pop()?;
     Some((senders.waker(), hall))
 }

@@ -51,11 +51,19 @@ impl<'a, R: Wait, J: Journal, G: Gate, A: Allocator + Copy> Workplace<'a, R, J, 
         ensures { HasCalled J.keeps seat.old seat.new }
     {
         for _ in 0..hall.due.len() {
-            if let Some((at, mut guest)) = hall.next() {
-                let turned = self.serve(&mut guest, seat, waker);
-                hall.put(self.rt, at, guest, turned);
-            }
+            self.serve_next(seat, waker, hall);
         }
+    }
+
+    /// Gives the client whose turn it is its turn, if there is one.
+    fn serve_next(&self, seat: &mut Seat<J, A>, waker: &mut Waker<A>, hall: &mut Hall<A>)
+        ensures { HasCalled J.keeps seat.old seat.new }
+    {
+        let Some((at, mut guest)) = hall.next() else {
+            return;
+        };
+        let turned = self.serve(&mut guest, seat, waker);
+        hall.put(self.rt, at, guest, turned);
     }
 
     /// Flushes from a seat at each wake, until no more can come, and gives the seat back.

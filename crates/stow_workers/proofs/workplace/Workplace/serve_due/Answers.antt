@@ -4,5 +4,5 @@ use Rattle.stow_workers.proofs.workplace.Workplace.serve_due.Goals as goal
 pub loop-init : goal.loop-init
 loop-init g c = no_calls _ _
 
-pub loop-preserved-in-Some : goal.loop-preserved-in-Some
-loop-preserved-in-Some g c = calls_on _ _ _ _ c.loop.invariant c.serve-turned.ensures
+pub loop-preserved : goal.loop-preserved
+loop-preserved g c = calls_on _ _ _ _ c.loop.invariant c.serve_next.ensures
