@@ -20,7 +20,7 @@ pub(crate) const EVENTS: usize = 256;
 /// The most new clients that are let in at once.
 const ARRIVALS: u32 = 16;
 
-/// How long a worker that does nothing else waits for a client to part, in milliseconds.
+/// How long a worker that has clients waits at once, in milliseconds.
 const PATIENCE: u64 = 50;
 
 /// After so many rounds those who part are counted 32 reads.
@@ -112,16 +112,11 @@ impl<A: Allocator + Copy> Hall<A> {
         }
     }
 
-    /// Waits until a client is ready, unless the turn of one is due.
+    /// Waits until a client is ready, for a while, unless the turn of one is due.
     pub(crate) fn look(&mut self) {
         let is_idle = self.due.is_empty() && !self.is_rung;
-        let timeout = if !is_idle {
-            Some(Duration::from_millis(0))
-        } else if self.parting > 0 {
-            Some(Duration::from_millis(PATIENCE))
-        } else {
-            None
-        };
+        let timeout = if is_idle { PATIENCE } else { 0 };
+        let timeout = Some(Duration::from_millis(timeout));
         if self.poll.poll(&mut self.events, timeout).is_ok() {
             for event in self.events.iter() {
                 if event.token() == BELL {
@@ -132,6 +127,8 @@ impl<A: Allocator + Copy> Hall<A> {
             }
         }
         self.is_quiet = is_idle && self.events.is_empty();
+        // The bell is gone with the last client that came, perhaps before it was heard.
+        self.is_rung = self.is_rung || self.is_quiet;
     }
 
     /// The client whose turn it is, with its place.

@@ -436,11 +436,22 @@ fn slow_client<R: Net<Stream = TcpStream>>(
     slow.write_all(ANN.as_bytes())?;
     slow.write_all("GET k\n".repeat(alloc, 80)?.as_bytes())?;
     is_right = is_right && is_told(alloc, &stream, "GET k\n", told.as_str())?;
-    is_right = is_right && is_told(alloc, &slow, "QUIT\n", "+OK\r\n")?;
-    for _ in 0..80 {
-        is_right = is_right && is_told(alloc, &slow, "", told.as_str())?;
+    slow.write_all(b"QUIT\n")?;
+    Ok(is_right && count_of(&mut slow)? == 80 * 60_010 + 10)
+}
+
+/// How many bytes come until the connection is closed.
+fn count_of(stream: &mut TcpStream) -> io::Result<usize> {
+    let mut piece = [0u8; 4096];
+    let mut total: usize = 0;
+    for _ in 0..100_000 {
+        let count = stream.read(&mut piece)?;
+        if count == 0 {
+            break;
+        }
+        total = total.saturating_add(count);
     }
-    Ok(is_right && is_told(alloc, &slow, "", "+OK\r\n")?)
+    Ok(total)
 }
 
 // Where the replies of one client wait, others are served; none of the replies is lost, or told twice.
