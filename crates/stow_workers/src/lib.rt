@@ -54,6 +54,7 @@
 mod accepting;
 mod client;
 pub mod counted;
+mod equipment;
 pub mod flush_promise;
 pub mod flushing;
 pub mod gate;

@@ -64,7 +64,7 @@ impl Pool {
             shared,
             gate,
         };
-        serve(&place, listener, seats, count, connections, senders)
+        serve(&place, listener, seats, count, connections, Some(senders))
     }
 }
 
@@ -108,7 +108,7 @@ fn serve<
     seats: Vec<Seat<J, A>, A>,
     count: usize,
     connections: u64,
-    senders: Senders<A>,
+    senders: Option<Senders<A>>,
 ) -> (Vec<Seat<J, A>, A>, Option<PoolFault>)
     requires { count ≤ vec_len seats }
     ensures { ComeBack J.keeps count seats.items result.0.items }
@@ -130,13 +130,8 @@ fn serve<
                 × (returned.items ≡ []) × (vec_len seats ≤ vec_capacity returned) }
             ensures { ComeBack J.keeps count seats.items result.0.items }
         {
-            let mut senders = Some(senders);
-            let workers = start_all(
-                scope,
-                place,
-                count,
-                seats,
-                &mut senders, workers);
+            let mut senders = senders;
+            let workers = start_all(scope, place, count, seats, &mut senders, workers);
             let fault = match &mut senders {
                 Some(senders) => accept(rt, listener, senders, connections),
                 None => Some(PoolFault::Refused),

@@ -3,12 +3,11 @@ ghost use denote.Param.Send.{Frees, IsSend, IsSync};
 ghost use Rattle.std.specs.Prelude.{◌≡◌, true, false};
 ghost use Rattle.stow_workers.specs.Pools.{IsFlusherOf, IsWorkerOf};
 
+use crate::equipment::Equipment;
 use crate::flush_promise::FlushPromise;
 use crate::gate::Gate;
-use crate::hall::Hall;
 use crate::seat_promise::SeatPromise;
 use crate::senders::Senders;
-use crate::waker::Waker;
 use crate::worker::Worker;
 use crate::workplace::Workplace;
 use std::alloc::Allocator;
@@ -55,14 +54,15 @@ where
     A: Allocator + Copy + Send + Sync,
     ensures { IsWorkerOf J.keeps seat result }
 {
-    let Some((waker, hall)) = equipped(senders) else {
+    let equipment = equipped(senders);
+    if equipment.is_none() {
         *senders = None;
         return Worker::Idle(seat);
-    };
+    }
     let promise = SeatPromise {
         seat: Snapshot::of(&seat),
     };
-    match scope.spawn_with(promise, move || place.work(seat, waker, hall)) {
+    match scope.spawn_with(promise, move || place.work_with(seat, equipment)) {
         Ok(thread) => Worker::Serving(thread),
         Err(refused) => {
             *senders = None;
@@ -104,8 +104,9 @@ where
 /// What a worker needs beside its seat, where there are senders and a hall is left.
 fn equipped<A: Allocator + Copy>(
     senders: &mut Option<Senders<A>>,
-) -> Option<(Waker<A>, Hall<A>)> {
+) -> Option<Equipment<A>> {
     let senders = senders.as_mut()?;
     let hall = senders.halls.pop()?;
-    Some((senders.waker(), hall))
+    let waker = senders.waker();
+    Some(Equipment { waker, hall })
 }

@@ -3,6 +3,7 @@ ghost use Rattle.stow_shared.specs.Seats.{SeatFlushes};
 ghost use Rattle.stow_workers.specs.Flushes.{HasFlushed};
 ghost use Rattle.stow_workers.specs.Pools.{HasCalled};
 
+use crate::equipment::Equipment;
 use crate::flushing::flush_loop;
 use crate::gate::Gate;
 use crate::guest::Guest;
@@ -30,6 +31,16 @@ pub struct Workplace<'a, R: Wait, J: Journal, G: Gate, A: Allocator + Copy> {
 }
 
 impl<'a, R: Wait, J: Journal, G: Gate, A: Allocator + Copy> Workplace<'a, R, J, G, A> {
+    /// Serves clients from a seat with what that takes, if it is there, and gives the seat back.
+    pub fn work_with(&self, seat: Seat<J, A>, equipment: Option<Equipment<A>>) -> Seat<J, A>
+        ensures { HasCalled J.keeps seat result }
+    {
+        match equipment {
+            Some(Equipment { waker, hall }) => self.work(seat, waker, hall),
+            None => seat,
+        }
+    }
+
     /// Serves the clients of a hall from a seat, turn by turn, until all have left and no more can come, and gives the
     /// seat back.
     pub fn work(&self, mut seat: Seat<J, A>, mut waker: Waker<A>, mut hall: Hall<A>) -> Seat<J, A>
