@@ -2,13 +2,12 @@
 //! tenant files, words as commands, the tenant's own run, versions, and accounts.
 //!
 //! They stand in a crate of their own for the gate's time: it proves a crate again with its tests. A module is named after
-//! the crate that it tests.
+//! the crate that it tests. The outcomes of `stow_commands` are tested by `plain`, which asks for them, and the plain reader of
+//! `stow_model` beside the inputs of `resp`.
 #![tactic(auto)]
 
 #[cfg(test)]
 mod bytes;
-#[cfg(test)]
-mod commands;
 #[cfg(test)]
 mod ledger;
 #[cfg(test)]

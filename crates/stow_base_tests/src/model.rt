@@ -1,5 +1,2 @@
-//! The definitions say what was meant, by worked examples with values from outside, and the calls succeed where there is
-//! memory, and only there.
-mod limits;
-mod streams;
+//! That the calls succeed where there is memory. The plain reader is run beside the inputs of `stow_resp`.
 mod values;

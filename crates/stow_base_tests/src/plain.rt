@@ -1,98 +1,78 @@
 //! The tenant's own run: that the definitions say what was meant, by worked examples with values from outside, and that
-//! the calls succeed where there is memory, and only there.
+//! the calls succeed where there is memory, and only there. With them the outcomes of `stow_commands` are found.
 mod rows;
 mod text;
 
-use crate::plain::rows::{GROWN, LONG, LongRequest, MIXED, REFUSED, RUNS, Run};
-use crate::plain::text::request_of;
+use crate::plain::rows::{LIMITS, MIXED, REFUSED, RUNS};
+use crate::plain::text::{parts_of, request_of};
 use std::alloc::{AllocError, Allocator};
 use std::test::Fail;
 use stow_model::reply::Reply;
 use stow_model::usage::Usage;
-use stow_model::words::Words;
 use stow_plain::own_run::own_run;
 use stow_plain::plain_number::PlainNumber;
 use stow_plain::plain_request::PlainRequest;
+use stow_plain::plain_run::PlainRun;
 use stow_plain::plain_store::PlainStore;
 use stow_refusing::{Plan, Refusing};
-use stow_testing::replies::reply_text;
+use stow_testing::replies::is_text;
 
 /// The most bytes that may be charged to a tenant here.
 const QUOTA: u64 = 2_000_000;
 
-/// Whether the store reports this usage.
-fn is_reported<A: Allocator + Copy>(store: &PlainStore<A>, run: &Run) -> bool {
-    let want = Usage {
-        rows: run.rows,
-        charge: run.charge,
-        quota: QUOTA,
-        writes: run.writes,
-        commands: run.commands,
-        refusals: 0,
-        snapshots: 0,
-    };
-    store.usage() == want
+/// Whether this usage is told: the rows, the charge, the writes and the commands.
+fn is_usage<A: Allocator>(alloc: A, usage: Usage, told: &str) -> Result<bool, AllocError> {
+    let Usage {
+        rows,
+        charge,
+        writes,
+        commands,
+        ..
+    } = usage;
+    let text = format!(in alloc; "{rows} {charge} {writes} {commands}")?;
+    Ok(text.as_str() == told && (usage.quota, usage.refusals, usage.snapshots) == (QUOTA, 0, 0))
 }
 
-fn are_told<A: Allocator + Copy>(
-    alloc: A,
-    replies: &[Reply<A>],
-    texts: &[&str],
-) -> Result<bool, AllocError> {
-    for (reply, text) in replies.iter().zip(texts) {
-        if reply_text(alloc, reply)?.as_slice() != text.as_bytes() {
-            return Ok(false);
-        }
-    }
-    Ok(replies.len() == texts.len())
+/// Whether this store has used its last write number from now on, and has counted as many commands.
+fn spend<A: Allocator + Copy>(store: &mut PlainStore<A>) -> bool {
+    store.last = PlainNumber::new(9_223_372_036_854_775_807);
+    store.commands = store.last;
+    true
 }
 
-/// Whether a tenant's own run over the lines tells the replies, and then reports the usage.
-fn is_run<A: Allocator + Copy>(alloc: A, row: &Run) -> Result<bool, AllocError> {
-    let mut requests = Vec::new(alloc);
-    for line in row.lines {
-        requests.push(request_of(alloc, line)?)?;
-    }
-    let run = own_run(alloc, QUOTA, requests.as_slice())?;
-    let told = are_told(alloc, run.replies.as_slice(), row.replies)?;
-    Ok(told && is_reported(&run.store, row))
-}
-
-#[test]
-fn own_runs(rt: HostRuntime) -> Result<(), Fail> {
-    for (number, run) in RUNS.iter().enumerate() {
-        assert!(rt; is_run(rt.alloc(), run)?, "run {number}");
-    }
-    Ok(())
-}
-
-/// Whether a step of the store tells this.
+/// Whether a line is told this.
 fn is_told<A: Allocator + Copy>(
     alloc: A,
     store: &mut PlainStore<A>,
-    request: &PlainRequest<A>,
+    line: &str,
     told: &str,
 ) -> Result<bool, AllocError> {
-    let reply = store.step(alloc, request)?;
-    Ok(reply_text(alloc, &reply)?.as_slice() == told.as_bytes())
+    match line {
+        "usage" => is_usage(alloc, store.usage(), told),
+        "spend" => Ok(spend(store)),
+        _ => is_text(alloc, &store.step(alloc, &request_of(alloc, line)?)?, told),
+    }
 }
 
-/// Whether an empty store tells the line this, and counts it.
-fn is_refused<A: Allocator + Copy>(alloc: A, line: &str, told: &str) -> Result<bool, AllocError> {
-    let mut store = PlainStore::new(alloc, QUOTA);
-    let is_told = is_told(alloc, &mut store, &request_of(alloc, line)?, told)?;
-    let commands = store.commands.get();
-    Ok(is_told && commands == 1)
-}
-
-/// Whether each of the lines is told this by an empty store, and counted.
-fn are_refused<A: Allocator + Copy>(
+/// Whether each line of a run is told what stands behind it.
+fn is_run<A: Allocator + Copy>(
     alloc: A,
-    lines: &[&str],
-    told: &str,
+    store: &mut PlainStore<A>,
+    run: &str,
 ) -> Result<bool, AllocError> {
-    for line in lines {
-        if !is_refused(alloc, line, told)? {
+    for row in run.split('\n') {
+        let (line, told) = parts_of(row);
+        if !is_told(alloc, store, line, told)? {
+            return Ok(false);
+        }
+    }
+    Ok(true)
+}
+
+/// Whether each of the runs is a tenant's own.
+fn are_runs<A: Allocator + Copy>(alloc: A, runs: &str) -> Result<bool, AllocError> {
+    for run in runs.split("\n\n") {
+        if !is_run(alloc, &mut PlainStore::new(alloc, QUOTA), run)? {
             return Ok(false);
         }
     }
@@ -100,122 +80,55 @@ fn are_refused<A: Allocator + Copy>(
 }
 
 #[test]
-fn refused_words(rt: HostRuntime) -> Result<(), Fail> {
-    for (told, lines) in REFUSED {
-        assert!(rt; are_refused(rt.alloc(), lines, told)?, "{told}");
+fn stores_tell_what_was_meant(rt: HostRuntime) -> Result<(), Fail> {
+    for (name, runs) in [("runs", RUNS), ("refused", REFUSED), ("limits", LIMITS)] {
+        assert!(rt; are_runs(rt.alloc(), runs)?, "{name}");
     }
     Ok(())
 }
 
-/// A request of a name, of words of one byte repeated, and of words of one byte.
-fn long_request<A: Allocator + Copy>(
-    alloc: A,
-    (name, lengths, others, _): &LongRequest,
-) -> Result<PlainRequest<A>, AllocError> {
-    let mut words = Words::new(alloc);
-    words.push(name)?;
-    for length in *lengths {
-        words.push(vec![in alloc; b'x'; *length]?.as_slice())?;
+/// Whether a step withstands the refusal of this request for memory, by leaving the store of one row as it was and being made
+/// again, or `None` if it asks for fewer and succeeds.
+fn step_withstands<A: Allocator + Copy, B: Allocator>(
+    heap: &Refusing<B>,
+    store: &mut PlainStore<A>,
+    (alloc, request): (A, &PlainRequest<A>),
+    at: u64,
+) -> Option<bool> {
+    heap.set(Plan::RefuseAt(at));
+    let is_done = store.step(alloc, request).is_ok();
+    if heap.asked() <= at {
+        return if is_done { None } else { Some(false) };
     }
-    for _ in 0..*others {
-        words.push(b"x")?;
-    }
-    Ok(PlainRequest {
-        words,
-        is_refused: false,
-    })
+    heap.set(Plan::Grant);
+    let stood = (store.commands.get(), store.last.get(), store.rows().len()) == (1, 1, 1);
+    Some(!is_done && stood && store.step(alloc, request).is_ok())
 }
 
-/// Whether an empty store tells a long request what it is to.
-fn is_long_told<A: Allocator + Copy>(alloc: A, row: &LongRequest) -> Result<bool, AllocError> {
-    let mut store = PlainStore::new(alloc, QUOTA);
-    is_told(alloc, &mut store, &long_request(alloc, row)?, row.3)
-}
-
-#[test]
-fn limits_of_words(rt: HostRuntime) -> Result<(), Fail> {
-    for (number, row) in LONG.iter().enumerate() {
-        assert!(rt; is_long_told(rt.alloc(), row)?, "row {number}");
-    }
-    Ok(())
-}
-
-/// Whether an empty store tells a long request what it is to, and then this where a byte is appended.
-fn is_grown<A: Allocator + Copy>(
-    alloc: A,
-    row: &LongRequest,
-    told: &str,
-) -> Result<bool, AllocError> {
-    let mut store = PlainStore::new(alloc, QUOTA);
-    let is_set = is_told(alloc, &mut store, &long_request(alloc, row)?, row.3)?;
-    let append = request_of(alloc, "APPEND x x")?;
-    Ok(is_set && is_told(alloc, &mut store, &append, told)?)
-}
-
-#[test]
-fn values_grow_to_their_limit(rt: HostRuntime) -> Result<(), Fail> {
-    for (number, (row, told)) in GROWN.iter().enumerate() {
-        assert!(rt; is_grown(rt.alloc(), row, told)?, "row {number}");
-    }
-    Ok(())
-}
-
-/// With the last write number used, no row changes any more, and a deletion of nothing is still answered.
-const AFTER_THE_LAST_WRITE: [(&str, &str); 5] = [
-    ("SET k w", "ERR write numbers are used up"),
-    ("DEL k", "ERR write numbers are used up"),
-    ("DEL z", ":0"),
-    ("GET k", "$v"),
-    ("PING", "PONG"),
-];
-
-/// Whether a store of one row, which has used its last write number and counted as many commands, tells a line this and
-/// counts no more.
-fn is_told_last<A: Allocator + Copy>(alloc: A, line: &str, told: &str) -> Result<bool, AllocError> {
-    let last = 9_223_372_036_854_775_807;
-    let mut store = PlainStore::new(alloc, QUOTA);
-    store.step(alloc, &request_of(alloc, "SET k v")?)?;
-    store.last = PlainNumber::new(last);
-    store.commands = PlainNumber::new(last);
-    Ok(is_told(alloc, &mut store, &request_of(alloc, line)?, told)? && store.commands.get() == last)
-}
-
-#[test]
-fn write_numbers_end(rt: HostRuntime) -> Result<(), Fail> {
-    for (line, told) in AFTER_THE_LAST_WRITE {
-        assert!(rt; is_told_last(rt.alloc(), line, told)?, "for {line}");
-    }
-    Ok(())
-}
-
-/// Whether a line's step withstands the refusal of this request for memory, by leaving the store as it was and
-/// being made again, or `None` if it asks for fewer and succeeds.
+/// Whether a line's step in a store withstands it.
 fn withstands<A: Allocator + Copy, B: Allocator>(
     heap: &Refusing<B>,
-    alloc: A,
-    line: &str,
+    store: &mut PlainStore<A>,
+    (alloc, line): (A, &str),
     at: u64,
 ) -> Result<Option<bool>, AllocError> {
     heap.set(Plan::Grant);
-    let mut store = PlainStore::new(alloc, QUOTA);
-    store.step(alloc, &request_of(alloc, "SET k v")?)?;
-    let request = request_of(alloc, line)?;
-    heap.set(Plan::RefuseAt(at));
-    let is_done = store.step(alloc, &request).is_ok();
-    if heap.asked() <= at {
-        return Ok(if is_done { None } else { Some(false) });
+    if !is_told(alloc, store, "SET k v", "OK")? {
+        return Ok(Some(false));
     }
-    heap.set(Plan::Grant);
-    let (commands, last, rows) = (store.commands.get(), store.last.get(), store.rows().len());
-    let stood = commands == 1 && last == 1 && rows == 1;
-    let is_done_now = store.step(alloc, &request).is_ok();
-    Ok(Some(!is_done && stood && is_done_now))
+    let request = request_of(alloc, line)?;
+    Ok(step_withstands(heap, store, (alloc, &request), at))
 }
 
 /// Whether a line's step withstands the refusal of each request for memory that it makes.
-fn withstands_each<B: Allocator>(heap: &Refusing<B>, line: &str) -> Result<bool, AllocError> {
+fn withstands_each<A: Allocator + Copy, B: Allocator>(
+    heap: &Refusing<B>,
+    alloc: A,
+    line: &str,
+) -> Result<bool, AllocError> {
     for at in 0..100u64 {
-        match withstands(heap, heap, line, at)? {
+        let stood = withstands(heap, &mut PlainStore::new(alloc, QUOTA), (alloc, line), at)?;
+        match stood {
             None => return Ok(true),
             Some(true) => {}
             Some(false) => return Ok(false),
@@ -224,47 +137,76 @@ fn withstands_each<B: Allocator>(heap: &Refusing<B>, line: &str) -> Result<bool,
     Ok(false)
 }
 
-const STEPS: [&str; 9] = [
-    "SET l w",
-    "DEL k",
-    "GET k",
-    "PING x",
-    "APPEND k w",
-    "INCR n",
-    "MGET k z",
-    "RANGE '' '' 9",
-    "SET l w NX",
-];
+/// Lines that ask for memory.
+const STEPS: &str = "SET l w
+DEL k
+GET k
+PING x
+APPEND k w
+INCR n
+MGET k z
+RANGE '' '' 9
+SET l w NX";
 
 #[test]
 fn a_refused_step_changes_nothing(rt: HostRuntime) -> Result<(), Fail> {
     let heap = Refusing::new(rt.alloc());
-    for line in STEPS {
-        assert!(rt; withstands_each(&heap, line)?, "{line}");
+    for line in STEPS.split('\n') {
+        assert!(rt; withstands_each(&heap, &heap, line)?, "{line}");
     }
     Ok(())
 }
 
-/// How many requests for memory a run makes, if it names the want of memory at each that is refused.
-fn refusals<B: Allocator>(heap: &Refusing<B>, run: &Run) -> Result<Option<u64>, AllocError> {
-    for at in 0..1_000u64 {
-        heap.set(Plan::RefuseAt(at));
-        let told = is_run(heap, run);
-        if heap.asked() <= at {
-            return Ok(if told? { Some(at) } else { None });
-        }
-        if told.is_ok() {
-            return Ok(None);
+/// The requests of a run.
+fn requests_of<A: Allocator + Copy>(
+    alloc: A,
+    run: &str,
+) -> Result<Vec<PlainRequest<A>, A>, AllocError> {
+    let mut requests = Vec::new(alloc);
+    for row in run.split('\n') {
+        requests.push(request_of(alloc, parts_of(row).0)?)?;
+    }
+    Ok(requests)
+}
+
+/// Whether the replies are those of a run.
+fn are_told<A: Allocator + Copy>(
+    alloc: A,
+    replies: &[Reply<A>],
+    run: &str,
+) -> Result<bool, AllocError> {
+    for (reply, row) in replies.iter().zip(run.split('\n')) {
+        if !is_text(alloc, reply, parts_of(row).1)? {
+            return Ok(false);
         }
     }
-    Ok(None)
+    Ok(replies.len() == run.split('\n').count())
+}
+
+/// Whether this is the run of the mixed requests.
+fn is_mixed<A: Allocator + Copy>(alloc: A, run: &PlainRun<A>) -> Result<bool, AllocError> {
+    Ok(
+        is_usage(alloc, run.store.usage(), "2 37 5 8")?
+            && are_told(alloc, run.replies.as_slice(), MIXED)?,
+    )
+}
+
+/// Whether a tenant's own run over the mixed requests tells their replies, and then has their usage.
+fn is_own_run<A: Allocator + Copy>(alloc: A) -> Result<bool, AllocError> {
+    let requests = requests_of(alloc, MIXED)?;
+    is_mixed(alloc, &own_run(alloc, QUOTA, requests.as_slice())?)
 }
 
 // Each request for memory is refused in turn: the call names the want of memory, and it succeeds where none is.
 #[test]
-fn withstands_each_refusal(rt: HostRuntime) -> Result<(), Fail> {
+fn own_run_withstands_each_refusal(rt: HostRuntime) -> Result<(), Fail> {
     let heap = Refusing::new(rt.alloc());
-    let needed = refusals(&heap, &MIXED)?;
-    assert!(rt; matches!(needed, Some(n) if n >= 40));
+    assert!(rt; is_own_run(&heap)?);
+    let needed = heap.asked();
+    for at in 0..needed {
+        heap.set(Plan::RefuseAt(at));
+        assert!(rt; is_own_run(&heap).is_err(), "request {at}");
+    }
+    assert!(rt; needed >= 40, "{needed} requests");
     Ok(())
 }

@@ -4,6 +4,7 @@ use std::alloc::{AllocError, Allocator};
 use std::test::Fail;
 use stow_refusing::{Plan, Refusing};
 use stow_tree_model::message::Message;
+use stow_tree_model::numbered_value::NumberedValue;
 use stow_tree_model::op::Op;
 use stow_tree_model::pin::Pin;
 use stow_tree_model::plain::{merge, message, value_of_key, version};
@@ -20,6 +21,12 @@ fn key_of<A: Allocator>(alloc: A, tenant: u32, own: &[u8]) -> Result<TenantKeyBu
     TenantKeyBuf::new(alloc, tenant, own)
 }
 
+/// Whether two keys are a tenant's, packed so.
+fn are_packed(key: TenantKey<'_>, copy: TenantKey<'_>, tenant: u32, packed: &[u8]) -> bool {
+    let is_same = key.bytes == packed && copy.bytes == packed;
+    is_same && TenantKey::from_packed(key.bytes).tenant() == tenant
+}
+
 /// Whether a tenant's key, and its copy, are packed so.
 fn is_packed<A: Allocator + Copy>(
     alloc: A,
@@ -29,15 +36,7 @@ fn is_packed<A: Allocator + Copy>(
 ) -> Result<bool, AllocError> {
     let key = key_of(alloc, tenant, own)?;
     let copy = TenantKeyBuf::from_key(alloc, key.as_key())?;
-    let is_same = key.as_key().bytes == packed && copy.as_key().bytes == packed;
-    Ok(is_same && TenantKey::from_packed(key.as_key().bytes).tenant() == tenant)
-}
-
-#[test]
-fn keys(rt: HostRuntime) -> Result<(), Fail> {
-    assert!(rt; is_packed(rt.alloc(), 1, b"a", b"\x00\x00\x00\x01a")?);
-    assert!(rt; is_packed(rt.alloc(), 65_536, b"", b"\x00\x01\x00\x00")?);
-    Ok(())
+    Ok(are_packed(key.as_key(), copy.as_key(), tenant, packed))
 }
 
 fn is_message(key: TenantKey<'_>, number: u64, op: Op<'_>) -> bool {
@@ -104,65 +103,82 @@ fn four<A: Allocator>(alloc: A, key: TenantKey<'_>) -> Result<Vec<Message<'_>, A
     Ok(messages)
 }
 
-/// What tenant 1's key `a` with these messages gives a tenant's key `a` at a number: the value's number, then its bytes.
-fn value_text<A: Allocator + Copy>(
+/// Whether this is the value of a number, or none.
+fn is_found<A: Allocator>(found: &Option<NumberedValue<A>>, want: (u64, &[u8])) -> bool {
+    match found {
+        Some(found) => found.number == want.0 && found.value.as_slice() == want.1,
+        None => want.0 == 0,
+    }
+}
+
+/// Whether a key with these messages gives the asked key at a number this value of a number, or none.
+fn is_given<A: Allocator + Copy>(
+    alloc: A,
+    (key, asked): (TenantKey<'_>, TenantKey<'_>),
+    number: u64,
+    want: (u64, &[u8]),
+) -> Result<bool, AllocError> {
+    let messages = four(alloc, key)?;
+    Ok(is_found(
+        &value_of_key(alloc, messages.as_slice(), asked, number)?,
+        want,
+    ))
+}
+
+/// Whether tenant 1's key `a` gives a tenant's key `a` at a number this value of a number, or none.
+fn is_value<A: Allocator + Copy>(
     alloc: A,
     tenant: u32,
     number: u64,
-) -> Result<Vec<u8, A>, AllocError> {
+    want: (u64, &[u8]),
+) -> Result<bool, AllocError> {
     let key = key_of(alloc, 1, b"a")?;
-    let asked = key_of(alloc, tenant, b"a")?;
-    let messages = four(alloc, key.as_key())?;
-    let mut text = Vec::new(alloc);
-    if let Some(found) = value_of_key(alloc, messages.as_slice(), asked.as_key(), number)? {
-        text.push(digit(found.number))?;
-        text.extend_from_slice(found.value.as_slice())?;
-    }
-    Ok(text)
-}
-
-/// The digit of a number below ten, or a mark.
-fn digit(number: u64) -> u8 {
-    if number < 10 {
-        b'0' + number as u8
-    } else {
-        b'?'
-    }
+    is_given(
+        alloc,
+        (key.as_key(), key_of(alloc, tenant, b"a")?.as_key()),
+        number,
+        want,
+    )
 }
 
 #[test]
 fn values(rt: HostRuntime) -> Result<(), Fail> {
-    for (tenant, number, want) in [
-        (1, 0, b"".as_slice()),
-        (1, 1, b"1x"),
-        (1, 2, b"2xy"),
-        (1, 3, b""),
-        (1, 4, b"4z"),
-        (1, 9, b"4z"),
-        (2, 9, b""),
+    for (tenant, number, from, want) in [
+        (1, 0, 0, b"".as_slice()),
+        (1, 1, 1, b"x"),
+        (1, 2, 2, b"xy"),
+        (1, 3, 0, b""),
+        (1, 4, 4, b"z"),
+        (1, 9, 4, b"z"),
+        (2, 9, 0, b""),
     ] {
         assert!(rt;
-            value_text(rt.alloc(), tenant, number)?.as_slice() == want,
+            is_value(rt.alloc(), tenant, number, (from, want))?,
             "{tenant} at {number}"
         );
     }
     Ok(())
 }
 
-/// Adds a version as text: its number, and then its value or a mark; of the key `a` of tenant 1 alone.
-fn push_version<A: Allocator>(
-    text: &mut Vec<u8, A>,
-    found: &VersionBuf<A>,
-) -> Result<(), AllocError> {
-    if found.key.as_key().bytes != b"\x00\x00\x00\x01a".as_slice() {
-        return Err(AllocError);
+/// Whether a version of the key `a` of tenant 1 is this, with an empty value where it has none.
+fn is_version<A: Allocator>(found: &VersionBuf<A>, number: u64, want: &[u8]) -> bool {
+    let is_value = match &found.value {
+        Some(bytes) => bytes.as_slice() == want && !want.is_empty(),
+        None => want.is_empty(),
+    };
+    is_value
+        && found.number == number
+        && found.key.as_key().bytes == b"\x00\x00\x00\x01a".as_slice()
+}
+
+/// Whether these are the versions of numbers, with an empty value where there is none.
+fn are_versions<A: Allocator>(found: &[VersionBuf<A>], want: &[(u64, &[u8])]) -> bool {
+    for (version, (number, bytes)) in found.iter().zip(want) {
+        if !is_version(version, *number, bytes) {
+            return false;
+        }
     }
-    text.push(digit(found.number))?;
-    match &found.value {
-        Some(bytes) => text.extend_from_slice(bytes.as_slice())?,
-        None => text.push(b'-')?,
-    }
-    Ok(())
+    found.len() == want.len()
 }
 
 /// A row of "x" at 1.
@@ -188,20 +204,34 @@ fn batch_of<A: Allocator>(
     Ok(batch)
 }
 
-/// The versions that the row has become after the batch.
-fn merged_text<A: Allocator + Copy>(
+/// Whether a key's row has become these versions after the batch.
+fn has_become<A: Allocator + Copy>(
+    alloc: A,
+    (key, is_removed): (TenantKey<'_>, bool),
+    pins: &[Pin],
+    want: &[(u64, &[u8])],
+) -> Result<bool, AllocError> {
+    let rows = row_of(alloc, key)?;
+    let batch = batch_of(alloc, key, is_removed)?;
+    Ok(are_versions(
+        merge(alloc, rows.as_slice(), batch.as_slice(), pins)?.as_slice(),
+        want,
+    ))
+}
+
+/// Whether the row of tenant 1's key `a` has.
+fn is_merged<A: Allocator + Copy>(
     alloc: A,
     is_removed: bool,
     pins: &[Pin],
-) -> Result<Vec<u8, A>, AllocError> {
-    let key = key_of(alloc, 1, b"a")?;
-    let rows = row_of(alloc, key.as_key())?;
-    let batch = batch_of(alloc, key.as_key(), is_removed)?;
-    let mut text = Vec::new(alloc);
-    for found in &merge(alloc, rows.as_slice(), batch.as_slice(), pins)? {
-        push_version(&mut text, found)?;
-    }
-    Ok(text)
+    want: &[(u64, &[u8])],
+) -> Result<bool, AllocError> {
+    has_become(
+        alloc,
+        (key_of(alloc, 1, b"a")?.as_key(), is_removed),
+        pins,
+        want,
+    )
 }
 
 const PINS: [Pin; 2] = [
@@ -215,20 +245,22 @@ const PINS: [Pin; 2] = [
     },
 ];
 
-#[test]
-fn merges(rt: HostRuntime) -> Result<(), Fail> {
-    assert!(rt; merged_text(rt.alloc(), true, &[])?.is_empty());
-    assert!(rt; merged_text(rt.alloc(), true, &PINS)?.as_slice() == b"2xy3-".as_slice());
-    assert!(rt; merged_text(rt.alloc(), false, &[])?.as_slice() == b"2xy".as_slice());
-    Ok(())
+/// Whether a row is merged with a removal, under pins or none, and without one.
+fn are_merged<A: Allocator + Copy>(alloc: A) -> Result<bool, AllocError> {
+    Ok(
+        is_merged(alloc, true, &[], &[])?
+            && is_merged(alloc, true, &PINS, &[(2, b"xy"), (3, b"")])?
+            && is_merged(alloc, false, &[], &[(2, b"xy")])?,
+    )
 }
 
 /// Whether each call gets the memory that it asks for.
 fn are_answered<A: Allocator + Copy>(alloc: A) -> Result<bool, AllocError> {
     Ok(
         is_packed(alloc, 1, b"a", b"\x00\x00\x00\x01a")?
-            && value_text(alloc, 1, 4)?.len() == 2
-            && merged_text(alloc, true, &PINS)?.len() == 5,
+            && is_packed(alloc, 65_536, b"", b"\x00\x01\x00\x00")?
+            && is_value(alloc, 1, 4, (4, b"z"))?
+            && are_merged(alloc)?,
     )
 }
 

@@ -1,42 +1,9 @@
 //! The most tenants that there may be.
-use crate::login::{fault_of, has_quota};
+use crate::login::{has_quota, tenants_of};
 use std::alloc::{AllocError, Allocator, Global};
 use std::string::String;
 use std::test::Fail;
 use stow_login::tenants::Tenants;
-
-/// A file of this many tenants, each with no field.
-fn bare_tenants<A: Allocator>(alloc: A, count: u64) -> Result<String<A>, AllocError> {
-    let mut text = String::from_str(alloc, "tenant = [")?;
-    for _ in 0..count {
-        text.push_str("{},")?;
-    }
-    text.push_str("]")?;
-    Ok(text)
-}
-
-/// The number of the fault of such a file.
-fn fault_of_bare<A: Allocator + Copy>(
-    alloc: A,
-    global: Global,
-    count: u64,
-) -> Result<u8, AllocError> {
-    let text = bare_tenants(alloc, count)?;
-    Ok(fault_of(alloc, global, text.as_str()))
-}
-
-// At the limit the first tenant is looked at, and above it none is.
-#[test]
-fn the_number_of_tenants_is_limited(rt: HostRuntime) -> Result<(), Fail> {
-    for (count, number) in [(1, 2), (65_535, 2), (65_536, 7)] {
-        assert_eq!(rt;
-            fault_of_bare(rt.alloc(), rt.alloc(), count)?,
-            number,
-            "{count}"
-        );
-    }
-    Ok(())
-}
 
 /// The digest of the password `abc` without a salt.
 const DIGEST: &str = "ba7816bf8f01cfea414140de5dae2223b00361a396177a9cb410ff61f20015ad";
@@ -72,10 +39,7 @@ fn are_most<A: Allocator>(tenants: &Tenants<A>) -> bool {
 /// Whether the most tenants are read.
 fn are_read<A: Allocator + Copy>(alloc: A, global: Global) -> Result<bool, AllocError> {
     let text = most_tenants(alloc)?;
-    Ok(match Tenants::read(alloc, global, text.as_str()) {
-        Ok(tenants) => are_most(&tenants),
-        Err(_) => false,
-    })
+    Ok(are_most(&tenants_of(alloc, global, text.as_str())?))
 }
 
 // Each is found by its own name.

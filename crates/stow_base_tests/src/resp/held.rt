@@ -60,37 +60,42 @@ fn round<A: Allocator + Copy>(
 /// Whether an input holds no more of the heap after a second round than after the first.
 fn holds_no_more<A: Allocator + Copy>(
     heap: &LocalHeap,
+    input: &mut Input<A>,
     alloc: A,
     long: &[u8],
 ) -> Result<bool, AllocError> {
-    let mut input = Input::new(alloc);
-    round(&mut input, alloc, long)?;
+    round(input, alloc, long)?;
     let held = heap.used();
-    round(&mut input, alloc, long)?;
+    round(input, alloc, long)?;
     Ok(heap.used() <= held)
 }
 
 /// Whether an input holds no more of the heap after the words of a long message were given back than where they weren't.
 fn keeps_no_long_words<A: Allocator + Copy>(
     heap: &LocalHeap,
+    input: &mut Input<A>,
     alloc: A,
     long: &[u8],
 ) -> Result<bool, AllocError> {
-    let mut input = Input::new(alloc);
-    feed_long(&mut input, long)?;
+    feed_long(input, long)?;
     drop(input.next(alloc));
     let held = heap.used();
-    feed_long(&mut input, long)?;
-    take_all(&mut input, alloc);
+    feed_long(input, long)?;
+    take_all(input, alloc);
     Ok(heap.used() <= held)
+}
+
+/// Whether inputs of this heap hold no more.
+fn hold_no_more<A: Allocator + Copy>(heap: &LocalHeap, alloc: A) -> Result<bool, AllocError> {
+    let long = [b'x'; 50_000];
+    let is_equal = holds_no_more(heap, &mut Input::new(alloc), alloc, &long)?;
+    Ok(is_equal && keeps_no_long_words(heap, &mut Input::new(alloc), alloc, &long)?)
 }
 
 // Given back or not, the words of a long message are not kept for the next.
 #[test]
 fn a_second_round_holds_no_more(rt: HostRuntime) -> Result<(), Fail> {
     let heap = LocalHeap::new(rt.alloc(), 4_194_304)?;
-    let long = vec![in rt.alloc(); b'x'; 50_000]?;
-    assert!(rt; holds_no_more(&heap, &heap, long.as_slice())?);
-    assert!(rt; keeps_no_long_words(&heap, &heap, long.as_slice())?);
+    assert!(rt; hold_no_more(&heap, &heap)?);
     Ok(())
 }

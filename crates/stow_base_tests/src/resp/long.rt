@@ -1,142 +1,74 @@
 //! The most words, the longest word and the longest line.
-use crate::resp::telling::{is_fault, tell};
+use crate::resp::telling::{is_read, is_told_in_pieces};
 use std::alloc::{AllocError, Allocator};
+use std::str::Split;
 use std::test::Fail;
-use stow_resp::input::Input;
-use stow_resp::next::Next;
 
-/// Bytes over and over.
-fn repeated<A: Allocator>(alloc: A, bytes: &[u8], count: usize) -> Result<Vec<u8, A>, AllocError> {
-    let mut all = Vec::new(alloc);
-    for _ in 0..count {
-        all.extend_from_slice(bytes)?;
+/// Streams, what is told of each, and how many bytes are left. Of a stream as of what is told stand some bytes, then others so
+/// many times, and then an end. `~` ends a row.
+///
+/// An array of 1,024 words; a word of 1,048,576 bytes, without its end and with it; and lines of 65,536 bytes, a CR before the LF
+/// counted among them, and of more.
+const LONG: &str = "*1024\r\n|$0\r\n\r\n|1024||M|[]|1024|.|0~
+*1024\r\n|$2\r\nab\r\n|1024||M|[ab]|1024|.|0~
+*1\r\n$1048576\r\n|x|1048576||.||0||1048590~
+*1\r\n$1048576\r\n|x|1048576|\r\n|M[|x|1048576|].|0~
+|x|65536||.||0||65536~
+|x|65536|\n|M[|x|65536|].|0~
+|x|65535|\r\n|M[|x|65535|].|0~
+|x|65534| x\n|M[|x|65534|][x].|0~
+|x|65536|\nPING\n|M[|x|65536|]M[PING].|0~
+| |65536|\n|B.||0||0~
+\nPING|x|65532||B.||0||65536~
+|x|65536|x|inline request too long||0||65537~
+|x|65536|\r\n|inline request too long||0||65538~
+|x|65536|\"|inline request too long||0||65537~
+|x|65536|\"\n|inline request too long||0||65538~
+|x|65536|x\n|inline request too long||0||65538~
+|x|65536|x\nPING\n|inline request too long||0||65543";
+
+/// The next number of a row.
+fn number(parts: &mut Split<'_, char>) -> usize {
+    parts.next().unwrap_or("").parse::<usize>().unwrap_or(0)
+}
+
+/// The next bytes of a row.
+fn bytes_of<A: Allocator>(alloc: A, parts: &mut Split<'_, char>) -> Result<Vec<u8, A>, AllocError> {
+    let mut bytes = Vec::from_slice(alloc, parts.next().unwrap_or("").as_bytes())?;
+    let repeated = parts.next().unwrap_or("").as_bytes();
+    for _ in 0..number(parts) {
+        bytes.extend_from_slice(repeated)?;
     }
-    Ok(all)
+    bytes.extend_from_slice(parts.next().unwrap_or("").as_bytes())?;
+    Ok(bytes)
 }
 
-/// Some bytes, then others over and over, and then an end.
-fn long_bytes<A: Allocator + Copy>(
-    alloc: A,
-    front: &[u8],
-    (bytes, count): (&[u8], usize),
-    end: &[u8],
-) -> Result<Vec<u8, A>, AllocError> {
-    let mut all = Vec::from_slice(alloc, front)?;
-    all.extend_from_slice(repeated(alloc, bytes, count)?.as_slice())?;
-    all.extend_from_slice(end)?;
-    Ok(all)
-}
-
-/// An input that has the bytes, which came in pieces of this size; `None` where no more was asked for after each of them
-/// but the last.
-fn fed_in_pieces<A: Allocator + Copy>(
-    alloc: A,
-    bytes: &[u8],
-    size: usize,
-) -> Result<Option<Input<A>>, AllocError> {
-    let mut input = Input::new(alloc);
-    for piece in bytes.chunks(size.max(1)) {
-        if !matches!(input.next(alloc), Next::More) {
-            return Ok(None);
-        }
-        input.feed(piece)?;
-    }
-    Ok(Some(input))
-}
-
-/// Whether bytes that come in pieces of this size are told so in the end.
-fn is_told_late<A: Allocator + Copy>(
-    alloc: A,
-    bytes: &[u8],
-    size: usize,
-    want: &[u8],
-) -> Result<bool, AllocError> {
-    let Some(mut input) = fed_in_pieces(alloc, bytes, size)? else {
-        return Ok(false);
-    };
-    let mut log = Vec::new(alloc);
-    tell(&mut input, alloc, &mut log)?;
-    Ok(log.as_slice() == want)
-}
-
-/// Whether a message of 1,024 words is given.
-fn are_most_words<A: Allocator + Copy>(alloc: A) -> Result<bool, AllocError> {
-    let bytes = long_bytes(alloc, b"*1024\r\n", (b"$2\r\nab\r\n", 1024), b"")?;
-    let want = long_bytes(alloc, b"M", (b"[ab]", 1024), b".")?;
-    is_told_late(alloc, bytes.as_slice(), 1000, want.as_slice())
-}
-
-/// Whether a word of 1,048,576 bytes is given.
-fn is_longest_word<A: Allocator + Copy>(alloc: A) -> Result<bool, AllocError> {
-    let bytes = long_bytes(alloc, b"*1\r\n$1048576\r\n", (b"x", 1_048_576), b"\r\n")?;
-    let want = long_bytes(alloc, b"M[", (b"x", 1_048_576), b"].")?;
-    is_told_late(alloc, bytes.as_slice(), 1000, want.as_slice())
-}
-
-#[test]
-fn the_most_words_and_the_longest(rt: HostRuntime) -> Result<(), Fail> {
-    assert!(rt; are_most_words(rt.alloc())?);
-    assert!(rt; is_longest_word(rt.alloc())?);
-    Ok(())
-}
-
-/// Whether a line of so many bytes, in pieces of this size, is given with another line behind it.
-fn is_line<A: Allocator + Copy>(alloc: A, len: usize, size: usize) -> Result<bool, AllocError> {
-    let line = repeated(alloc, b"x", len)?;
-    let Some(mut input) = fed_in_pieces(alloc, line.as_slice(), size)? else {
-        return Ok(false);
-    };
-    let mut log = Vec::new(alloc);
-    tell(&mut input, alloc, &mut log)?;
-    input.feed(b"\nPING\r\n")?;
-    tell(&mut input, alloc, &mut log)?;
-    let want = long_bytes(alloc, b".M[", (b"x", len), b"]M[PING].")?;
-    Ok(log.as_slice() == want.as_slice())
-}
-
-const TOO_LONG: &[u8] = b"inline request too long";
-
-/// Whether 65,536 bytes in pieces of this size are waited for, and are faulty with this end, which then stays.
-fn is_too_long<A: Allocator + Copy>(alloc: A, size: usize, end: &[u8]) -> Result<bool, AllocError> {
-    let line = repeated(alloc, b"x", 65_536)?;
-    let Some(mut input) = fed_in_pieces(alloc, line.as_slice(), size)? else {
-        return Ok(false);
-    };
-    let mut log = Vec::new(alloc);
-    tell(&mut input, alloc, &mut log)?;
-    for _ in 0..3u32 {
-        input.feed(end)?;
-        tell(&mut input, alloc, &mut log)?;
-    }
-    let want = long_bytes(alloc, b".", (TOO_LONG, 3), b"")?;
-    Ok(log.as_slice() == want.as_slice())
-}
-
-/// Whether lines at the limit are given in pieces of this size, and longer ones are faulty.
-fn have_limit<A: Allocator + Copy>(alloc: A, size: usize) -> Result<bool, AllocError> {
-    for end in [b"x".as_slice(), b"\r\n", b"\"\n"] {
-        if !is_too_long(alloc, size, end)? {
+/// Whether bytes are told so in pieces of several sizes. Those of a line also come one by one.
+fn is_told<A: Allocator + Copy>(alloc: A, bytes: &[u8], told: &[u8]) -> Result<bool, AllocError> {
+    let least = if bytes.len() < 70_000 { 1 } else { 1_000 };
+    for size in [least, 4_096, 65_536, 2_000_000] {
+        if !is_told_in_pieces(alloc, bytes, (0, size), told)? {
             return Ok(false);
         }
     }
-    Ok(is_line(alloc, 65_536, size)? && is_line(alloc, 65_535, size)?)
+    Ok(true)
 }
 
-/// Whether one byte too many is a fault, also where it comes with an LF behind it.
-fn is_one_too_many<A: Allocator + Copy>(alloc: A) -> Result<bool, AllocError> {
-    let line = repeated(alloc, b"x", 65_537)?;
-    let ended = long_bytes(alloc, line.as_slice(), (b"", 0), b"\n")?;
+/// Whether a long stream is told so, also by the plain reader.
+fn is_stream<A: Allocator + Copy>(alloc: A, row: &str) -> Result<bool, AllocError> {
+    let parts = &mut row.split('|');
+    let bytes = bytes_of(alloc, parts)?;
+    let told = bytes_of(alloc, parts)?;
     Ok(
-        is_fault(alloc, line.as_slice(), TOO_LONG)?
-            && is_told_late(alloc, ended.as_slice(), 65_538, TOO_LONG)?,
+        is_told(alloc, bytes.as_slice(), told.as_slice())?
+            && is_read(alloc, bytes.as_slice(), told.as_slice(), number(parts))?,
     )
 }
 
 #[test]
-fn lines_have_a_limit(rt: HostRuntime) -> Result<(), Fail> {
-    for size in [1usize, 4096, 65_536] {
-        assert!(rt; have_limit(rt.alloc(), size)?, "pieces of {size}");
+fn words_and_lines_have_limits(rt: HostRuntime) -> Result<(), Fail> {
+    for (number, row) in LONG.split("~\n").enumerate() {
+        assert!(rt; is_stream(rt.alloc(), row)?, "stream {number}");
     }
-    assert!(rt; is_one_too_many(rt.alloc())?);
     Ok(())
 }

@@ -24,20 +24,27 @@ const PIECES: [(&[u8], usize); 6] = [
 ];
 
 /// Whether of an unfinished message as much is known after each piece.
-fn are_looked_at_once<A: Allocator + Copy>(alloc: A) -> Result<bool, AllocError> {
-    let mut input = Input::new(alloc);
-    for (piece, known) in PIECES {
+fn are_looked_at_once<A: Allocator + Copy>(
+    input: &mut Input<A>,
+    alloc: A,
+) -> Result<bool, AllocError> {
+    for (piece, known) in &PIECES {
         input.feed(piece)?;
-        take_whole(&mut input, alloc);
-        if input.looked() != known {
+        take_whole(input, alloc);
+        if input.looked() != *known {
             return Ok(false);
         }
     }
     Ok(true)
 }
 
+/// Whether it is so of a new input.
+fn is_looked_at_once<A: Allocator + Copy>(alloc: A) -> Result<bool, AllocError> {
+    are_looked_at_once(&mut Input::new(alloc), alloc)
+}
+
 #[test]
 fn an_unfinished_message_is_looked_at_once(rt: HostRuntime) -> Result<(), Fail> {
-    assert!(rt; are_looked_at_once(rt.alloc())?);
+    assert!(rt; is_looked_at_once(rt.alloc())?);
     Ok(())
 }

@@ -1,8 +1,10 @@
-//! What inputs give, as text.
+//! What streams hold, as text: a message as `M` and its words in brackets, a quoted line as `Q`, a blank as `B`, and at the
+//! end `.` where more is waited for, `!` for no memory, or the text of a fault.
 use std::alloc::{AllocError, Allocator};
 use stow_model::message::Message;
 use stow_model::reader::read_stream;
 use stow_model::stream_fault::fault_text;
+use stow_model::stream_read::StreamRead;
 use stow_model::stream_rest::StreamRest;
 use stow_model::words::Words;
 use stow_resp::input::Input;
@@ -47,9 +49,7 @@ fn push_next<A: Allocator, B: Allocator>(
     Ok(true)
 }
 
-/// Adds all that an input gives: a message as `M` and its words in brackets, a quoted line as `Q`, a blank as `B`, and
-/// where no message is next `.` for more, `!` for no memory, and the text of a fault. Answers how long the log was before
-/// that last part.
+/// Adds all that an input gives. Answers how long the log was before what is no message.
 pub(crate) fn tell<A: Allocator + Copy, B: Allocator>(
     input: &mut Input<A>,
     alloc: A,
@@ -64,59 +64,119 @@ pub(crate) fn tell<A: Allocator + Copy, B: Allocator>(
     Ok(log.len())
 }
 
-/// What is told after the bytes came in pieces: a first one, and then pieces of one size.
-pub(crate) fn told_in_pieces<A: Allocator + Copy>(
+/// Feeds a piece, and adds all that is given then.
+fn tell_piece<A: Allocator + Copy, B: Allocator>(
+    input: &mut Input<A>,
     alloc: A,
-    bytes: &[u8],
-    first: usize,
-    size: usize,
-) -> Result<Vec<u8, A>, AllocError> {
-    let mut input = Input::new(alloc);
-    let mut log = Vec::new(alloc);
-    let (front, back) = bytes.split_at(first.min(bytes.len()));
-    input.feed(front)?;
-    let mut told = tell(&mut input, alloc, &mut log)?;
+    log: &mut Vec<u8, B>,
+    piece: &[u8],
+) -> Result<usize, AllocError> {
+    input.feed(piece)?;
+    tell(input, alloc, log)
+}
+
+/// Adds what is told in the end of bytes that come in pieces: a first one, and then pieces of one size.
+fn tell_pieces<A: Allocator + Copy, B: Allocator>(
+    input: &mut Input<A>,
+    alloc: A,
+    log: &mut Vec<u8, B>,
+    (front, back, size): (&[u8], &[u8], usize),
+) -> Result<(), AllocError> {
+    let mut told = tell_piece(input, alloc, log, front)?;
     for piece in back.chunks(size.max(1)) {
         log.truncate(told);
-        input.feed(piece)?;
-        told = tell(&mut input, alloc, &mut log)?;
+        told = tell_piece(input, alloc, log, piece)?;
     }
-    Ok(log)
+    Ok(())
+}
+
+/// Whether bytes that come so are told this in the end.
+pub(crate) fn is_told_in_pieces<A: Allocator + Copy>(
+    alloc: A,
+    bytes: &[u8],
+    (first, size): (usize, usize),
+    told: &[u8],
+) -> Result<bool, AllocError> {
+    let mut log = Vec::new(alloc);
+    let (front, back) = bytes.split_at(first.min(bytes.len()));
+    tell_pieces(&mut Input::new(alloc), alloc, &mut log, (front, back, size))?;
+    Ok(log.as_slice() == told)
 }
 
 /// Whether the bytes are told so in one piece, cut in two at each place, and byte by byte.
 pub(crate) fn is_told<A: Allocator + Copy>(
     alloc: A,
     bytes: &[u8],
-    want: &[u8],
+    told: &[u8],
 ) -> Result<bool, AllocError> {
     for cut in 0..=bytes.len() {
-        if told_in_pieces(alloc, bytes, cut, bytes.len())?.as_slice() != want {
+        if !is_told_in_pieces(alloc, bytes, (cut, bytes.len()), told)? {
             return Ok(false);
         }
     }
-    Ok(told_in_pieces(alloc, bytes, 0, 1)?.as_slice() == want)
+    is_told_in_pieces(alloc, bytes, (0, 1), told)
 }
 
-/// What the plain reader tells of the bytes, as `tell` writes it.
-pub(crate) fn told_plainly<A: Allocator + Copy>(
-    alloc: A,
-    bytes: &[u8],
-) -> Result<Vec<u8, A>, AllocError> {
-    let read = read_stream(alloc, bytes)?;
-    let mut log = Vec::new(alloc);
+/// Adds a message of the plain reader.
+fn push_message<A: Allocator, B: Allocator>(
+    log: &mut Vec<u8, B>,
+    message: &Message<A>,
+) -> Result<(), AllocError> {
+    match message {
+        Message::Words(words) => push_words(log, words)?,
+        Message::Quoted => log.push(b'Q')?,
+        Message::Blank => log.push(b'B')?,
+    }
+    Ok(())
+}
+
+/// Adds what the plain reader has read.
+fn push_read<A: Allocator, B: Allocator>(
+    log: &mut Vec<u8, B>,
+    read: &StreamRead<A>,
+) -> Result<(), AllocError> {
     for message in &read.messages {
-        match message {
-            Message::Words(words) => push_words(&mut log, words)?,
-            Message::Quoted => log.push(b'Q')?,
-            Message::Blank => log.push(b'B')?,
-        }
+        push_message(log, message)?;
     }
     match read.rest {
         StreamRest::Waits => log.push(b'.')?,
         StreamRest::Faulty(fault) => log.extend_from_slice(fault_text(fault))?,
     }
+    Ok(())
+}
+
+/// What the plain reader tells of the bytes.
+pub(crate) fn told_plainly<A: Allocator + Copy>(
+    alloc: A,
+    bytes: &[u8],
+) -> Result<Vec<u8, A>, AllocError> {
+    let mut log = Vec::new(alloc);
+    push_read(&mut log, &read_stream(alloc, bytes)?)?;
     Ok(log)
+}
+
+/// Whether the plain reader tells this of the bytes, and leaves so many.
+pub(crate) fn is_read<A: Allocator + Copy>(
+    alloc: A,
+    bytes: &[u8],
+    told: &[u8],
+    left: usize,
+) -> Result<bool, AllocError> {
+    let used = read_stream(alloc, bytes)?.used;
+    Ok(told_plainly(alloc, bytes)?.as_slice() == told && bytes.len().saturating_sub(used) == left)
+}
+
+/// Adds what an input gives of the first bytes, of the last, and of more behind them.
+fn tell_late<A: Allocator + Copy, B: Allocator>(
+    input: &mut Input<A>,
+    alloc: A,
+    log: &mut Vec<u8, B>,
+    (front, last): (&[u8], &[u8]),
+) -> Result<(), AllocError> {
+    tell_piece(input, alloc, log, front)?;
+    tell_piece(input, alloc, log, last)?;
+    tell_piece(input, alloc, log, b"*0\r\n")?;
+    Ok(())
 }
 
 /// Whether the bytes are waited for without their last one, and with it are the fault of this text, which then stays.
@@ -125,15 +185,10 @@ pub(crate) fn is_fault<A: Allocator + Copy>(
     bytes: &[u8],
     fault: &[u8],
 ) -> Result<bool, AllocError> {
-    let mut input = Input::new(alloc);
     let mut log = Vec::new(alloc);
-    let (front, last) = bytes.split_at(bytes.len().saturating_sub(1));
-    for piece in [front, last, b"*0\r\n"] {
-        input.feed(piece)?;
-        tell(&mut input, alloc, &mut log)?;
-    }
-    let mut want = Vec::from_slice(alloc, b".")?;
-    want.extend_from_slice(fault)?;
-    want.extend_from_slice(fault)?;
-    Ok(log.as_slice() == want.as_slice())
+    let parts = bytes.split_at(bytes.len().saturating_sub(1));
+    tell_late(&mut Input::new(alloc), alloc, &mut log, parts)?;
+    let (front, both) = log.split_at(1.min(log.len()));
+    let (once, again) = both.split_at(fault.len().min(both.len()));
+    Ok(front == b".".as_slice() && once == fault && again == fault)
 }
