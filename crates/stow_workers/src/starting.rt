@@ -102,9 +102,7 @@ where
 }
 
 /// What a worker needs beside its seat, where there are senders and a hall is left.
-fn equipped<A: Allocator + Copy>(
-    senders: &mut Option<Senders<A>>,
-) -> Option<Equipment<A>> {
+fn equipped<A: Allocator + Copy>(senders: &mut Option<Senders<A>>) -> Option<Equipment<A>> {
     let senders = senders.as_mut()?;
     let hall = senders.halls.pop()?;
     let waker = senders.waker();

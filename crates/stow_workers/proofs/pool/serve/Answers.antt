@@ -17,17 +17,17 @@ scoped-requires g c =
       at = λ a. (
         (
           search sendable,
-          (
-            search sendable,
-            (
-              search sendable,
-              (
-                search sendable,
-                (search sendable, (search sendable, (free, (c.in-Ok.ensures.items, (omega (arith, c.in-Ok.ensures.capacity, c.len.ensures), (c.in-Ok-with_capacity.ensures.items, omega (arith, c.in-Ok-with_capacity.ensures.capacity, c.len-2.ensures)))))))
-              ),
-            ),
-          ),
+          search sendable,
+          search sendable,
+          search sendable,
+          search sendable,
+          search sendable,
+          free,
+          c.in-Ok.ensures.items,
+          omega (arith, c.in-Ok.ensures.capacity, c.len.ensures),
+          c.in-Ok-with_capacity.ensures.items,
+          omega (arith, c.in-Ok-with_capacity.ensures.capacity, c.len-2.ensures),
         ),
-        (search sendable, (search sendable, (search sendable, (search sendable, (search sendable, (search sendable, free)))))),
+        (search sendable, search sendable, search sendable, search sendable, search sendable, search sendable, free),
       );
     }
