@@ -1,13 +1,10 @@
 //! Whether a place is that of a key and number, by the messages beside it.
-ghost use Rattle.std.specs.Prelude.{◌≡◌, ◌-◌, ◌^◌, ◌<◌, ◌≤◌, IsTrue, drop, length, slice_get};
+ghost use Rattle.std.specs.Prelude.{◌≡◌, ◌-◌, ◌<◌, ◌≤◌, IsTrue, slice_get};
 ghost use Rattle.stow_message.specs.MessageBuf.{messages_in, IsPackedBuffer};
-ghost use Rattle.stow_message.specs.Packed.{message_at, BeginsWith};
-ghost use Rattle.stow_message.specs.Rising.{below, is_below};
+ghost use Rattle.stow_message.specs.Rising.{below};
 
-use crate::slots::{key_at, number_in};
+use crate::slots::names_below;
 use std::alloc::Allocator;
-use std::cmp::Ordering;
-use stow_bytes::compare::compare;
 use stow_slots::slot_buf::SlotBuf;
 
 /// Whether so many messages stand below the key and number: only those right before that place and at it are looked at.
@@ -60,18 +57,5 @@ fn ends<A: Allocator>(
     match next {
         Some(slot) => !names_below(raw, slot as usize, key, number),
         None => true,
-    }
-}
-
-/// Whether the message that begins `at` bytes into the front stands below the key and number.
-fn names_below<A: Allocator>(raw: &SlotBuf<A>, at: usize, key: &[u8], number: u64) -> bool
-    requires begins { BeginsWith (drop at raw.now.front) }
-    requires small { length raw.now.front < 2 ^ 32 }
-    ensures { result ≡ is_below (key.now, number) (message_at (drop at raw.now.front)) }
-{
-    match compare(key_at(raw, at), key) {
-        Ordering::Less => true,
-        Ordering::Equal => number_in(raw, at) < number,
-        Ordering::Greater => false,
     }
 }

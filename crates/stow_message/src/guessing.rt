@@ -3,10 +3,8 @@ ghost use Rattle.std.specs.Prelude.{Contains, IfSome};
 ghost use Rattle.stow_message.specs.MessageBuf.{IsPackedBuffer};
 
 use crate::key_words::KeyWords;
-use crate::slots::{key_at, number_in};
+use crate::slots::names_below;
 use std::alloc::Allocator;
-use std::cmp::Ordering;
-use stow_bytes::compare::compare;
 use stow_slots::slot_buf::SlotBuf;
 
 /// How many messages may stand below the key and number: as many as do of those whose slots aren't young, and of the others
@@ -76,13 +74,8 @@ fn is_below<A: Allocator>(raw: &SlotBuf<A>, slot: Option<u32>, key: &[u8], numbe
     requires filled { IsPackedBuffer raw.now }
     requires there { IfSome slot (Contains raw.now.slots) }
 {
-    let Some(slot) = slot else {
-        return false;
-    };
-    let at = slot as usize;
-    match compare(key_at(raw, at), key) {
-        Ordering::Less => true,
-        Ordering::Equal => number_in(raw, at) < number,
-        Ordering::Greater => false,
+    match slot {
+        Some(slot) => names_below(raw, slot as usize, key, number),
+        None => false,
     }
 }

@@ -8,7 +8,7 @@ ghost use Rattle.stow_message.specs.Rising.{below, is_below};
 use crate::head::{HEAD, read_key_len, read_number};
 use std::alloc::Allocator;
 use std::cmp::Ordering;
-use stow_bytes::compare::compare_past;
+use stow_bytes::compare::{compare, compare_past};
 use stow_slots::slot_buf::SlotBuf;
 
 /// The key of the message that begins `at` bytes into the front.
@@ -28,6 +28,24 @@ pub(crate) fn number_in<A: Allocator>(raw: &SlotBuf<A>, at: usize) -> u64
     ensures { result ≡ (message_at (drop at raw.now.front)).number }
 {
     read_number(raw.bytes(at, HEAD))
+}
+
+/// Whether the message that begins `at` bytes into the front stands below the key and number.
+pub(crate) fn names_below<A: Allocator>(
+    raw: &SlotBuf<A>,
+    at: usize,
+    key: &[u8],
+    number: u64,
+) -> bool
+    requires begins { BeginsWith (drop at raw.now.front) }
+    requires small { length raw.now.front < 2 ^ 32 }
+    ensures { result ≡ is_below (key.now, number) (message_at (drop at raw.now.front)) }
+{
+    match compare(key_at(raw, at), key) {
+        Ordering::Less => true,
+        Ordering::Equal => number_in(raw, at) < number,
+        Ordering::Greater => false,
+    }
 }
 
 /// Where a message stands to a key and number, and how many bytes its key and that one were seen to share at the front.

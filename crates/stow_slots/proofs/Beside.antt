@@ -1,5 +1,5 @@
 -- The slots at a place and right before it, of a block whose young slots stand beside it.
-use Rattle.std.proofs.Common.{◌≡◌, ◌≢◌, ℕ, zero, suc, ◌+◌, ◌-◌, ◌<◌, ◌≤◌, List, [], ◌∷◌, Some, None, length, get_or, refl, sym, ap, subst, ◌∙◌, arith}
+use Rattle.std.proofs.Common.{◌≡◌, ◌≢◌, ℕ, zero, suc, ◌+◌, ◌-◌, ◌<◌, ◌≤◌, List, [], ◌∷◌, Some, None, length, get_or, refl, sym, ap, ◌∙◌, arith}
 use Rattle.std.specs.Prelude.{slice_get}
 use Rattle.std.proofs.lemmas.Option.{slice_get-get_or, slice_get_past, slice_get_within}
 use Rattle.stow_raw.specs.RawBuf.{RawLists}
@@ -8,16 +8,17 @@ use Rattle.stow_slots.specs.declared.young_slot.YoungSlot.{YoungSlot}
 use Rattle.stow_slots.proofs.Merged.{AreAmong, rank_within, rank_found, behind_rises}
 use Rattle.stow_slots.proofs.Parts.{count, slot_of_young, slot_of_older, older_within}
 
+no_slot : (j : ℕ) {y : YoungSlot} → slice_get [] j ≡ Some y → ⊥
+no_slot zero e = cc
+no_slot (suc j) e = cc
+
+some_same : {u v : YoungSlot} → Some u ≡ Some v → u.behind ≡ v.behind
+some_same e = cc
+
+-- a young slot stands behind no more than all older ones
 behind_among : (count : ℕ) (young : List YoungSlot) (rank : ℕ) (y : YoungSlot) → AreAmong count young → slice_get young rank ≡ Some y → y.behind ≤ count
-behind_among count [] zero y are at = absurd (none_at at) where
-  none_at : {X : Type 0} {x : X} → None ≡ Some x → ⊥
-  none_at e = cc
-behind_among count [] (suc rank) y are at = absurd (none_at at) where
-  none_at : {X : Type 0} {x : X} → None ≡ Some x → ⊥
-  none_at e = cc
-behind_among count (x ∷ later) zero y are at = subst (λ (z : YoungSlot). z.behind ≤ count) (some_of at) are.0 where
-  some_of : Some x ≡ Some y → x ≡ y
-  some_of e = cc
+behind_among count [] rank y are at = absurd (no_slot rank at)
+behind_among count (x ∷ later) zero y are at = omega (arith, are.0, some_same at)
 behind_among count (x ∷ later) (suc rank) y are at = behind_among count later rank y are.1 at
 
 module _ (raw : RawLists) (young : List YoungSlot) (h : IsYoung raw young) (index rank : ℕ) (ranked : IsRank 0 index young rank) where
@@ -42,13 +43,6 @@ module _ (raw : RawLists) (young : List YoungSlot) (h : IsYoung raw young) (inde
       sym (slice_get_past (merged raw.slots young) index (omega (arith, far)))
 
 -- ---- what a rank tells
-
-no_slot : (j : ℕ) {y : YoungSlot} → slice_get [] j ≡ Some y → ⊥
-no_slot zero e = cc
-no_slot (suc j) e = cc
-
-some_same : {u v : YoungSlot} → Some u ≡ Some v → u.behind ≡ v.behind
-some_same e = cc
 
 -- those before it stand before the place
 pub rank_tells_before : (past index : ℕ) (young : List YoungSlot) (rank : ℕ) → AreRising past young → IsRank past index young rank → (j : ℕ) (z : YoungSlot) → j < rank → slice_get young j ≡ Some z → z.behind + j < index + past

@@ -8,7 +8,7 @@
 //!
 //! How long a slot stands in which list is no part of a contract. `old_slot`, `young_slot` and their counts serve searches that
 //! look into one list alone: what they give is a slot of the block, and nothing is said of its place, so what is found by them
-//! is a guess.
+//! is a guess. `around` gives the slots beside a place exactly, so that a guess is looked at by one search among the young ones.
 #![tactic(auto)]
 
 mod around;
