@@ -12,4 +12,4 @@
 
 pub mod ends;
 pub mod leaf;
-pub mod making;
+mod making;

@@ -14,7 +14,7 @@
 //! right, and only slower.
 #![tactic(auto)]
 
-pub mod descent;
+mod descent;
 pub mod found;
 pub mod getting;
 pub mod glance;
