@@ -10,7 +10,8 @@ use Rattle.stow_tree_model.specs.Merged.{same_key}
 use Rattle.stow_tree_model.specs.TreeMessage.{TreeMessage}
 use Rattle.stow_tree_model.proofs.Orders.{key_cases}
 use Rattle.stow_tree_model.specs.Order.{place_of}
-use Rattle.stow_message.specs.Filter.{may_have, Covers}
+use Rattle.stow_filter.specs.Filter.{may_have}
+use Rattle.stow_message.specs.Filter.{Covers}
 use Rattle.stow_message.specs.MessageBuf.{MessageList, message_list, messages_in}
 use Rattle.stow_message.specs.Rising.{is_below, placed, all_placed, of_key, without}
 

@@ -1,5 +1,4 @@
 pub mod RisingLaws
-pub mod Marked
 pub mod Merged
 pub mod Oldest
 pub mod Placed

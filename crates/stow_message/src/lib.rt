@@ -11,12 +11,11 @@
 
 mod beside;
 pub mod copying;
-mod filter;
 mod guessing;
-mod hash;
 pub mod head;
 mod key_words;
 pub mod laws;
+mod marking;
 pub mod message_buf;
 pub mod newest;
 pub mod run;

@@ -11,10 +11,10 @@ ghost use Rattle.stow_message.specs.Rising.{is_below, below, placed, IsNew, of_k
 ghost use Rattle.std.specs.List.{All, AllByRecursion, sum_by, remove_range};
 
 use crate::beside::is_place;
-use crate::filter::Filter;
 use crate::guessing::guess;
 use crate::head::{HEAD, SLOT, kind, op_with, read_head, size, write_head};
 use crate::key_words::KeyWords;
+use crate::marking::mark_run;
 use crate::newest::Newest;
 use crate::run::Run;
 use crate::slots::{search_between, search_from};
@@ -22,6 +22,7 @@ use std::alloc::{AllocError, Allocator, Global};
 use std::cmp::Ordering;
 use std::marker::Model;
 use stow_bytes::compare::compare;
+use stow_filter::filter::Filter;
 use stow_raw::raw_buf::RawBuf;
 use stow_slots::slot_buf::SlotBuf;
 use stow_tree_model::message::Message;
@@ -482,7 +483,7 @@ impl<A: Allocator> MessageBuf<A> {
         ensures { self.new ≡ message_list (all_placed run.now self.old.messages)
             (self.old.used + sum_by message_size run.now) self.old.capacity }
     {
-        self.filter.add_all(run);
+        mark_run(&mut self.filter, run);
         self.words.admit(&self.raw, run);
         let mut at = self.raw.front_len();
         append_all(&mut self.raw, run);

@@ -11,3 +11,4 @@ pub mod Unique
 pub mod Whole
 pub mod OneField
 pub mod Joined
+pub mod Marked

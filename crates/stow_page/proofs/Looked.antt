@@ -115,7 +115,7 @@ not_above_up_to key number v h e =
     let yes : nat_le v.number number ≡ true = grind (arith, nat_tests) in
     λ i. (bytes_decides key v.key).1 (sym e) i && yes i
 
-other_key : (key : List ℕ) (number : ℕ) (v : Version) → v.key ≢ key → is_up_to key number v ≡ false
+pub other_key : (key : List ℕ) (number : ℕ) (v : Version) → v.key ≢ key → is_up_to key number v ≡ false
 other_key key number v ne = ⊎_elim
     (λ (y : bytes_eq key v.key ≡ true). absurd (ne (sym ((bytes_decides key v.key).0 y))))
     (λ (n : bytes_eq key v.key ≡ false). ap (λ b. b && nat_le v.number number) n)

@@ -3,6 +3,7 @@ use Rattle.std.specs.Prelude.{◌≡◌, ℕ, zero, suc, ◌<◌, ◌≤◌, ◌
 use Rattle.std.specs.Int.{from_be_bytes, to_be_bytes, w16, w32, w64}
 use Rattle.std.specs.Ordering.{is_lt}
 use Rattle.std.specs.Str.{bytes_eq}
+use Rattle.stow_filter.specs.Filter.{CoversBy}
 use Rattle.stow_tree_model.specs.Order.{VersionPlace, place_cmp, version_place, VersionsRise}
 use Rattle.stow_tree_model.specs.Version.{Version, version_of}
 use Rattle.stow_tree_model.specs.declared.version.Version as lent
@@ -66,6 +67,15 @@ pub record ArePacked (format : Format) (bytes places : List ℕ) (rows : List Ve
 -- the block stands for the versions that are in it
 abbrev pub IsBlock : Format → List ℕ → List ℕ → Type 0
 IsBlock format bytes places = ArePacked format bytes places (rows_in format bytes places)
+
+-- each version's key has its marks
+abbrev pub CoversRows : List ℕ → List Version → Type 0
+CoversRows marks rows = CoversBy (λ v. v.key) marks rows
+
+-- the block stands for the versions that are in it, and marks tell their keys
+pub record IsNoted (format : Format) (bytes places marks : List ℕ) : Type 0 where
+  pub block : IsBlock format bytes places
+  pub covers : CoversRows marks (rows_in format bytes places)
 
 -- the format of versions, some of which have the one alone, and the others the other
 abbrev pub wider : Format → Format → Format

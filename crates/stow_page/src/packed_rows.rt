@@ -5,7 +5,7 @@ ghost use Rattle.stow_tree_model.specs.Version.{version_of};
 ghost use Rattle.stow_tree_model.specs.Order.{VersionsRise};
 ghost use Rattle.stow_tree_model.specs.Value.{bytes_at};
 ghost use Rattle.stow_page.specs.Format.{entries, packed_in, packed_page, format_of, places_from, IsTold, AreVersions};
-ghost use Rattle.stow_page.specs.Rows.{HasRoomFor, IsBlock, rows_in, entry_of, wider, with_count, is_above, is_up_to, IsCountUpTo, version_at};
+ghost use Rattle.stow_page.specs.Rows.{CoversRows, HasRoomFor, IsBlock, rows_in, entry_of, wider, with_count, is_above, is_up_to, IsCountUpTo, version_at};
 ghost use Rattle.stow_page.specs.declared.format.Format.TheVariants.{Two};
 
 use crate::entry::{append_entry, entry_size, format_of, lent_version};
@@ -15,29 +15,31 @@ use std::alloc::{AllocError, Allocator, Global};
 use std::cmp::Ordering;
 use std::marker::Model;
 use stow_bytes::compare::compare;
+use stow_filter::filter::Filter;
 use stow_tree_model::tenant_key::TenantKey;
 use stow_tree_model::version::Version;
 
-/// Versions that rise by key, then number, in packed form, with the place of each one's entry and a hint of where keys
-/// stand. A page has fewer than 2^32 bytes.
+/// Versions that rise by key, then number, in packed form, with the place of each one's entry, a hint of where keys stand, and
+/// marks of the keys that are there. A page has fewer than 2^32 bytes.
 #[derive(Drop)]
 pub struct PackedRows<A: Allocator = Global> {
     format: Format,
     bytes: Vec<u8, A>,
     places: Vec<u32, A>,
     hint: Hint<A>,
+    filter: Filter<A>,
 }
 
 impl<A: Allocator> Model for PackedRows<A> {
     ghost use Rattle.std.specs.Prelude.{ℕ, List};
     ghost use Rattle.stow_tree_model.specs.Version.{Version};
-    ghost use Rattle.stow_page.specs.Rows.{rows_in, IsBlock};
+    ghost use Rattle.stow_page.specs.Rows.{rows_in, IsNoted};
 
     ghost Value = { List Version };
 
     ghost view = { λ r. rows_in r.format r.bytes.items r.places.items };
 
-    ghost invariant = { λ r. IsBlock r.format r.bytes.items r.places.items };
+    ghost invariant = { λ r. IsNoted r.format r.bytes.items r.places.items r.filter };
 }
 
 impl<A: Allocator + Copy> PackedRows<A> {
@@ -52,6 +54,7 @@ impl<A: Allocator + Copy> PackedRows<A> {
             bytes,
             places: Vec::new(alloc),
             hint: Hint::new(alloc),
+            filter: Filter::none(alloc),
         })
     }
 
@@ -66,6 +69,7 @@ impl<A: Allocator + Copy> PackedRows<A> {
             bytes,
             places: Vec::with_capacity(alloc, versions)?,
             hint: Hint::new(alloc),
+            filter: Filter::none(alloc),
         })
     }
 
@@ -100,6 +104,7 @@ impl<A: Allocator + Copy> PackedRows<A> {
     {
         let (_, entries) = upper.bytes.as_slice().split_at(5);
         let hint = Hint::new(alloc);
+        let filter = Filter::none(alloc);
         let mut bytes = Vec::with_capacity(alloc, lower.bytes.len() + entries.len())?;
         bytes.extend_from_slice(lower.bytes.as_slice())?;
         bytes.extend_from_slice(entries)?;
@@ -116,6 +121,7 @@ impl<A: Allocator + Copy> PackedRows<A> {
             bytes,
             places,
             hint,
+            filter,
         })
     }
 
@@ -130,6 +136,7 @@ impl<A: Allocator + Copy> PackedRows<A> {
         requires wide { format_of (lower.now ++ upper.now) ≡ Two }
         ensures { IfOk result (λ r. r ≡ lower.now ++ upper.now) }
     {
+        let filter = Filter::none(alloc);
         let size = lower.len_in(Format::Two) + upper.len_in(Format::Two) - 5;
         let mut bytes = Vec::with_capacity(alloc, size)?;
         let mut places = Vec::with_capacity(alloc, lower.len() + upper.len())?;
@@ -142,6 +149,7 @@ impl<A: Allocator + Copy> PackedRows<A> {
             bytes,
             places,
             hint: Hint::new(alloc),
+            filter,
         })
     }
 
@@ -170,6 +178,7 @@ impl<A: Allocator + Copy> PackedRows<A> {
     {
         append_placed(&mut self.bytes, &mut self.places, self.format, version)?;
         write_count(&mut self.bytes, self.places.len() as u32);
+        self.filter.forget();
         Ok(())
     }
 
@@ -181,6 +190,7 @@ impl<A: Allocator + Copy> PackedRows<A> {
         ensures { IfOk result (λ r. r ≡ self.now ++ version_of version.entry ∷ []) }
     {
         let alloc = *self.bytes.allocator();
+        let filter = Filter::none(alloc);
         let size = self.len_in(Format::Two) + entry_size(Format::Two, version);
         let mut bytes = Vec::with_capacity(alloc, self.bytes.capacity().max(size))?;
         let mut places = Vec::with_capacity(alloc, self.places.capacity().max(self.len() + 1))?;
@@ -193,15 +203,22 @@ impl<A: Allocator + Copy> PackedRows<A> {
             bytes,
             places,
             hint: Hint::new(alloc),
+            filter,
         })
     }
 }
 
 impl<A: Allocator> PackedRows<A> {
     /// Makes look-ups of keys fast, until versions are added.
-    pub(crate) fn note_keys(&mut self) -> Result<(), AllocError>
+    pub(crate) fn note_keys(&mut self, alloc: A) -> Result<(), AllocError>
         ensures { self.new ≡ self.old }
     {
+        self.filter = marked(
+            alloc,
+            self.format,
+            self.bytes.as_slice(),
+            self.places.as_slice(),
+        )?;
         self.hint.reserve(self.places.len())?;
         if !self.hint.is_empty() {
             note_newest(
@@ -362,6 +379,9 @@ impl<A: Allocator> PackedRows<A> {
         if self.is_newest(index, key, number) {
             return Some(self.get(index));
         }
+        if !self.filter.may_have(key.bytes) {
+            return None;
+        }
         self.version_near(key, number, index)
     }
 
@@ -402,6 +422,23 @@ fn lent_at<'a>(format: Format, bytes: &'a [u8], places: &[u32], index: usize) ->
 {
     let place = places[index] as usize;
     lent_version(format, bytes.split_at(place).1)
+}
+
+/// Marks of each version's key.
+fn marked<A: Allocator>(
+    alloc: A,
+    format: Format,
+    bytes: &[u8],
+    places: &[u32],
+) -> Result<Filter<A>, AllocError>
+    requires { IsBlock format bytes.now places.now }
+    ensures { IfOk result (λ marks. CoversRows marks (rows_in format bytes.now places.now)) }
+{
+    let mut filter = Filter::for_keys(alloc, places.len())?;
+    for index in 0..places.len() {
+        filter.add(lent_at(format, bytes, places, index).key.bytes);
+    }
+    Ok(filter)
 }
 
 /// Notes where the newest version of each key stands.

@@ -31,6 +31,17 @@ impl<A: Allocator> Model for Rows<A> {
 }
 
 impl<A: Allocator + Copy> Rows<A> {
+    /// The versions that were packed, with a hint of where their keys stand.
+    pub fn new(alloc: A, packed: PackedRows<A>) -> Result<Rows<A>, AllocError>
+        ensures { IfOk result (λ r. r ≡ packed) }
+    {
+        let mut packed = packed;
+        packed.note_keys(alloc)?;
+        Ok(Rows {
+            packed: Arc::new(alloc, packed)?,
+        })
+    }
+
     /// These versions and others above them, in a block of their own.
     pub fn joined(&self, alloc: A, upper: &Rows<A>) -> Result<Rows<A>, AllocError>
         requires rise { VersionsRise (self.now ++ upper.now) }
@@ -45,17 +56,6 @@ impl<A: Allocator + Copy> Rows<A> {
 }
 
 impl<A: Allocator> Rows<A> {
-    /// The versions that were packed, with a hint of where their keys stand.
-    pub fn new(alloc: A, packed: PackedRows<A>) -> Result<Rows<A>, AllocError>
-        ensures { IfOk result (λ r. r ≡ packed) }
-    {
-        let mut packed = packed;
-        packed.note_keys()?;
-        Ok(Rows {
-            packed: Arc::new(alloc, packed)?,
-        })
-    }
-
     /// Rows in a block that others share.
     pub(crate) fn from_shared(packed: Arc<PackedRows<A>, A>) -> Rows<A>
         ensures { result ≡ arc_value packed }

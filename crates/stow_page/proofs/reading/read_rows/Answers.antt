@@ -16,7 +16,7 @@ push-requires-clause-room g c =
 pub returns-then-not-is_format_of-clause-err : goal.returns-then-not-is_format_of-clause-err
 returns-then-not-is_format_of-clause-err g c =
     let done : c.in_ok-header.header.count ≤ length c.loop-rest.rows = let len = c.len.ensures.len in let test = c.loop-rest-test.false in omega arith in
-    let few : length c.loop-rest.rows < 2 ^ 32 = subst (λ rows. length rows < 2 ^ 32) c.rows.view_is (few_rows _ _ _ _ c.rows.invariant) in
+    let few : length c.loop-rest.rows < 2 ^ 32 = subst (λ rows. length rows < 2 ^ 32) c.rows.view_is (few_rows _ _ _ _ c.rows.invariant.block) in
     inr (inr (inr (
     no_long_value c.args.bytes.now c.in_ok-header.header.format c.in_ok-header.header.count c.loop-rest.rows c.loop-rest.rest.now c.loop-rest.invariant (omega (arith, few, done)) c.len.ensures.versions c.len.ensures.rise done
     (unfit _ c.is_format_of.ensures c.if-not-is_format_of.true)

@@ -108,13 +108,13 @@ loop-new-preserved g c =
 
 pub invariant_of-self : goal.invariant_of-self
 invariant_of-self g c = let l = c.loop-new in
-    let marks = c.add_all.new.self in
+    let marks = c.mark_run.new.filter in
     record {
       filled = now_filled c.args.self.now c.args.run.now c.requires.room c.requires.valid l.self-inside.raw l.new l.old (l.old + l.new - length c.args.run.now) l.at l.invariant.filling c.requires.rising c.requires.new (omega (arith, c.loop-new-test.false, c.len-count.ensures));
       covers = subst (λ (bits : List ℕ). Covers bits (messages_in l.self-inside.raw)) (sym l.invariant.marks) (subst (Covers marks)
           (sym (ap (λ (w : MessageList). w.messages) (now_seen c.args.self.now c.args.run.now c.requires.room c.requires.valid l.self-inside.raw l.new l.old (l.old + l.new - length c.args.run.now) l.at l.invariant.filling c.requires.rising c.requires.new (omega (arith, c.loop-new-test.false, c.len-count.ensures)))))
-          (covers_all_placed marks c.args.run.now c.args.self.now.messages c.add_all.ensures.added
-          (covers_more c.self.inside.filter marks c.args.self.now.messages c.add_all.ensures.stay
+          (covers_all_placed marks c.args.run.now c.args.self.now.messages c.mark_run.ensures.added
+          (covers_more c.self.inside.filter marks c.args.self.now.messages c.mark_run.ensures.stay
           (covered c.self.inside.raw c.self.inside.filter c.args.self.now c.self.view_is c.self.invariant.covers))));
       counted = omega (
         arith,

@@ -1,4 +1,5 @@
-use Rattle.std.proofs.Common.{◌++◌, ◌∷◌, [], ◌∙◌, arith}
+use Rattle.std.proofs.Common.{◌++◌, ◌∷◌, [], ◌∙◌, arith, ap, length}
+use Rattle.stow_page.proofs.Marked.{none_marked}
 use Rattle.stow_tree_model.specs.Version.{version_of}
 use Rattle.stow_page.proofs.Entries.{is_version}
 use Rattle.stow_page.proofs.Pushed.{IsWritten}
@@ -34,11 +35,11 @@ write_count-requires g c = has_header _ _ c.args.self.now (version_of c.args.ver
 
 made : (g : given.Over) (c : goal.After-new g) → IsWritten Two c.write_count.new.bytes.items c.append_placed.new.places.items (c.args.self.now ++ version_of c.args.version ∷ [])
 made g c =
-    written_anew _ _ _ _ c.args.self.now (version_of c.args.version ∷ []) (both_are g c.before.before) c.len.ensures.versions (is_version c.args.version, tt) c.requires.above c.requires.room c.requires.wide
+    written_anew _ _ _ _ c.args.self.now (version_of c.args.version ∷ []) (one_more_written _ _ _ _ c.args.self.now (version_of c.args.version) (lower_written _ _ _ _ _ c.args.self.now c.in_ok-bytes.ensures.items c.in_ok-extend_from_slice.ensures.items c.in_ok-places.ensures.items c.in_ok-append_all.ensures.bytes c.in_ok-append_all.ensures.places) c.in_ok-append_placed.ensures.bytes c.in_ok-append_placed.ensures.places) c.len.ensures.versions (is_version c.args.version, tt) c.requires.above c.requires.room c.requires.wide
     c.write_count.ensures (c.len-2.ensures ∙ c.append_placed.new.places.ok.0)
 
 pub invariant_of-result : goal.invariant_of-result
-invariant_of-result g c = (made g c).are_packed
+invariant_of-result g c = record { block = (made g c).are_packed; covers = none_marked _ _ (ap length c.none-filter.ensures) }
 
 pub returns : goal.returns
 returns g c = (made g c).are_rows

@@ -7,5 +7,5 @@ use Rattle.stow_page.proofs.packed_rows.PackedRows.format_with.Goals as goal
 
 pub returns : goal.returns
 returns g c =
-    c.wider.ensures ∙ (λ i. wider ((c.self.invariant.is_format ∙ ap format_of c.self.view_is) i) (c.format_of.ensures i))
+    c.wider.ensures ∙ (λ i. wider ((c.self.invariant.block.is_format ∙ ap format_of c.self.view_is) i) (c.format_of.ensures i))
     ∙ sym (format_of-append c.args.self.now (version_of c.args.version ∷ []))

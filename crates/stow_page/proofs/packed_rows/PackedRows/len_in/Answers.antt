@@ -3,14 +3,14 @@ use Rattle.stow_page.proofs.Sizes.{few_rows, own_length, summed_none, summed_mor
 use Rattle.stow_page.proofs.packed_rows.PackedRows.len_in.Goals as goal
 
 pub returns-then-is_same-clause-len : goal.returns-then-is_same-clause-len
-returns-then-is_same-clause-len g c = c.len.ensures ∙ c.self.inside.bytes.ok.0 ∙ own_length _ _ _ _ c.args.self.now c.self.invariant c.self.view_is (c.is_same.ensures.0 c.if-is_same.true)
+returns-then-is_same-clause-len g c = c.len.ensures ∙ c.self.inside.bytes.ok.0 ∙ own_length _ _ _ _ c.args.self.now c.self.invariant.block c.self.view_is (c.is_same.ensures.0 c.if-is_same.true)
 
 pub loop-index-init : goal.loop-index-init
 loop-index-init g c = summed_none c.args.format c.args.self.now
 
 pub overflow_add-len : goal.overflow_add-len
 overflow_add-len g c =
-    let few = subst (λ rows. length rows < 2 ^ 32) c.self.view_is (few_rows _ _ _ _ c.self.invariant) in
+    let few = subst (λ rows. length rows < 2 ^ 32) c.self.view_is (few_rows _ _ _ _ c.self.invariant.block) in
     let low = c.loop-index-test.true in
     let len = c.len-index-end.ensures.len in
     let most = c.loop-index.invariant.few in
@@ -24,7 +24,7 @@ loop-index-preserved g c =
 
 pub returns-clause-few : goal.returns-clause-few
 returns-clause-few g c =
-    let few = subst (λ rows. length rows < 2 ^ 32) c.self.view_is (few_rows _ _ _ _ c.self.invariant) in
+    let few = subst (λ rows. length rows < 2 ^ 32) c.self.view_is (few_rows _ _ _ _ c.self.invariant.block) in
     let end = c.loop-index.auto.index-end in
     let len = c.len-index-end.ensures.len in
     let most = c.loop-index.invariant.few in

@@ -14,7 +14,7 @@ overflow_sub-result g c =
 pub returns : goal.returns
 returns g c =
     let own : c.wider-format.result ≡ wider (format_of c.args.self.now) (format_of c.args.upper.now) =
-    c.wider-format.ensures ∙ (λ i. wider ((c.self.invariant.is_format ∙ ap format_of c.self.view_is) i) ((c.upper.invariant.is_format ∙ ap format_of c.upper.view_is) i)) in
+    c.wider-format.ensures ∙ (λ i. wider ((c.self.invariant.block.is_format ∙ ap format_of c.self.view_is) i) ((c.upper.invariant.block.is_format ∙ ap format_of c.upper.view_is) i)) in
     let both = length-both c.wider-format.result c.args.self.now c.args.upper.now own in
     let lower = c.len_in.ensures.len in
     let upper = c.len_in-2.ensures.len in
