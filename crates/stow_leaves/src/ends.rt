@@ -8,13 +8,20 @@ use stow_leaf::ends::top_key;
 use stow_leaf::leaf::Leaf;
 use stow_tree_model::tenant_key::TenantKey;
 
+/// Where the leaf at `index` begins, or the upper end of all keys where there is none.
+pub(crate) fn fence_at<A: Allocator>(leaves: &[Leaf<A>], index: usize) -> TenantKey<'_>
+    ensures { result.bytes.now ≡ fence_at (map leaf_rows leaves.now) index }
+{
+    match leaves.get(index) {
+        Some(leaf) => leaf.low.as_key(),
+        None => top_key(),
+    }
+}
+
 /// Where the keys of the leaf at `index` end.
 pub(crate) fn high_after<A: Allocator>(leaves: &[Leaf<A>], index: usize) -> TenantKey<'_>
     requires { index < length leaves.now }
     ensures { result.bytes.now ≡ fence_at (map leaf_rows leaves.now) (index + 1) }
 {
-    match leaves.get(index + 1) {
-        Some(leaf) => leaf.low.as_key(),
-        None => top_key(),
-    }
+    fence_at(leaves, index + 1)
 }
