@@ -125,7 +125,7 @@ below_none high (x ∷ ls) key n t l =
     (t.0.rows.outside key n (under x.0 (first_fence high ls) key l))
     (below_none high ls key n t.1 (lt_trans key x.0 (first_fence high ls) l (ap is_lt t.0.ordered)))
 
-low_at_most : (high : List ℕ) (ls : List LeafRows) → LeavesTo high ls → lt high (first_fence high ls) ≡ false
+pub low_at_most : (high : List ℕ) (ls : List LeafRows) → LeavesTo high ls → lt high (first_fence high ls) ≡ false
 low_at_most high [] t = lt_self high
 low_at_most high (x ∷ ls) t = lt_not x.0 high (lt_le x.0 (first_fence high ls) high (ap is_lt t.0.ordered) (low_at_most high ls t.1))
 

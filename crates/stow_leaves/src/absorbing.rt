@@ -8,7 +8,7 @@ ghost use Rattle.stow_leaves.specs.Absorbs.{left_above, CanAbsorb, CanPutOthers,
 ghost use Rattle.stow_leaves.specs.AbsorbsAll.{CanAbsorbAll, CanGiveWay, GivesWay, MergesAll, StandsForAll};
 ghost use Rattle.stow_leaves.specs.Forgets.{Forgets};
 
-use crate::ends::{fence_at, high_after};
+use crate::ends::{first_fence, high_after};
 use crate::joining::join_small;
 use std::alloc::{AllocError, Allocator};
 use stow_leaf::leaf::Leaf;
@@ -114,23 +114,25 @@ fn given_way<A: Allocator + Copy>(
     Ok(others)
 }
 
-/// The leaves with all messages of the buffer merged into them, under pins: each for which there are messages gives way to
-/// leaves that are cut by the target, the highest first, and then small leaves are joined with a neighbour. The cache
-/// forgets what is replaced, and nothing else.
+/// The leaves with all messages merged into them that a buffer holds from the first one's fence on and below `end`, where
+/// their keys end, under pins: each for which there are messages gives way to leaves that are cut by the target, the highest
+/// first, and then small leaves are joined with a neighbour. The cache forgets what is replaced, and nothing else.
 pub fn all_merged<A: Allocator + Copy>(
     alloc: A,
     mut leaves: Vec<Leaf<A>, A>,
+    end: TenantKey<'_>,
     buffer: &MessageBuf<A>,
     pins: &Pins<A>,
     target: u32,
     cache: &mut LeafCache<A>,
 ) -> Result<Vec<Leaf<A>, A>, AllocError>
-    requires { CanAbsorbAll (map leaf_rows leaves.items) buffer.now.messages target }
+    requires { CanAbsorbAll (map leaf_rows leaves.items) end.bytes.now buffer.now.messages target }
     ensures merged { IfOk result (λ fresh. MergesAll (map leaf_rows leaves.items)
-        buffer.now.messages (pins_in pins.now) target (map leaf_rows fresh.items)
-        cache.old cache.new) }
+        end.entry.bytes.now buffer.now.messages (pins_in pins.now) target
+        (map leaf_rows fresh.items) cache.old cache.new) }
     ensures stands { IfOk result (λ fresh. StandsForAll (map leaf_rows leaves.items)
-        buffer.now.messages (pins_in pins.now) target (map leaf_rows fresh.items)) }
+        end.entry.bytes.now buffer.now.messages (pins_in pins.now) target
+        (map leaf_rows fresh.items)) }
     ensures cache { IfOk result (λ fresh. Forgets (map leaf_rows leaves.items)
         (map leaf_rows fresh.items) cache.old cache.new) }
     ensures err { OnErr result (Forgets (map leaf_rows leaves.items) (map leaf_rows leaves.items)
@@ -138,7 +140,7 @@ pub fn all_merged<A: Allocator + Copy>(
 {
     let mut fresh = Vec::new(alloc);
     while let Some(leaf) = leaves.pop() {
-        let high = fence_at(fresh.as_slice(), 0);
+        let high = first_fence(fresh.as_slice(), end);
         let mut others = given_way(alloc, leaf, high, buffer, pins, target, cache)?;
         others.append(&mut fresh)?;
         fresh = others;

@@ -22,7 +22,8 @@ ghost use Rattle.stow_node.specs.Plans.{HasLeafTarget, IsPlanned, Plans, TakesLe
 ghost use Rattle.stow_node.specs.Regroups.{Grows, StepsAsOne, StandAsOne, AreBehind, ForgetsCame};
 ghost use Rattle.stow_node.specs.Rooms.{AreShells, HasRoom};
 ghost use Rattle.stow_node.specs.Subtree.{Subtree, buffered, first_subtree, messages_of};
-ghost use Rattle.stow_node.specs.Ways.{Goes, MergesOwn, StepsDown};
+ghost use Rattle.stow_node.specs.TakesDown.{CanMergeFrom};
+ghost use Rattle.stow_node.specs.Ways.{Goes, MergesInto, StepsDown};
 ghost use Rattle.stow_node.specs.declared.child.Child.TheVariants as in_child;
 ghost use Rattle.stow_node.specs.declared.installed.Installed.TheVariants as installed;
 
@@ -33,7 +34,7 @@ use crate::counting::room_for;
 use crate::fence::Fence;
 use crate::installed::Installed;
 use crate::installing::can_install;
-use crate::moving::{are_within, bytes_for, hand_down, heaviest, is_apart, unladen};
+use crate::moving::{are_for_last, are_within, bytes_for, hand_down, heaviest, is_apart, take_down};
 use crate::planning::{deepest_child, is_drained, job_for};
 use crate::room::Room;
 use crate::shape::Shape;
@@ -258,8 +259,8 @@ impl<A: Allocator + Copy> Node<A> {
         requires short { AreShort (messages_of self.old) }
         ensures ok { IfOk result (λ room.
             StepsAsOne (pins_in pins.now) self.old self.new room.came.items) }
-        ensures merges { IfOk result (λ room. MergesOwn (pins_in pins.now) self.old self.new
-            room.came.items cache.old cache.new) }
+        ensures merges { IfOk result (λ room. MergesInto top_key self.old.buffer.messages
+            (pins_in pins.now) self.old self.new room.came.items cache.old cache.new) }
         ensures room { IfOk result (HasRoom self.old.shape above.now) }
         ensures err { OnErr result (self.new ≡ self.old) }
         ensures cache { IfOk result (λ room. ForgetsCame self.old self.new room.came.items
@@ -267,9 +268,9 @@ impl<A: Allocator + Copy> Node<A> {
         ensures kept { OnErr result (Forgets self.old.leaves self.old.leaves cache.old cache.new) }
     {
         let children = self.children.as_slice();
-        let full = children.len() - heaviest(children, &self.buffer) == 1;
+        let full = are_for_last(children, &self.buffer, top_key());
         let target = self.shape.leaf;
-        let fresh = all_merged(alloc, children, &self.buffer, pins, target, cache)?;
+        let fresh = all_merged(alloc, children, top_key(), &self.buffer, pins, target, cache)?;
         let mut room = room_for(alloc, self.shape, fresh.len(), above)?;
         self.buffer.reset();
         self.children = fresh;
@@ -277,12 +278,55 @@ impl<A: Allocator + Copy> Node<A> {
         Ok(room)
     }
 
-    /// Whether it stands right above leaves, and its buffer holds a quarter of their pages' bytes or more, dead bytes among
-    /// what it holds.
-    pub(crate) fn is_laden(&self) -> bool
-        ensures { IsTrue result ↔ IsLaden self.now }
+    /// Merges the messages for it, up to where its keys end, out of the buffer above it straight into its leaves, of a node right
+    /// above leaves that has no message: as if it had taken them first, but nothing is written to its own block. Where memory
+    /// is refused nothing has changed.
+    pub(crate) fn merge_from(
+        &mut self,
+        alloc: A,
+        from: &mut MessageBuf<A>,
+        end: TenantKey<'_>,
+        pins: &Pins<A>,
+        cache: &mut LeafCache<A>,
+        above: &[usize],
+    ) -> Result<Room<A>, AllocError>
+        requires { CanMergeFrom from.old.messages end.bytes.now self.old }
+        ensures ok { IfOk result (λ room. StepsAsOne (pins_in pins.now)
+            (accepted (in_range self.old.low end.entry.bytes.now from.old.messages) self.old)
+            self.new room.came.items) }
+        ensures left { IfOk result (λ room. from.new
+            ≡ without_range self.old.low end.entry.bytes.now from.old) }
+        ensures merges { IfOk result (λ room. MergesInto end.entry.bytes.now from.old.messages
+            (pins_in pins.now) self.old self.new room.came.items cache.old cache.new) }
+        ensures room { IfOk result (HasRoom self.old.shape above.now) }
+        ensures err { OnErr result (self.new ≡ self.old) }
+        ensures unmoved { OnErr result (from.new ≡ from.old) }
+        ensures cache { IfOk result (λ room. ForgetsCame self.old self.new room.came.items
+            cache.old cache.new) }
+        ensures kept { OnErr result (Forgets self.old.leaves self.old.leaves cache.old cache.new) }
     {
-        self.height == 1 && are_within(self.children.as_slice(), 4 * self.buffer.used())
+        let _known = from.len();
+        let children = self.children.as_slice();
+        let full = are_for_last(children, from, end);
+        let target = self.shape.leaf;
+        let fresh = all_merged(alloc, children, end, from, pins, target, cache)?;
+        let mut room = room_for(alloc, self.shape, fresh.len(), above)?;
+        from.drop_range(self.low.as_key(), end);
+        self.buffer.reset();
+        self.children = fresh;
+        self.settle(&mut room, full);
+        Ok(room)
+    }
+
+    /// Whether it stands right above leaves, and with so many bytes more its buffer holds a quarter of their pages' bytes or
+    /// more, dead bytes among what it holds.
+    pub(crate) fn is_laden(&self, bytes: usize) -> bool
+        requires { self.now.buffer.used + bytes ≤ self.now.buffer.capacity }
+        ensures { IsTrue result ↔ IsLaden bytes self.now }
+    {
+        let _known = self.shape();
+        let held = self.buffer.used() + bytes;
+        self.height == 1 && are_within(self.children.as_slice(), 4 * held)
     }
 }
 
@@ -338,9 +382,10 @@ impl<A: Allocator + Copy> Node<A> {
                 }
             }
         }
-        hand_down(&mut self.children, index, &mut self.buffer);
-        let unladen = unladen(alloc, &mut self.children, index, pins, cache, above.as_slice())?;
-        let Some(mut room) = unladen else {
+        let buffer = &mut self.buffer;
+        let above = above.as_slice();
+        let taken = take_down(alloc, &mut self.children, index, buffer, pins, cache, above)?;
+        let Some(mut room) = taken else {
             return Ok(Room::none(alloc));
         };
         take_in(&mut self.children, index, &mut room);
