@@ -3,6 +3,8 @@ use Rattle.std.proofs.Common.{zero, suc, ◌≡◌, ℕ, ◌+◌, ◌*◌, ◌<�
 use Rattle.std.specs.Prelude.{slice_get, slice_set, Result, Ok, Err, OnErr}
 use Rattle.std.specs.List.{sum_by}
 use Rattle.stow_leaf_cache.specs.Cache.{Cache}
+use Rattle.stow_leaf.specs.LeafRows.{LeafRows}
+use Rattle.stow_leaves.specs.Forgets.{Forgets}
 use Rattle.stow_leaf.proofs.Steps.{inside_of}
 use Rattle.stow_message.specs.MessageBuf.{MessageList, without_range}
 use Rattle.stow_message.specs.Packed.{message_size}
@@ -18,7 +20,7 @@ use Rattle.stow_node.specs.Parts.{Part, high_of}
 use Rattle.stow_node.specs.Regroups.{StepsAsOne, ForgetsCame}
 use Rattle.stow_node.specs.Rooms.{HasRoom}
 use Rattle.stow_node.specs.Subtree.{Subtree}
-use Rattle.stow_node.specs.TakesDown.{CanMergeFrom, CanTakeDown, CanUnlade, IsLight, MergesDown, TakesDown, TakesLight, Unlades, Unloads}
+use Rattle.stow_node.specs.TakesDown.{CanMergeFrom, CanTakeDown, CanUnlade, IsLight, MaySkip, MergesDown, TakesDown, TakesLight, Unlades, Unloads}
 use Rattle.stow_node.specs.Ways.{MergesInto}
 use Rattle.stow_node.proofs.Accepted.{length-all_placed}
 use Rattle.stow_node.proofs.Down.{get-set}
@@ -110,3 +112,15 @@ taken_then {A} pins cs i b above l b' (Some room) l' cache cache' down u = recor
 pub err_then : {T E : Type 0} (r : Result T E) {P Q : Type 0} → (P → Q) → OnErr r P → OnErr r Q
 err_then (Ok x) f p = tt
 err_then (Err e) f p = f p
+
+-- ---- which of both it was
+
+pub straight_of : {A : Type 0} (merges : Room A → List (Child A) → MessageList → Cache → Cache → Type 0) (r : Option (Room A)) (room : Room A) (cs cs' : List (Child A)) (b b' : MessageList) (cache cache' : Cache) → MaySkip merges r cs cs' b b' cache cache' → r ≡ Some room → merges room cs' b' cache cache'
+straight_of {A} merges r room cs cs' b b' cache cache' m e = subst (λ (o : Option (Room A)). MaySkip merges o cs cs' b b' cache cache') e m
+
+pub skipped : {A : Type 0} (merges : Room A → List (Child A) → MessageList → Cache → Cache → Type 0) (r : Option (Room A)) (cs cs' : List (Child A)) (b b' : MessageList) (cache cache' : Cache) → MaySkip merges r cs cs' b b' cache cache' → r ≡ None → (cs' ≡ cs) × ((b' ≡ b) × (cache' ≡ cache))
+skipped {A} merges r cs cs' b b' cache cache' m e = subst (λ (o : Option (Room A)). MaySkip merges o cs cs' b b' cache cache') e m
+
+-- where the leaves stayed after all, the cache holds no others
+pub kept_again : (ls leaves : List LeafRows) (cache cache' : Cache) → Forgets ls ls cache cache' → Forgets leaves leaves cache cache'
+kept_again ls leaves cache cache' f = record { limit = f.limit; held = f.held; stands = λ leaf c o. o }

@@ -21,11 +21,13 @@ use Rattle.stow_node.specs.declared.child.Child.{Child}
 use Rattle.stow_node.specs.declared.child.Child.TheVariants as in_child
 use Rattle.stow_node.specs.declared.node.Node.TheInside.{Inside}
 use Rattle.stow_node.specs.declared.room.Room.{Room}
+use Rattle.stow_node.specs.declared.shape.Shape.{Shape}
 use Rattle.stow_node.specs.Flushes.{AreShort, KeepsMeaning}
 use Rattle.stow_node.specs.Moves.{accepted, HandsDown, IsHeaviest, IsSqueezed, messages_for, StaysInMeaning}
-use Rattle.stow_node.specs.Nodes.{node_part, parts_of, subtree_of, IsNode}
+use Rattle.stow_node.specs.Nodes.{node_part, parts_of, subtree_of, IsBelow, IsNode}
 use Rattle.stow_node.specs.Parts.{high_of, leaves_in}
 use Rattle.stow_node.specs.Regroups.{Grows, StepsAsOne, ForgetsCame}
+use Rattle.stow_node.specs.Rooms.{HasRoom}
 use Rattle.stow_node.specs.Subtree.{Subtree, messages_of}
 use Rattle.stow_node.specs.TakesDown.{CanTakeDown, MayHandDown, MergesDown, TakesDown, TakesLight}
 use Rattle.stow_node.specs.Ways.{Goes}
@@ -34,7 +36,7 @@ use Rattle.stow_node.proofs.Lowered.{AtChild, at_child, end_at_most, for_child}
 use Rattle.stow_node.proofs.Row.{message_taken, messages_apart}
 use Rattle.stow_node.proofs.Spliced.{child_short}
 use Rattle.stow_node.proofs.Standing.{parts_ops}
-use Rattle.stow_node.proofs.Stayed.{ChildStays, child_stays}
+use Rattle.stow_node.proofs.Stayed.{ChildStays, child_stays, level_at}
 use Rattle.stow_node.proofs.Stepping.{Stepped, behind_length, came_forgets, came_in, stays_keeps}
 use Rattle.stow_node.proofs.Ways.{goes_merging}
 
@@ -199,3 +201,12 @@ unladen {A} a v b i bytes x y above room l pins cache cache' node rise n q m d i
     drained_node : IsNode (record a { children = v; buffer = b })
     drained_node = (drained a w v b i d.filled d.merged room.came.items pins cache cache' went (ap (λ (k : List (Child A)). slice_get k i) w_items ∙ d.taken) d.steps d.forgets
         (are ∙ (λ j. take (i + 1) (set (sym w_items j) i (in_child.Node d.merged)) ++ (room.came.items ++ drop (i + 1) (set (sym w_items j) i (in_child.Node d.merged)))))).is_node
+
+-- there is room above it
+pub merging_room : {A : Type 0} (a : Inside A) (b : MessageList) (i bytes : ℕ) (x y : Subtree) (above : List ℕ) (room : Room A) (l : List (Child A)) (pins : TenantPins) (cache cache' : Cache) → IsNode a → MessagesRise a.buffer.messages → IsNext a i bytes x → MadeRoom a i x y → MergesDown pins (set a.children.items i (in_child.Node y)) i a.buffer above room l b cache cache' → HasRoom a.shape above room
+merging_room {A} a b i bytes x y above room l pins cache cache' node rise n m d =
+    let w : Vec (Child A) A = with_items (with_item a.children i (in_child.Node y)) d.after in
+    let items : w.items ≡ d.after = new_items a.children i (in_child.Node y) d.after a.buffer b d.down in
+    let went : WentInto a w b = went_into a i x y w b node rise m (let s = n.some in let e = n.bytes_are in omega (arith, s, e)) (subst (λ (k : List (Child A)). HandsDown (set a.children.items i (in_child.Node y)) i a.buffer k b) (sym items) d.down) in
+    let level : IsBelow {A = A} a.height a.shape (in_child.Node d.filled) = level_at a.height a.shape w.items i (in_child.Node d.filled) went.is_node.level (ap (λ (k : List (Child A)). slice_get k i) items ∙ d.taken) in
+    subst (λ (s : Shape). HasRoom s above room) level.same.0 d.has_room

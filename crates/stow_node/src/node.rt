@@ -34,7 +34,9 @@ use crate::counting::room_for;
 use crate::fence::Fence;
 use crate::installed::Installed;
 use crate::installing::can_install;
-use crate::moving::{are_for_last, are_within, bytes_for, hand_down, heaviest, is_apart, take_down};
+use crate::moving::{
+    are_for_last, are_within, bytes_for, hand_down, heaviest, is_apart, take_down,
+};
 use crate::planning::{deepest_child, is_drained, job_for};
 use crate::room::Room;
 use crate::shape::Shape;
@@ -270,7 +272,15 @@ impl<A: Allocator + Copy> Node<A> {
         let children = self.children.as_slice();
         let full = are_for_last(children, &self.buffer, top_key());
         let target = self.shape.leaf;
-        let fresh = all_merged(alloc, children, top_key(), &self.buffer, pins, target, cache)?;
+        let fresh = all_merged(
+            alloc,
+            children,
+            top_key(),
+            &self.buffer,
+            pins,
+            target,
+            cache,
+        )?;
         let mut room = room_for(alloc, self.shape, fresh.len(), above)?;
         self.buffer.reset();
         self.children = fresh;
