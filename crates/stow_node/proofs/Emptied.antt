@@ -1,7 +1,6 @@
 -- A node right above leaves, of which all messages were merged into its leaves.
-use Rattle.std.proofs.Common.{zero, suc, ◌≡◌, ℕ, cond, ◌+◌, ◌*◌, ◌<◌, ◌≤◌, true, false, List, [], ◌∷◌, ◌++◌, length, map, None, refl, sym, ap, ◌∙◌, subst, arith, append-nil}
+use Rattle.std.proofs.Common.{◌≡◌, ℕ, cond, ◌*◌, ◌<◌, true, false, List, [], ◌∷◌, ◌++◌, length, map, None, refl, sym, ap, ◌∙◌, subst, arith, append-nil}
 use Rattle.std.specs.List.{AllByRecursion}
-use Rattle.std.specs.Ordering.{is_lt}
 use Rattle.std.specs.declared.vec.Vec.{Vec}
 use Rattle.stow_bytes.specs.Bytes.{bytes_cmp}
 use Rattle.stow_message.proofs.RisingLists.{lt_is}
@@ -31,8 +30,8 @@ use Rattle.stow_node.specs.declared.child.Child.{Child}
 use Rattle.stow_node.specs.declared.node.Node.TheInside.{Inside}
 use Rattle.stow_node.specs.Flushes.{AreShort, KeepsMeaning}
 use Rattle.stow_node.specs.Moves.{accepted}
-use Rattle.stow_node.specs.Nodes.{node_part, parts_of, leaves_of, AreLeaves, subtree_of, IsNode, AreChildren}
-use Rattle.stow_node.specs.Parts.{IsTile, low_or, messages_in}
+use Rattle.stow_node.specs.Nodes.{node_part, parts_of, leaves_of, AreLeaves, subtree_of, IsNode}
+use Rattle.stow_node.specs.Parts.{IsTile, messages_in}
 use Rattle.stow_node.specs.Regroups.{Grows}
 use Rattle.stow_node.specs.Subtree.{Subtree, messages_of}
 use Rattle.stow_node.specs.TakesDown.{CanMergeFrom}

@@ -1,5 +1,5 @@
 -- A child that takes its messages, and may merge all that it has then, in a row of children.
-use Rattle.std.proofs.Common.{zero, suc, ◌≡◌, ℕ, ◌+◌, ◌*◌, ◌<◌, ◌≤◌, List, [], ◌∷◌, ◌++◌, length, set, Option, Some, None, refl, sym, ap, ◌∙◌, subst, arith, inl, inr, length-set}
+use Rattle.std.proofs.Common.{zero, suc, ◌≡◌, ℕ, List, [], ◌∷◌, ◌++◌, length, set, Option, Some, None, refl, sym, ap, ◌∙◌, subst, arith, inl, inr}
 use Rattle.std.specs.Prelude.{slice_get, slice_set, Result, Ok, Err, OnErr}
 use Rattle.std.specs.List.{sum_by}
 use Rattle.stow_leaf_cache.specs.Cache.{Cache}
@@ -14,13 +14,13 @@ use Rattle.stow_tree_model.specs.TreeMessage.{TreeMessage}
 use Rattle.stow_node.specs.declared.child.Child.{Child}
 use Rattle.stow_node.specs.declared.child.Child.TheVariants as in_child
 use Rattle.stow_node.specs.declared.room.Room.{Room}
-use Rattle.stow_node.specs.Moves.{accepted, bytes_for, HandsDown, IsLaden, messages_for, page_bytes}
+use Rattle.stow_node.specs.Moves.{accepted, bytes_for, HandsDown, IsLaden, messages_for}
 use Rattle.stow_node.specs.Nodes.{node_part, parts_of}
 use Rattle.stow_node.specs.Parts.{Part, high_of}
 use Rattle.stow_node.specs.Regroups.{StepsAsOne, ForgetsCame}
 use Rattle.stow_node.specs.Rooms.{HasRoom}
 use Rattle.stow_node.specs.Subtree.{Subtree}
-use Rattle.stow_node.specs.TakesDown.{CanMergeFrom, CanTakeDown, CanUnlade, IsLight, MaySkip, MergesDown, TakesDown, TakesLight, Unlades, Unloads}
+use Rattle.stow_node.specs.TakesDown.{CanMergeFrom, CanTakeDown, CanUnlade, MaySkip, MergesDown, TakesDown, Unlades}
 use Rattle.stow_node.specs.Ways.{MergesInto}
 use Rattle.stow_node.proofs.Accepted.{length-all_placed}
 use Rattle.stow_node.proofs.Down.{get-set}

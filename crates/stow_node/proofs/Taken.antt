@@ -1,5 +1,5 @@
 -- A child that took its messages out of the buffer above it, and merged all that it had then.
-use Rattle.std.proofs.Common.{◌≡◌, ℕ, ◌+◌, ◌<◌, ◌≤◌, List, ◌∷◌, ◌++◌, length, take, drop, set, Option, Some, None, refl, sym, ap, ◌∙◌, subst, arith, ⊎_elim, length-set}
+use Rattle.std.proofs.Common.{◌≡◌, ℕ, ◌+◌, ◌<◌, ◌≤◌, List, ◌++◌, length, take, drop, set, Option, Some, None, refl, sym, ap, ◌∙◌, subst, arith, ⊎_elim, length-set}
 use Rattle.std.specs.Prelude.{slice_get}
 use Rattle.std.specs.Vec.{with_item, with_items}
 use Rattle.std.specs.declared.vec.Vec.{Vec}
@@ -24,7 +24,7 @@ use Rattle.stow_node.specs.declared.room.Room.{Room}
 use Rattle.stow_node.specs.declared.shape.Shape.{Shape}
 use Rattle.stow_node.specs.Flushes.{AreShort, KeepsMeaning}
 use Rattle.stow_node.specs.Moves.{accepted, HandsDown, IsHeaviest, IsSqueezed, messages_for, StaysInMeaning}
-use Rattle.stow_node.specs.Nodes.{node_part, parts_of, subtree_of, IsBelow, IsNode}
+use Rattle.stow_node.specs.Nodes.{parts_of, subtree_of, IsBelow, IsNode}
 use Rattle.stow_node.specs.Parts.{high_of, leaves_in}
 use Rattle.stow_node.specs.Regroups.{Grows, StepsAsOne, ForgetsCame}
 use Rattle.stow_node.specs.Rooms.{HasRoom}

@@ -1,5 +1,5 @@
 -- A child that takes its messages out of the buffer above it, and may merge all that it has then.
-use Rattle.std.specs.Prelude.{◌≡◌, ◌⊎◌, ℕ, ◌+◌, ◌<◌, ◌≤◌, List, [], length, slice_get, slice_set, false, Option, Some, None}
+use Rattle.std.specs.Prelude.{◌≡◌, ◌⊎◌, ℕ, ◌<◌, ◌≤◌, List, [], length, slice_get, slice_set, false, Option, Some, None}
 use Rattle.std.specs.Ordering.{is_lt}
 use Rattle.stow_bytes.specs.Bytes.{bytes_cmp}
 use Rattle.stow_leaf.specs.Intervals.{top_key}

@@ -1,6 +1,4 @@
-use Rattle.std.proofs.Common.{◌≡◌, ◌+◌, ◌≤◌, take, arith, rules}
-use Rattle.stow_node.specs.Moves.{page_bytes}
-use Rattle.stow_node.specs.Nodes.{leaves_of}
+use Rattle.std.proofs.Common.{◌+◌, arith, rules}
 use Rattle.stow_node.proofs.Laden.{pages_more, pages_within, pages_all}
 use Rattle.stow_node.proofs.Leaves.{no_node_there}
 use Rattle.stow_node.proofs.moving.are_within.Goals as goal

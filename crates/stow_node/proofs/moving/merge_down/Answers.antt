@@ -1,8 +1,7 @@
-use Rattle.std.proofs.Common.{◌≡◌, ℕ, ◌+◌, ◌<◌, ◌≤◌, List, ◌∷◌, ◌++◌, length, refl, sym, ap, ◌∙◌, subst, arith}
+use Rattle.std.proofs.Common.{◌≡◌, ◌+◌, ◌≤◌, ◌++◌, length, refl, sym, ap, ◌∙◌, subst, arith}
 use Rattle.std.specs.List.{sum_by}
 use Rattle.std.specs.Prelude.{slice_set}
 use Rattle.std.proofs.lemmas.Grind.{elements}
-use Rattle.std.proofs.lemmas.List.{length-map}
 use Rattle.stow_leaf.proofs.Steps.{inside_of}
 use Rattle.stow_leaves.proofs.Forgotten.{on_err}
 use Rattle.stow_merge.specs.Pins.{pins_in}
@@ -13,7 +12,6 @@ use Rattle.stow_node.specs.Moves.{messages_for}
 use Rattle.stow_node.specs.Nodes.{parts_of}
 use Rattle.stow_node.specs.Parts.{high_of}
 use Rattle.stow_node.specs.Subtree.{Subtree}
-use Rattle.stow_node.specs.TakesDown.{CanTakeDown}
 use Rattle.stow_node.proofs.HandedDown.{Opened, opened, at_child, not_leaf, same_node}
 use Rattle.stow_node.proofs.Split.{set_same}
 use Rattle.stow_node.proofs.Straight.{can_merge_from, merged_down, none_there, opened_set, own_bytes}

@@ -1,11 +1,8 @@
-use Rattle.std.proofs.Common.{◌≡◌, List, Option, Some, None, refl, sym, ap, ◌∙◌, subst, inl, inr}
-use Rattle.std.specs.Prelude.{OnErr}
+use Rattle.std.proofs.Common.{◌≡◌, List, sym, subst, inr}
 use Rattle.stow_leaf.proofs.Steps.{if_ok}
-use Rattle.stow_leaves.specs.Forgets.{Forgets}
 use Rattle.stow_merge.specs.Pins.{pins_in}
 use Rattle.stow_message.specs.MessageBuf.{MessageList}
 use Rattle.stow_node.specs.declared.child.Child.{Child}
-use Rattle.stow_node.specs.declared.child.Child.TheVariants as in_child
 use Rattle.stow_node.specs.Moves.{HandsDown}
 use Rattle.stow_node.specs.Nodes.{leaves_of}
 use Rattle.stow_node.specs.TakesDown.{MergesDown}

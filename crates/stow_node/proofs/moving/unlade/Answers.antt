@@ -2,10 +2,8 @@ use Rattle.std.proofs.Common.{◌≡◌, ◌<◌, ◌≤◌, length, refl, sym, 
 use Rattle.std.specs.Prelude.{slice_set}
 use Rattle.stow_leaf.proofs.Steps.{inside_of}
 use Rattle.stow_leaves.proofs.Forgotten.{on_err}
-use Rattle.stow_merge.specs.Pins.{pins_in}
 use Rattle.stow_node.specs.declared.child.Child.TheVariants as in_child
 use Rattle.stow_node.specs.Flushes.{AreShort}
-use Rattle.stow_node.specs.Moves.{IsLaden}
 use Rattle.stow_node.specs.Subtree.{Subtree, messages_of}
 use Rattle.stow_node.proofs.HandedDown.{same_node}
 use Rattle.stow_node.proofs.Split.{SplitAt, split_at, set_same, no_leaf}

@@ -8,7 +8,7 @@ use Rattle.stow_node.specs.declared.child.Child.{Child}
 use Rattle.stow_node.specs.Flushes.{AreShort}
 use Rattle.stow_leaves.specs.Forgets.{Forgets}
 use Rattle.stow_node.specs.Nodes.{leaves_of}
-use Rattle.stow_node.specs.Moves.{IsHeaviest, HandsDown}
+use Rattle.stow_node.specs.Moves.{IsHeaviest}
 use Rattle.stow_node.specs.declared.shape.Shape.{Shape}
 use Rattle.stow_node.specs.Nodes.{part_of, parts_of, IsBelow, subtree_of}
 use Rattle.stow_node.specs.Parts.{leaves_in}
@@ -16,7 +16,7 @@ use Rattle.stow_node.specs.Regroups.{StepsAsOne}
 use Rattle.stow_groups.specs.Groups.{groups}
 use Rattle.stow_node.specs.Rooms.{AreShells, AreLists, HasRoom}
 use Rattle.stow_node.specs.Subtree.{Subtree, messages_of}
-use Rattle.stow_node.specs.TakesDown.{CanTakeDown, MergesDown, TakesDown, TakesLight}
+use Rattle.stow_node.specs.TakesDown.{MergesDown, TakesDown, TakesLight}
 use Rattle.stow_node.specs.Ways.{Goes}
 use Rattle.stow_node.proofs.Down.{IsNext, squeezed_same, stays_then, MadeRoom, made_room, WentInto, went_into, new_items}
 use Rattle.stow_node.proofs.Entered.{Entered, entered, not_leaf}

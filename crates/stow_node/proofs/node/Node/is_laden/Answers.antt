@@ -1,4 +1,4 @@
-use Rattle.std.proofs.Common.{◌≡◌, ◌+◌, ◌*◌, ◌<◌, ◌≤◌, sym, ap, ◌∙◌, subst, arith}
+use Rattle.std.proofs.Common.{◌≡◌, ◌+◌, ◌<◌, sym, ap, ◌∙◌, arith}
 use Rattle.stow_node.specs.Moves.{page_bytes}
 use Rattle.stow_node.specs.Nodes.{leaves_of}
 use Rattle.stow_node.specs.Subtree.{Subtree}

@@ -1,13 +1,12 @@
-use Rattle.std.proofs.Common.{◌≡◌, ◌+◌, ◌-◌, ◌<◌, ◌≤◌, List, [], length, refl, sym, ap, ◌∙◌, subst, arith}
+use Rattle.std.proofs.Common.{◌≡◌, ◌+◌, ◌-◌, ◌<◌, ◌≤◌, List, length, refl, sym, ap, ◌∙◌, subst, arith}
 use Rattle.stow_groups.specs.Groups.{groups}
 use Rattle.stow_leaf.specs.Intervals.{top_key}
-use Rattle.stow_leaves.specs.AbsorbsAll.{CanAbsorbAll, MergesAll, StandsForAll}
+use Rattle.stow_leaves.specs.AbsorbsAll.{MergesAll, StandsForAll}
 use Rattle.stow_leaves.specs.Forgets.{Forgets}
 use Rattle.stow_merge.specs.Pins.{pins_in}
 use Rattle.stow_message.specs.MessageBuf.{MessageList}
 use Rattle.stow_node.specs.declared.child.Child.{Child}
 use Rattle.stow_node.specs.Flushes.{AreShort}
-use Rattle.stow_node.specs.Moves.{accepted}
 use Rattle.stow_node.specs.Nodes.{leaves_of, subtree_of}
 use Rattle.stow_node.specs.Regroups.{Grows, StepsAsOne}
 use Rattle.stow_node.specs.Rooms.{AreShells, HasRoom, nodes_needed}
