@@ -1,5 +1,6 @@
 -- A child that took its messages out of the buffer above it, and merged all that it had then.
 use Rattle.std.proofs.Common.{◌≡◌, ℕ, ◌+◌, ◌<◌, ◌≤◌, List, ◌++◌, length, take, drop, set, Option, Some, None, refl, sym, ap, ◌∙◌, subst, arith, ⊎_elim, length-set}
+use Rattle.std.specs.List.{sum_by}
 use Rattle.std.specs.Prelude.{slice_get}
 use Rattle.std.specs.Vec.{with_item, with_items}
 use Rattle.std.specs.declared.vec.Vec.{Vec}
@@ -10,6 +11,8 @@ use Rattle.stow_tree_model.specs.Messages.{ops_in}
 use Rattle.stow_tree_model.specs.Operations.{or_else}
 use Rattle.stow_tree_model.specs.Order.{MessagesRise}
 use Rattle.stow_message.specs.MessageBuf.{MessageList, without_range}
+use Rattle.stow_message.specs.Packed.{message_size}
+use Rattle.stow_message.specs.Rising.{in_range}
 use Rattle.stow_leaf_cache.specs.Cache.{Cache}
 use Rattle.stow_leaf.specs.Intervals.{top_key}
 use Rattle.stow_leaf.specs.LeafRows.{LeafRows, row_messages}
@@ -23,9 +26,9 @@ use Rattle.stow_node.specs.declared.node.Node.TheInside.{Inside}
 use Rattle.stow_node.specs.declared.room.Room.{Room}
 use Rattle.stow_node.specs.declared.shape.Shape.{Shape}
 use Rattle.stow_node.specs.Flushes.{AreShort, KeepsMeaning}
-use Rattle.stow_node.specs.Moves.{accepted, HandsDown, IsHeaviest, IsSqueezed, messages_for, StaysInMeaning}
+use Rattle.stow_node.specs.Moves.{accepted, bytes_for, HandsDown, IsHeaviest, IsSqueezed, messages_for, StaysInMeaning}
 use Rattle.stow_node.specs.Nodes.{parts_of, subtree_of, IsBelow, IsNode}
-use Rattle.stow_node.specs.Parts.{high_of, leaves_in}
+use Rattle.stow_node.specs.Parts.{Part, high_of, leaves_in}
 use Rattle.stow_node.specs.Regroups.{Grows, StepsAsOne, ForgetsCame}
 use Rattle.stow_node.specs.Rooms.{HasRoom}
 use Rattle.stow_node.specs.Subtree.{Subtree, messages_of}
@@ -36,7 +39,7 @@ use Rattle.stow_node.proofs.Lowered.{AtChild, at_child, end_at_most, for_child}
 use Rattle.stow_node.proofs.Row.{message_taken, messages_apart}
 use Rattle.stow_node.proofs.Spliced.{child_short}
 use Rattle.stow_node.proofs.Standing.{parts_ops}
-use Rattle.stow_node.proofs.Stayed.{ChildStays, child_stays, level_at}
+use Rattle.stow_node.proofs.Stayed.{ChildStays, child_stays, level_at, part_at}
 use Rattle.stow_node.proofs.Stepping.{Stepped, behind_length, came_forgets, came_in, stays_keeps}
 use Rattle.stow_node.proofs.Ways.{goes_merging}
 
@@ -101,6 +104,12 @@ can_take_down {A} a i bytes x y node rise n m fan_out short = record {
     there : slice_get w.items i ≡ Some (in_child.Node filled)
     there = ap (λ (l : List (Child A)). slice_get l i) items ∙ get-set (set a.children.items i (in_child.Node y)) i (in_child.Node filled)
         (let l = length-set a.children.items i (in_child.Node y) in let h = inside_of (set a.children.items i (in_child.Node y)) i (in_child.Node y) m.at in omega (arith, h))
+
+-- the bytes of its messages are the same once dead bytes of its own are dropped
+pub bytes_down : {A : Type 0} (a : Inside A) (i bytes : ℕ) (x y : Subtree) (d : Part) → IsNext a i bytes x → MadeRoom a i x y → bytes ≡ bytes_for (parts_of (set a.children.items i (in_child.Node y))) a.buffer i d
+bytes_down a i bytes x y d n m =
+    n.bytes_are ∙ sym m.bytes
+    ∙ sym (ap (λ (p : Part). sum_by message_size (in_range p.low (high_of (parts_of (set a.children.items i (in_child.Node y))) i) a.buffer.messages)) (part_at (set a.children.items i (in_child.Node y)) i (in_child.Node y) d m.at))
 
 -- ---- once it merged them
 

@@ -107,17 +107,19 @@ pub(crate) fn are_for_last<A: Allocator>(
 }
 
 /// Merges the messages for a child, a node, straight into its leaves (`Node::merge_from`), where it has no message and would be
-/// laden with them. Where memory is refused nothing has changed.
+/// laden with them. They take so many bytes. Where memory is refused nothing has changed.
 fn merge_down<A: Allocator + Copy>(
     alloc: A,
     children: &mut [Child<A>],
     index: usize,
     buffer: &mut MessageBuf<A>,
+    bytes: usize,
     pins: &Pins<A>,
     cache: &mut LeafCache<A>,
     above: &[usize],
 ) -> Result<Option<Room<A>>, AllocError>
-    requires { CanTakeDown children.old index buffer.old }
+    requires can { CanTakeDown children.old index buffer.old }
+    requires bytes { (d : Part) → bytes ≡ bytes_for (parts_of children.old) buffer.old index d }
     ensures merges { IfOk result (λ room. MaySkip (MergesDown (pins_in pins.now) children.old index
         buffer.old above.now) room children.old children.new buffer.old buffer.new
         cache.old cache.new) }
@@ -125,7 +127,6 @@ fn merge_down<A: Allocator + Copy>(
     ensures kept { OnErr result (Forgets (leaves_of children.old) (leaves_of children.old)
         cache.old cache.new) }
 {
-    let bytes = bytes_for(children, index, buffer);
     let (front, after) = children.split_at_mut(index + 1);
     let end = first_low(after);
     let (_, child) = front.split_at_mut(index);
@@ -171,18 +172,20 @@ fn unlade<A: Allocator + Copy>(
 }
 
 /// Moves the messages for a child, a node, into its buffer; where it is laden then, it merges all that it has into its leaves,
-/// straight from the buffer above it where it had none before. There are the nodes that are to stand behind it, if it
+/// straight from the buffer above it where it had none before. They take so many bytes. There are the nodes that are to stand behind it, if it
 /// merged. Where memory is refused messages may have moved into its buffer, and no more.
 pub(crate) fn take_down<A: Allocator + Copy>(
     alloc: A,
     children: &mut [Child<A>],
     index: usize,
     buffer: &mut MessageBuf<A>,
+    bytes: usize,
     pins: &Pins<A>,
     cache: &mut LeafCache<A>,
     above: &[usize],
 ) -> Result<Option<Room<A>>, AllocError>
-    requires { CanTakeDown children.old index buffer.old }
+    requires can { CanTakeDown children.old index buffer.old }
+    requires bytes { (d : Part) → bytes ≡ bytes_for (parts_of children.old) buffer.old index d }
     ensures takes { IfOk result (λ room. TakesDown (pins_in pins.now) children.old index buffer.old
         above.now room children.new buffer.new cache.old cache.new) }
     ensures err { OnErr result (MayHandDown children.old index buffer.old
@@ -190,7 +193,7 @@ pub(crate) fn take_down<A: Allocator + Copy>(
     ensures kept { OnErr result (Forgets (leaves_of children.old) (leaves_of children.old)
         cache.old cache.new) }
 {
-    let straight = merge_down(alloc, children, index, buffer, pins, cache, above)?;
+    let straight = merge_down(alloc, children, index, buffer, bytes, pins, cache, above)?;
     if let Some(room) = straight {
         return Ok(Some(room));
     }

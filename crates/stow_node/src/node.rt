@@ -394,7 +394,8 @@ impl<A: Allocator + Copy> Node<A> {
         }
         let buffer = &mut self.buffer;
         let above = above.as_slice();
-        let taken = take_down(alloc, &mut self.children, index, buffer, pins, cache, above)?;
+        let children = &mut self.children;
+        let taken = take_down(alloc, children, index, buffer, bytes, pins, cache, above)?;
         let Some(mut room) = taken else {
             return Ok(Room::none(alloc));
         };

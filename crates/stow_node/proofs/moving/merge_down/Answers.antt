@@ -26,25 +26,22 @@ here g c = opened c.args.children.now c.split_at_mut-front.result.0.now c.split_
 ends : (g : given.Over) (c : In-Node g) → high_of (parts_of c.args.children.now) c.args.index ≡ c.first_low-end.result.bytes.now
 ends g c = (at_child c.args.children.now c.split_at_mut-child.result.0.now c.split_at_mut-child.result.1.now c.split_at_mut-front.result.1.now c.args.index c.in-Node.node (here g c)).ends ∙ sym c.first_low-end.ensures
 
-is_node : (g : given.Over) (c : In-Node g) → c.requires.node ≡ c.in-Node.node
-is_node g c = same_node c.requires.node c.in-Node.node (sym c.requires.at ∙ (at_child c.args.children.now c.split_at_mut-child.result.0.now c.split_at_mut-child.result.1.now c.split_at_mut-front.result.1.now c.args.index c.in-Node.node (here g c)).at)
+is_node : (g : given.Over) (c : In-Node g) → c.requires.can.node ≡ c.in-Node.node
+is_node g c = same_node c.requires.can.node c.in-Node.node (sym c.requires.can.at ∙ (at_child c.args.children.now c.split_at_mut-child.result.0.now c.split_at_mut-child.result.1.now c.split_at_mut-front.result.1.now c.args.index c.in-Node.node (here g c)).at)
 
-bytes_are : (g : given.Over) (c : In-Node g) → c.bytes_for-bytes.result ≡ sum_by message_size (messages_for (parts_of c.args.children.now) c.args.buffer.now c.args.index c.in-Node.node)
-bytes_are g c = own_bytes c.args.children.now c.args.index c.args.buffer.now c.in-Node.node c.bytes_for-bytes.result (at_child c.args.children.now c.split_at_mut-child.result.0.now c.split_at_mut-child.result.1.now c.split_at_mut-front.result.1.now c.args.index c.in-Node.node (here g c)).at c.bytes_for-bytes.ensures
-
-pub bytes_for-bytes-requires : goal.bytes_for-bytes-requires
-bytes_for-bytes-requires g c = inside_of c.args.children.now c.args.index (in_child.Node c.requires.node) c.requires.at
+bytes_are : (g : given.Over) (c : In-Node g) → c.args.bytes ≡ sum_by message_size (messages_for (parts_of c.args.children.now) c.args.buffer.now c.args.index c.in-Node.node)
+bytes_are g c = own_bytes c.args.children.now c.args.index c.args.buffer.now c.in-Node.node c.args.bytes (at_child c.args.children.now c.split_at_mut-child.result.0.now c.split_at_mut-child.result.1.now c.split_at_mut-front.result.1.now c.args.index c.in-Node.node (here g c)).at c.requires.bytes
 
 pub overflow_add-index : goal.overflow_add-index
-overflow_add-index g c = grind (arith, elements, inside_of c.args.children.now c.args.index (in_child.Node c.requires.node) c.requires.at)
+overflow_add-index g c = grind (arith, elements, inside_of c.args.children.now c.args.index (in_child.Node c.requires.can.node) c.requires.can.at)
 
 pub split_at_mut-front-requires : goal.split_at_mut-front-requires
-split_at_mut-front-requires g c = let l = inside_of c.args.children.now c.args.index (in_child.Node c.requires.node) c.requires.at in omega (arith, l)
+split_at_mut-front-requires g c = let l = inside_of c.args.children.now c.args.index (in_child.Node c.requires.can.node) c.requires.can.at in omega (arith, l)
 
 pub unreachable-requires : goal.unreachable-requires
 unreachable-requires g c = not_leaf c.args.children.now c.split_at_mut-child.result.0.now c.split_at_mut-child.result.1.now c.split_at_mut-front.result.1.now c.args.index c.args.buffer.now c.in-Leaf.field-0
     (opened c.args.children.now c.split_at_mut-front.result.0.now c.split_at_mut-child.result.0.now c.split_at_mut-child.result.1.now c.split_at_mut-front.result.1.now c.args.index (in_child.Leaf c.in-Leaf.field-0) c.split_at_mut-front.ensures.value c.split_at_mut-child.ensures.value c.split_at_mut-front.ensures.front_len c.split_at_mut-child.ensures.front_len c.index-child-0.result c.in-Leaf.is)
-    (record { node = c.requires.node; at = c.requires.at; can = c.requires.can })
+    (record { node = c.requires.can.node; at = c.requires.can.at; can = c.requires.can.can })
 
 -- the row with the child as it was
 stays : (g : given.Over) (c : In-Node g) → (c.split_at_mut-child.result.0.now ++ slice_set c.split_at_mut-child.result.1.now 0 (in_child.Node c.in-Node.node)) ++ c.split_at_mut-front.result.1.now ≡ c.args.children.now
@@ -55,7 +52,7 @@ stays g c =
 pub is_laden-requires : goal.is_laden-requires
 is_laden-requires g c =
     let b = bytes_are g (goal.at.is_laden-requires g c).In-Node in
-    let room = subst (λ (n : Subtree). n.buffer.used + sum_by message_size (messages_for (parts_of c.args.children.now) c.args.buffer.now c.args.index n) ≤ n.buffer.capacity) (is_node g (goal.at.is_laden-requires g c).In-Node) c.requires.can.room in
+    let room = subst (λ (n : Subtree). n.buffer.used + sum_by message_size (messages_for (parts_of c.args.children.now) c.args.buffer.now c.args.index n) ≤ n.buffer.capacity) (is_node g (goal.at.is_laden-requires g c).In-Node) c.requires.can.can.room in
     omega (arith, b, room)
 
 pub returns-then-len-gt0-clause-merges : goal.returns-then-len-gt0-clause-merges
@@ -66,7 +63,7 @@ returns-then-len-gt0-clause-merges g c =
 pub merge_from-requires : goal.merge_from-requires
 merge_from-requires g c =
     let at = (goal.at.merge_from-requires g c).In-Node in
-    can_merge_from c.args.children.now c.args.index c.args.buffer.now c.in-Node.node c.first_low-end.result.bytes.now c.requires (is_node g at) (ends g at)
+    can_merge_from c.args.children.now c.args.index c.args.buffer.now c.in-Node.node c.first_low-end.result.bytes.now c.requires.can (is_node g at) (ends g at)
     (c.is_laden.ensures.0 c.if-not-is_laden.false).0
     (none_there c.in-Node.node.buffer.messages (let n = c.len.ensures.len in let b = ap (λ (l : MessageList). length l.messages) c.buffer.ensures in let z = c.if-len-gt0.false in omega (arith, n, b, z)))
 
@@ -79,7 +76,7 @@ returns-in_err-merge_from-in-Node-clause-err g c =
 pub returns-clause-merges : goal.returns-clause-merges
 returns-clause-merges g c =
     let at = (goal.at.returns-clause-merges g c).In-Node in
-    merged_down (pins_in c.args.pins.now) c.args.children.now c.args.index c.args.buffer.now c.args.above.now c.in_ok-merge_from-in-Node.field-0 _ c.merge_from.new.from c.args.cache.now c.merge_from.new.cache c.in-Node.node c.merge_from.new.self c.first_low-end.result.bytes.now c.bytes_for-bytes.result
+    merged_down (pins_in c.args.pins.now) c.args.children.now c.args.index c.args.buffer.now c.args.above.now c.in_ok-merge_from-in-Node.field-0 _ c.merge_from.new.from c.args.cache.now c.merge_from.new.cache c.in-Node.node c.merge_from.new.self c.first_low-end.result.bytes.now c.args.bytes
     (at_child c.args.children.now c.split_at_mut-child.result.0.now c.split_at_mut-child.result.1.now c.split_at_mut-front.result.1.now c.args.index c.in-Node.node (here g at)).at
     (ends g at)
     (none_there c.in-Node.node.buffer.messages (let n = c.len.ensures.len in let b = ap (λ (l : MessageList). length l.messages) c.buffer.ensures in let z = c.if-len-gt0.false in omega (arith, n, b, z)))

@@ -22,7 +22,7 @@ down g c =
     (subst (λ (m : MessageList). HandsDown c.merge_down.new.children c.args.index m c.hand_down.new.children c.hand_down.new.buffer) b.1.0 c.hand_down.ensures)
 
 pub unlade-requires : goal.unlade-requires
-unlade-requires g c = can_unlade c.args.children.now c.args.index c.args.buffer.now c.hand_down.new.children c.hand_down.new.buffer c.requires (down g (goal.at.unlade-requires g c).After-hand_down)
+unlade-requires g c = can_unlade c.args.children.now c.args.index c.args.buffer.now c.hand_down.new.children c.hand_down.new.buffer c.requires.can (down g (goal.at.unlade-requires g c).After-hand_down)
 
 pub returns-clause-takes : goal.returns-clause-takes
 returns-clause-takes g c = if_ok c.unlade.result _ _ (λ room u.

@@ -26,7 +26,7 @@ use Rattle.stow_node.proofs.Rooms.{LevelReady, level_ready, level_left, none_nee
 use Rattle.stow_node.proofs.Regrouped.{steps, grown_leaves}
 use Rattle.stow_node.proofs.Stayed.{ChildStays, child_stays, level_at}
 use Rattle.stow_node.proofs.Stepping.{next_is, CanStep, can_step, Stepped, stepped, stepped_forgets, behind_length, steps_alone}
-use Rattle.stow_node.proofs.Taken.{IsUnladen, Refused, can_take_down, light_of, merging_of, merging_room, refused, unladen}
+use Rattle.stow_node.proofs.Taken.{IsUnladen, Refused, bytes_down, can_take_down, light_of, merging_of, merging_room, refused, unladen}
 use Rattle.stow_node.proofs.Ways.{goes_into, goes_below}
 use Rattle.stow_node.proofs.node.Node.+step_below.Given as given
 use Rattle.stow_node.proofs.node.Node.+step_below.Goals as goal
@@ -304,16 +304,22 @@ is_unladen : (g : given.Over) (t : ℕ) (c : After-take_in-2 g t) → IsNext c.s
     → IsUnladen c.self.inside c.take_in-2.new.children c.take_down.new.buffer c.heaviest-index.result c.bytes_for-bytes.result c.in-Node.node c.makes_room.new.self c.in-Some.room.came.items (pins_in c.args.pins.now) c.args.cache.now c.take_down.new.cache
 is_unladen g t c n m d = unladen c.self.inside c.take_in-2.new.children c.take_down.new.buffer c.heaviest-index.result c.bytes_for-bytes.result c.in-Node.node c.makes_room.new.self c.as_slice-above.result.now c.in-Some.room c.take_down.new.children (pins_in c.args.pins.now) c.args.cache.now c.take_down.new.cache c.self.invariant c.len-known.ensures.rising n c.makes_room.ensures.same m d c.take_in-2.ensures.children
 
-pub take_down-requires : goal.take_down-requires
-take_down-requires g t c =
-    let next = is_next g t (goal.at.take_down-requires g t c).In-Node in
-    let made = is_made g t (goal.at.take_down-requires g t c).After-deref_mut next in
+pub take_down-requires-clause-can : goal.take_down-requires-clause-can
+take_down-requires-clause-can g t c =
+    let next = is_next g t (goal.at.take_down-requires-clause-can g t c).In-Node in
+    let made = is_made g t (goal.at.take_down-requires-clause-can g t c).After-deref_mut next in
     let below : IsBelow c.self.inside.height c.self.inside.shape (in_child.Node c.in-Node.node) = level_at c.self.inside.height c.self.inside.shape c.self.inside.children.items c.heaviest-index.result (in_child.Node c.in-Node.node) c.self.invariant.level next.at in
     let own : c.makes_room.new.self.shape ≡ c.self.inside.shape = (squeezed_same c.in-Node.node c.makes_room.new.self c.makes_room.ensures.same).0.shape ∙ below.same.0 in
     rw c.deref_mut.ensures.value
     (can_take_down c.self.inside c.heaviest-index.result c.bytes_for-bytes.result c.in-Node.node c.makes_room.new.self c.self.invariant c.len-known.ensures.rising next made
-    (let some = are_some g t (goal.at.take_down-requires g t c).In-Node in let e = ap (λ (s : Shape). s.fan_out) own in omega (arith, some, e))
+    (let some = are_some g t (goal.at.take_down-requires-clause-can g t c).In-Node in let e = ap (λ (s : Shape). s.fan_out) own in omega (arith, some, e))
     (subst (λ (s : Subtree). AreShort (messages_of s)) (sym c.self.view_is) c.requires.short))
+
+pub take_down-requires-clause-bytes : goal.take_down-requires-clause-bytes
+take_down-requires-clause-bytes g t c d =
+    let next = is_next g t (goal.at.take_down-requires-clause-bytes g t c).In-Node in
+    let made = is_made g t (goal.at.take_down-requires-clause-bytes g t c).After-deref_mut next in
+    rw c.deref_mut.ensures.value (bytes_down c.self.inside c.heaviest-index.result c.bytes_for-bytes.result c.in-Node.node c.makes_room.new.self d next made)
 
 gave_back : (g : given.Over) (t : ℕ) (c : In_err-taken g t) → IsNext c.self.inside c.heaviest-index.result c.bytes_for-bytes.result c.in-Node.node → MadeRoom c.self.inside c.heaviest-index.result c.in-Node.node c.makes_room.new.self → Refused c.self.inside (with_items (with_item c.self.inside.children c.heaviest-index.result (in_child.Node c.makes_room.new.self)) c.take_down.new.children) c.take_down.new.buffer
 gave_back g t c n m =
