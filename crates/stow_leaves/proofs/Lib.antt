@@ -4,3 +4,4 @@ pub mod Pairs
 pub mod Fences
 pub mod Replaced
 pub mod Parted
+pub mod GivenWay

@@ -21,7 +21,7 @@ use Rattle.stow_tree_model.specs.Value.{IsValue}
 use Rattle.stow_tree_model.proofs.Latest.{contains_cases}
 use Rattle.stow_leaf.specs.Intervals.{top_key, spans}
 use Rattle.stow_leaf.specs.LeafRows.{LeafRows, leaf_rows, row_messages, first_fence, IsLeafTile, LeavesTo}
-use Rattle.stow_leaf.specs.Replacements.{IsLeafSize, AreThere, MeanTheSame, ops_with, CanReplace, IsFence, TakePlace}
+use Rattle.stow_leaf.specs.Replacements.{IsLeafSize, AreThere, HasShortValues, MeanTheSame, ops_with, CanReplace, IsFence, TakePlace}
 use Rattle.stow_leaf.specs.declared.leaf.Leaf.{Leaf}
 use Rattle.stow_leaf.proofs.Found.{both_none, or_assoc, or_none, none_or, none_some, some_or, some_left, some_right, merged_short}
 use Rattle.stow_leaf.proofs.Fronts.{range_within}
@@ -29,6 +29,7 @@ use Rattle.stow_leaf.proofs.Intervals.{lt, by_test, lt_self, lt_trans, lt_le, le
 use Rattle.stow_leaf.proofs.Over.{Above, over_same, same_itself}
 use Rattle.stow_leaf.proofs.Ops.{ops-append, ops-in_range, ops-out_of_range}
 use Rattle.stow_leaves.specs.Absorbs.{fence_at, with_leaves, left_above, ops_above, BatchGoes, CanAbsorb, CanPutPages, CanPutOthers, StandsFor}
+use Rattle.stow_leaves.specs.AbsorbsAll.{CanGiveWay}
 use Rattle.stow_leaves.specs.Forgets.{Forgets, cache_without}
 use Rattle.stow_leaves.specs.Joins.{AreJoined, JoinsAll}
 use Rattle.stow_leaves.proofs.Fences.{parted, fence_is}
@@ -91,19 +92,19 @@ same_leaf leaves i x y e f = same x y (sym e ∙ f) where
 
 -- ---- leaves in a row
 
-first_fence-append : (high : List ℕ) (xs ys : List LeafRows) → first_fence high (xs ++ ys) ≡ first_fence (first_fence high ys) xs
+pub first_fence-append : (high : List ℕ) (xs ys : List LeafRows) → first_fence high (xs ++ ys) ≡ first_fence (first_fence high ys) xs
 first_fence-append high [] ys = refl
 first_fence-append high (x ∷ xs) ys = refl
 
-to_left : (high : List ℕ) (xs ys : List LeafRows) → LeavesTo high (xs ++ ys) → LeavesTo (first_fence high ys) xs
+pub to_left : (high : List ℕ) (xs ys : List LeafRows) → LeavesTo high (xs ++ ys) → LeavesTo (first_fence high ys) xs
 to_left high [] ys t = tt
 to_left high (x ∷ xs) ys t = (subst (IsLeafTile x) (first_fence-append high xs ys) t.0, to_left high xs ys t.1)
 
-to_right : (high : List ℕ) (xs ys : List LeafRows) → LeavesTo high (xs ++ ys) → LeavesTo high ys
+pub to_right : (high : List ℕ) (xs ys : List LeafRows) → LeavesTo high (xs ++ ys) → LeavesTo high ys
 to_right high [] ys t = t
 to_right high (x ∷ xs) ys t = to_right high xs ys t.1
 
-tiled_both : (high : List ℕ) (xs ys : List LeafRows) → LeavesTo (first_fence high ys) xs → LeavesTo high ys → LeavesTo high (xs ++ ys)
+pub tiled_both : (high : List ℕ) (xs ys : List LeafRows) → LeavesTo (first_fence high ys) xs → LeavesTo high ys → LeavesTo high (xs ++ ys)
 tiled_both high [] ys t u = u
 tiled_both high (x ∷ xs) ys t u = (subst (IsLeafTile x) (sym (first_fence-append high xs ys)) t.0, tiled_both high xs ys t.1 u)
 
@@ -116,7 +117,7 @@ three xs zs ys key n =
     ∙ ap (or_else (ops_in (row_messages xs) key n)) (ap (λ l. ops_in l key n) (flat_map-append (λ (l : LeafRows). map row_message l.1) zs ys) ∙ ops-append (row_messages zs) (row_messages ys) key n)
 
 -- nothing is there for a key below the first leaf
-below_none : (high : List ℕ) (ls : List LeafRows) (key : List ℕ) (n : ℕ) → LeavesTo high ls → lt key (first_fence high ls) ≡ true → ops_in (row_messages ls) key n ≡ None
+pub below_none : (high : List ℕ) (ls : List LeafRows) (key : List ℕ) (n : ℕ) → LeavesTo high ls → lt key (first_fence high ls) ≡ true → ops_in (row_messages ls) key n ≡ None
 below_none high [] key n t l = refl
 below_none high (x ∷ ls) key n t l =
     ops-append (map row_message x.1) (row_messages ls) key n
@@ -124,12 +125,12 @@ below_none high (x ∷ ls) key n t l =
     (t.0.rows.outside key n (under x.0 (first_fence high ls) key l))
     (below_none high ls key n t.1 (lt_trans key x.0 (first_fence high ls) l (ap is_lt t.0.ordered)))
 
-low_at_most : (high : List ℕ) (ls : List LeafRows) → LeavesTo high ls → lt high (first_fence high ls) ≡ false
+pub low_at_most : (high : List ℕ) (ls : List LeafRows) → LeavesTo high ls → lt high (first_fence high ls) ≡ false
 low_at_most high [] t = lt_self high
 low_at_most high (x ∷ ls) t = lt_not x.0 high (lt_le x.0 (first_fence high ls) high (ap is_lt t.0.ordered) (low_at_most high ls t.1))
 
 -- nor for one from the end on
-above_none : (high : List ℕ) (ls : List LeafRows) (key : List ℕ) (n : ℕ) → LeavesTo high ls → lt key high ≡ false → ops_in (row_messages ls) key n ≡ None
+pub above_none : (high : List ℕ) (ls : List LeafRows) (key : List ℕ) (n : ℕ) → LeavesTo high ls → lt key high ≡ false → ops_in (row_messages ls) key n ≡ None
 above_none high [] key n t l = refl
 above_none high (x ∷ ls) key n t l =
     ops-append (map row_message x.1) (row_messages ls) key n
@@ -137,7 +138,7 @@ above_none high (x ∷ ls) key n t l =
     (t.0.rows.outside key n (beyond x.0 (first_fence high ls) key (le_le (first_fence high ls) high key (low_at_most high ls t.1) l)))
     (above_none high ls key n t.1 l)
 
-outside_none : (low high : List ℕ) (ls : List LeafRows) (key : List ℕ) (n : ℕ) → LeavesTo high ls → first_fence high ls ≡ low → spans low high key ≡ false → ops_in (row_messages ls) key n ≡ None
+pub outside_none : (low high : List ℕ) (ls : List LeafRows) (key : List ℕ) (n : ℕ) → LeavesTo high ls → first_fence high ls ≡ low → spans low high key ≡ false → ops_in (row_messages ls) key n ≡ None
 outside_none low high ls key n t e o = not_spanned low high key o
     (λ l. below_none high ls key n t (subst (λ f. lt key f ≡ true) (sym e) l))
     (λ _ h. above_none high ls key n t h)
@@ -176,29 +177,34 @@ own_rows {leaves} {i} {leaf} r key n s =
 
 -- ---- before the merge
 
-pub can_replace : (leaves : List LeafRows) (i : ℕ) (ms : List TreeMessage) (pins : TenantPins) (target : ℕ) (leaf : LeafRows) → CanAbsorb leaves i ms target → slice_get leaves i ≡ Some leaf → CanReplace leaf (fence_at leaves (i + 1)) ms pins target
-can_replace leaves i ms pins target leaf can at = record {
-  tile = r.tile;
-  size = (all_split (λ (l : LeafRows). IsLeafSize target l.1) (take i leaves) (leaf ∷ drop (i + 1) leaves) (subst (AllByRecursion (λ (l : LeafRows). IsLeafSize target l.1)) r.are can.sizes)).1.0;
+-- a leaf for which there are messages can take them
+pub can_take : (leaf : LeafRows) (high : List ℕ) (ms : List TreeMessage) (pins : TenantPins) (target : ℕ) → CanGiveWay leaf high ms target → in_range leaf.0 high ms ≢ [] → CanReplace leaf high ms pins target
+can_take leaf high ms pins target can some = record {
+  tile = can.tile;
+  size = can.size;
   within = range_within leaf.0 high ms;
   short = merged_short leaf.1 (in_range leaf.0 high ms) pins (λ key n s.
       by_test (spans leaf.0 high key)
-      (λ t. subst (λ (f : Operations). IsValue (value_in (latest f n))) (λ j k. sym (own key k t) j) (can.short key n))
+      (λ t. subst (λ (f : Operations). IsValue (value_in (latest f n))) (λ j k. sym (own key k t) j) (can.short key t n))
       (λ t. absurd (none_some (ops_with (in_range leaf.0 high ms) leaf.1 key n)
-      (both_none (ops_in (in_range leaf.0 high ms) key n) (ops_in (map row_message leaf.1) key n) ((range_within leaf.0 high ms).outside key n t) (r.tile.rows.outside key n t)) s)));
-  some = subst (λ low. in_range low high ms ≢ []) (fence_is leaves i leaf at) can.some;
+      (both_none (ops_in (in_range leaf.0 high ms) key n) (ops_in (map row_message leaf.1) key n) ((range_within leaf.0 high ms).outside key n t) (can.tile.rows.outside key n t)) s)));
+  some = some;
 }
+  where
+    own : (key : List ℕ) (n : ℕ) → spans leaf.0 high key ≡ true → ops_with (in_range leaf.0 high ms) leaf.1 key n ≡ ops_with ms leaf.1 key n
+    own key n s = ap (λ o. or_else o (ops_in (map row_message leaf.1) key n)) (ops-in_range leaf.0 high ms key n ∙ ap (λ t. cond t (ops_in ms key n) None) s)
+
+pub can_replace : (leaves : List LeafRows) (i : ℕ) (ms : List TreeMessage) (pins : TenantPins) (target : ℕ) (leaf : LeafRows) → CanAbsorb leaves i ms target → slice_get leaves i ≡ Some leaf → CanReplace leaf (fence_at leaves (i + 1)) ms pins target
+can_replace leaves i ms pins target leaf can at = can_take leaf (fence_at leaves (i + 1)) ms pins target
+    (record {
+      tile = r.tile;
+      size = (all_split (λ (l : LeafRows). IsLeafSize target l.1) (take i leaves) (leaf ∷ drop (i + 1) leaves) (subst (AllByRecursion (λ (l : LeafRows). IsLeafSize target l.1)) r.are can.sizes)).1.0;
+      short = λ key s. subst HasShortValues (λ j n. ap (or_else (ops_in ms key n)) (own_rows r key n s) j) (can.short key);
+    })
+    (subst (λ low. in_range low (fence_at leaves (i + 1)) ms ≢ []) (fence_is leaves i leaf at) can.some)
   where
     r : Row leaves i leaf
     r = row leaves i leaf can.tiled at
-
-    high : List ℕ
-    high = fence_at leaves (i + 1)
-
-    own : (key : List ℕ) (n : ℕ) → spans leaf.0 high key ≡ true → ops_with (in_range leaf.0 high ms) leaf.1 key n ≡ ops_above ms leaves key n
-    own key n s =
-        ap (λ o. or_else o (ops_in (map row_message leaf.1) key n)) (ops-in_range leaf.0 high ms key n ∙ ap (λ t. cond t (ops_in ms key n) None) s)
-        ∙ ap (or_else (ops_in ms key n)) (sym (own_rows r key n s))
 
 -- ---- after it
 

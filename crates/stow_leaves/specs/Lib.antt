@@ -1,3 +1,4 @@
 pub mod Absorbs
+pub mod AbsorbsAll
 pub mod Forgets
 pub mod Joins

@@ -1,13 +1,14 @@
-//! Messages that are merged into a leaf of a row.
-ghost use Rattle.std.specs.Prelude.{◌≡◌, ◌+◌, ◌<◌, ◌≤◌, ◌++◌, length, take, drop, map, IfOk, OnErr};
+//! Messages that are merged into leaves of a row.
+ghost use Rattle.std.specs.Prelude.{◌≡◌, ◌+◌, ◌<◌, ◌≤◌, ◌++◌, length, take, drop, map, ◌∷◌, [], IfOk, OnErr};
 ghost use Rattle.std.specs.Vec.{vec_len, vec_capacity};
 ghost use Rattle.stow_leaf.specs.LeafRows.{leaf_rows, LeavesTo};
 ghost use Rattle.stow_merge.specs.Pins.{pins_in};
 ghost use Rattle.stow_leaf.specs.Intervals.{top_key};
 ghost use Rattle.stow_leaves.specs.Absorbs.{left_above, CanAbsorb, CanPutOthers, CanPutPages, PutsOthers, PutsPages, Merges, StandsFor};
+ghost use Rattle.stow_leaves.specs.AbsorbsAll.{CanAbsorbAll, CanGiveWay, GivesWay, MergesAll, StandsForAll};
 ghost use Rattle.stow_leaves.specs.Forgets.{Forgets};
 
-use crate::ends::high_after;
+use crate::ends::{first_fence, high_after};
 use crate::joining::join_small;
 use std::alloc::{AllocError, Allocator};
 use stow_leaf::leaf::Leaf;
@@ -15,6 +16,7 @@ use stow_leaf_cache::leaf_cache::LeafCache;
 use stow_merge::flush_result::FlushResult;
 use stow_merge::pins::Pins;
 use stow_message::message_buf::MessageBuf;
+use stow_tree_model::tenant_key::TenantKey;
 
 /// Puts other leaves in the place of the one at `index`. There is room for them.
 fn put_leaves<A: Allocator>(leaves: &mut Vec<Leaf<A>, A>, index: usize, mut others: Vec<Leaf<A>, A>)
@@ -81,6 +83,70 @@ pub fn merged<A: Allocator + Copy>(
     let high = high_after(leaves.as_slice(), index);
     let others = leaves[index].replacement(alloc, buffer, high, pins, target)?;
     with_others(alloc, leaves, index, others, target, cache)
+}
+
+/// The leaves that come in a leaf's place, whose keys end at `high`: all messages of the buffer for it are merged into them
+/// (`Leaf::replacement`), and the cache forgets it. Where there are none it stays.
+fn given_way<A: Allocator + Copy>(
+    alloc: A,
+    leaf: Leaf<A>,
+    high: TenantKey<'_>,
+    buffer: &MessageBuf<A>,
+    pins: &Pins<A>,
+    target: u32,
+    cache: &mut LeafCache<A>,
+) -> Result<Vec<Leaf<A>, A>, AllocError>
+    requires { CanGiveWay (leaf_rows leaf) high.bytes.now buffer.now.messages target }
+    ensures way { IfOk result (λ others. GivesWay (leaf_rows leaf) high.entry.bytes.now
+        buffer.now.messages (pins_in pins.now) target (map leaf_rows others.items)
+        cache.old cache.new) }
+    ensures cache { IfOk result (λ others. Forgets (leaf_rows leaf ∷ [])
+        (map leaf_rows others.items) cache.old cache.new) }
+    ensures err { OnErr result (cache.new ≡ cache.old) }
+{
+    if buffer.in_range(leaf.low.as_key(), high).len() == 0 {
+        let mut same = Vec::new(alloc);
+        same.push(leaf)?;
+        return Ok(same);
+    }
+    let others = leaf.replacement(alloc, buffer, high, pins, target)?;
+    cache.forget(leaf.low.as_key().bytes);
+    Ok(others)
+}
+
+/// The leaves with all messages merged into them that a buffer holds from the first one's fence on and below `end`, where
+/// their keys end, under pins: each for which there are messages gives way to leaves that are cut by the target, the highest
+/// first, and then small leaves are joined with a neighbour. The cache forgets what is replaced, and nothing else.
+pub fn all_merged<A: Allocator + Copy>(
+    alloc: A,
+    mut leaves: Vec<Leaf<A>, A>,
+    end: TenantKey<'_>,
+    buffer: &MessageBuf<A>,
+    pins: &Pins<A>,
+    target: u32,
+    cache: &mut LeafCache<A>,
+) -> Result<Vec<Leaf<A>, A>, AllocError>
+    requires { CanAbsorbAll (map leaf_rows leaves.items) end.bytes.now buffer.now.messages target }
+    ensures merged { IfOk result (λ fresh. MergesAll (map leaf_rows leaves.items)
+        end.entry.bytes.now buffer.now.messages (pins_in pins.now) target
+        (map leaf_rows fresh.items) cache.old cache.new) }
+    ensures stands { IfOk result (λ fresh. StandsForAll (map leaf_rows leaves.items)
+        end.entry.bytes.now buffer.now.messages (pins_in pins.now) target
+        (map leaf_rows fresh.items)) }
+    ensures cache { IfOk result (λ fresh. Forgets (map leaf_rows leaves.items)
+        (map leaf_rows fresh.items) cache.old cache.new) }
+    ensures err { OnErr result (Forgets (map leaf_rows leaves.items) (map leaf_rows leaves.items)
+        cache.old cache.new) }
+{
+    let mut fresh = Vec::new(alloc);
+    while let Some(leaf) = leaves.pop() {
+        let high = first_fence(fresh.as_slice(), end);
+        let mut others = given_way(alloc, leaf, high, buffer, pins, target, cache)?;
+        others.append(&mut fresh)?;
+        fresh = others;
+    }
+    join_small(alloc, &mut fresh, target, cache)?;
+    Ok(fresh)
 }
 
 /// The leaves with the pages of a job's result in the place of the one at `index`, whose job it is; then small leaves are joined

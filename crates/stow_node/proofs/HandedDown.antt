@@ -26,7 +26,7 @@ get_at : {A : Type 0} (before after : List (Child A)) (c : Child A) → slice_ge
 get_at [] after c = refl
 get_at (b ∷ before) after c = get_at before after c
 
-set_at : {A : Type 0} (before after : List (Child A)) (c d : Child A) → slice_set ((before ++ c ∷ []) ++ after) (length before) d ≡ (before ++ d ∷ []) ++ after
+pub set_at : {A : Type 0} (before after : List (Child A)) (c d : Child A) → slice_set ((before ++ c ∷ []) ++ after) (length before) d ≡ (before ++ d ∷ []) ++ after
 set_at [] after c d = refl
 set_at (b ∷ before) after c d = ap (λ l. b ∷ l) (set_at before after c d)
 

@@ -34,3 +34,8 @@ pub mod Planned
 pub mod Mergeable
 pub mod PlanSteps
 pub mod Eased
+pub mod Laden
+pub mod Emptied
+pub mod Taken
+pub mod Split
+pub mod Straight

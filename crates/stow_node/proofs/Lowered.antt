@@ -62,13 +62,13 @@ swapped : (s : Bool) (o m : Option Op) → or_else (cond (not s) o None) (or_els
 swapped true o m = refl
 swapped false o m = refl
 
-record AtChild {A : Type 0} (a : Inside A) (i : ℕ) (x : Subtree) : Type 0 where
-  inside : i < length (parts_of a.children.items)
-  here : get_or (parts_of a.children.items) i (node_part x) ≡ node_part x
-  tile : IsTile (node_part x) (high_of (parts_of a.children.items) i)
-  level : IsBelow {A = A} a.height a.shape (in_child.Node x)
+pub record AtChild {A : Type 0} (a : Inside A) (i : ℕ) (x : Subtree) : Type 0 where
+  pub inside : i < length (parts_of a.children.items)
+  pub here : get_or (parts_of a.children.items) i (node_part x) ≡ node_part x
+  pub tile : IsTile (node_part x) (high_of (parts_of a.children.items) i)
+  pub level : IsBelow {A = A} a.height a.shape (in_child.Node x)
 
-at_child : {A : Type 0} (a : Inside A) (i : ℕ) (x : Subtree) → IsNode a → slice_get a.children.items i ≡ Some (in_child.Node x) → AtChild a i x
+pub at_child : {A : Type 0} (a : Inside A) (i : ℕ) (x : Subtree) → IsNode a → slice_get a.children.items i ≡ Some (in_child.Node x) → AtChild a i x
 at_child {A} a i x node at =
     let inside : i < length (parts_of a.children.items) = omega (arith, inside_of a.children.items i (in_child.Node x) at, length-map a.children.items part_of) in
     let here : get_or (parts_of a.children.items) i (node_part x) ≡ node_part x = part_at a.children.items i (in_child.Node x) (node_part x) at in

@@ -1,6 +1,7 @@
 -- The way of a step's messages.
-use Rattle.std.proofs.Common.{zero, suc, ◌≡◌, ℕ, ◌+◌, ◌/◌, ◌<◌, ◌≤◌, List, [], ◌++◌, max, take, drop, set, refl, sym, ◌∙◌, subst, arith, inl, inr}
+use Rattle.std.proofs.Common.{zero, suc, ◌≡◌, ℕ, ◌+◌, ◌/◌, ◌<◌, ◌≤◌, List, [], ◌++◌, max, take, drop, set, Some, refl, sym, ◌∙◌, subst, arith, inl, inr}
 use Rattle.std.specs.List.{sum_by}
+use Rattle.std.specs.Prelude.{slice_get}
 use Rattle.std.specs.declared.vec.Vec.{Vec}
 use Rattle.stow_leaf_cache.specs.Cache.{Cache}
 use Rattle.stow_leaf.proofs.Steps.{inside_of}
@@ -11,12 +12,12 @@ use Rattle.stow_tree_model.specs.Agreement.{TenantPins}
 use Rattle.stow_node.specs.declared.child.Child.{Child}
 use Rattle.stow_node.specs.declared.child.Child.TheVariants as in_child
 use Rattle.stow_node.specs.declared.node.Node.TheInside.{Inside}
-use Rattle.stow_node.specs.Moves.{LacksRoom, IsSqueezed, bytes_for, IsHeaviest, HandsDown}
+use Rattle.stow_node.specs.Moves.{IsLaden, LacksRoom, IsSqueezed, bytes_for, IsHeaviest, HandsDown}
 use Rattle.stow_node.specs.Nodes.{node_part, parts_of, leaves_of, AreLeaves, IsBelow, subtree_of, IsNode, AreChildren}
 use Rattle.stow_node.specs.Parts.{high_of}
 use Rattle.stow_node.specs.Regroups.{Grows}
 use Rattle.stow_node.specs.Subtree.{Subtree}
-use Rattle.stow_node.specs.Ways.{MergesHeaviest, GoesDown, Goes}
+use Rattle.stow_node.specs.Ways.{MergesHeaviest, MergesTaken, GoesDown, Goes}
 use Rattle.stow_node.proofs.Down.{IsNext, squeezed_same}
 use Rattle.stow_node.proofs.Stayed.{level_at}
 use Rattle.stow_node.proofs.Stepping.{behind_set}
@@ -75,8 +76,8 @@ lacks_room {A} a i bytes ample x y node n q e full =
 
 -- the child's messages moved into it
 pub goes_into : {A : Type 0} (a : Inside A) (v : Vec (Child A) A) (b : MessageList) (i bytes : ℕ) (x y : Subtree) (came : List (Child A)) (pins : TenantPins) (cache : Cache) → IsNode a → IsNode (record a { children = v; buffer = b }) → IsHeaviest (parts_of a.children.items) a.buffer i → IsNext a i bytes x → IsSqueezed x y
-    → HandsDown (set a.children.items i (in_child.Node y)) i a.buffer v.items b → came ≡ [] → Goes a.height pins (subtree_of a) (subtree_of (record a { children = v; buffer = b })) came cache cache
-goes_into {A} a v b i bytes x y came pins cache node after heavy n q down none =
+    → HandsDown (set a.children.items i (in_child.Node y)) i a.buffer v.items b → (filled : Subtree) → slice_get v.items i ≡ Some (in_child.Node filled) → ¬ IsLaden 0 filled → came ≡ [] → Goes a.height pins (subtree_of a) (subtree_of (record a { children = v; buffer = b })) came cache cache
+goes_into {A} a v b i bytes x y came pins cache node after heavy n q down filled taken light none =
     let up = height_up a i bytes x y node n q in
     higher y.height a.height pins (subtree_of a) (subtree_of (record a { children = v; buffer = b })) came cache cache up.0 up.1 (record {
       to = record { children = a.children.items; stand = are_children a node; index = i; most = heavy };
@@ -84,7 +85,7 @@ goes_into {A} a v b i bytes x y came pins cache node after heavy n q down none =
       at = n.at;
       ready = y;
       squeezed = q;
-      way = inl (record { after = v.items; down = down; stand = are_children (record a { children = v; buffer = b }) after; none = none; same = refl });
+      way = inl (record { after = v.items; down = down; filled = filled; taken = taken; light = light; stand = are_children (record a { children = v; buffer = b }) after; none = none; same = refl });
     })
 
 -- the step was the child's own
@@ -100,7 +101,7 @@ goes_below {A} a v i bytes ample x y z new behind came pins cache cache' node af
       at = n.at;
       ready = y;
       squeezed = q;
-      way = inr (record {
+      way = inr (inr (record {
         lacks = lacks_room a i bytes ample x y node n q is full;
         stepped = z;
         behind = behind;
@@ -111,5 +112,38 @@ goes_below {A} a v i bytes ample x y z new behind came pins cache cache' node af
           own = refl;
           grows = grows;
         };
-      });
+      }));
+    })
+
+-- the child's messages moved into it, and it merged all that it had
+pub goes_merging : {A : Type 0} (a : Inside A) (v : Vec (Child A) A) (b : MessageList) (i bytes : ℕ) (x y z new : Subtree) (behind came : List (Child A)) (pins : TenantPins) (cache cache' : Cache) → IsNode a → IsNode (record a { children = v; buffer = b }) → IsHeaviest (parts_of a.children.items) a.buffer i → IsNext a i bytes x → IsSqueezed x y
+    → (after : List (Child A)) (down : HandsDown (set a.children.items i (in_child.Node y)) i a.buffer after b) (filled : Subtree) → slice_get after i ≡ Some (in_child.Node filled) → IsLaden 0 filled → MergesTaken (set a.children.items i (in_child.Node y)) i a.buffer pins down.node filled z behind cache cache'
+    → v.items ≡ take (i + 1) (set after i (in_child.Node z)) ++ (behind ++ drop (i + 1) (set after i (in_child.Node z))) → Grows pins (subtree_of (record a { children = v; buffer = b })) new came
+    → Goes a.height pins (subtree_of a) new came cache cache'
+goes_merging {A} a v b i bytes x y z new behind came pins cache cache' node is_node heavy n q after down filled taken laden merges items grows =
+    let up = height_up a i bytes x y node n q in
+    let are = items ∙ behind_set after i (in_child.Node z) behind (inside_of after i (in_child.Node filled) taken) in
+    higher y.height a.height pins (subtree_of a) new came cache cache' up.0 up.1 (record {
+      to = record { children = a.children.items; stand = are_children a node; index = i; most = heavy };
+      node = x;
+      at = n.at;
+      ready = y;
+      squeezed = q;
+      way = inr (inl (record {
+        after = after;
+        left = b;
+        down = down;
+        filled = filled;
+        taken = taken;
+        laden = laden;
+        stepped = z;
+        behind = behind;
+        merges = merges;
+        cut = record {
+          whole = subtree_of (record a { children = v; buffer = b });
+          stand = subst (AreChildren (subtree_of (record a { children = v; buffer = b }))) are (are_children (record a { children = v; buffer = b }) is_node);
+          own = refl;
+          grows = grows;
+        };
+      }));
     })

@@ -8,6 +8,7 @@ pub mod Flushes
 pub mod Regroups
 pub mod Rooms
 pub mod Ways
+pub mod TakesDown
 pub mod Jobs
 pub mod Installs
 pub mod Eases

@@ -1,9 +1,11 @@
 -- Messages on their way down.
 use Rattle.std.specs.Prelude.{◌≡◌, ℕ, ◌+◌, ◌*◌, ◌/◌, ◌<◌, ◌≤◌, List, length, max, slice_index_or, slice_get, slice_set, Some}
 use Rattle.std.specs.List.{sum_by}
+use Rattle.stow_leaf.specs.LeafRows.{LeafRows}
 use Rattle.stow_message.specs.MessageBuf.{MessageList, message_list, with_messages, without_range}
 use Rattle.stow_message.specs.Packed.{message_size}
 use Rattle.stow_message.specs.Rising.{in_range}
+use Rattle.stow_page.specs.Format.{packed_page}
 use Rattle.stow_tree_model.specs.Messages.{ops_in}
 use Rattle.stow_tree_model.specs.TreeMessage.{TreeMessage}
 use Rattle.stow_node.specs.declared.child.Child.{Child}
@@ -39,6 +41,15 @@ pub record IsSqueezed (old new : Subtree) : Type 0 where
 abbrev pub LacksRoom : ℕ → Subtree → Type 0
 LacksRoom bytes t =
     t.buffer.capacity < sum_by message_size t.buffer.messages + max bytes (t.shape.buffer / 4)
+
+-- the bytes of the leaves' pages
+abbrev pub page_bytes : List LeafRows → ℕ
+page_bytes leaves = sum_by (λ l. length (packed_page l.1)) leaves
+
+-- it stands right above leaves, and with so many bytes more its buffer holds a quarter of their
+-- pages' bytes or more, dead bytes among what it holds
+abbrev pub IsLaden : ℕ → Subtree → Type 0
+IsLaden bytes t = (t.height ≡ 1) × (page_bytes t.leaves ≤ 4 * (t.buffer.used + bytes))
 
 -- the bytes of a child's messages in the buffer above it
 abbrev pub bytes_for : List Part → MessageList → ℕ → Part → ℕ

@@ -1,12 +1,15 @@
 -- The way of a step's messages.
 use Rattle.std.specs.Prelude.{◌≡◌, ◌⊎◌, ℕ, zero, suc, ◌+◌, ◌≤◌, List, [], ◌∷◌, ◌++◌, length, take, drop, slice_get, slice_set, Some}
 use Rattle.stow_leaf_cache.specs.Cache.{Cache}
+use Rattle.stow_leaf.specs.Intervals.{top_key}
 use Rattle.stow_leaves.specs.Absorbs.{Merges}
-use Rattle.stow_message.specs.MessageBuf.{MessageList, without_range}
+use Rattle.stow_leaves.specs.AbsorbsAll.{MergesAll}
+use Rattle.stow_message.specs.MessageBuf.{MessageList, message_list, without_range}
 use Rattle.stow_tree_model.specs.Agreement.{TenantPins}
+use Rattle.stow_tree_model.specs.TreeMessage.{TreeMessage}
 use Rattle.stow_node.specs.declared.child.Child.{Child}
 use Rattle.stow_node.specs.declared.child.Child.TheVariants as in_child
-use Rattle.stow_node.specs.Moves.{IsHeaviest, IsSqueezed, HandsDown, LacksRoom, bytes_for}
+use Rattle.stow_node.specs.Moves.{IsHeaviest, IsLaden, IsSqueezed, HandsDown, LacksRoom, bytes_for}
 use Rattle.stow_node.specs.Nodes.{node_part, parts_of, leaves_of, AreLeaves, AreChildren}
 use Rattle.stow_node.specs.Parts.{high_of}
 use Rattle.stow_node.specs.Regroups.{Grows}
@@ -38,14 +41,55 @@ pub record MergesHeaviest {A : Type 0} (pins : TenantPins) (old new : Subtree)
   pub cut : IsCutFrom pins fresh (without_range merges.leaf.0
       (high_of (parts_of to.children) to.index) old.buffer) new came
 
--- the child takes all its messages out of the buffer above it
+-- right above leaves: all messages for its leaves, whose keys end here, are merged into them, and
+-- its buffer is empty then
+pub record MergesInto {A : Type 0} (end : List ℕ) (ms : List TreeMessage) (pins : TenantPins)
+    (old new : Subtree) (came : List (Child A)) (cache cache' : Cache) : Type 0 where
+  pub children : List (Child A)
+  pub stand : AreChildren old children
+  pub fresh : List (Child A)
+  pub are_leaves : AreLeaves fresh
+  pub merges : MergesAll (leaves_of children) end ms pins old.shape.leaf (leaves_of fresh)
+      cache cache'
+  pub cut : IsCutFrom pins fresh (message_list [] 0 old.buffer.capacity) new came
+
+-- a child that took its messages out of a buffer merges all that it has then; where it had none
+-- before, straight from that buffer
+abbrev pub MergesTaken : {A : Type 0} → List (Child A) → ℕ → MessageList → TenantPins → Subtree
+    → Subtree → Subtree → List (Child A) → Cache → Cache → Type 0
+MergesTaken children index b pins node filled merged came cache cache' =
+    MergesInto top_key filled.buffer.messages pins filled merged came cache cache'
+    ⊎ ((node.buffer.messages ≡ []) × MergesInto (high_of (parts_of children) index) b.messages
+    pins node merged came cache cache')
+
+-- the child takes all its messages out of the buffer above it, and isn't laden then
 pub record ChildTakes {A : Type 0} (children : List (Child A)) (index : ℕ) (old new : Subtree)
     (came : List (Child A)) (cache cache' : Cache) : Type 0 where
   pub after : List (Child A)
   pub down : HandsDown children index old.buffer after new.buffer
+  pub filled : Subtree
+  pub taken : slice_get after index ≡ Some (in_child.Node filled)
+  pub light : ¬ IsLaden 0 filled
   pub stand : AreChildren new after
   pub none : came ≡ []
   pub same : cache' ≡ cache
+
+-- it takes them and is laden then, so it merges all that it has into its leaves, and what comes
+-- behind it stands there
+pub record TakesAndMerges {A : Type 0} (pins : TenantPins) (children : List (Child A)) (index : ℕ)
+    (old new : Subtree) (came : List (Child A)) (cache cache' : Cache) : Type 0 where
+  pub after : List (Child A)
+  pub left : MessageList
+  pub down : HandsDown children index old.buffer after left
+  pub filled : Subtree
+  pub taken : slice_get after index ≡ Some (in_child.Node filled)
+  pub laden : IsLaden 0 filled
+  pub stepped : Subtree
+  pub behind : List (Child A)
+  pub merges : MergesTaken children index old.buffer pins down.node filled stepped behind
+      cache cache'
+  pub cut : IsCutFrom pins (take index after
+      ++ ((in_child.Node stepped ∷ behind) ++ drop (index + 1) after)) left new came
 
 -- it lacks room, so the step is the child's own, and what comes behind it stands there
 pub record Enters {A : Type 0}
@@ -59,8 +103,8 @@ pub record Enters {A : Type 0}
   pub cut : IsCutFrom pins (take index children
       ++ ((in_child.Node stepped ∷ behind) ++ drop (index + 1) children)) old.buffer new came
 
--- further up: the heaviest child, a node of which dead bytes may have gone, takes them or is
--- entered
+-- further up: the heaviest child, a node of which dead bytes may have gone, takes them, and merges
+-- all that it has then where it is laden; or it is entered
 pub record GoesDown {A : Type 0}
     (below : Subtree → Subtree → List (Child A) → Cache → Cache → Type 0) (pins : TenantPins)
     (old new : Subtree) (came : List (Child A)) (cache cache' : Cache) : Type 0 where
@@ -70,7 +114,9 @@ pub record GoesDown {A : Type 0}
   pub ready : Subtree
   pub squeezed : IsSqueezed node ready
   pub way : ChildTakes (slice_set to.children to.index (in_child.Node ready)) to.index old new came
-      cache cache' ⊎ Enters below pins to.children to.index ready old new came cache cache'
+      cache cache'
+      ⊎ (TakesAndMerges pins (slice_set to.children to.index (in_child.Node ready)) to.index old
+      new came cache cache' ⊎ Enters below pins to.children to.index ready old new came cache cache')
 
 -- the step of a node of this height goes down along the heaviest children
 abbrev pub Goes : {A : Type 0} → ℕ → TenantPins → Subtree → Subtree → List (Child A)

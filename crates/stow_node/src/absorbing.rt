@@ -1,10 +1,11 @@
-//! Messages that are merged into a leaf right below a node.
+//! Messages that are merged into the leaves right below a node.
 ghost use Rattle.std.specs.Prelude.{◌≡◌, ◌≤◌, [], map, IfOk, OnErr};
 ghost use Rattle.std.specs.Vec.{vec_len, vec_capacity};
 ghost use Rattle.stow_merge.specs.Pins.{pins_in};
 ghost use Rattle.stow_leaf.specs.Intervals.{top_key};
 ghost use Rattle.stow_leaf.specs.LeafRows.{LeavesTo};
 ghost use Rattle.stow_leaves.specs.Absorbs.{left_above, CanAbsorb, CanPutPages, Merges, PutsPages, StandsFor};
+ghost use Rattle.stow_leaves.specs.AbsorbsAll.{CanAbsorbAll, MergesAll, StandsForAll};
 ghost use Rattle.stow_leaves.specs.Forgets.{Forgets};
 ghost use Rattle.stow_node.specs.Nodes.{AreLeaves, leaves_of};
 ghost use Rattle.stow_node.specs.declared.child.Child.TheVariants as in_child;
@@ -17,6 +18,7 @@ use stow_leaves::absorbing;
 use stow_merge::flush_result::FlushResult;
 use stow_merge::pins::Pins;
 use stow_message::message_buf::MessageBuf;
+use stow_tree_model::tenant_key::TenantKey;
 
 /// The leaves once more: their fences copied, their rows shared.
 fn shared<A: Allocator + Copy>(
@@ -78,6 +80,37 @@ pub(crate) fn merged<A: Allocator + Copy>(
 {
     let leaves = shared(alloc, children)?;
     let fresh = absorbing::merged(alloc, leaves, index, buffer, pins, target, cache)?;
+    let into = Vec::with_capacity(alloc, fresh.len())?;
+    Ok(as_children(fresh, into))
+}
+
+/// The leaves with all messages of the buffer for them merged into them, whose keys end at `end`, under pins, and small leaves
+/// joined (`stow_leaves::absorbing::all_merged`). The leaves themselves stay as they are.
+pub(crate) fn all_merged<A: Allocator + Copy>(
+    alloc: A,
+    children: &[Child<A>],
+    end: TenantKey<'_>,
+    buffer: &MessageBuf<A>,
+    pins: &Pins<A>,
+    target: u32,
+    cache: &mut LeafCache<A>,
+) -> Result<Vec<Child<A>, A>, AllocError>
+    requires can { CanAbsorbAll (leaves_of children.now) end.bytes.now buffer.now.messages target }
+    requires leaves { AreLeaves children.now }
+    ensures leaves { IfOk result (λ fresh. AreLeaves fresh.items) }
+    ensures merged { IfOk result (λ fresh. MergesAll (leaves_of children.now)
+        end.entry.bytes.now buffer.now.messages (pins_in pins.now) target
+        (leaves_of fresh.items) cache.old cache.new) }
+    ensures stands { IfOk result (λ fresh. StandsForAll (leaves_of children.now)
+        end.entry.bytes.now buffer.now.messages (pins_in pins.now) target
+        (leaves_of fresh.items)) }
+    ensures cache { IfOk result (λ fresh. Forgets (leaves_of children.now) (leaves_of fresh.items)
+        cache.old cache.new) }
+    ensures err { OnErr result (Forgets (leaves_of children.now) (leaves_of children.now)
+        cache.old cache.new) }
+{
+    let leaves = shared(alloc, children)?;
+    let fresh = absorbing::all_merged(alloc, leaves, end, buffer, pins, target, cache)?;
     let into = Vec::with_capacity(alloc, fresh.len())?;
     Ok(as_children(fresh, into))
 }

@@ -7,11 +7,14 @@
 //!
 //! `step` moves messages one edge towards the leaves, or merges all messages for a leaf into it, which gives way to any
 //! number of leaves; neighbours of which one page is below a quarter of the leaf target become one leaf, where both fit
-//! it (`stow_leaves`). Then nodes regroup, level by level up to new roots: a node that has too many children is cut
-//! into as few as hold them (`settle`), evenly, or full ones first where the new children stand at its upper end; and a
-//! root with others behind it gets one above it (`rise`). All memory is got first (`room_for`); then nothing can fail.
-//! So where memory is refused no message has moved. The root means the same under the pins, its messages are fewer or
-//! nearer to the leaves (`Flushes`), and no node is too wide. `buffer` and `children` lend what reads go by.
+//! it (`stow_leaves`). A child right above leaves that holds a quarter of their bytes once messages moved into it (`IsLaden`)
+//! merges all that it has into them in the same step; where it had none before, straight from the buffer above it
+//! (`take_down`), so that nothing is written to its block. Then nodes regroup, level by level up to new roots: a node that has
+//! too many children is cut into as few as hold them (`settle`), evenly, or full ones first where the new children stand at
+//! its upper end; and a root with others behind it gets one above it (`rise`). All memory is got before a merge changes
+//! anything (`room_for`); then nothing can fail. So where memory is refused messages have moved into a child's buffer at
+//! most. The root means the same under the pins, its messages are fewer or nearer to the leaves (`Flushes`), and no node is
+//! too wide. `buffer` and `children` lend what reads go by.
 //!
 //! `plan` gives a job for a flush outside the lock, or none exactly where no buffer holds a message: of the deepest buffer
 //! that holds one, from which the messages for the heaviest child move down first, into empty buffers, where it stands above
@@ -27,10 +30,10 @@
 //! tells it.
 //!
 //! Which way a step goes stands in `specs/Ways.antt`, and `step` promises it (`StepsDown`): to the child for which most
-//! bytes are buffered, the leftmost of equals. A node gets all its messages, or, where it lacks room, the step is its
-//! own. A leaf has all its messages merged, no two neighbours are left under its node that are to become one, and the
-//! cache loses this leaf and those that were joined, and no other. A root gets others above it only where nodes come
-//! behind it, at most one for each. A merged leaf within the leaf target is one leaf. Leaves under two nodes stay
+//! bytes are buffered, the leftmost of equals. A node gets all its messages, and merges all that it has then if it is
+//! laden; or, where it lacks room, the step is its own. A leaf has all its messages merged, no two neighbours are left under
+//! its node that are to become one, and the cache loses the leaves that had messages merged and those that were joined, and
+//! no other. A root gets others above it only where nodes come behind it, at most one for each. A merged leaf within the leaf target is one leaf. Leaves under two nodes stay
 //! apart. How evenly children are shared out stands in the contract of `share_of_last` of `stow_groups` alone. After an
 //! `Err` the cache may have lost more. A body of `first`, `step`, `plan` or `install` that always answers `AllocError` meets its contract:
 //! tests call each with ample memory and with each request refused. `step` and `install` answer `AllocError` too where there are

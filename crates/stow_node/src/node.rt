@@ -14,7 +14,7 @@ ghost use Rattle.stow_node.specs.Eases.{Eases};
 ghost use Rattle.stow_node.specs.Flushes.{AreShort, Flushes, KeepsRoot};
 ghost use Rattle.stow_node.specs.Halves.{AreHalves};
 ghost use Rattle.stow_node.specs.Installs.{AreGone, BatchIsGone, CanComeIn, CanInstall, CoversAll};
-ghost use Rattle.stow_node.specs.Moves.{accepted, CanAccept, IsSqueezed, StaysInMeaning};
+ghost use Rattle.stow_node.specs.Moves.{accepted, CanAccept, IsLaden, IsSqueezed, StaysInMeaning};
 ghost use Rattle.stow_node.specs.Nodes.{AreAmong, AreChildren, AreLeafSizes, leaves_of, nearest_in, node_part};
 ghost use Rattle.stow_leaf.specs.Intervals.{top_key};
 ghost use Rattle.stow_node.specs.Parts.{IsTile};
@@ -22,18 +22,21 @@ ghost use Rattle.stow_node.specs.Plans.{HasLeafTarget, IsPlanned, Plans, TakesLe
 ghost use Rattle.stow_node.specs.Regroups.{Grows, StepsAsOne, StandAsOne, AreBehind, ForgetsCame};
 ghost use Rattle.stow_node.specs.Rooms.{AreShells, HasRoom};
 ghost use Rattle.stow_node.specs.Subtree.{Subtree, buffered, first_subtree, messages_of};
-ghost use Rattle.stow_node.specs.Ways.{Goes, StepsDown};
+ghost use Rattle.stow_node.specs.TakesDown.{CanMergeFrom};
+ghost use Rattle.stow_node.specs.Ways.{Goes, MergesInto, StepsDown};
 ghost use Rattle.stow_node.specs.declared.child.Child.TheVariants as in_child;
 ghost use Rattle.stow_node.specs.declared.installed.Installed.TheVariants as installed;
 
-use crate::absorbing::{installed, merged};
+use crate::absorbing::{all_merged, installed, merged};
 use crate::child::{Child, child_for, high_after};
 use crate::coming::{moved_from, take_in};
 use crate::counting::room_for;
 use crate::fence::Fence;
 use crate::installed::Installed;
 use crate::installing::can_install;
-use crate::moving::{bytes_for, hand_down, heaviest, is_apart};
+use crate::moving::{
+    are_for_last, are_within, bytes_for, hand_down, heaviest, is_apart, take_down,
+};
 use crate::planning::{deepest_child, is_drained, job_for};
 use crate::room::Room;
 use crate::shape::Shape;
@@ -242,13 +245,107 @@ impl<A: Allocator + Copy> Node<A> {
         self.settle(&mut room, full);
         Ok(room)
     }
+
+    /// Merges all its messages into its leaves, of a node right above leaves. Then small leaves are joined with a neighbour.
+    /// Where memory is refused nothing has changed.
+    pub(crate) fn merge_all(
+        &mut self,
+        alloc: A,
+        pins: &Pins<A>,
+        cache: &mut LeafCache<A>,
+        above: &[usize],
+    ) -> Result<Room<A>, AllocError>
+        requires level { self.old.height ≡ 1 }
+        requires some { 0 < length self.old.buffer.messages }
+        requires fan_out { 1 ≤ self.old.shape.fan_out }
+        requires short { AreShort (messages_of self.old) }
+        ensures ok { IfOk result (λ room.
+            StepsAsOne (pins_in pins.now) self.old self.new room.came.items) }
+        ensures merges { IfOk result (λ room. MergesInto top_key self.old.buffer.messages
+            (pins_in pins.now) self.old self.new room.came.items cache.old cache.new) }
+        ensures room { IfOk result (HasRoom self.old.shape above.now) }
+        ensures err { OnErr result (self.new ≡ self.old) }
+        ensures cache { IfOk result (λ room. ForgetsCame self.old self.new room.came.items
+            cache.old cache.new) }
+        ensures kept { OnErr result (Forgets self.old.leaves self.old.leaves cache.old cache.new) }
+    {
+        let children = self.children.as_slice();
+        let full = are_for_last(children, &self.buffer, top_key());
+        let target = self.shape.leaf;
+        let fresh = all_merged(
+            alloc,
+            children,
+            top_key(),
+            &self.buffer,
+            pins,
+            target,
+            cache,
+        )?;
+        let mut room = room_for(alloc, self.shape, fresh.len(), above)?;
+        self.buffer.reset();
+        self.children = fresh;
+        self.settle(&mut room, full);
+        Ok(room)
+    }
+
+    /// Merges the messages for it, up to where its keys end, out of the buffer above it straight into its leaves, of a node right
+    /// above leaves that has no message: as if it had taken them first, but nothing is written to its own block. Where memory
+    /// is refused nothing has changed.
+    pub(crate) fn merge_from(
+        &mut self,
+        alloc: A,
+        from: &mut MessageBuf<A>,
+        end: TenantKey<'_>,
+        pins: &Pins<A>,
+        cache: &mut LeafCache<A>,
+        above: &[usize],
+    ) -> Result<Room<A>, AllocError>
+        requires { CanMergeFrom from.old.messages end.bytes.now self.old }
+        ensures ok { IfOk result (λ room. StepsAsOne (pins_in pins.now)
+            (accepted (in_range self.old.low end.entry.bytes.now from.old.messages) self.old)
+            self.new room.came.items) }
+        ensures left { IfOk result (λ room. from.new
+            ≡ without_range self.old.low end.entry.bytes.now from.old) }
+        ensures merges { IfOk result (λ room. MergesInto end.entry.bytes.now from.old.messages
+            (pins_in pins.now) self.old self.new room.came.items cache.old cache.new) }
+        ensures room { IfOk result (HasRoom self.old.shape above.now) }
+        ensures err { OnErr result (self.new ≡ self.old) }
+        ensures unmoved { OnErr result (from.new ≡ from.old) }
+        ensures cache { IfOk result (λ room. ForgetsCame self.old self.new room.came.items
+            cache.old cache.new) }
+        ensures kept { OnErr result (Forgets self.old.leaves self.old.leaves cache.old cache.new) }
+    {
+        let _known = from.len();
+        let children = self.children.as_slice();
+        let full = are_for_last(children, from, end);
+        let target = self.shape.leaf;
+        let fresh = all_merged(alloc, children, end, from, pins, target, cache)?;
+        let mut room = room_for(alloc, self.shape, fresh.len(), above)?;
+        from.drop_range(self.low.as_key(), end);
+        self.buffer.reset();
+        self.children = fresh;
+        self.settle(&mut room, full);
+        Ok(room)
+    }
+
+    /// Whether it stands right above leaves, and with so many bytes more its buffer holds a quarter of their pages' bytes or
+    /// more, dead bytes among what it holds.
+    pub(crate) fn is_laden(&self, bytes: usize) -> bool
+        requires { self.now.buffer.used + bytes ≤ self.now.buffer.capacity }
+        ensures { IsTrue result ↔ IsLaden bytes self.now }
+    {
+        let _known = self.shape();
+        let held = self.buffer.used() + bytes;
+        self.height == 1 && are_within(self.children.as_slice(), 4 * held)
+    }
 }
 
 impl<A: Allocator + Copy> Node<A> {
     /// One step of its messages towards the leaves: those for the child for which most bytes are buffered move into that
-    /// child's buffer. Where they don't fit there, dead bytes dropped, the step is that child's own; right above leaves all
-    /// messages for one are merged into it. The nodes that are to stand behind it come with the room for more above it, where
-    /// nodes of the widths in `above` stand. Where memory is refused no message has moved.
+    /// child's buffer, and where it is laden then, it merges all its messages into its leaves. Where they don't fit there, dead
+    /// bytes dropped, the step is that child's own; right above leaves all messages for one are merged into it. The nodes that
+    /// are to stand behind it come with the room for more above it, where nodes of the widths in `above` stand. Where memory is
+    /// refused messages may have moved into a child's buffer, and no more.
     fn step_below(
         &mut self,
         alloc: A,
@@ -295,8 +392,16 @@ impl<A: Allocator + Copy> Node<A> {
                 }
             }
         }
-        hand_down(&mut self.children, index, &mut self.buffer);
-        Ok(Room::none(alloc))
+        let buffer = &mut self.buffer;
+        let above = above.as_slice();
+        let children = &mut self.children;
+        let taken = take_down(alloc, children, index, buffer, bytes, pins, cache, above)?;
+        let Some(mut room) = taken else {
+            return Ok(Room::none(alloc));
+        };
+        take_in(&mut self.children, index, &mut room);
+        self.settle(&mut room, full);
+        Ok(room)
     }
 
     /// Puts a node above this one and those that came behind it, or as many as it takes. It asks for no memory.
@@ -334,7 +439,7 @@ impl<A: Allocator + Copy> Node<A> {
     }
 
     /// One step of a root's messages towards the leaves (`step_below`). Where nodes come behind it, it becomes higher. Where
-    /// memory is refused no message has moved.
+    /// memory is refused messages may have moved into a child's buffer, and no more.
     pub fn step(
         &mut self,
         alloc: A,

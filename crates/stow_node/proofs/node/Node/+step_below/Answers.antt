@@ -8,7 +8,7 @@ use Rattle.stow_node.specs.declared.child.Child.{Child}
 use Rattle.stow_node.specs.Flushes.{AreShort}
 use Rattle.stow_leaves.specs.Forgets.{Forgets}
 use Rattle.stow_node.specs.Nodes.{leaves_of}
-use Rattle.stow_node.specs.Moves.{IsHeaviest, HandsDown}
+use Rattle.stow_node.specs.Moves.{IsHeaviest}
 use Rattle.stow_node.specs.declared.shape.Shape.{Shape}
 use Rattle.stow_node.specs.Nodes.{part_of, parts_of, IsBelow, subtree_of}
 use Rattle.stow_node.specs.Parts.{leaves_in}
@@ -16,6 +16,7 @@ use Rattle.stow_node.specs.Regroups.{StepsAsOne}
 use Rattle.stow_groups.specs.Groups.{groups}
 use Rattle.stow_node.specs.Rooms.{AreShells, AreLists, HasRoom}
 use Rattle.stow_node.specs.Subtree.{Subtree, messages_of}
+use Rattle.stow_node.specs.TakesDown.{MergesDown, TakesDown, TakesLight}
 use Rattle.stow_node.specs.Ways.{Goes}
 use Rattle.stow_node.proofs.Down.{IsNext, squeezed_same, stays_then, MadeRoom, made_room, WentInto, went_into, new_items}
 use Rattle.stow_node.proofs.Entered.{Entered, entered, not_leaf}
@@ -25,10 +26,11 @@ use Rattle.stow_node.proofs.Rooms.{LevelReady, level_ready, level_left, none_nee
 use Rattle.stow_node.proofs.Regrouped.{steps, grown_leaves}
 use Rattle.stow_node.proofs.Stayed.{ChildStays, child_stays, level_at}
 use Rattle.stow_node.proofs.Stepping.{next_is, CanStep, can_step, Stepped, stepped, stepped_forgets, behind_length, steps_alone}
+use Rattle.stow_node.proofs.Taken.{IsUnladen, Refused, bytes_down, can_take_down, light_of, merging_of, merging_room, refused, unladen}
 use Rattle.stow_node.proofs.Ways.{goes_into, goes_below}
 use Rattle.stow_node.proofs.node.Node.+step_below.Given as given
 use Rattle.stow_node.proofs.node.Node.+step_below.Goals as goal
-use Rattle.stow_node.proofs.node.Node.+step_below.Goals.{In-Node, In_ok-room-in-Node, After-take_in, After-deref_mut, After-hand_down}
+use Rattle.stow_node.proofs.node.Node.+step_below.Goals.{In-Node, In_ok-room-in-Node, After-take_in, After-deref_mut, In_ok-taken, In_err-taken, In_default, In-Some, After-take_in-2}
 
 is_next : (g : given.Over) (t : ℕ) (c : In-Node g t) → IsNext c.self.inside c.heaviest-index.result c.bytes_for-bytes.result c.in-Node.node
 is_next g t c =
@@ -73,14 +75,23 @@ is_stepped g t c n = stepped c.self.inside c.take_in.new.children c.heaviest-ind
 is_made : (g : given.Over) (t : ℕ) (c : After-deref_mut g t) → IsNext c.self.inside c.heaviest-index.result c.bytes_for-bytes.result c.in-Node.node → MadeRoom c.self.inside c.heaviest-index.result c.in-Node.node c.makes_room.new.self
 is_made g t c n = made_room c.self.inside c.heaviest-index.result c.in-Node.node c.makes_room.new.self c.self.invariant n.at c.makes_room.ensures.same (let r = c.makes_room.ensures.room c.if-not-makes_room.false in let b = n.bytes_are in omega arith)
 
-is_down : (g : given.Over) (t : ℕ) (c : After-hand_down g t) → HandsDown (set c.self.inside.children.items c.heaviest-index.result (in_child.Node c.makes_room.new.self)) c.heaviest-index.result c.self.inside.buffer (with_items (with_item c.self.inside.children c.heaviest-index.result (in_child.Node c.makes_room.new.self)) c.hand_down.new.children).items c.hand_down.new.buffer
-is_down g t c =
-    let d : HandsDown (set c.self.inside.children.items c.heaviest-index.result (in_child.Node c.makes_room.new.self)) c.heaviest-index.result c.self.inside.buffer c.hand_down.new.children c.hand_down.new.buffer = rw (← c.deref_mut.ensures.value) c.hand_down.ensures in
-    rw (new_items c.self.inside.children c.heaviest-index.result (in_child.Node c.makes_room.new.self) c.hand_down.new.children c.self.inside.buffer c.hand_down.new.buffer d) d
+takes : (g : given.Over) (t : ℕ) (c : In_ok-taken g t) → TakesDown (pins_in c.args.pins.now) (set c.self.inside.children.items c.heaviest-index.result (in_child.Node c.makes_room.new.self)) c.heaviest-index.result c.self.inside.buffer c.as_slice-above.result.now c.in_ok-taken.taken c.take_down.new.children c.take_down.new.buffer c.args.cache.now c.take_down.new.cache
+takes g t c = rw (← c.deref_mut.ensures.value) c.in_ok-taken.ensures.takes
 
-is_went : (g : given.Over) (t : ℕ) (c : After-hand_down g t) → IsNext c.self.inside c.heaviest-index.result c.bytes_for-bytes.result c.in-Node.node → MadeRoom c.self.inside c.heaviest-index.result c.in-Node.node c.makes_room.new.self → WentInto c.self.inside (with_items (with_item c.self.inside.children c.heaviest-index.result (in_child.Node c.makes_room.new.self)) c.hand_down.new.children) c.hand_down.new.buffer
-is_went g t c n m =
-    went_into c.self.inside c.heaviest-index.result c.in-Node.node c.makes_room.new.self (with_items (with_item c.self.inside.children c.heaviest-index.result (in_child.Node c.makes_room.new.self)) c.hand_down.new.children) c.hand_down.new.buffer c.self.invariant c.len-known.ensures.rising m (let some = n.some in let b = n.bytes_are in omega arith) (is_down g t c)
+-- it isn't laden then
+is_light : (g : given.Over) (t : ℕ) (c : In_default g t) → TakesDown (pins_in c.args.pins.now) (set c.self.inside.children.items c.heaviest-index.result (in_child.Node c.makes_room.new.self)) c.heaviest-index.result c.self.inside.buffer c.as_slice-above.result.now c.in_ok-taken.taken c.take_down.new.children c.take_down.new.buffer c.args.cache.now c.take_down.new.cache → TakesLight (set c.self.inside.children.items c.heaviest-index.result (in_child.Node c.makes_room.new.self)) c.heaviest-index.result c.self.inside.buffer (with_items (with_item c.self.inside.children c.heaviest-index.result (in_child.Node c.makes_room.new.self)) c.take_down.new.children).items c.take_down.new.buffer c.args.cache.now c.take_down.new.cache
+is_light g t c takes =
+    let l = light_of (pins_in c.args.pins.now) (set c.self.inside.children.items c.heaviest-index.result (in_child.Node c.makes_room.new.self)) c.heaviest-index.result c.self.inside.buffer c.as_slice-above.result.now c.in_ok-taken.taken c.take_down.new.children c.take_down.new.buffer c.args.cache.now c.take_down.new.cache takes c.in_default.is in
+    subst (λ (k : List (Child g.row.A.Denot)). TakesLight (set c.self.inside.children.items c.heaviest-index.result (in_child.Node c.makes_room.new.self)) c.heaviest-index.result c.self.inside.buffer k c.take_down.new.buffer c.args.cache.now c.take_down.new.cache)
+    (sym (new_items c.self.inside.children c.heaviest-index.result (in_child.Node c.makes_room.new.self) c.take_down.new.children c.self.inside.buffer c.take_down.new.buffer l.down)) l
+
+is_went : (g : given.Over) (t : ℕ) (c : In_default g t) → IsNext c.self.inside c.heaviest-index.result c.bytes_for-bytes.result c.in-Node.node → MadeRoom c.self.inside c.heaviest-index.result c.in-Node.node c.makes_room.new.self → TakesLight (set c.self.inside.children.items c.heaviest-index.result (in_child.Node c.makes_room.new.self)) c.heaviest-index.result c.self.inside.buffer (with_items (with_item c.self.inside.children c.heaviest-index.result (in_child.Node c.makes_room.new.self)) c.take_down.new.children).items c.take_down.new.buffer c.args.cache.now c.take_down.new.cache → WentInto c.self.inside (with_items (with_item c.self.inside.children c.heaviest-index.result (in_child.Node c.makes_room.new.self)) c.take_down.new.children) c.take_down.new.buffer
+is_went g t c n m l =
+    went_into c.self.inside c.heaviest-index.result c.in-Node.node c.makes_room.new.self (with_items (with_item c.self.inside.children c.heaviest-index.result (in_child.Node c.makes_room.new.self)) c.take_down.new.children) c.take_down.new.buffer c.self.invariant c.len-known.ensures.rising m (let some = n.some in let b = n.bytes_are in omega arith) l.down
+
+-- it is laden then, and merged all that it had
+is_merging : (g : given.Over) (t : ℕ) (c : In-Some g t) → TakesDown (pins_in c.args.pins.now) (set c.self.inside.children.items c.heaviest-index.result (in_child.Node c.makes_room.new.self)) c.heaviest-index.result c.self.inside.buffer c.as_slice-above.result.now c.in_ok-taken.taken c.take_down.new.children c.take_down.new.buffer c.args.cache.now c.take_down.new.cache → MergesDown (pins_in c.args.pins.now) (set c.self.inside.children.items c.heaviest-index.result (in_child.Node c.makes_room.new.self)) c.heaviest-index.result c.self.inside.buffer c.as_slice-above.result.now c.in-Some.room c.take_down.new.children c.take_down.new.buffer c.args.cache.now c.take_down.new.cache
+is_merging g t c takes = merging_of (pins_in c.args.pins.now) (set c.self.inside.children.items c.heaviest-index.result (in_child.Node c.makes_room.new.self)) c.heaviest-index.result c.self.inside.buffer c.as_slice-above.result.now c.in_ok-taken.taken c.in-Some.room c.take_down.new.children c.take_down.new.buffer c.args.cache.now c.take_down.new.cache takes c.in-Some.is
 
 pub same-self : goal.same-self
 same-self g t c = refl
@@ -276,44 +287,203 @@ returns-then-not-makes_room-clause-cache g t c =
     (subst (λ ls. Forgets ls (leaves_in (parts_of c.take_in.new.children.items)) c.args.cache.now c.step_below.new.cache) (ap (λ (s : Subtree). s.leaves) c.self.view_is)
     (stepped_forgets c.self.inside c.take_in.new.children c.heaviest-index.result c.bytes_for-bytes.result c.in-Node.node c.makes_room.new.self c.step_below.new.self c.in_ok-room-in-Node.room.came.items (pins_in c.args.pins.now) c.args.cache.now c.step_below.new.cache c.self.invariant next c.makes_room.ensures.same c.in_ok-room-in-Node.ensures.ok c.take_in.ensures.children c.in_ok-room-in-Node.ensures.cache))
 
-pub hand_down-requires : goal.hand_down-requires
-hand_down-requires g t c =
-    let next = is_next g t (goal.at.hand_down-requires g t c).In-Node in
-    let made = is_made g t (goal.at.hand_down-requires g t c).After-deref_mut next in
-    rw c.deref_mut.ensures.value (record { node = c.makes_room.new.self; at = made.at; can = made.can })
+-- ---- where it merged, there is room for what came
+
+room_above : (g : given.Over) (t : ℕ) (c : In-Some g t) → IsNext c.self.inside c.heaviest-index.result c.bytes_for-bytes.result c.in-Node.node → MadeRoom c.self.inside c.heaviest-index.result c.in-Node.node c.makes_room.new.self → MergesDown (pins_in c.args.pins.now) (set c.self.inside.children.items c.heaviest-index.result (in_child.Node c.makes_room.new.self)) c.heaviest-index.result c.self.inside.buffer c.as_slice-above.result.now c.in-Some.room c.take_down.new.children c.take_down.new.buffer c.args.cache.now c.take_down.new.cache
+    → HasRoom c.self.inside.shape (length c.self.inside.children.items ∷ c.args.above.now.items) c.in-Some.room
+room_above g t c n m d =
+    let len : c.len-2.result ≡ length c.self.inside.children.items = let e = c.len-2.ensures in let o = c.self.inside.children.ok.0 in omega (arith, e, o) in
+    subst (λ n. HasRoom c.self.inside.shape (n ∷ c.args.above.now.items) c.in-Some.room) len
+    (subst (λ l. HasRoom c.self.inside.shape l c.in-Some.room) (c.as_slice-above.ensures.value ∙ c.in_ok-insert.ensures.items)
+    (merging_room c.self.inside c.take_down.new.buffer c.heaviest-index.result c.bytes_for-bytes.result c.in-Node.node c.makes_room.new.self c.as_slice-above.result.now c.in-Some.room c.take_down.new.children (pins_in c.args.pins.now) c.args.cache.now c.take_down.new.cache c.self.invariant c.len-known.ensures.rising n m d))
+
+ready_above : (g : given.Over) (t : ℕ) (c : In-Some g t) → HasRoom c.self.inside.shape (length c.self.inside.children.items ∷ c.args.above.now.items) c.in-Some.room → length c.self.inside.children.items ≤ c.self.inside.shape.fan_out → 1 ≤ c.self.inside.shape.fan_out → LevelReady c.self.inside.shape (length c.self.inside.children.items) (length c.in-Some.room.came.items) c.in-Some.room
+ready_above g t c r few some = level_ready c.self.inside.shape (length c.self.inside.children.items) (length c.in-Some.room.came.items) c.args.above.now.items c.in-Some.room some few r
+
+is_unladen : (g : given.Over) (t : ℕ) (c : After-take_in-2 g t) → IsNext c.self.inside c.heaviest-index.result c.bytes_for-bytes.result c.in-Node.node → MadeRoom c.self.inside c.heaviest-index.result c.in-Node.node c.makes_room.new.self → MergesDown (pins_in c.args.pins.now) (set c.self.inside.children.items c.heaviest-index.result (in_child.Node c.makes_room.new.self)) c.heaviest-index.result c.self.inside.buffer c.as_slice-above.result.now c.in-Some.room c.take_down.new.children c.take_down.new.buffer c.args.cache.now c.take_down.new.cache
+    → IsUnladen c.self.inside c.take_in-2.new.children c.take_down.new.buffer c.heaviest-index.result c.bytes_for-bytes.result c.in-Node.node c.makes_room.new.self c.in-Some.room.came.items (pins_in c.args.pins.now) c.args.cache.now c.take_down.new.cache
+is_unladen g t c n m d = unladen c.self.inside c.take_in-2.new.children c.take_down.new.buffer c.heaviest-index.result c.bytes_for-bytes.result c.in-Node.node c.makes_room.new.self c.as_slice-above.result.now c.in-Some.room c.take_down.new.children (pins_in c.args.pins.now) c.args.cache.now c.take_down.new.cache c.self.invariant c.len-known.ensures.rising n c.makes_room.ensures.same m d c.take_in-2.ensures.children
+
+pub take_down-requires-clause-can : goal.take_down-requires-clause-can
+take_down-requires-clause-can g t c =
+    let next = is_next g t (goal.at.take_down-requires-clause-can g t c).In-Node in
+    let made = is_made g t (goal.at.take_down-requires-clause-can g t c).After-deref_mut next in
+    let below : IsBelow c.self.inside.height c.self.inside.shape (in_child.Node c.in-Node.node) = level_at c.self.inside.height c.self.inside.shape c.self.inside.children.items c.heaviest-index.result (in_child.Node c.in-Node.node) c.self.invariant.level next.at in
+    let own : c.makes_room.new.self.shape ≡ c.self.inside.shape = (squeezed_same c.in-Node.node c.makes_room.new.self c.makes_room.ensures.same).0.shape ∙ below.same.0 in
+    rw c.deref_mut.ensures.value
+    (can_take_down c.self.inside c.heaviest-index.result c.bytes_for-bytes.result c.in-Node.node c.makes_room.new.self c.self.invariant c.len-known.ensures.rising next made
+    (let some = are_some g t (goal.at.take_down-requires-clause-can g t c).In-Node in let e = ap (λ (s : Shape). s.fan_out) own in omega (arith, some, e))
+    (subst (λ (s : Subtree). AreShort (messages_of s)) (sym c.self.view_is) c.requires.short))
+
+pub take_down-requires-clause-bytes : goal.take_down-requires-clause-bytes
+take_down-requires-clause-bytes g t c d =
+    let next = is_next g t (goal.at.take_down-requires-clause-bytes g t c).In-Node in
+    let made = is_made g t (goal.at.take_down-requires-clause-bytes g t c).After-deref_mut next in
+    rw c.deref_mut.ensures.value (bytes_down c.self.inside c.heaviest-index.result c.bytes_for-bytes.result c.in-Node.node c.makes_room.new.self d next made)
+
+gave_back : (g : given.Over) (t : ℕ) (c : In_err-taken g t) → IsNext c.self.inside c.heaviest-index.result c.bytes_for-bytes.result c.in-Node.node → MadeRoom c.self.inside c.heaviest-index.result c.in-Node.node c.makes_room.new.self → Refused c.self.inside (with_items (with_item c.self.inside.children c.heaviest-index.result (in_child.Node c.makes_room.new.self)) c.take_down.new.children) c.take_down.new.buffer
+gave_back g t c n m =
+    refused c.self.inside c.heaviest-index.result c.bytes_for-bytes.result c.in-Node.node c.makes_room.new.self c.take_down.new.children c.take_down.new.buffer c.self.invariant c.len-known.ensures.rising n c.makes_room.ensures.same m
+    (rw (← c.deref_mut.ensures.value) c.in_err-taken.ensures.err)
+
+pub invariant_of-self-in_err-taken : goal.invariant_of-self-in_err-taken
+invariant_of-self-in_err-taken g t c =
+    let next = is_next g t (goal.at.invariant_of-self-in_err-taken g t c).In-Node in
+    let made = is_made g t (goal.at.invariant_of-self-in_err-taken g t c).After-deref_mut next in
+    (gave_back g t (goal.at.invariant_of-self-in_err-taken g t c).In_err-taken next made).is_node
+
+pub returns-in_err-taken-clause-err : goal.returns-in_err-taken-clause-err
+returns-in_err-taken-clause-err g t c =
+    let next = is_next g t (goal.at.returns-in_err-taken-clause-err g t c).In-Node in
+    let made = is_made g t (goal.at.returns-in_err-taken-clause-err g t c).After-deref_mut next in
+    on_err c.from_residual-in_err-taken.result (rw (← c.self.view_is) (gave_back g t (goal.at.returns-in_err-taken-clause-err g t c).In_err-taken next made).stays)
+
+pub invariant_of-self-in_default : goal.invariant_of-self-in_default
+invariant_of-self-in_default g t c =
+    let next = is_next g t (goal.at.invariant_of-self-in_default g t c).In-Node in
+    let made = is_made g t (goal.at.invariant_of-self-in_default g t c).After-deref_mut next in
+    let light = is_light g t (goal.at.invariant_of-self-in_default g t c).In_default (takes g t (goal.at.invariant_of-self-in_default g t c).In_ok-taken) in
+    let went = is_went g t (goal.at.invariant_of-self-in_default g t c).In_default next made light in
+    went.is_node
+
+pub returns-in_default-clause-goes : goal.returns-in_default-clause-goes
+returns-in_default-clause-goes g t c =
+    let next = is_next g t (goal.at.returns-in_default-clause-goes g t c).In-Node in
+    let made = is_made g t (goal.at.returns-in_default-clause-goes g t c).After-deref_mut next in
+    let light = is_light g t (goal.at.returns-in_default-clause-goes g t c).In_default (takes g t (goal.at.returns-in_default-clause-goes g t c).In_ok-taken) in
+    let went = is_went g t (goal.at.returns-in_default-clause-goes g t c).In_default next made light in
+    rw light.same (subst (λ (s : Subtree). Goes s.height (pins_in c.args.pins.now) s (subtree_of (record c.self.inside { children = (with_items (with_item c.self.inside.children c.heaviest-index.result (in_child.Node c.makes_room.new.self)) c.take_down.new.children); buffer = c.take_down.new.buffer })) c.none.result.came.items c.args.cache.now c.args.cache.now) c.self.view_is
+    (goes_into c.self.inside (with_items (with_item c.self.inside.children c.heaviest-index.result (in_child.Node c.makes_room.new.self)) c.take_down.new.children) c.take_down.new.buffer c.heaviest-index.result c.bytes_for-bytes.result c.in-Node.node c.makes_room.new.self c.none.result.came.items (pins_in c.args.pins.now) c.args.cache.now
+    c.self.invariant went.is_node (is_heavy g t (goal.at.returns-in_default-clause-goes g t c).In-Node) next c.makes_room.ensures.same light.down light.filled light.taken light.light c.none.ensures.came))
+
+pub returns-in_default-clause-ok : goal.returns-in_default-clause-ok
+returns-in_default-clause-ok g t c =
+    let next = is_next g t (goal.at.returns-in_default-clause-ok g t c).In-Node in
+    let made = is_made g t (goal.at.returns-in_default-clause-ok g t c).After-deref_mut next in
+    let light = is_light g t (goal.at.returns-in_default-clause-ok g t c).In_default (takes g t (goal.at.returns-in_default-clause-ok g t c).In_ok-taken) in
+    let went = is_went g t (goal.at.returns-in_default-clause-ok g t c).In_default next made light in
+    subst (λ (s : Subtree). StepsAsOne (pins_in c.args.pins.now) s (subtree_of (record c.self.inside { children = (with_items (with_item c.self.inside.children c.heaviest-index.result (in_child.Node c.makes_room.new.self)) c.take_down.new.children); buffer = c.take_down.new.buffer })) c.none.result.came.items) c.self.view_is
+    (steps_alone (pins_in c.args.pins.now) (subtree_of c.self.inside) (subtree_of (record c.self.inside { children = (with_items (with_item c.self.inside.children c.heaviest-index.result (in_child.Node c.makes_room.new.self)) c.take_down.new.children); buffer = c.take_down.new.buffer })) c.none.result.came.items went.stays went.is_node.sizes went.weight
+    (subst (λ (s : Subtree). s.width ≤ s.shape.fan_out) (sym c.self.view_is) c.requires.few) c.none.ensures.came)
+
+pub returns-in_default-clause-room : goal.returns-in_default-clause-room
+returns-in_default-clause-room g t c = none_needed c.args.self.now.shape c.args.above.now.items c.none.result c.none.ensures.came (c.none.ensures.room c.args.self.now.shape)
+
+pub returns-in_default-clause-cache : goal.returns-in_default-clause-cache
+returns-in_default-clause-cache g t c =
+    let next = is_next g t (goal.at.returns-in_default-clause-cache g t c).In-Node in
+    let made = is_made g t (goal.at.returns-in_default-clause-cache g t c).After-deref_mut next in
+    let light = is_light g t (goal.at.returns-in_default-clause-cache g t c).In_default (takes g t (goal.at.returns-in_default-clause-cache g t c).In_ok-taken) in
+    let went = is_went g t (goal.at.returns-in_default-clause-cache g t c).In_default next made light in
+    rw light.same (forgets_nothing c.args.self.now.leaves _ c.args.cache.now
+    ((λ i. leaves_in (parts_of (with_items (with_item c.self.inside.children c.heaviest-index.result (in_child.Node c.makes_room.new.self)) c.take_down.new.children).items) ++ leaves_of (c.none.ensures.came i)) ∙ append-nil (leaves_in (parts_of (with_items (with_item c.self.inside.children c.heaviest-index.result (in_child.Node c.makes_room.new.self)) c.take_down.new.children).items)) ∙ went.stays.leaves ∙ ap (λ (s : Subtree). s.leaves) c.self.view_is))
+
+pub take_in-requires-2-clause-inside : goal.take_in-requires-2-clause-inside
+take_in-requires-2-clause-inside g t c =
+    let next = is_next g t (goal.at.take_in-requires-2-clause-inside g t c).In-Node in
+    let i = inside_of c.self.inside.children.items c.heaviest-index.result (in_child.Node c.in-Node.node) next.at in
+    let o = c.self.inside.children.ok.0 in
+    omega (arith, i, o)
+
+pub take_in-requires-2-clause-places : goal.take_in-requires-2-clause-places
+take_in-requires-2-clause-places g t c = λ s.
+    let next = is_next g t (goal.at.take_in-requires-2-clause-places g t c).In-Node in
+    let made = is_made g t (goal.at.take_in-requires-2-clause-places g t c).After-deref_mut next in
+    let d = is_merging g t (goal.at.take_in-requires-2-clause-places g t c).In-Some (takes g t (goal.at.take_in-requires-2-clause-places g t c).In_ok-taken) in
+    let few = are_few g t (goal.at.take_in-requires-2-clause-places g t c).In-Node in
+    let some = are_some g t (goal.at.take_in-requires-2-clause-places g t c).In-Node in
+    let ready = ready_above g t (goal.at.take_in-requires-2-clause-places g t c).In-Some (room_above g t (goal.at.take_in-requires-2-clause-places g t c).In-Some next made d) few some in
+    let o = c.self.inside.children.ok.0 in
+    let p = c.in-Some.room.came.ok.0 in
+    let e : length c.self.inside.children.items + length c.in-Some.room.came.items ≡ c.self.inside.children.len + vec_len c.in-Some.room.came = omega (arith, o, p) in
+    subst (λ n. AreLists 1 n c.in-Some.room.wides.items) e (ready.places (omega (arith, s, p)))
 
 pub invariant_of-self-2 : goal.invariant_of-self-2
 invariant_of-self-2 g t c =
     let next = is_next g t (goal.at.invariant_of-self-2 g t c).In-Node in
     let made = is_made g t (goal.at.invariant_of-self-2 g t c).After-deref_mut next in
-    let went = is_went g t (goal.at.invariant_of-self-2 g t c).After-hand_down next made in
-    went.is_node
+    let d = is_merging g t (goal.at.invariant_of-self-2 g t c).In-Some (takes g t (goal.at.invariant_of-self-2 g t c).In_ok-taken) in
+    (is_unladen g t (goal.at.invariant_of-self-2 g t c).After-take_in-2 next made d).drained.is_node
+
+pub settle-requires-2-clause-fan_out : goal.settle-requires-2-clause-fan_out
+settle-requires-2-clause-fan_out g t c = let f = c.requires.fan_out in let e = ap (λ (s : Subtree). s.shape.fan_out) c.self.view_is in omega (arith, f, e)
+
+pub settle-requires-2-clause-none : goal.settle-requires-2-clause-none
+settle-requires-2-clause-none g t c = c.take_in-2.ensures.came
+
+pub settle-requires-2-clause-came : goal.settle-requires-2-clause-came
+settle-requires-2-clause-came g t c =
+    let next = is_next g t (goal.at.settle-requires-2-clause-came g t c).In-Node in
+    let made = is_made g t (goal.at.settle-requires-2-clause-came g t c).After-deref_mut next in
+    let d = is_merging g t (goal.at.settle-requires-2-clause-came g t c).In-Some (takes g t (goal.at.settle-requires-2-clause-came g t c).In_ok-taken) in
+    let few = are_few g t (goal.at.settle-requires-2-clause-came g t c).In-Node in
+    let some = are_some g t (goal.at.settle-requires-2-clause-came g t c).In-Node in
+    let ready = ready_above g t (goal.at.settle-requires-2-clause-came g t c).In-Some (room_above g t (goal.at.settle-requires-2-clause-came g t c).In-Some next made d) few some in
+    let wide = (is_unladen g t (goal.at.settle-requires-2-clause-came g t c).After-take_in-2 next made d).wide in
+    let r = ready.came in
+    let k = c.take_in-2.ensures.capacity in
+    let e = ap (groups c.self.inside.shape.fan_out) wide in
+    omega (arith, r, k, e)
+
+pub settle-requires-2-clause-shells : goal.settle-requires-2-clause-shells
+settle-requires-2-clause-shells g t c =
+    let next = is_next g t (goal.at.settle-requires-2-clause-shells g t c).In-Node in
+    let made = is_made g t (goal.at.settle-requires-2-clause-shells g t c).After-deref_mut next in
+    let d = is_merging g t (goal.at.settle-requires-2-clause-shells g t c).In-Some (takes g t (goal.at.settle-requires-2-clause-shells g t c).In_ok-taken) in
+    let few = are_few g t (goal.at.settle-requires-2-clause-shells g t c).In-Node in
+    let some = are_some g t (goal.at.settle-requires-2-clause-shells g t c).In-Node in
+    let ready = ready_above g t (goal.at.settle-requires-2-clause-shells g t c).In-Some (room_above g t (goal.at.settle-requires-2-clause-shells g t c).In-Some next made d) few some in
+    let wide = (is_unladen g t (goal.at.settle-requires-2-clause-shells g t c).After-take_in-2 next made d).wide in
+    rw (wide, c.take_in-2.ensures.shells) ready.shells
 
 pub returns-clause-goes : goal.returns-clause-goes
 returns-clause-goes g t c =
     let next = is_next g t (goal.at.returns-clause-goes g t c).In-Node in
     let made = is_made g t (goal.at.returns-clause-goes g t c).After-deref_mut next in
-    let went = is_went g t (goal.at.returns-clause-goes g t c).After-hand_down next made in
-    subst (λ (s : Subtree). Goes s.height (pins_in c.args.pins.now) s (subtree_of (record c.self.inside { children = (with_items (with_item c.self.inside.children c.heaviest-index.result (in_child.Node c.makes_room.new.self)) c.hand_down.new.children); buffer = c.hand_down.new.buffer })) c.none.result.came.items c.args.cache.now c.args.cache.now) c.self.view_is
-    (goes_into c.self.inside (with_items (with_item c.self.inside.children c.heaviest-index.result (in_child.Node c.makes_room.new.self)) c.hand_down.new.children) c.hand_down.new.buffer c.heaviest-index.result c.bytes_for-bytes.result c.in-Node.node c.makes_room.new.self c.none.result.came.items (pins_in c.args.pins.now) c.args.cache.now
-    c.self.invariant went.is_node (is_heavy g t (goal.at.returns-clause-goes g t c).In-Node) next c.makes_room.ensures.same (is_down g t (goal.at.returns-clause-goes g t c).After-hand_down) c.none.ensures.came)
+    let d = is_merging g t (goal.at.returns-clause-goes g t c).In-Some (takes g t (goal.at.returns-clause-goes g t c).In_ok-taken) in
+    let u = is_unladen g t (goal.at.returns-clause-goes g t c).After-take_in-2 next made d in
+    subst (λ (s : Subtree). Goes s.height (pins_in c.args.pins.now) s c.settle-2.new.self c.settle-2.new.room.came.items c.args.cache.now c.take_down.new.cache) c.self.view_is
+    (u.goes c.settle-2.new.self c.settle-2.new.room.came.items (is_heavy g t (goal.at.returns-clause-goes g t c).In-Node) (c.settle-2.ensures.settles (pins_in c.args.pins.now)))
 
 pub returns-clause-ok : goal.returns-clause-ok
 returns-clause-ok g t c =
     let next = is_next g t (goal.at.returns-clause-ok g t c).In-Node in
     let made = is_made g t (goal.at.returns-clause-ok g t c).After-deref_mut next in
-    let went = is_went g t (goal.at.returns-clause-ok g t c).After-hand_down next made in
-    subst (λ (s : Subtree). StepsAsOne (pins_in c.args.pins.now) s (subtree_of (record c.self.inside { children = (with_items (with_item c.self.inside.children c.heaviest-index.result (in_child.Node c.makes_room.new.self)) c.hand_down.new.children); buffer = c.hand_down.new.buffer })) c.none.result.came.items) c.self.view_is
-    (steps_alone (pins_in c.args.pins.now) (subtree_of c.self.inside) (subtree_of (record c.self.inside { children = (with_items (with_item c.self.inside.children c.heaviest-index.result (in_child.Node c.makes_room.new.self)) c.hand_down.new.children); buffer = c.hand_down.new.buffer })) c.none.result.came.items went.stays went.is_node.sizes went.weight
-    (subst (λ (s : Subtree). s.width ≤ s.shape.fan_out) (sym c.self.view_is) c.requires.few) c.none.ensures.came)
+    let d = is_merging g t (goal.at.returns-clause-ok g t c).In-Some (takes g t (goal.at.returns-clause-ok g t c).In_ok-taken) in
+    let few = are_few g t (goal.at.returns-clause-ok g t c).In-Node in
+    let some = are_some g t (goal.at.returns-clause-ok g t c).In-Node in
+    let u = is_unladen g t (goal.at.returns-clause-ok g t c).After-take_in-2 next made d in
+    subst (λ (s : Subtree). StepsAsOne (pins_in c.args.pins.now) s c.settle-2.new.self c.settle-2.new.room.came.items) c.self.view_is
+    (steps (pins_in c.args.pins.now) (subtree_of c.self.inside) _ c.settle-2.new.self c.settle-2.new.room.came.items u.drained.keeps u.drained.lighter (c.settle-2.ensures.settles (pins_in c.args.pins.now))
+    (let k = c.settle-2.ensures.count in
+    let e = ap (groups c.self.inside.shape.fan_out) u.wide in
+    let g = groups_stay c.self.inside.shape.fan_out (length c.self.inside.children.items) (length c.in-Some.room.came.items) some few in
+    let n = d.steps.counted in
+    omega (arith, k, e, g, n)))
 
 pub returns-clause-room : goal.returns-clause-room
-returns-clause-room g t c = none_needed c.args.self.now.shape c.args.above.now.items c.none.result c.none.ensures.came (c.none.ensures.room c.args.self.now.shape)
+returns-clause-room g t c =
+    let next = is_next g t (goal.at.returns-clause-room g t c).In-Node in
+    let made = is_made g t (goal.at.returns-clause-room g t c).After-deref_mut next in
+    let d = is_merging g t (goal.at.returns-clause-room g t c).In-Some (takes g t (goal.at.returns-clause-room g t c).In_ok-taken) in
+    let few = are_few g t (goal.at.returns-clause-room g t c).In-Node in
+    let some = are_some g t (goal.at.returns-clause-room g t c).In-Node in
+    let room = room_above g t (goal.at.returns-clause-room g t c).In-Some next made d in
+    let wide = (is_unladen g t (goal.at.returns-clause-room g t c).After-take_in-2 next made d).wide in
+    let p = c.in-Some.room.came.ok.0 in
+    rw (← c.self.view_is) (level_left c.self.inside.shape (length c.self.inside.children.items) (length c.in-Some.room.came.items) c.args.above.now.items c.in-Some.room c.take_in-2.new.room c.settle-2.new.room some few room
+    c.take_in-2.ensures.shells c.take_in-2.ensures.capacity
+    (λ z. c.take_in-2.ensures.none (omega (arith, z, p)))
+    (λ one levels places h. c.take_in-2.ensures.wides levels places (omega (arith, one, p)) h)
+    (λ rest h. c.settle-2.ensures.room rest (subst (λ n. AreShells ((groups c.self.inside.shape.fan_out n - 1) + rest) c.self.inside.shape c.take_in-2.new.room.shells.items) (sym wide) h))
+    c.settle-2.ensures.capacity c.settle-2.ensures.wides
+    (let k = c.settle-2.ensures.count in let e = ap (groups c.self.inside.shape.fan_out) wide in omega (arith, k, e)))
 
 pub returns-clause-cache : goal.returns-clause-cache
 returns-clause-cache g t c =
     let next = is_next g t (goal.at.returns-clause-cache g t c).In-Node in
     let made = is_made g t (goal.at.returns-clause-cache g t c).After-deref_mut next in
-    let went = is_went g t (goal.at.returns-clause-cache g t c).After-hand_down next made in
-    forgets_nothing c.args.self.now.leaves _ c.args.cache.now
-    ((λ i. leaves_in (parts_of (with_items (with_item c.self.inside.children c.heaviest-index.result (in_child.Node c.makes_room.new.self)) c.hand_down.new.children).items) ++ leaves_of (c.none.ensures.came i)) ∙ append-nil (leaves_in (parts_of (with_items (with_item c.self.inside.children c.heaviest-index.result (in_child.Node c.makes_room.new.self)) c.hand_down.new.children).items)) ∙ went.stays.leaves ∙ ap (λ (s : Subtree). s.leaves) c.self.view_is)
+    let d = is_merging g t (goal.at.returns-clause-cache g t c).In-Some (takes g t (goal.at.returns-clause-cache g t c).In_ok-taken) in
+    let u = is_unladen g t (goal.at.returns-clause-cache g t c).After-take_in-2 next made d in
+    subst (λ ls. Forgets c.args.self.now.leaves ls c.args.cache.now c.take_down.new.cache) (sym (grown_leaves (pins_in c.args.pins.now) _ c.settle-2.new.self c.settle-2.new.room.came.items (c.settle-2.ensures.settles (pins_in c.args.pins.now))))
+    (subst (λ ls. Forgets ls (leaves_in (parts_of c.take_in-2.new.children.items)) c.args.cache.now c.take_down.new.cache) (ap (λ (s : Subtree). s.leaves) c.self.view_is) u.drained.forgets)
