@@ -1,14 +1,14 @@
 //! Random requests of three tenants, with snapshots that come and go and quotas that rise and fall, each beside the tenant's
 //! own plain store.
-use crate::making::core_of;
-use crate::text::filled_words;
+use crate::making::{call, core_of, give, shape_of};
 use std::alloc::{AllocError, Allocator, Global};
 use std::test::Fail;
 use stow_core::Core;
+use stow_model::reply::Reply;
 use stow_model::words::Words;
 use stow_plain::plain_request::PlainRequest;
 use stow_plain::plain_store::PlainStore;
-use stow_testing::lines::words_of;
+use stow_testing::lines::{push_word, words_of};
 use stow_testing::random::Random;
 use stow_testing::replies::reply_text;
 use stow_testing::tenants::{SMALL_QUOTA, THREE};
@@ -35,10 +35,19 @@ const IDS: [&str; 24] = [
 ];
 
 /// The quota that the first two tenants begin with, which holds many long values.
-const LONG_QUOTA: u64 = 15_000_000;
+const LONG_QUOTA: u32 = 15_000_000;
 
-/// Quotas that an operator gives. Some hold no row, and some all.
-const QUOTAS: [u64; 6] = [0, 40, 200, 450_000, 900_000, LONG_QUOTA];
+/// A quota that an operator gives. Some hold no row, and some all.
+fn quota_of(number: u32) -> u32 {
+    match number {
+        0 => 0,
+        1 => 40,
+        2 => 200,
+        3 => 450_000,
+        4 => 900_000,
+        _ => LONG_QUOTA,
+    }
+}
 
 /// A request's line: `k` and `l` are keys, `v` is a value, `n` a number, and `i` a snapshot's id.
 const LINES: [&str; 24] = [
@@ -68,37 +77,108 @@ const LINES: [&str; 24] = [
     "USAGE",
 ];
 
-/// A random request's line, and its words.
-fn draw<A: Allocator + Copy>(
-    alloc: A,
-    random: &mut Random,
-) -> Result<(&'static str, Words<A>), AllocError> {
-    let letters = [
-        ("k", random.one_of(&KEYS)),
-        ("l", random.one_of(&KEYS)),
-        ("v", random.one_of(&VALUES)),
-        ("n", random.one_of(&NUMBERS)),
-        ("i", random.one_of(&IDS)),
-    ];
-    let line = random.one_of(&LINES);
-    Ok((line, filled_words(alloc, line, &letters)?))
+/// What the letters of a line stand for.
+#[derive(Clone, Copy)]
+struct Letters {
+    k: &'static str,
+    l: &'static str,
+    v: &'static str,
+    n: &'static str,
+    i: &'static str,
 }
 
-/// Whether the core and the tenant's own store tell words the same.
-fn is_alike<A: Allocator + Copy>(
-    core: &mut Core<A>,
-    alone: &mut PlainStore<A>,
+/// A random key.
+fn key(random: &mut Random) -> &'static str {
+    random.one_of(&KEYS)
+}
+
+/// A random value.
+fn value(random: &mut Random) -> &'static str {
+    random.one_of(&VALUES)
+}
+
+/// A random number of rows.
+fn rows(random: &mut Random) -> &'static str {
+    random.one_of(&NUMBERS)
+}
+
+/// A random snapshot's id.
+fn id(random: &mut Random) -> &'static str {
+    random.one_of(&IDS)
+}
+
+impl Letters {
+    fn draw(random: &mut Random) -> Letters {
+        Letters {
+            k: key(random),
+            l: key(random),
+            v: value(random),
+            n: rows(random),
+            i: id(random),
+        }
+    }
+
+    /// What a word stands for.
+    fn filled(self, word: &'static str) -> &'static str {
+        match word {
+            "k" => self.k,
+            "l" => self.l,
+            "v" => self.v,
+            "n" => self.n,
+            "i" => self.i,
+            _ => word,
+        }
+    }
+}
+
+/// A line's words with what its letters stand for.
+fn filled_words<A: Allocator + Copy>(
     alloc: A,
-    tenant: u32,
-    words: Words<A>,
+    line: &'static str,
+    letters: Letters,
+) -> Result<Words<A>, AllocError> {
+    let mut words = Words::new(alloc);
+    for word in line.split_whitespace() {
+        push_word(&mut words, alloc, letters.filled(word))?;
+    }
+    Ok(words)
+}
+
+/// Whether two replies are the same.
+fn is_same<A: Allocator + Copy>(
+    alloc: A,
+    told: &Reply<A>,
+    want: &Reply<A>,
 ) -> Result<bool, AllocError> {
-    let told = core.call(alloc, tenant, &words);
-    let request = PlainRequest {
-        words,
-        is_refused: false,
-    };
-    let want = alone.step(alloc, &request)?;
-    Ok(reply_text(alloc, &told)? == reply_text(alloc, &want)?)
+    Ok(reply_text(alloc, told)?.as_slice() == reply_text(alloc, want)?.as_slice())
+}
+
+/// What a tenant's own store tells to a request. What the call promises stops here, so that no test carries it.
+fn step<A: Allocator + Copy>(
+    store: &mut PlainStore<A>,
+    alloc: A,
+    request: &PlainRequest<A>,
+) -> Result<Reply<A>, AllocError> {
+    store.step(alloc, request)
+}
+
+/// What it tells to words; and whether memory is refused to them.
+fn told_alone<A: Allocator + Copy>(
+    store: &mut PlainStore<A>,
+    alloc: A,
+    (words, is_refused): (Words<A>, bool),
+) -> Result<Reply<A>, AllocError> {
+    step(store, alloc, &PlainRequest { words, is_refused })
+}
+
+/// Whether it tells this.
+pub(crate) fn is_alike<A: Allocator + Copy>(
+    store: &mut PlainStore<A>,
+    alloc: A,
+    told: &Reply<A>,
+    asked: (Words<A>, bool),
+) -> Result<bool, AllocError> {
+    is_same(alloc, told, &told_alone(store, alloc, asked)?)
 }
 
 /// The own stores of three tenants.
@@ -113,8 +193,8 @@ impl<A: Allocator + Copy> OwnStores<A> {
     /// Three stores without rows.
     fn new(alloc: A) -> OwnStores<A> {
         OwnStores {
-            first: PlainStore::new(alloc, LONG_QUOTA),
-            second: PlainStore::new(alloc, LONG_QUOTA),
+            first: PlainStore::new(alloc, u64::from(LONG_QUOTA)),
+            second: PlainStore::new(alloc, u64::from(LONG_QUOTA)),
             third: PlainStore::new(alloc, SMALL_QUOTA),
         }
     }
@@ -129,79 +209,155 @@ impl<A: Allocator + Copy> OwnStores<A> {
     }
 }
 
-/// Gives a random tenant a random quota, in the core and in its own store.
-fn give_quota<A: Allocator + Copy>(
+/// Gives a tenant's own store a quota.
+fn give_alone<A: Allocator + Copy>(store: &mut PlainStore<A>, quota: u32) {
+    store.set_quota(u64::from(quota));
+}
+
+/// Gives a tenant a quota in a core and in its own store.
+fn give_both<A: Allocator + Copy>(
+    core: &mut Core<A>,
+    stores: &mut OwnStores<A>,
+    tenant: u32,
+    quota: u32,
+) {
+    give(core, tenant, quota);
+    give_alone(stores.of(tenant), quota);
+}
+
+/// Whether a core and the tenant's own store tell words the same.
+fn are_alike<A: Allocator + Copy>(
+    core: &mut Core<A>,
+    store: &mut PlainStore<A>,
+    alloc: A,
+    (tenant, words): (u32, Words<A>),
+) -> Result<bool, AllocError> {
+    let told = call(core, alloc, tenant, &words);
+    is_alike(store, alloc, &told, (words, false))
+}
+
+/// One of the tenants.
+fn one_tenant(random: &mut Random) -> u32 {
+    random.below(3) + 1
+}
+
+/// A random quota for a random tenant, now and then.
+fn give_random<A: Allocator + Copy>(
     core: &mut Core<A>,
     stores: &mut OwnStores<A>,
     random: &mut Random,
 ) {
-    let tenant = random.below(3) + 1;
-    let quota = QUOTAS[random.below(6) as usize];
-    core.set_quota(tenant, quota);
-    stores.of(tenant).set_quota(quota);
+    if random.below(100) == 0 {
+        let tenant = one_tenant(random);
+        give_both(core, stores, tenant, quota_of(random.below(6)));
+    }
 }
 
-/// Random requests to a core and to the own stores, and quotas; `None` where each is answered as alone, and else the first
-/// line that isn't.
+/// Whether a line in which random letters stand is told a random tenant as alone.
+fn is_line_alike<A: Allocator + Copy>(
+    core: &mut Core<A>,
+    stores: &mut OwnStores<A>,
+    alloc: A,
+    line: &'static str,
+    random: &mut Random,
+) -> Result<bool, AllocError> {
+    let tenant = one_tenant(random);
+    let letters = Letters::draw(random);
+    let words = filled_words(alloc, line, letters)?;
+    are_alike(core, stores.of(tenant), alloc, (tenant, words))
+}
+
+/// Random requests and quotas; `None` where each is answered as alone, and else the first line that isn't.
 fn first_other<A: Allocator + Copy>(
     core: &mut Core<A>,
     stores: &mut OwnStores<A>,
     alloc: A,
+    count: u32,
 ) -> Result<Option<&'static str>, AllocError> {
     let mut random = Random::new(7);
-    for _ in 0..2_500 {
-        if random.below(100) == 0 {
-            give_quota(core, stores, &mut random);
-        }
-        let tenant = random.below(3) + 1;
-        let (line, words) = draw(alloc, &mut random)?;
-        if !is_alike(core, stores.of(tenant), alloc, tenant, words)? {
+    for _ in 0..count {
+        give_random(core, stores, &mut random);
+        let line = random.one_of(&LINES);
+        if !is_line_alike(core, stores, alloc, line, &mut random)? {
             return Ok(Some(line));
         }
     }
     Ok(None)
 }
 
-/// Whether each tenant has written more than a hundred times, and has the rows and the usage that its own store has.
+/// Whether they tell a line the same.
+fn is_told_alike<A: Allocator + Copy>(
+    core: &mut Core<A>,
+    store: &mut PlainStore<A>,
+    alloc: A,
+    (tenant, line): (u32, &str),
+) -> Result<bool, AllocError> {
+    are_alike(core, store, alloc, (tenant, words_of(alloc, line)?))
+}
+
+/// Whether a tenant has written more than a hundred times.
+fn has_written<A: Allocator + Copy>(store: &PlainStore<A>) -> bool {
+    store.last.get() > 100
+}
+
+/// Whether it has, and has the rows and the usage that its own store has.
 fn are_rows_alike<A: Allocator + Copy>(
+    core: &mut Core<A>,
+    store: &mut PlainStore<A>,
+    alloc: A,
+    tenant: u32,
+) -> Result<bool, AllocError> {
+    Ok(
+        is_told_alike(core, store, alloc, (tenant, "RANGE '' '' 1024"))?
+            && is_told_alike(core, store, alloc, (tenant, "USAGE"))?
+            && has_written(store),
+    )
+}
+
+/// Whether each tenant has.
+fn are_all_alike<A: Allocator + Copy>(
     core: &mut Core<A>,
     stores: &mut OwnStores<A>,
     alloc: A,
 ) -> Result<bool, AllocError> {
     for tenant in 1..4u32 {
-        let alone = stores.of(tenant);
-        let rows = words_of(alloc, "RANGE '' '' 1024")?;
-        let usage = words_of(alloc, "USAGE")?;
-        if alone.last.get() <= 100
-            || !is_alike(core, alone, alloc, tenant, rows)?
-            || !is_alike(core, alone, alloc, tenant, usage)?
-        {
+        if !are_rows_alike(core, stores.of(tenant), alloc, tenant)? {
             return Ok(false);
         }
     }
     Ok(true)
 }
 
-/// The first request to a new core of this shape that is not answered as alone, or that the rows are others, or that nothing
-/// was flushed.
+/// The first request that is not answered as alone, or that the rows are others, or that nothing was flushed.
+fn other<A: Allocator + Copy>(
+    core: &mut Core<A>,
+    stores: &mut OwnStores<A>,
+    alloc: A,
+) -> Result<Option<&'static str>, AllocError> {
+    give_both(core, stores, 1, LONG_QUOTA);
+    give_both(core, stores, 2, LONG_QUOTA);
+    let other = first_other(core, stores, alloc, 2_500)?;
+    if other.is_some() {
+        return Ok(other);
+    }
+    if shape_of(core).leaves < 2 {
+        return Ok(Some("no flush"));
+    }
+    let are_alike = are_all_alike(core, stores, alloc)?;
+    Ok(if are_alike { None } else { Some("the rows") })
+}
+
+/// The same of a new core of this shape.
 fn other_of<A: Allocator + Copy>(
     alloc: A,
     global: Global,
     shape: TreeShape,
 ) -> Result<Option<&'static str>, AllocError> {
-    let mut core = core_of(alloc, global, THREE, shape)?;
-    core.set_quota(1, LONG_QUOTA);
-    core.set_quota(2, LONG_QUOTA);
-    let mut stores = OwnStores::new(alloc);
-    let other = first_other(&mut core, &mut stores, alloc)?;
-    if other.is_some() {
-        return Ok(other);
-    }
-    if core.shape().leaves < 2 {
-        return Ok(Some("no flush"));
-    }
-    let alike = are_rows_alike(&mut core, &mut stores, alloc)?;
-    Ok(if alike { None } else { Some("the rows") })
+    other(
+        &mut core_of(alloc, global, THREE, shape)?,
+        &mut OwnStores::new(alloc),
+        alloc,
+    )
 }
 
 // Values that are long enough for many flushes are among them.
