@@ -1,17 +1,20 @@
 //! Each request for memory refused in turn, of what withstands it.
-use crate::calls::refusals::{CASES, Case, asked_by_call, case_of, long_case, reaching};
+use crate::calls::refusals::{
+    CASES, Case, asked_by_call, case_of, long_case, new_reaching, withstands_each,
+};
 use crate::events::acts::{ACTS, Act, with_flushes};
 use crate::{calls, events};
 use std::alloc::{AllocError, Allocator, Global};
 use std::test::Fail;
 use stow_refusing::Refusing;
+use stow_testing::lines::repeated;
 use stow_testing::rows::{ROWS, Told};
 
 /// What is tried.
 #[derive(Clone, Copy)]
 enum Trial<'a> {
     /// A prepare.
-    Case(Case),
+    Case(Case<'a>),
     /// A worked list.
     Worked(&'a [Told]),
     /// Flushes in two steps between requests.
@@ -86,16 +89,43 @@ fn prepares_withstand_each_refusal(rt: HostRuntime) -> Result<(), Fail> {
     Ok(())
 }
 
-// A node's buffer holds six of these values, so the seventh takes a flush, which asks for much more. Later one flush goes
-// through two levels: the root's messages are for a child whose own buffer is full.
+/// Whether one more long value above so many withstands the refusal of each of its requests in one core, and of some in new
+/// ones.
+fn is_flush<B: Allocator>(
+    heap: &Refusing<B>,
+    global: Global,
+    case: Case<'_>,
+) -> Result<bool, AllocError> {
+    for at in [10, 40, 70] {
+        if withstands(heap, (heap, global), Trial::Case(case), at)? == Some(false) {
+            return Ok(false);
+        }
+    }
+    let asked = withstands_each(heap, (heap, global), case)?;
+    Ok(matches!(asked, Some(asked) if asked >= u64::from(case.asked)))
+}
+
+// A node's buffer holds six of these values, so the seventh takes a flush, which asks for much more.
 #[test]
 fn flushes_withstand_each_refusal(rt: HostRuntime) -> Result<(), Fail> {
     let heap = Refusing::new(rt.alloc());
-    let Some(keys) = reaching(rt.alloc(), rt.alloc())? else {
+    let long = repeated(rt.alloc(), b'y', 300_000)?;
+    assert!(rt; is_flush(&heap, rt.alloc(), long_case(long.as_slice(), 6))?);
+    Ok(())
+}
+
+// Later one flush goes through two levels: the root's messages are for a child whose own buffer is full.
+#[test]
+fn flushes_through_two_levels_withstand_each_refusal(rt: HostRuntime) -> Result<(), Fail> {
+    let heap = Refusing::new(rt.alloc());
+    let long = repeated(rt.alloc(), b'y', 300_000)?;
+    let Some(keys) = new_reaching(rt.alloc(), rt.alloc(), long.as_slice())? else {
         panic!(rt; "no flush through two levels");
     };
-    assert!(rt; is_withstood(&heap, rt.alloc(), Trial::Case(long_case(6)), 11)?);
-    assert!(rt; is_withstood(&heap, rt.alloc(), Trial::Case(long_case(keys)), 11)?);
+    assert!(rt;
+        is_flush(&heap, rt.alloc(), long_case(long.as_slice(), keys))?,
+        "{keys}"
+    );
     Ok(())
 }
 

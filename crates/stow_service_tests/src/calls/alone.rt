@@ -8,7 +8,7 @@ use stow_model::reply::Reply;
 use stow_model::words::Words;
 use stow_plain::plain_request::PlainRequest;
 use stow_plain::plain_store::PlainStore;
-use stow_testing::lines::{push_word, words_of};
+use stow_testing::lines::{push_word, repeated, words_of};
 use stow_testing::random::Random;
 use stow_testing::replies::reply_text;
 use stow_testing::tenants::{SMALL_QUOTA, THREE};
@@ -16,7 +16,10 @@ use stow_tree::tree_shape::{MOST_BUFFER, MOST_CACHE, MOST_FAN_OUT, MOST_LEAF, Tr
 
 const KEYS: [&str; 6] = ["''", "a", "ab", "b", "b0", "c"];
 
-const VALUES: [&str; 7] = ["''", "7", "-3", "x", "9223372036854775807", "007", "LONG"];
+const VALUES: [&str; 7] = ["''", "7", "-3", "x", "9223372036854775807", "007", "BYTES"];
+
+/// Bytes of the value that stands for `BYTES`.
+const BYTES: usize = 60_000;
 
 /// The largest shape.
 const LARGEST: TreeShape = TreeShape {
@@ -29,9 +32,8 @@ const LARGEST: TreeShape = TreeShape {
 const NUMBERS: [&str; 5] = ["0", "1", "2", "3", "4"];
 
 /// The ids of snapshots that are asked for, of which most come to be.
-const IDS: [&str; 24] = [
-    "1", "2", "3", "4", "5", "6", "7", "8", "9", "10", "11", "12", "13", "14", "15", "16", "17",
-    "18", "19", "20", "21", "22", "23", "24",
+const IDS: [&str; 12] = [
+    "1", "2", "3", "4", "5", "6", "7", "8", "9", "10", "11", "12",
 ];
 
 /// The quota that the first two tenants begin with, which holds many long values.
@@ -131,6 +133,18 @@ impl Letters {
     }
 }
 
+/// Adds a word, of which `BYTES` stands for many.
+fn push_filled<A: Allocator + Copy>(
+    words: &mut Words<A>,
+    alloc: A,
+    word: &str,
+) -> Result<(), AllocError> {
+    match word {
+        "BYTES" => words.push(repeated(alloc, b'z', BYTES)?.as_slice()),
+        _ => push_word(words, alloc, word),
+    }
+}
+
 /// A line's words with what its letters stand for.
 fn filled_words<A: Allocator + Copy>(
     alloc: A,
@@ -139,7 +153,7 @@ fn filled_words<A: Allocator + Copy>(
 ) -> Result<Words<A>, AllocError> {
     let mut words = Words::new(alloc);
     for word in line.split_whitespace() {
-        push_word(&mut words, alloc, letters.filled(word))?;
+        push_filled(&mut words, alloc, letters.filled(word))?;
     }
     Ok(words)
 }
@@ -253,18 +267,19 @@ fn give_random<A: Allocator + Copy>(
     }
 }
 
-/// Whether a line in which random letters stand is told a random tenant as alone.
-fn is_line_alike<A: Allocator + Copy>(
+/// A random line to a random tenant, if it isn't told as alone.
+fn other_line<A: Allocator + Copy>(
     core: &mut Core<A>,
     stores: &mut OwnStores<A>,
     alloc: A,
-    line: &'static str,
     random: &mut Random,
-) -> Result<bool, AllocError> {
+) -> Result<Option<&'static str>, AllocError> {
     let tenant = one_tenant(random);
     let letters = Letters::draw(random);
+    let line = random.one_of(&LINES);
     let words = filled_words(alloc, line, letters)?;
-    are_alike(core, stores.of(tenant), alloc, (tenant, words))
+    let is_alike = are_alike(core, stores.of(tenant), alloc, (tenant, words))?;
+    Ok(if is_alike { None } else { Some(line) })
 }
 
 /// Random requests and quotas; `None` where each is answered as alone, and else the first line that isn't.
@@ -277,9 +292,9 @@ fn first_other<A: Allocator + Copy>(
     let mut random = Random::new(7);
     for _ in 0..count {
         give_random(core, stores, &mut random);
-        let line = random.one_of(&LINES);
-        if !is_line_alike(core, stores, alloc, line, &mut random)? {
-            return Ok(Some(line));
+        let other = other_line(core, stores, alloc, &mut random)?;
+        if other.is_some() {
+            return Ok(other);
         }
     }
     Ok(None)
@@ -295,9 +310,9 @@ fn is_told_alike<A: Allocator + Copy>(
     are_alike(core, store, alloc, (tenant, words_of(alloc, line)?))
 }
 
-/// Whether a tenant has written more than a hundred times.
+/// Whether a tenant has written more than fifty times.
 fn has_written<A: Allocator + Copy>(store: &PlainStore<A>) -> bool {
-    store.last.get() > 100
+    store.last.get() > 50
 }
 
 /// Whether it has, and has the rows and the usage that its own store has.
@@ -328,23 +343,63 @@ fn are_all_alike<A: Allocator + Copy>(
     Ok(true)
 }
 
+/// Long values of a key, one after another, and then its removal: their messages fill the largest buffer but for a little.
+fn are_fills_alike<A: Allocator + Copy>(
+    core: &mut Core<A>,
+    store: &mut PlainStore<A>,
+    alloc: A,
+) -> Result<bool, AllocError> {
+    for _ in 0..13 {
+        if !is_told_alike(core, store, alloc, (1, "SET z LONG"))? {
+            return Ok(false);
+        }
+    }
+    is_told_alike(core, store, alloc, (1, "DEL z"))
+}
+
+/// How many writes there were.
+fn writes<A: Allocator + Copy>(stores: &OwnStores<A>) -> u64 {
+    let first = stores.first.last.get();
+    let second = stores.second.last.get();
+    first
+        .saturating_add(second)
+        .saturating_add(stores.third.last.get())
+}
+
+/// Whether fewer messages wait in buffers than there were writes.
+fn has_flushed<A: Allocator + Copy>(core: &Core<A>, stores: &OwnStores<A>) -> bool {
+    shape_of(core).buffered < writes(stores)
+}
+
 /// The first request that is not answered as alone, or that the rows are others, or that nothing was flushed.
 fn other<A: Allocator + Copy>(
     core: &mut Core<A>,
     stores: &mut OwnStores<A>,
     alloc: A,
 ) -> Result<Option<&'static str>, AllocError> {
-    give_both(core, stores, 1, LONG_QUOTA);
-    give_both(core, stores, 2, LONG_QUOTA);
-    let other = first_other(core, stores, alloc, 2_500)?;
+    if !are_fills_alike(core, stores.of(1), alloc)? {
+        return Ok(Some("the long values"));
+    }
+    let other = first_other(core, stores, alloc, 1_000)?;
     if other.is_some() {
         return Ok(other);
     }
-    if shape_of(core).leaves < 2 {
+    if !has_flushed(core, stores) {
         return Ok(Some("no flush"));
     }
     let are_alike = are_all_alike(core, stores, alloc)?;
     Ok(if are_alike { None } else { Some("the rows") })
+}
+
+/// The same where the first two tenants have a quota for it.
+fn other_with_quotas<A: Allocator + Copy>(
+    core: &mut Core<A>,
+    stores: &mut OwnStores<A>,
+    alloc: A,
+) -> Result<Option<&'static str>, AllocError> {
+    give_both(core, stores, 1, LONG_QUOTA);
+    give_both(core, stores, 2, LONG_QUOTA);
+    other(core, stores, alloc)
 }
 
 /// The same of a new core of this shape.
@@ -353,14 +408,14 @@ fn other_of<A: Allocator + Copy>(
     global: Global,
     shape: TreeShape,
 ) -> Result<Option<&'static str>, AllocError> {
-    other(
+    other_with_quotas(
         &mut core_of(alloc, global, THREE, shape)?,
         &mut OwnStores::new(alloc),
         alloc,
     )
 }
 
-// Values that are long enough for many flushes are among them.
+// Values that are long enough for flushes are among them.
 #[test]
 fn random_requests_are_answered_as_alone(rt: HostRuntime) -> Result<(), Fail> {
     for shape in [TreeShape::SMALLEST, LARGEST] {

@@ -17,7 +17,7 @@ const REQUESTS: u32 = 4_000;
 const KEYS: u32 = 100;
 
 /// Keys of a round of long values: more than one buffer and the leaves of one node hold.
-const LONG_KEYS: u32 = 20;
+const LONG_KEYS: u32 = 9;
 
 /// The quota of a tenant with long values, which no round reaches.
 const LONG_QUOTA: u32 = 15_000_000;
@@ -188,22 +188,26 @@ fn flush_all<A: Allocator + Copy>(core: &mut Core<A>, alloc: A) -> Result<(), Al
     Err(AllocError)
 }
 
-/// Puts long values of a tenant's, or deletes them, and flushes.
-fn flush_each<A: Allocator + Copy>(
-    core: &mut Core<A>,
-    alloc: A,
-    (word, value): (&str, &str),
-) -> Result<(), AllocError> {
+/// Puts long values of a tenant's, and flushes.
+fn put_all<A: Allocator + Copy>(core: &mut Core<A>, alloc: A) -> Result<(), AllocError> {
     for key in 0..LONG_KEYS {
-        ask_of(core, alloc, 1, (word, key, value))?;
+        ask_of(core, alloc, 1, ("SET", key, "LONG"))?;
+    }
+    flush_all(core, alloc)
+}
+
+/// Deletes them, and flushes.
+fn delete_all<A: Allocator + Copy>(core: &mut Core<A>, alloc: A) -> Result<(), AllocError> {
+    for key in 0..LONG_KEYS {
+        delete(core, alloc, key)?;
     }
     flush_all(core, alloc)
 }
 
 /// Long values of a tenant's, which split nodes, and then the deletion of all.
 fn long_round<A: Allocator + Copy>(core: &mut Core<A>, alloc: A) -> Result<(), AllocError> {
-    flush_each(core, alloc, ("SET", "LONG"))?;
-    flush_each(core, alloc, ("DEL", ""))
+    put_all(core, alloc)?;
+    delete_all(core, alloc)
 }
 
 /// Whether flushes split nodes in a round of long values, and a core then holds no more of the heap after a third round than

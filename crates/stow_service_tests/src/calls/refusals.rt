@@ -10,16 +10,16 @@ use stow_testing::replies::is_text;
 
 /// A request of tenant 1, its reply, and what then stands at the keys `a` and `b`, the first of which had "old".
 #[derive(Clone, Copy)]
-pub(crate) struct Case {
+pub(crate) struct Case<'a> {
     pub(crate) line: &'static str,
     told: &'static str,
     a: &'static str,
     b: &'static str,
+    /// A long value, if the request is one more of it; else it has no bytes.
+    long: &'a [u8],
     /// How many long values are put before.
     keys: u32,
-    /// How many bytes the request then has put at the key `c`.
-    length: &'static str,
-    /// How many requests for memory it makes.
+    /// How many requests for memory it makes, of a long value at least.
     pub(crate) asked: u32,
 }
 
@@ -46,7 +46,7 @@ INCR a|ERR value is not an integer or out of range|$old|nil|0
 DEL b a|:1|nil|nil|0";
 
 /// The case of a row.
-pub(crate) fn case_of(row: &'static str) -> Option<Case> {
+pub(crate) fn case_of(row: &'static str) -> Option<Case<'static>> {
     let (line, rest) = row.split_once("|")?;
     let (told, rest) = rest.split_once("|")?;
     let (a, rest) = rest.split_once("|")?;
@@ -56,63 +56,114 @@ pub(crate) fn case_of(row: &'static str) -> Option<Case> {
         told,
         a,
         b,
+        long: b"",
         keys: 0,
-        length: ":0",
         asked: number(asked),
     })
 }
 
 /// One more long value above so many.
-pub(crate) fn long_case(keys: u32) -> Case {
+pub(crate) fn long_case(long: &[u8], keys: u32) -> Case<'_> {
     Case {
-        line: "SET c LONG",
+        line: "SET",
         told: "OK",
         a: "$old",
         b: "nil",
+        long,
         keys,
-        length: ":300000",
         asked: 11,
+    }
+}
+
+/// The words that put a long value.
+fn long_words<A: Allocator + Copy>(
+    alloc: A,
+    key: u32,
+    long: &[u8],
+) -> Result<Words<A>, AllocError> {
+    let mut words = words_of(alloc, format!(in alloc; "SET {key}")?.as_str())?;
+    words.push(long)?;
+    Ok(words)
+}
+
+/// The words of a case.
+fn words_of_case<A: Allocator + Copy>(alloc: A, case: Case<'_>) -> Result<Words<A>, AllocError> {
+    if case.long.is_empty() {
+        words_of(alloc, case.line)
+    } else {
+        long_words(alloc, case.keys, case.long)
     }
 }
 
 /// Bytes of a quota that no number of long values here reaches.
 const AMPLE_QUOTA: u32 = 100_000_000;
 
+/// Puts a long value at a key of tenant 1's.
+fn put_long<A: Allocator + Copy>(
+    core: &mut Core<A>,
+    alloc: A,
+    key: u32,
+    long: &[u8],
+) -> Result<(), AllocError> {
+    let _reply = call(core, alloc, 1, &long_words(alloc, key, long)?);
+    Ok(())
+}
+
 /// Gives tenant 1 so many long values.
-fn fill<A: Allocator + Copy>(core: &mut Core<A>, alloc: A, keys: u32) -> Result<(), AllocError> {
+fn fill<A: Allocator + Copy>(
+    core: &mut Core<A>,
+    alloc: A,
+    (long, keys): (&[u8], u32),
+) -> Result<(), AllocError> {
     for key in 0..keys {
-        let line = format!(in alloc; "SET {key} LONG")?;
-        let _done = is_told(core, alloc, 1, line.as_str(), "OK")?;
+        put_long(core, alloc, key, long)?;
     }
     Ok(())
 }
 
-/// Gives tenant 1 "old" at the key `a` and so many long values, and tenant 2 "other" at `a`.
-fn start<A: Allocator + Copy>(core: &mut Core<A>, alloc: A, keys: u32) -> Result<(), AllocError> {
+/// Gives tenant 1 "old" at the key `a`, and tenant 2 "other".
+fn start<A: Allocator + Copy>(core: &mut Core<A>, alloc: A) -> Result<(), AllocError> {
     give(core, 1, AMPLE_QUOTA);
     let _done = is_told(core, alloc, 1, "SET a old", "OK")?;
     let _done = is_told(core, alloc, 2, "SET a other", "OK")?;
-    fill(core, alloc, keys)
+    Ok(())
 }
 
-/// The length of the sixth long value.
-fn sixth(keys: u32) -> &'static str {
-    if keys > 5 { ":300000" } else { ":0" }
+/// Whether tenant 1 has a long value at a key just where it is to.
+fn has_long<A: Allocator + Copy>(
+    core: &mut Core<A>,
+    alloc: A,
+    key: u32,
+    is_put: bool,
+) -> Result<bool, AllocError> {
+    let line = format!(in alloc; "STRLEN {key}")?;
+    let want = if is_put { ":300000" } else { ":0" };
+    is_told(core, alloc, 1, line.as_str(), want)
 }
 
-/// Whether tenant 1 has these values at the keys `a` and `b`, one so long at `c`, and its long ones, and tenant 2 what it had.
+/// Whether tenant 1 has these values at the keys `a` and `b`, and tenant 2 what it had.
 fn stands<A: Allocator + Copy>(
     core: &mut Core<A>,
     alloc: A,
-    (a, b, length): (&str, &str, &str),
-    keys: u32,
+    (a, b): (&str, &str),
 ) -> Result<bool, AllocError> {
     Ok(
         is_told(core, alloc, 1, "GET a", a)?
             && is_told(core, alloc, 1, "GET b", b)?
-            && is_told(core, alloc, 1, "STRLEN c", length)?
-            && is_told(core, alloc, 1, "STRLEN 5", sixth(keys))?
             && is_told(core, alloc, 2, "RANGE '' '' 9", "[$a $other ]")?,
+    )
+}
+
+/// Whether tenant 1 has the long values before a case, and the case's own one just where it is put.
+fn are_long<A: Allocator + Copy>(
+    core: &mut Core<A>,
+    alloc: A,
+    case: Case<'_>,
+    is_put: bool,
+) -> Result<bool, AllocError> {
+    Ok(
+        has_long(core, alloc, 5, case.keys > 5)?
+            && has_long(core, alloc, case.keys, is_put && !case.long.is_empty())?,
     )
 }
 
@@ -150,12 +201,14 @@ fn is_carried_out<A: Allocator + Copy, B: Allocator>(
     heap: &Refusing<B>,
     alloc: A,
     core: &mut Core<A>,
-    (words, case): (&Words<A>, Case),
+    (words, case): (&Words<A>, Case<'_>),
 ) -> Result<Option<bool>, AllocError> {
     Ok(Some(
-        stands(core, alloc, ("$old", "nil", ":0"), case.keys)?
+        stands(core, alloc, ("$old", "nil"))?
+            && are_long(core, alloc, case, false)?
             && commits(heap, alloc, core, (words, case.told))?
-            && stands(core, alloc, (case.a, case.b, case.length), case.keys)?,
+            && stands(core, alloc, (case.a, case.b))?
+            && are_long(core, alloc, case, true)?,
     ))
 }
 
@@ -164,9 +217,10 @@ fn words_withstand<A: Allocator + Copy, B: Allocator>(
     heap: &Refusing<B>,
     alloc: A,
     core: &mut Core<A>,
-    (words, case, at): (&Words<A>, Case, u64),
+    (words, case, at): (&Words<A>, Case<'_>, u64),
 ) -> Result<Option<bool>, AllocError> {
-    start(core, alloc, case.keys)?;
+    start(core, alloc)?;
+    fill(core, alloc, (case.long, case.keys))?;
     if !is_refused(heap, alloc, core, (words, at)) {
         return Ok(None);
     }
@@ -177,7 +231,7 @@ fn words_withstand<A: Allocator + Copy, B: Allocator>(
 pub(crate) fn withstands<A: Allocator + Copy, B: Allocator>(
     heap: &Refusing<B>,
     (alloc, global): (A, Global),
-    case: Case,
+    case: Case<'_>,
     at: u64,
 ) -> Result<Option<bool>, AllocError> {
     heap.set(Plan::Grant);
@@ -185,7 +239,67 @@ pub(crate) fn withstands<A: Allocator + Copy, B: Allocator>(
         heap,
         alloc,
         &mut new_core(alloc, global)?,
-        (&words_of(alloc, case.line)?, case, at),
+        (&words_of_case(alloc, case)?, case, at),
+    )
+}
+
+/// Whether what a refused case left stands, and a small write is carried out.
+fn goes_on<A: Allocator + Copy>(
+    core: &mut Core<A>,
+    alloc: A,
+    case: Case<'_>,
+) -> Result<bool, AllocError> {
+    Ok(
+        stands(core, alloc, ("$old", "nil"))?
+            && are_long(core, alloc, case, false)?
+            && is_told(core, alloc, 1, "SET a old", "OK")?,
+    )
+}
+
+/// How many requests for memory the words' prepare makes, if it withstands the refusal of each in turn in one core.
+fn asked_in_turn<A: Allocator + Copy, B: Allocator>(
+    heap: &Refusing<B>,
+    alloc: A,
+    core: &mut Core<A>,
+    (words, case): (&Words<A>, Case<'_>),
+) -> Result<Option<u64>, AllocError> {
+    for at in 0..1_000u64 {
+        if !is_refused(heap, alloc, core, (words, at)) {
+            return Ok(Some(at));
+        }
+        if !goes_on(core, alloc, case)? {
+            return Ok(None);
+        }
+    }
+    Ok(None)
+}
+
+/// The same, if they are then carried out.
+fn words_withstand_each<A: Allocator + Copy, B: Allocator>(
+    heap: &Refusing<B>,
+    alloc: A,
+    core: &mut Core<A>,
+    (words, case): (&Words<A>, Case<'_>),
+) -> Result<Option<u64>, AllocError> {
+    start(core, alloc)?;
+    fill(core, alloc, (case.long, case.keys))?;
+    let asked = asked_in_turn(heap, alloc, core, (words, case))?;
+    let is_done = is_carried_out(heap, alloc, core, (words, case))?;
+    Ok(if is_done == Some(true) { asked } else { None })
+}
+
+/// The same of a case in a new core.
+pub(crate) fn withstands_each<A: Allocator + Copy, B: Allocator>(
+    heap: &Refusing<B>,
+    (alloc, global): (A, Global),
+    case: Case<'_>,
+) -> Result<Option<u64>, AllocError> {
+    heap.set(Plan::Grant);
+    words_withstand_each(
+        heap,
+        alloc,
+        &mut new_core(alloc, global)?,
+        (&words_of_case(alloc, case)?, case),
     )
 }
 
@@ -196,7 +310,7 @@ fn asked_by<A: Allocator + Copy, B: Allocator>(
     core: &mut Core<A>,
     words: &Words<A>,
 ) -> Result<u64, AllocError> {
-    start(core, alloc, 0)?;
+    start(core, alloc)?;
     heap.set(Plan::Grant);
     let _reply = call(core, alloc, 1, words);
     Ok(heap.asked())
@@ -221,32 +335,34 @@ pub(crate) fn asked_by_call<A: Allocator + Copy, B: Allocator>(
 fn reaches_leaves<A: Allocator + Copy>(
     core: &mut Core<A>,
     alloc: A,
-    keys: u32,
+    key: u32,
+    long: &[u8],
 ) -> Result<bool, AllocError> {
-    start(core, alloc, keys)?;
     let before = shape_of(core);
-    let done = is_told(core, alloc, 1, "SET c LONG", "OK")?;
-    Ok(done && before.height == 2 && shape_of(core).leaves > before.leaves)
+    put_long(core, alloc, key, long)?;
+    Ok(before.height == 2 && shape_of(core).leaves > before.leaves)
 }
 
-/// The same of a new core.
-fn new_reaches_leaves<A: Allocator + Copy>(
+/// How many long values a core is given where one more reaches the leaves below two levels, if fewer than forty.
+fn reaching<A: Allocator + Copy>(
+    core: &mut Core<A>,
     alloc: A,
-    global: Global,
-    keys: u32,
-) -> Result<bool, AllocError> {
-    reaches_leaves(&mut new_core(alloc, global)?, alloc, keys)
-}
-
-/// How many long values there are where one more reaches the leaves below two levels, if fewer than forty.
-pub(crate) fn reaching<A: Allocator + Copy>(
-    alloc: A,
-    global: Global,
+    long: &[u8],
 ) -> Result<Option<u32>, AllocError> {
-    for keys in 7..40u32 {
-        if new_reaches_leaves(alloc, global, keys)? {
-            return Ok(Some(keys));
+    start(core, alloc)?;
+    for key in 0..40u32 {
+        if reaches_leaves(core, alloc, key, long)? {
+            return Ok(Some(key));
         }
     }
     Ok(None)
+}
+
+/// The same of a new core.
+pub(crate) fn new_reaching<A: Allocator + Copy>(
+    alloc: A,
+    global: Global,
+    long: &[u8],
+) -> Result<Option<u32>, AllocError> {
+    reaching(&mut new_core(alloc, global)?, alloc, long)
 }

@@ -234,13 +234,18 @@ fn appended<A: Allocator + Copy>(alloc: A, count: usize) -> Result<Vec<u8, A>, A
 }
 
 /// Whether `v` has these.
-fn has_appended<A: Allocator + Copy>(
+fn is_appended<A: Allocator + Copy>(
     core: &mut Core<A>,
     alloc: A,
     count: usize,
 ) -> Result<bool, AllocError> {
     let text = reply_text(alloc, &told(core, alloc, 1, "GET v")?)?;
     Ok(text.as_slice() == appended(alloc, count)?.as_slice())
+}
+
+/// Whether `v` has them, and is so long.
+fn has_appended<A: Allocator + Copy>(core: &mut Core<A>, alloc: A) -> Result<bool, AllocError> {
+    Ok(is_told(core, alloc, 1, "STRLEN v", ":60100")? && is_appended(core, alloc, 100)?)
 }
 
 /// The shape of a core's tree after a SET of 60,000 bytes and 100 APPENDs of one, where the value is then read.
@@ -251,7 +256,7 @@ fn appended_shape<A: Allocator + Copy>(
     let is_set = sets_long(core, alloc, 60_000)?;
     append_all(core, alloc, 100)?;
     let shape = shape_of(core);
-    let is_read = has_appended(core, alloc, 100)?;
+    let is_read = has_appended(core, alloc)?;
     Ok((is_set && is_read).then_some(shape))
 }
 

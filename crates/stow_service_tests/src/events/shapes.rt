@@ -11,6 +11,11 @@ use stow_testing::tenants::AMPLE;
 use stow_tree::shape_report::ShapeReport;
 use stow_tree::tree_shape::TreeShape;
 
+/// The last reads: some fifty rows, and all at once.
+fn last_of<A: Allocator>(reads: &[Exchange<A>]) -> &[Exchange<A>] {
+    &reads[reads.len().min(350)..]
+}
+
 /// What happens, and what its connection is to be told.
 #[derive(Drop)]
 struct Talk<A: Allocator> {
@@ -65,12 +70,13 @@ impl<A: Allocator + Copy> Talk<A> {
         self.ask_all(alloc, exchanges)
     }
 
-    /// Reads rows with each size of the cache: the first one, 0, 1 and 1000.
+    /// Reads rows with each size of the cache: the first one, and then fewer with 0, 1 and 1000.
     fn read_again(&mut self, alloc: A, reads: &[Exchange<A>]) -> Result<(), AllocError> {
         self.ask_all(alloc, reads)?;
-        self.ask_with(alloc, 0, reads)?;
-        self.ask_with(alloc, 1, reads)?;
-        self.ask_with(alloc, 1000, reads)
+        let last = last_of(reads);
+        self.ask_with(alloc, 0, last)?;
+        self.ask_with(alloc, 1, last)?;
+        self.ask_with(alloc, 1000, last)
     }
 
     /// Rows that are written, and then read so.
@@ -124,6 +130,7 @@ fn small(fan_out: u32, cache: u32) -> TreeShape {
         ..TreeShape::SMALLEST
     }
 }
+
 /// A shape whose root has room for all rows.
 const LARGE: TreeShape = TreeShape {
     buffer: 4_194_304,
@@ -141,32 +148,39 @@ fn is_shape_right<A: Allocator + Copy>(
 }
 
 #[test]
-fn rows_are_read_in_each_shape(rt: HostRuntime) -> Result<(), Fail> {
-    for shape in [
-        small(4, 0),
-        small(4, 1000),
-        small(256, 0),
-        small(256, 1000),
-        LARGE,
-    ] {
-        assert!(rt;
-            is_shape_right(rt.alloc(), rt.alloc(), shape)?,
-            "{}",
-            shape.fan_out
-        );
-    }
+fn rows_are_read_at_the_least_fan_out(rt: HostRuntime) -> Result<(), Fail> {
+    assert!(rt; is_shape_right(rt.alloc(), rt.alloc(), small(4, 0))?);
+    Ok(())
+}
+
+#[test]
+fn rows_are_read_at_the_least_fan_out_from_a_cache(rt: HostRuntime) -> Result<(), Fail> {
+    assert!(rt; is_shape_right(rt.alloc(), rt.alloc(), small(4, 1000))?);
+    Ok(())
+}
+
+#[test]
+fn rows_are_read_at_the_greatest_fan_out(rt: HostRuntime) -> Result<(), Fail> {
+    assert!(rt; is_shape_right(rt.alloc(), rt.alloc(), small(256, 0))?);
+    Ok(())
+}
+
+#[test]
+fn rows_are_read_at_the_greatest_fan_out_from_a_cache(rt: HostRuntime) -> Result<(), Fail> {
+    assert!(rt; is_shape_right(rt.alloc(), rt.alloc(), small(256, 1000))?);
+    Ok(())
+}
+
+#[test]
+fn rows_are_read_in_a_large_root(rt: HostRuntime) -> Result<(), Fail> {
+    assert!(rt; is_shape_right(rt.alloc(), rt.alloc(), LARGE)?);
     Ok(())
 }
 
 // The answers are the same where the messages are flushed between the requests, in steps.
 #[test]
 fn rows_are_read_between_flushes(rt: HostRuntime) -> Result<(), Fail> {
-    let report = report_of(
-        rt.alloc(),
-        rt.alloc(),
-        small(TreeShape::SMALLEST.fan_out, 1),
-        true,
-    )?;
+    let report = report_of(rt.alloc(), rt.alloc(), small(4, 1), true)?;
     assert!(rt;
         matches!(report, Some(sizes) if sizes.leaves >= 2),
         "{report:?}"
