@@ -16,10 +16,10 @@ use stow_tree::tree_shape::{MOST_BUFFER, MOST_CACHE, MOST_FAN_OUT, MOST_LEAF, Tr
 
 const KEYS: [&str; 6] = ["''", "a", "ab", "b", "b0", "c"];
 
-const VALUES: [&str; 7] = ["''", "7", "-3", "x", "9223372036854775807", "007", "BYTES"];
+const VALUES: [&str; 6] = ["''", "7", "-3", "x", "9223372036854775807", "007"];
 
-/// Bytes of the value that stands for `BYTES`.
-const BYTES: usize = 60_000;
+/// Bytes of a long value.
+const LONG: usize = 200_000;
 
 /// The largest shape.
 const LARGEST: TreeShape = TreeShape {
@@ -51,8 +51,8 @@ fn quota_of(number: u32) -> u32 {
     }
 }
 
-/// A request's line: `k` and `l` are keys, `v` is a value, `n` a number, and `i` a snapshot's id.
-const LINES: [&str; 24] = [
+/// A request's line: `k` and `l` are keys, `v` is a value, `w` a long one, `n` a number, and `i` a snapshot's id.
+const LINES: [&str; 28] = [
     "GET k",
     "MGET k l k",
     "EXISTS k l k",
@@ -77,16 +77,21 @@ const LINES: [&str; 24] = [
     "SNAPSHOT RANGE i k l n",
     "SNAPSHOT RANGE i '' '' 9",
     "USAGE",
+    "SET c w",
+    "SET c w XX",
+    "APPEND c w",
+    "ECHO w",
 ];
 
 /// What the letters of a line stand for.
 #[derive(Clone, Copy)]
-struct Letters {
+struct Letters<'a> {
     k: &'static str,
     l: &'static str,
     v: &'static str,
     n: &'static str,
     i: &'static str,
+    w: &'a [u8],
 }
 
 /// A random key.
@@ -109,51 +114,46 @@ fn id(random: &mut Random) -> &'static str {
     random.one_of(&IDS)
 }
 
-impl Letters {
-    fn draw(random: &mut Random) -> Letters {
+impl<'a> Letters<'a> {
+    fn draw(random: &mut Random, w: &'a [u8]) -> Letters<'a> {
         Letters {
             k: key(random),
             l: key(random),
             v: value(random),
             n: rows(random),
             i: id(random),
+            w,
         }
     }
 
-    /// What a word stands for.
-    fn filled(self, word: &'static str) -> &'static str {
+    /// Adds what a word stands for.
+    fn push<A: Allocator + Copy>(
+        self,
+        words: &mut Words<A>,
+        alloc: A,
+        word: &str,
+    ) -> Result<(), AllocError> {
         match word {
-            "k" => self.k,
-            "l" => self.l,
-            "v" => self.v,
-            "n" => self.n,
-            "i" => self.i,
-            _ => word,
+            "k" => push_word(words, alloc, self.k),
+            "l" => push_word(words, alloc, self.l),
+            "v" => push_word(words, alloc, self.v),
+            "n" => push_word(words, alloc, self.n),
+            "i" => push_word(words, alloc, self.i),
+            "w" => words.push(self.w),
+            _ => push_word(words, alloc, word),
         }
-    }
-}
-
-/// Adds a word, of which `BYTES` stands for many.
-fn push_filled<A: Allocator + Copy>(
-    words: &mut Words<A>,
-    alloc: A,
-    word: &str,
-) -> Result<(), AllocError> {
-    match word {
-        "BYTES" => words.push(repeated(alloc, b'z', BYTES)?.as_slice()),
-        _ => push_word(words, alloc, word),
     }
 }
 
 /// A line's words with what its letters stand for.
 fn filled_words<A: Allocator + Copy>(
     alloc: A,
-    line: &'static str,
-    letters: Letters,
+    line: &str,
+    letters: Letters<'_>,
 ) -> Result<Words<A>, AllocError> {
     let mut words = Words::new(alloc);
     for word in line.split_whitespace() {
-        push_filled(&mut words, alloc, letters.filled(word))?;
+        letters.push(&mut words, alloc, word)?;
     }
     Ok(words)
 }
@@ -272,10 +272,10 @@ fn other_line<A: Allocator + Copy>(
     core: &mut Core<A>,
     stores: &mut OwnStores<A>,
     alloc: A,
-    random: &mut Random,
+    (random, long): (&mut Random, &[u8]),
 ) -> Result<Option<&'static str>, AllocError> {
     let tenant = one_tenant(random);
-    let letters = Letters::draw(random);
+    let letters = Letters::draw(random, long);
     let line = random.one_of(&LINES);
     let words = filled_words(alloc, line, letters)?;
     let is_alike = are_alike(core, stores.of(tenant), alloc, (tenant, words))?;
@@ -287,12 +287,12 @@ fn first_other<A: Allocator + Copy>(
     core: &mut Core<A>,
     stores: &mut OwnStores<A>,
     alloc: A,
-    count: u32,
+    (count, long): (u32, &[u8]),
 ) -> Result<Option<&'static str>, AllocError> {
     let mut random = Random::new(7);
     for _ in 0..count {
         give_random(core, stores, &mut random);
-        let other = other_line(core, stores, alloc, &mut random)?;
+        let other = other_line(core, stores, alloc, (&mut random, long))?;
         if other.is_some() {
             return Ok(other);
         }
@@ -343,84 +343,57 @@ fn are_all_alike<A: Allocator + Copy>(
     Ok(true)
 }
 
-/// Long values of a key, one after another, and then its removal: their messages fill the largest buffer but for a little.
-fn are_fills_alike<A: Allocator + Copy>(
-    core: &mut Core<A>,
-    store: &mut PlainStore<A>,
-    alloc: A,
-) -> Result<bool, AllocError> {
-    for _ in 0..13 {
-        if !is_told_alike(core, store, alloc, (1, "SET z LONG"))? {
-            return Ok(false);
-        }
-    }
-    is_told_alike(core, store, alloc, (1, "DEL z"))
-}
-
-/// How many writes there were.
-fn writes<A: Allocator + Copy>(stores: &OwnStores<A>) -> u64 {
-    let first = stores.first.last.get();
-    let second = stores.second.last.get();
-    first
-        .saturating_add(second)
-        .saturating_add(stores.third.last.get())
-}
-
-/// Whether fewer messages wait in buffers than there were writes.
-fn has_flushed<A: Allocator + Copy>(core: &Core<A>, stores: &OwnStores<A>) -> bool {
-    shape_of(core).buffered < writes(stores)
-}
-
 /// The first request that is not answered as alone, or that the rows are others, or that nothing was flushed.
 fn other<A: Allocator + Copy>(
     core: &mut Core<A>,
     stores: &mut OwnStores<A>,
     alloc: A,
+    long: &[u8],
 ) -> Result<Option<&'static str>, AllocError> {
-    if !are_fills_alike(core, stores.of(1), alloc)? {
-        return Ok(Some("the long values"));
-    }
-    let other = first_other(core, stores, alloc, 1_000)?;
+    give_both(core, stores, 1, LONG_QUOTA);
+    give_both(core, stores, 2, LONG_QUOTA);
+    let other = first_other(core, stores, alloc, (600, long))?;
     if other.is_some() {
         return Ok(other);
     }
-    if !has_flushed(core, stores) {
+    if shape_of(core).leaves < 2 {
         return Ok(Some("no flush"));
     }
     let are_alike = are_all_alike(core, stores, alloc)?;
     Ok(if are_alike { None } else { Some("the rows") })
 }
 
-/// The same where the first two tenants have a quota for it.
-fn other_with_quotas<A: Allocator + Copy>(
-    core: &mut Core<A>,
-    stores: &mut OwnStores<A>,
-    alloc: A,
-) -> Result<Option<&'static str>, AllocError> {
-    give_both(core, stores, 1, LONG_QUOTA);
-    give_both(core, stores, 2, LONG_QUOTA);
-    other(core, stores, alloc)
-}
-
 /// The same of a new core of this shape.
 fn other_of<A: Allocator + Copy>(
     alloc: A,
     global: Global,
-    shape: TreeShape,
+    (shape, long): (TreeShape, &[u8]),
 ) -> Result<Option<&'static str>, AllocError> {
-    other_with_quotas(
+    other(
         &mut core_of(alloc, global, THREE, shape)?,
         &mut OwnStores::new(alloc),
         alloc,
+        long,
     )
 }
 
-// Values that are long enough for flushes are among them.
+// Values that are long enough for many flushes are among them.
 #[test]
 fn random_requests_are_answered_as_alone(rt: HostRuntime) -> Result<(), Fail> {
-    for shape in [TreeShape::SMALLEST, LARGEST] {
-        let other = other_of(rt.alloc(), rt.alloc(), shape)?;
-        assert!(rt; other.is_none(), "{other:?}");
-    }
+    let long = repeated(rt.alloc(), b'z', LONG)?;
+    let other = other_of(
+        rt.alloc(),
+        rt.alloc(),
+        (TreeShape::SMALLEST, long.as_slice()),
+    )?;
+    assert!(rt; other.is_none(), "{other:?}");
+    Ok(())
+}
+
+#[test]
+fn random_requests_are_answered_in_the_largest_shape(rt: HostRuntime) -> Result<(), Fail> {
+    let long = repeated(rt.alloc(), b'z', LONG)?;
+    let other = other_of(rt.alloc(), rt.alloc(), (LARGEST, long.as_slice()))?;
+    assert!(rt; other.is_none(), "{other:?}");
     Ok(())
 }
