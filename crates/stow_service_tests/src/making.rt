@@ -43,7 +43,7 @@ fn shared<A: Allocator + Copy>(
 }
 
 /// A new core of a tenant file's tenants, over a tree of this shape.
-pub(crate) fn core_of<A: Allocator + Copy>(
+fn core_of<A: Allocator + Copy>(
     alloc: A,
     global: Global,
     text: &str,
@@ -57,12 +57,30 @@ pub(crate) fn core_of<A: Allocator + Copy>(
     }
 }
 
-/// A new core of the three tenants, in the smallest shape.
+/// A new core of the three tenants, over a tree of this shape.
+pub(crate) fn core_in<A: Allocator + Copy>(
+    alloc: A,
+    global: Global,
+    shape: TreeShape,
+) -> Result<Core<A>, AllocError> {
+    core_of(alloc, global, THREE, shape)
+}
+
+/// The same in the smallest shape.
 pub(crate) fn new_core<A: Allocator + Copy>(
     alloc: A,
     global: Global,
 ) -> Result<Core<A>, AllocError> {
-    core_of(alloc, global, THREE, TreeShape::SMALLEST)
+    core_in(alloc, global, TreeShape::SMALLEST)
+}
+
+/// What a function makes of a new value, which no other function holds.
+pub(crate) fn lend<V: Drop, R, F>(made: Result<V, AllocError>, then: F) -> Result<R, AllocError>
+where
+    F: FnOnce(&mut V) -> Result<R, AllocError> + Drop,
+    requires { F.IsAlwaysCallable then }
+{
+    then(&mut made?)
 }
 
 /// What a core tells a tenant's words.
@@ -170,18 +188,37 @@ pub(crate) fn ran<A: Allocator + Copy>(
     }
 }
 
-/// The same of a house over a tree of this shape, and how large the tree is then.
+/// What a run of a house told, and how large its tree is then.
+fn reported<A: Allocator + Copy>(
+    house: &House<A>,
+    ended: Result<Outputs<A>, RunFault<A>>,
+) -> Result<(Outputs<A>, ShapeReport), AllocError> {
+    match ended {
+        Ok(outputs) => Ok((outputs, shape_of(house.core()))),
+        Err(_) => Err(AllocError),
+    }
+}
+
+/// The same of the run of a new house.
+fn run_reported<A: Allocator + Copy>(
+    alloc: A,
+    mut house: House<A>,
+    events: &[Event<A>],
+) -> Result<(Outputs<A>, ShapeReport), AllocError>
+    requires { IsNewHouse (state_of house) }
+{
+    let ended = house.run(alloc, events);
+    reported(&house, ended)
+}
+
+/// The same of a house over a tree of this shape.
 pub(crate) fn ran_in<A: Allocator + Copy>(
     alloc: A,
     global: Global,
     (text, shape): (&str, TreeShape),
     events: &[Event<A>],
 ) -> Result<(Outputs<A>, ShapeReport), AllocError> {
-    let mut house = house_of(alloc, global, text, shape)?;
-    match house.run(alloc, events) {
-        Ok(outputs) => Ok((outputs, shape_of(house.core()))),
-        Err(_) => Err(AllocError),
-    }
+    run_reported(alloc, house_of(alloc, global, text, shape)?, events)
 }
 
 /// The index of a file's tenant.

@@ -1,6 +1,6 @@
 //! Random requests of three tenants, with snapshots that come and go and quotas that rise and fall, each beside the tenant's
 //! own plain store.
-use crate::making::{call, core_of, give, shape_of};
+use crate::making::{call, core_in, give, shape_of};
 use std::alloc::{AllocError, Allocator, Global};
 use std::test::Fail;
 use stow_core::Core;
@@ -11,7 +11,7 @@ use stow_plain::plain_store::PlainStore;
 use stow_testing::lines::{push_word, repeated, words_of};
 use stow_testing::random::Random;
 use stow_testing::replies::reply_text;
-use stow_testing::tenants::{SMALL_QUOTA, THREE};
+use stow_testing::tenants::SMALL_QUOTA;
 use stow_tree::tree_shape::{MOST_BUFFER, MOST_CACHE, MOST_FAN_OUT, MOST_LEAF, TreeShape};
 
 const KEYS: [&str; 6] = ["''", "a", "ab", "b", "b0", "c"];
@@ -83,77 +83,32 @@ const LINES: [&str; 28] = [
     "ECHO w",
 ];
 
-/// What the letters of a line stand for.
-#[derive(Clone, Copy)]
-struct Letters<'a> {
-    k: &'static str,
-    l: &'static str,
-    v: &'static str,
-    n: &'static str,
-    i: &'static str,
-    w: &'a [u8],
-}
-
-/// A random key.
-fn key(random: &mut Random) -> &'static str {
-    random.one_of(&KEYS)
-}
-
-/// A random value.
-fn value(random: &mut Random) -> &'static str {
-    random.one_of(&VALUES)
-}
-
-/// A random number of rows.
-fn rows(random: &mut Random) -> &'static str {
-    random.one_of(&NUMBERS)
-}
-
-/// A random snapshot's id.
-fn id(random: &mut Random) -> &'static str {
-    random.one_of(&IDS)
-}
-
-impl<'a> Letters<'a> {
-    fn draw(random: &mut Random, w: &'a [u8]) -> Letters<'a> {
-        Letters {
-            k: key(random),
-            l: key(random),
-            v: value(random),
-            n: rows(random),
-            i: id(random),
-            w,
-        }
-    }
-
-    /// Adds what a word stands for.
-    fn push<A: Allocator + Copy>(
-        self,
-        words: &mut Words<A>,
-        alloc: A,
-        word: &str,
-    ) -> Result<(), AllocError> {
-        match word {
-            "k" => push_word(words, alloc, self.k),
-            "l" => push_word(words, alloc, self.l),
-            "v" => push_word(words, alloc, self.v),
-            "n" => push_word(words, alloc, self.n),
-            "i" => push_word(words, alloc, self.i),
-            "w" => words.push(self.w),
-            _ => push_word(words, alloc, word),
-        }
+/// Adds what a word of a line stands for.
+fn push_drawn<A: Allocator + Copy>(
+    words: &mut Words<A>,
+    alloc: A,
+    word: &str,
+    (random, long): (&mut Random, &[u8]),
+) -> Result<(), AllocError> {
+    match word {
+        "k" | "l" => push_word(words, alloc, random.one_of(&KEYS)),
+        "v" => push_word(words, alloc, random.one_of(&VALUES)),
+        "n" => push_word(words, alloc, random.one_of(&NUMBERS)),
+        "i" => push_word(words, alloc, random.one_of(&IDS)),
+        "w" => words.push(long),
+        _ => push_word(words, alloc, word),
     }
 }
 
 /// A line's words with what its letters stand for.
-fn filled_words<A: Allocator + Copy>(
+fn drawn_words<A: Allocator + Copy>(
     alloc: A,
     line: &str,
-    letters: Letters<'_>,
+    (random, long): (&mut Random, &[u8]),
 ) -> Result<Words<A>, AllocError> {
     let mut words = Words::new(alloc);
     for word in line.split_whitespace() {
-        letters.push(&mut words, alloc, word)?;
+        push_drawn(&mut words, alloc, word, (&mut *random, long))?;
     }
     Ok(words)
 }
@@ -275,9 +230,8 @@ fn other_line<A: Allocator + Copy>(
     (random, long): (&mut Random, &[u8]),
 ) -> Result<Option<&'static str>, AllocError> {
     let tenant = one_tenant(random);
-    let letters = Letters::draw(random, long);
     let line = random.one_of(&LINES);
-    let words = filled_words(alloc, line, letters)?;
+    let words = drawn_words(alloc, line, (random, long))?;
     let is_alike = are_alike(core, stores.of(tenant), alloc, (tenant, words))?;
     Ok(if is_alike { None } else { Some(line) })
 }
@@ -370,7 +324,7 @@ fn other_of<A: Allocator + Copy>(
     (shape, long): (TreeShape, &[u8]),
 ) -> Result<Option<&'static str>, AllocError> {
     other(
-        &mut core_of(alloc, global, THREE, shape)?,
+        &mut core_in(alloc, global, shape)?,
         &mut OwnStores::new(alloc),
         alloc,
         long,

@@ -1,5 +1,5 @@
 //! Results of another core's job.
-use crate::making::{installed, merged, new_core};
+use crate::making::{installed, lend, merged, new_core};
 use crate::text::{is_told, row_of};
 use std::alloc::{AllocError, Allocator, Global};
 use std::test::Fail;
@@ -42,7 +42,10 @@ fn is_row_beside<A: Allocator + Copy>(
     (alloc, global): (A, Global),
     row: &'static str,
 ) -> Result<bool, AllocError> {
-    is_row(core, &mut new_core(alloc, global)?, alloc, row)
+    lend(
+        new_core(alloc, global),
+        |other| is_row(core, other, alloc, row),
+    )
 }
 
 /// The same of two new cores.
@@ -51,7 +54,10 @@ fn is_row_of_new<A: Allocator + Copy>(
     global: Global,
     row: &'static str,
 ) -> Result<bool, AllocError> {
-    is_row_beside(&mut new_core(alloc, global)?, (alloc, global), row)
+    lend(
+        new_core(alloc, global),
+        |core| is_row_beside(core, (alloc, global), row),
+    )
 }
 
 /// What the tenant asked, and its rows.

@@ -1,5 +1,5 @@
 //! Memory is given back: rounds of equal requests on keys of their own leave no more of it held than the first did.
-use crate::making::{call, give, installed, merged, new_core, shape_of};
+use crate::making::{call, give, installed, lend, merged, new_core, shape_of};
 use linked_list_allocator::LocalHeap;
 use std::alloc::{AllocError, Allocator, Global};
 use std::test::Fail;
@@ -157,7 +157,10 @@ fn new_holds_no_more<A: Allocator + Copy>(
     heap: &LocalHeap,
     (alloc, global): (A, Global),
 ) -> Result<bool, AllocError> {
-    holds_no_more(heap, alloc, &mut new_core(alloc, global)?)
+    lend(
+        new_core(alloc, global),
+        |core| holds_no_more(heap, alloc, core),
+    )
 }
 
 #[test]
@@ -230,7 +233,10 @@ fn new_flushes_hold_no_more<A: Allocator + Copy>(
     heap: &LocalHeap,
     (alloc, global): (A, Global),
 ) -> Result<bool, AllocError> {
-    flushes_hold_no_more(heap, alloc, &mut new_core(alloc, global)?)
+    lend(
+        new_core(alloc, global),
+        |core| flushes_hold_no_more(heap, alloc, core),
+    )
 }
 
 #[test]

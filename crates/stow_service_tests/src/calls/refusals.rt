@@ -1,5 +1,5 @@
 //! Each request for memory of each command, refused in turn.
-use crate::making::{call, give, new_core, shape_of};
+use crate::making::{call, give, lend, new_core, shape_of};
 use crate::text::{is_told, number};
 use std::alloc::{AllocError, Allocator, Global};
 use stow_core::Core;
@@ -235,11 +235,10 @@ pub(crate) fn withstands<A: Allocator + Copy, B: Allocator>(
     at: u64,
 ) -> Result<Option<bool>, AllocError> {
     heap.set(Plan::Grant);
-    words_withstand(
-        heap,
-        alloc,
-        &mut new_core(alloc, global)?,
-        (&words_of_case(alloc, case)?, case, at),
+    let words = words_of_case(alloc, case)?;
+    lend(
+        new_core(alloc, global),
+        |core| words_withstand(heap, alloc, core, (&words, case, at)),
     )
 }
 
@@ -295,11 +294,10 @@ pub(crate) fn withstands_each<A: Allocator + Copy, B: Allocator>(
     case: Case<'_>,
 ) -> Result<Option<u64>, AllocError> {
     heap.set(Plan::Grant);
-    words_withstand_each(
-        heap,
-        alloc,
-        &mut new_core(alloc, global)?,
-        (&words_of_case(alloc, case)?, case),
+    let words = words_of_case(alloc, case)?;
+    lend(
+        new_core(alloc, global),
+        |core| words_withstand_each(heap, alloc, core, (&words, case)),
     )
 }
 
@@ -323,11 +321,10 @@ pub(crate) fn asked_by_call<A: Allocator + Copy, B: Allocator>(
     line: &str,
 ) -> Result<u64, AllocError> {
     heap.set(Plan::Grant);
-    asked_by(
-        heap,
-        alloc,
-        &mut new_core(alloc, global)?,
-        &words_of(alloc, line)?,
+    let words = words_of(alloc, line)?;
+    lend(
+        new_core(alloc, global),
+        |core| asked_by(heap, alloc, core, &words),
     )
 }
 
@@ -364,5 +361,5 @@ pub(crate) fn new_reaching<A: Allocator + Copy>(
     global: Global,
     long: &[u8],
 ) -> Result<Option<u32>, AllocError> {
-    reaching(&mut new_core(alloc, global)?, alloc, long)
+    lend(new_core(alloc, global), |core| reaching(core, alloc, long))
 }

@@ -1,7 +1,7 @@
 //! Each worked list with each of its requests for memory refused in turn: a request that is told want of memory is as if it
 //! had not been asked.
 use crate::calls::alone::is_alike;
-use crate::making::{call, new_core};
+use crate::making::{call, lend, new_core};
 use crate::refused::{left_after, plan_of};
 use std::alloc::{AllocError, Allocator, Global};
 use stow_core::Core;
@@ -69,13 +69,9 @@ pub(crate) fn withstands<A: Allocator + Copy, B: Allocator>(
     n: u64,
 ) -> Result<Option<bool>, AllocError> {
     heap.set(Plan::Grant);
-    are_told_alike(
-        heap,
-        alloc,
-        (
-            &mut new_core(alloc, global)?,
-            &mut PlainStore::new(alloc, QUOTA),
-        ),
-        (row, n),
+    let store = &mut PlainStore::new(alloc, QUOTA);
+    lend(
+        new_core(alloc, global),
+        |core| are_told_alike(heap, alloc, (core, store), (row, n)),
     )
 }

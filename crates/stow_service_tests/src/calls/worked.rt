@@ -1,6 +1,6 @@
 //! Each tenant's own keys, snapshots and quota, the last key beside other tenants' first, the longest value, and many suffixes
 //! to a long one.
-use crate::making::{call, core_of, give, new_core, shape_of};
+use crate::making::{call, give, lend, new_core, shape_of};
 use crate::text::{first_other, is_row_told, is_told, told};
 use std::alloc::{AllocError, Allocator, Global};
 use std::test::Fail;
@@ -8,9 +8,7 @@ use stow_core::Core;
 use stow_model::words::Words;
 use stow_testing::lines::{repeated, words_of};
 use stow_testing::replies::{is_text, reply_text};
-use stow_testing::tenants::AMPLE;
 use stow_tree::shape_report::ShapeReport;
-use stow_tree::tree_shape::TreeShape;
 
 /// Rows of a tenant, its words, and what it is told.
 const OWN_KEYS: &str = "1 PING => PONG
@@ -118,7 +116,7 @@ fn takes_all<A: Allocator + Copy>(core: &mut Core<A>, alloc: A) -> Result<bool, 
 
 /// Whether a new core's does.
 fn are_all_taken<A: Allocator + Copy>(alloc: A, global: Global) -> Result<bool, AllocError> {
-    takes_all(&mut new_core(alloc, global)?, alloc)
+    lend(new_core(alloc, global), |core| takes_all(core, alloc))
 }
 
 #[test]
@@ -197,13 +195,13 @@ const AT_THE_LIMIT: &str = "1 APPEND v x => ERR value is too long
 
 /// Whether a core takes a value at its limit, and not one byte more.
 fn keeps_limit<A: Allocator + Copy>(core: &mut Core<A>, alloc: A) -> Result<bool, AllocError> {
+    give(core, 1, 2_000_000);
     Ok(sets_long(core, alloc, 1_048_576)? && first_other(core, alloc, AT_THE_LIMIT)?.is_none())
 }
 
 /// Whether a new core does.
 fn has_limit<A: Allocator + Copy>(alloc: A, global: Global) -> Result<bool, AllocError> {
-    let shape = TreeShape::SMALLEST;
-    keeps_limit(&mut core_of(alloc, global, AMPLE, shape)?, alloc)
+    lend(new_core(alloc, global), |core| keeps_limit(core, alloc))
 }
 
 // A value at its limit, and one byte more.
@@ -265,7 +263,7 @@ fn new_appended_shape<A: Allocator + Copy>(
     alloc: A,
     global: Global,
 ) -> Result<Option<ShapeReport>, AllocError> {
-    appended_shape(&mut new_core(alloc, global)?, alloc)
+    lend(new_core(alloc, global), |core| appended_shape(core, alloc))
 }
 
 // An APPEND's message has its suffix alone, so a buffer has room for many to one long value.

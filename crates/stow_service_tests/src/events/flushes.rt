@@ -2,7 +2,7 @@
 use crate::events::acts::{ANN, Act, events_of};
 use crate::events::each::name_of;
 use crate::events::runs::are_answered_as_alone;
-use crate::making::{new_house, step};
+use crate::making::{lend, new_house, step};
 use crate::refused::{left_after, plan_of};
 use crate::text::{is_reply, row_of};
 use std::alloc::{AllocError, Allocator, Global};
@@ -260,7 +260,10 @@ pub(crate) fn withstands<A: Allocator + Copy, B: Allocator>(
     at: u64,
 ) -> Result<Option<bool>, AllocError> {
     heap.set(Plan::Grant);
-    are_answered(heap, alloc, &mut new_house(alloc, global)?, (list, at))
+    lend(
+        new_house(alloc, global),
+        |house| are_answered(heap, alloc, house, (list, at)),
+    )
 }
 
 /// A connection that is opened and logs in, and then the lines, as acts.

@@ -1,6 +1,6 @@
 //! Memory is given back: a second equal round of acts leaves no more of it held than the first did.
 use crate::events::acts::{Act, event_of, random_acts};
-use crate::making::{new_house, step};
+use crate::making::{lend, new_house, step};
 use linked_list_allocator::LocalHeap;
 use std::alloc::{AllocError, Allocator, Global};
 use std::test::Fail;
@@ -67,7 +67,10 @@ fn new_holds_no_more<A: Allocator + Copy>(
     (alloc, global): (A, Global),
     acts: &[Act],
 ) -> Result<bool, AllocError> {
-    holds_no_more(heap, alloc, &mut new_house(alloc, global)?, acts)
+    lend(
+        new_house(alloc, global),
+        |house| holds_no_more(heap, alloc, house, acts),
+    )
 }
 
 #[test]
