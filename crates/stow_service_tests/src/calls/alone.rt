@@ -83,32 +83,77 @@ const LINES: [&str; 28] = [
     "ECHO w",
 ];
 
-/// Adds what a word of a line stands for.
-fn push_drawn<A: Allocator + Copy>(
-    words: &mut Words<A>,
-    alloc: A,
-    word: &str,
-    (random, long): (&mut Random, &[u8]),
-) -> Result<(), AllocError> {
-    match word {
-        "k" | "l" => push_word(words, alloc, random.one_of(&KEYS)),
-        "v" => push_word(words, alloc, random.one_of(&VALUES)),
-        "n" => push_word(words, alloc, random.one_of(&NUMBERS)),
-        "i" => push_word(words, alloc, random.one_of(&IDS)),
-        "w" => words.push(long),
-        _ => push_word(words, alloc, word),
+/// What the letters of a line stand for.
+#[derive(Clone, Copy)]
+struct Letters<'a> {
+    k: &'static str,
+    l: &'static str,
+    v: &'static str,
+    n: &'static str,
+    i: &'static str,
+    w: &'a [u8],
+}
+
+/// A random key.
+fn key(random: &mut Random) -> &'static str {
+    random.one_of(&KEYS)
+}
+
+/// A random value.
+fn value(random: &mut Random) -> &'static str {
+    random.one_of(&VALUES)
+}
+
+/// A random number of rows.
+fn rows(random: &mut Random) -> &'static str {
+    random.one_of(&NUMBERS)
+}
+
+/// A random snapshot's id.
+fn id(random: &mut Random) -> &'static str {
+    random.one_of(&IDS)
+}
+
+impl<'a> Letters<'a> {
+    fn draw(random: &mut Random, w: &'a [u8]) -> Letters<'a> {
+        Letters {
+            k: key(random),
+            l: key(random),
+            v: value(random),
+            n: rows(random),
+            i: id(random),
+            w,
+        }
+    }
+
+    /// Adds what a word stands for.
+    fn push<A: Allocator + Copy>(
+        self,
+        words: &mut Words<A>,
+        alloc: A,
+        word: &str,
+    ) -> Result<(), AllocError> {
+        match word {
+            "k" => push_word(words, alloc, self.k),
+            "l" => push_word(words, alloc, self.l),
+            "v" => push_word(words, alloc, self.v),
+            "n" => push_word(words, alloc, self.n),
+            "i" => push_word(words, alloc, self.i),
+            "w" => words.push(self.w),
+            _ => push_word(words, alloc, word),
+        }
     }
 }
 
 /// A line's words with what its letters stand for.
-fn drawn_words<A: Allocator + Copy>(
+fn filled_words<A: Allocator + Copy>(
     alloc: A,
     line: &str,
-    (random, long): (&mut Random, &[u8]),
+    letters: Letters<'_>,
 ) -> Result<Words<A>, AllocError> {
     let mut words = Words::new(alloc);
     for word in line.split_whitespace() {
-        push_drawn(&mut words, alloc, word, (&mut *random, long))?;
+        letters.push(&mut words, alloc, word)?;
     }
     Ok(words)
 }
@@ -230,8 +275,9 @@ fn other_line<A: Allocator + Copy>(
     (random, long): (&mut Random, &[u8]),
 ) -> Result<Option<&'static str>, AllocError> {
     let tenant = one_tenant(random);
+    let letters = Letters::draw(random, long);
     let line = random.one_of(&LINES);
-    let words = drawn_words(alloc, line, (random, long))?;
+    let words = filled_words(alloc, line, letters)?;
     let is_alike = are_alike(core, stores.of(tenant), alloc, (tenant, words))?;
     Ok(if is_alike { None } else { Some(line) })
 }
