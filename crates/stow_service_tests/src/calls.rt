@@ -1,9 +1,8 @@
 //! A core's calls: that they succeed where there is memory, that a commit asks for none, and worked and random requests of
 //! several tenants.
-mod alone;
+pub(crate) mod alone;
 mod flushes;
 mod held;
-mod refusals;
-mod skipped;
-mod snapshots;
+pub(crate) mod refusals;
+pub(crate) mod skipped;
 mod worked;

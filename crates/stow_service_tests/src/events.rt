@@ -1,10 +1,10 @@
 //! A house's events: that they succeed where there is memory, and worked and random requests of several tenants, also
 //! between the steps of flushes.
-mod acts;
+pub(crate) mod acts;
 mod clients;
 mod each;
-mod flushes;
+pub(crate) mod flushes;
 mod held;
-mod runs;
+pub(crate) mod runs;
 mod shapes;
 mod worked;

@@ -10,6 +10,10 @@ mod events;
 #[cfg(test)]
 mod making;
 #[cfg(test)]
+mod refusals;
+#[cfg(test)]
+mod refused;
+#[cfg(test)]
 mod sessions;
 #[cfg(test)]
 mod text;

@@ -5,6 +5,8 @@ ghost use Rattle.stow_model.specs.declared.refusal.Refusal.TheVariants as refusa
 ghost use Rattle.stow_model.specs.Reply as told;
 ghost use Rattle.stow_model.specs.Reply.{reply_of};
 
+use crate::making::tenants_of;
+use crate::text::{number, row_of};
 use std::alloc::{AllocError, Allocator, Global};
 use std::marker::Model;
 use std::test::Fail;
@@ -117,100 +119,120 @@ fn is_answer<A: Allocator + Copy>(
     )
 }
 
-const LOG_IN: &str = "NOAUTH Authentication required.";
+/// A session over a door.
+#[derive(Drop)]
+struct Seat<A: Allocator + Copy> {
+    tenants: Tenants<A>,
+    door: Fake<A>,
+    session: Session,
+}
 
-const WRONG: &str = "WRONGPASS invalid name or password";
-
-const COUNT: &str = "ERR wrong number of arguments";
-
-const QUOTES: &str = "ERR quotes in an inline request are not served";
-
-/// What comes on one connection: what it is told, whether it ends, and how many calls the door has had after it.
-const SERVED: [(&str, &str, bool, usize); 19] = [
-    ("a quoted line", LOG_IN, false, 0),
-    ("GET k", LOG_IN, false, 0),
-    ("FOO", LOG_IN, false, 0),
-    ("AUTH ann c", WRONG, false, 0),
-    ("GET k", LOG_IN, false, 0),
-    ("AUTH ann bc", "OK", false, 0),
-    ("SET k v", ":1", false, 1),
-    ("AUTH ben bc", WRONG, false, 1),
-    ("GET k", ":1", false, 2),
-    ("auth ben c", "OK", false, 2),
-    ("GET k", ":2", false, 3),
-    ("AUTH ann c", WRONG, false, 3),
-    ("AUTH ann", COUNT, false, 3),
-    ("QUIT now", COUNT, false, 3),
-    ("FOO", ":2", false, 4),
-    ("a quoted line", QUOTES, false, 4),
-    ("a blank", "nothing", false, 4),
-    ("a fault", "expected '$'", true, 4),
-    ("QUIT", "OK", true, 4),
-];
-
-/// The first of these to which a session answers otherwise.
-fn first_other<A: Allocator + Copy>(
-    alloc: A,
-    global: Global,
-) -> Result<Option<&'static str>, AllocError> {
-    let tenants = Tenants::read(alloc, global, THREE).map_err(|_| AllocError)?;
-    let mut door = Fake {
-        calls: Vec::new(alloc),
-    };
-    let mut session = Session::new();
-    for (line, want, ends, calls) in SERVED {
-        let next = next_of(alloc, line)?;
-        let answer = session.serve(alloc, &tenants, &mut door, next);
-        if !is_answer(alloc, &answer, want, ends)? || door.calls.len() != calls {
-            return Ok(Some(line));
-        }
+impl<A: Allocator + Copy> Seat<A> {
+    /// Nobody is logged in, and nothing was asked.
+    fn new(alloc: A, global: Global) -> Result<Seat<A>, AllocError> {
+        Ok(Seat {
+            tenants: tenants_of(alloc, global, THREE)?,
+            door: Fake {
+                calls: Vec::new(alloc),
+            },
+            session: Session::new(),
+        })
     }
-    Ok(None)
+
+    /// What the session answers to what comes next.
+    fn serve(&mut self, alloc: A, next: Next<A>) -> Answer<A> {
+        self.session
+            .serve(alloc, &self.tenants, &mut self.door, next)
+    }
+
+    /// Whether a row's line is told what the row says, and then ends the connection just where a word says so and the door has
+    /// had so many calls; and whether every request for memory is refused to it.
+    fn is_row_told<B: Allocator>(
+        &mut self,
+        alloc: A,
+        heap: &Refusing<B>,
+        (row, plan): (&'static str, Plan),
+    ) -> Result<bool, AllocError> {
+        let (line, rest) = row_of(row);
+        let (want, rest) = row_of(rest);
+        let (calls, end) = row_of(rest);
+        let next = next_of(alloc, line)?;
+        heap.set(plan);
+        let answer = self.serve(alloc, next);
+        heap.set(Plan::Grant);
+        Ok(
+            self.door.calls.len() == number(calls) as usize
+                && is_answer(alloc, &answer, want, end == "end")?,
+        )
+    }
+
+    /// The first row of a table that isn't so.
+    fn first_other<B: Allocator>(
+        &mut self,
+        alloc: A,
+        heap: &Refusing<B>,
+        (table, plan): (&'static str, Plan),
+    ) -> Result<Option<&'static str>, AllocError> {
+        for row in table.lines() {
+            if !self.is_row_told(alloc, heap, (row, plan))? {
+                return Ok(Some(row));
+            }
+        }
+        Ok(None)
+    }
+}
+
+/// What comes on one connection: what it is told, how many calls the door has had after it, and whether it ends.
+const SERVED: &str = "a quoted line => NOAUTH Authentication required. => 0
+GET k => NOAUTH Authentication required. => 0
+FOO => NOAUTH Authentication required. => 0
+AUTH ann c => WRONGPASS invalid name or password => 0
+GET k => NOAUTH Authentication required. => 0
+AUTH ann bc => OK => 0
+SET k v => :1 => 1
+AUTH ben bc => WRONGPASS invalid name or password => 1
+GET k => :1 => 2
+auth ben c => OK => 2
+GET k => :2 => 3
+AUTH ann c => WRONGPASS invalid name or password => 3
+AUTH ann => ERR wrong number of arguments => 3
+QUIT now => ERR wrong number of arguments => 3
+FOO => :2 => 4
+a quoted line => ERR quotes in an inline request are not served => 4
+a blank => nothing => 4
+a fault => expected '$' => 4 => end
+QUIT => OK => 4 => end";
+
+/// What a session answers to where every request for memory is refused.
+const WITHOUT_MEMORY: &str = "GET k => NOAUTH Authentication required. => 0
+AUTH ann c => WRONGPASS invalid name or password => 0
+AUTH ann bc => OK => 0
+GET k => OOM memory was refused => 0
+QUIT => OK => 0 => end";
+
+/// The first row of a table that a new session tells otherwise.
+fn told_otherwise<A: Allocator + Copy, B: Allocator>(
+    heap: &Refusing<B>,
+    (alloc, global): (A, Global),
+    table: (&'static str, Plan),
+) -> Result<Option<&'static str>, AllocError> {
+    Seat::new(alloc, global)?.first_other(alloc, heap, table)
 }
 
 #[test]
 fn a_door_is_asked_only_after_a_login(rt: HostRuntime) -> Result<(), Fail> {
-    let other = first_other(rt.alloc(), rt.alloc())?;
+    let heap = Refusing::new(rt.alloc());
+    let other = told_otherwise(&heap, (&heap, rt.alloc()), (SERVED, Plan::Grant))?;
     assert!(rt; other.is_none(), "{other:?}");
     Ok(())
-}
-
-/// What a session answers to where every request for memory is refused.
-const WITHOUT_MEMORY: [(&str, &str, bool); 5] = [
-    ("GET k", LOG_IN, false),
-    ("AUTH ann c", WRONG, false),
-    ("AUTH ann bc", "OK", false),
-    ("GET k", "OOM memory was refused", false),
-    ("QUIT", "OK", true),
-];
-
-/// The first of these to which a session answers otherwise.
-fn first_other_without_memory<A: Allocator + Copy, B: Allocator>(
-    heap: &Refusing<B>,
-    (alloc, global): (A, Global),
-) -> Result<Option<&'static str>, AllocError> {
-    let tenants = Tenants::read(alloc, global, THREE).map_err(|_| AllocError)?;
-    let mut door = Fake {
-        calls: Vec::new(alloc),
-    };
-    let mut session = Session::new();
-    for (line, want, ends) in WITHOUT_MEMORY {
-        let next = next_of(alloc, line)?;
-        heap.set(Plan::RefuseAll);
-        let answer = session.serve(alloc, &tenants, &mut door, next);
-        heap.set(Plan::Grant);
-        if !is_answer(alloc, &answer, want, ends)? || door.calls.len() != 0 {
-            return Ok(Some(line));
-        }
-    }
-    Ok(None)
 }
 
 // Only the door asks for memory: a login, a refusal and a quit are told with none.
 #[test]
 fn a_session_asks_for_no_memory(rt: HostRuntime) -> Result<(), Fail> {
     let heap = Refusing::new(rt.alloc());
-    let other = first_other_without_memory(&heap, (&heap, rt.alloc()))?;
+    let table = (WITHOUT_MEMORY, Plan::RefuseAll);
+    let other = told_otherwise(&heap, (&heap, rt.alloc()), table)?;
     assert!(rt; other.is_none(), "{other:?}");
     Ok(())
 }

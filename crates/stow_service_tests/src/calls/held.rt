@@ -1,5 +1,5 @@
 //! Memory is given back: rounds of equal requests on keys of their own leave no more of it held than the first did.
-use crate::making::new_core;
+use crate::making::{call, give, installed, lend, merged, new_core, shape_of};
 use linked_list_allocator::LocalHeap;
 use std::alloc::{AllocError, Allocator, Global};
 use std::test::Fail;
@@ -17,10 +17,10 @@ const REQUESTS: u32 = 4_000;
 const KEYS: u32 = 100;
 
 /// Keys of a round of long values: more than one buffer and the leaves of one node hold.
-const LONG_KEYS: u32 = 20;
+const LONG_KEYS: u32 = 9;
 
 /// The quota of a tenant with long values, which no round reaches.
-const LONG_QUOTA: u64 = 15_000_000;
+const LONG_QUOTA: u32 = 15_000_000;
 
 const VALUES: [&str; 4] = ["''", "7", "x", "a_longer_value_of_thirty_bytes"];
 
@@ -40,6 +40,34 @@ const LINES: [&str; 12] = [
     "SET k v",
 ];
 
+/// Adds what a word of a line stands for.
+fn push_letter<A: Allocator + Copy>(
+    words: &mut Words<A>,
+    alloc: A,
+    word: &str,
+    (k, l, v): (u32, u32, &str),
+) -> Result<(), AllocError> {
+    match word {
+        "k" => push_word(words, alloc, format!(in alloc; "{k}")?.as_str()),
+        "l" => push_word(words, alloc, format!(in alloc; "{l}")?.as_str()),
+        "v" => push_word(words, alloc, v),
+        _ => push_word(words, alloc, word),
+    }
+}
+
+/// A line's words with what its letters stand for.
+fn filled_words<A: Allocator + Copy>(
+    alloc: A,
+    line: &str,
+    letters: (u32, u32, &str),
+) -> Result<Words<A>, AllocError> {
+    let mut words = Words::new(alloc);
+    for word in line.split_whitespace() {
+        push_letter(&mut words, alloc, word, letters)?;
+    }
+    Ok(words)
+}
+
 /// A random request's words, on keys from this one on.
 fn random_words<A: Allocator + Copy>(
     alloc: A,
@@ -48,19 +76,8 @@ fn random_words<A: Allocator + Copy>(
 ) -> Result<Words<A>, AllocError> {
     let k = first.saturating_add(random.below(KEYS));
     let l = first.saturating_add(random.below(KEYS));
-    let k = format!(in alloc; "{k}")?;
-    let l = format!(in alloc; "{l}")?;
     let v = random.one_of(&VALUES);
-    let mut words = Words::new(alloc);
-    for word in random.one_of(&LINES).split_whitespace() {
-        match word {
-            "k" => push_word(&mut words, alloc, k.as_str())?,
-            "l" => push_word(&mut words, alloc, l.as_str())?,
-            "v" => push_word(&mut words, alloc, v)?,
-            _ => push_word(&mut words, alloc, word)?,
-        }
-    }
-    Ok(words)
+    filled_words(alloc, random.one_of(&LINES), (k, l, v))
 }
 
 /// One request, to which no memory is refused.
@@ -70,7 +87,7 @@ fn ask<A: Allocator + Copy>(
     tenant: u32,
     words: &Words<A>,
 ) -> Result<(), AllocError> {
-    match core.call(alloc, tenant, words) {
+    match call(core, alloc, tenant, words) {
         Reply::Error(Refusal::OutOfMemory) => Err(AllocError),
         _ => Ok(()),
     }
@@ -85,18 +102,31 @@ fn ask_all<A: Allocator + Copy>(
     let mut random = Random::new(11);
     for _ in 0..REQUESTS {
         let tenant = 1 + random.below(3);
-        let words = random_words(alloc, &mut random, first)?;
-        ask(core, alloc, tenant, &words)?;
+        ask(
+            core,
+            alloc,
+            tenant,
+            &random_words(alloc, &mut random, first)?,
+        )?;
     }
     Ok(())
 }
 
+/// A request of words and a number behind them.
+fn ask_of<A: Allocator + Copy>(
+    core: &mut Core<A>,
+    alloc: A,
+    tenant: u32,
+    (word, key, value): (&str, u32, &str),
+) -> Result<(), AllocError> {
+    let line = format!(in alloc; "{word} {key} {value}")?;
+    ask(core, alloc, tenant, &words_of(alloc, line.as_str())?)
+}
+
 /// The deletion of a key, for each tenant.
 fn delete<A: Allocator + Copy>(core: &mut Core<A>, alloc: A, key: u32) -> Result<(), AllocError> {
-    let line = format!(in alloc; "DEL {key}")?;
-    let words = words_of(alloc, line.as_str())?;
     for tenant in 1..4u32 {
-        ask(core, alloc, tenant, &words)?;
+        ask_of(core, alloc, tenant, ("DEL", key, ""))?;
     }
     Ok(())
 }
@@ -110,33 +140,45 @@ fn round<A: Allocator + Copy>(core: &mut Core<A>, alloc: A, first: u32) -> Resul
     Ok(())
 }
 
-/// Whether a new core holds no more of the heap after a second round, on other keys, than after the first.
+/// Whether a core holds no more of the heap after a second round, on other keys, than after the first.
 fn holds_no_more<A: Allocator + Copy>(
+    heap: &LocalHeap,
+    alloc: A,
+    core: &mut Core<A>,
+) -> Result<bool, AllocError> {
+    round(core, alloc, 1_000)?;
+    let held = heap.used();
+    round(core, alloc, 2_000)?;
+    Ok(heap.used() <= held)
+}
+
+/// Whether a new core does.
+fn new_holds_no_more<A: Allocator + Copy>(
     heap: &LocalHeap,
     (alloc, global): (A, Global),
 ) -> Result<bool, AllocError> {
-    let mut core = new_core(alloc, global)?;
-    round(&mut core, alloc, 1_000)?;
-    let held = heap.used();
-    round(&mut core, alloc, 2_000)?;
-    Ok(heap.used() <= held)
+    lend(
+        new_core(alloc, global),
+        |core| holds_no_more(heap, alloc, core),
+    )
 }
 
 #[test]
 fn rounds_hold_no_more_than_the_first(rt: HostRuntime) -> Result<(), Fail> {
     let heap = LocalHeap::new(rt.alloc(), 33_554_432)?;
-    assert!(rt; holds_no_more(&heap, (&heap, rt.alloc()))?);
+    assert!(rt; new_holds_no_more(&heap, (&heap, rt.alloc()))?);
     Ok(())
 }
 
 /// The next flush in two steps. Whether there was one.
 fn flush<A: Allocator + Copy>(core: &mut Core<A>, alloc: A) -> Result<bool, AllocError> {
-    let Some(job) = core.plan(alloc)? else {
-        return Ok(false);
-    };
-    let merge = job.merge(alloc).map_err(|_| AllocError)?;
-    core.install(alloc, merge).map_err(|_| AllocError)?;
-    Ok(true)
+    match merged(core, alloc)? {
+        Some(merge) => {
+            let _installed = installed(core, alloc, merge)?;
+            Ok(true)
+        }
+        None => Ok(false),
+    }
 }
 
 /// Flushes until no buffer holds a message, in at most so many steps.
@@ -149,37 +191,57 @@ fn flush_all<A: Allocator + Copy>(core: &mut Core<A>, alloc: A) -> Result<(), Al
     Err(AllocError)
 }
 
-/// Long values of a tenant's, which split nodes, and then the deletion of all.
-fn long_round<A: Allocator + Copy>(core: &mut Core<A>, alloc: A) -> Result<(), AllocError> {
+/// Puts long values of a tenant's, and flushes.
+fn put_all<A: Allocator + Copy>(core: &mut Core<A>, alloc: A) -> Result<(), AllocError> {
     for key in 0..LONG_KEYS {
-        let line = format!(in alloc; "SET {key} LONG")?;
-        ask(core, alloc, 1, &words_of(alloc, line.as_str())?)?;
+        ask_of(core, alloc, 1, ("SET", key, "LONG"))?;
     }
-    flush_all(core, alloc)?;
+    flush_all(core, alloc)
+}
+
+/// Deletes them, and flushes.
+fn delete_all<A: Allocator + Copy>(core: &mut Core<A>, alloc: A) -> Result<(), AllocError> {
     for key in 0..LONG_KEYS {
         delete(core, alloc, key)?;
     }
     flush_all(core, alloc)
 }
 
-/// Whether flushes split nodes in a round of long values, and a new core then holds no more of the heap after a third round
-/// than after the second.
+/// Long values of a tenant's, which split nodes, and then the deletion of all.
+fn long_round<A: Allocator + Copy>(core: &mut Core<A>, alloc: A) -> Result<(), AllocError> {
+    put_all(core, alloc)?;
+    delete_all(core, alloc)
+}
+
+/// Whether flushes split nodes in a round of long values, and a core then holds no more of the heap after a third round than
+/// after the second.
 fn flushes_hold_no_more<A: Allocator + Copy>(
+    heap: &LocalHeap,
+    alloc: A,
+    core: &mut Core<A>,
+) -> Result<bool, AllocError> {
+    give(core, 1, LONG_QUOTA);
+    long_round(core, alloc)?;
+    long_round(core, alloc)?;
+    let held = heap.used();
+    long_round(core, alloc)?;
+    Ok(shape_of(core).height > 1 && heap.used() <= held)
+}
+
+/// Whether a new core does.
+fn new_flushes_hold_no_more<A: Allocator + Copy>(
     heap: &LocalHeap,
     (alloc, global): (A, Global),
 ) -> Result<bool, AllocError> {
-    let mut core = new_core(alloc, global)?;
-    core.set_quota(1, LONG_QUOTA);
-    long_round(&mut core, alloc)?;
-    long_round(&mut core, alloc)?;
-    let held = heap.used();
-    long_round(&mut core, alloc)?;
-    Ok(core.shape().height > 1 && heap.used() <= held)
+    lend(
+        new_core(alloc, global),
+        |core| flushes_hold_no_more(heap, alloc, core),
+    )
 }
 
 #[test]
 fn flushes_leave_no_more_than_before(rt: HostRuntime) -> Result<(), Fail> {
     let heap = LocalHeap::new(rt.alloc(), 268_435_456)?;
-    assert!(rt; flushes_hold_no_more(&heap, (&heap, rt.alloc()))?);
+    assert!(rt; new_flushes_hold_no_more(&heap, (&heap, rt.alloc()))?);
     Ok(())
 }

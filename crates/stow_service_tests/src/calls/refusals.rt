@@ -1,8 +1,7 @@
 //! Each request for memory of each command, refused in turn.
-use crate::making::new_core;
-use crate::text::is_told;
+use crate::making::{call, give, lend, new_core, shape_of};
+use crate::text::{is_told, number};
 use std::alloc::{AllocError, Allocator, Global};
-use std::test::Fail;
 use stow_core::Core;
 use stow_model::words::Words;
 use stow_refusing::{Plan, Refusing};
@@ -11,33 +10,142 @@ use stow_testing::replies::is_text;
 
 /// A request of tenant 1, its reply, and what then stands at the keys `a` and `b`, the first of which had "old".
 #[derive(Clone, Copy)]
-struct Case {
-    line: &'static str,
+pub(crate) struct Case<'a> {
+    pub(crate) line: &'static str,
     told: &'static str,
     a: &'static str,
     b: &'static str,
+    /// A long value, if the request is one more of it; else it has no bytes.
+    long: &'a [u8],
+    /// How many long values are put before.
+    keys: u32,
+    /// How many requests for memory it makes, of a long value at least.
+    pub(crate) asked: u32,
+}
+
+/// Cases, with how many requests for memory each makes. No prepare asks for more than it takes: a sum's digits, what a reply
+/// copies, and the way that a range goes down. A write's value is lent, and its keys stand where those of the last write stood.
+pub(crate) const CASES: &str = "SET a new|OK|$new|nil|0
+SET b new|OK|$old|$new|0
+SET b new NX|OK|$old|$new|0
+SET a new NX|nil|$old|nil|0
+SET a new XX|OK|$new|nil|0
+GET a|$old|$old|nil|1
+MGET a b a|[$old nil $old ]|$old|nil|2
+EXISTS a b a|:2|$old|nil|0
+STRLEN a|:3|$old|nil|0
+RANGE '' '' 9|[$a $old ]|$old|nil|7
+PING hello|$hello|$old|nil|1
+ECHO hello|$hello|$old|nil|1
+APPEND a er|:5|$older|nil|0
+APPEND b er|:2|$old|$er|0
+INCR b|:1|$old|$1|1
+DECR b|:-1|$old|$-1|1
+INCRBY b 12|:12|$old|$12|1
+INCR a|ERR value is not an integer or out of range|$old|nil|0
+DEL b a|:1|nil|nil|0";
+
+/// The case of a row.
+pub(crate) fn case_of(row: &'static str) -> Option<Case<'static>> {
+    let (line, rest) = row.split_once("|")?;
+    let (told, rest) = rest.split_once("|")?;
+    let (a, rest) = rest.split_once("|")?;
+    let (b, asked) = rest.split_once("|")?;
+    Some(Case {
+        line,
+        told,
+        a,
+        b,
+        long: b"",
+        keys: 0,
+        asked: number(asked),
+    })
+}
+
+/// One more long value above so many.
+pub(crate) fn long_case(long: &[u8], keys: u32) -> Case<'_> {
+    Case {
+        line: "SET",
+        told: "OK",
+        a: "$old",
+        b: "nil",
+        long,
+        keys,
+        asked: 11,
+    }
+}
+
+/// The words that put a long value.
+fn long_words<A: Allocator + Copy>(
+    alloc: A,
+    key: u32,
+    long: &[u8],
+) -> Result<Words<A>, AllocError> {
+    let mut words = words_of(alloc, format!(in alloc; "SET {key}")?.as_str())?;
+    words.push(long)?;
+    Ok(words)
+}
+
+/// The words of a case.
+fn words_of_case<A: Allocator + Copy>(alloc: A, case: Case<'_>) -> Result<Words<A>, AllocError> {
+    if case.long.is_empty() {
+        words_of(alloc, case.line)
+    } else {
+        long_words(alloc, case.keys, case.long)
+    }
+}
+
+/// Bytes of a quota that no number of long values here reaches.
+const AMPLE_QUOTA: u32 = 100_000_000;
+
+/// Puts a long value at a key of tenant 1's.
+fn put_long<A: Allocator + Copy>(
+    core: &mut Core<A>,
+    alloc: A,
+    key: u32,
+    long: &[u8],
+) -> Result<(), AllocError> {
+    let _reply = call(core, alloc, 1, &long_words(alloc, key, long)?);
+    Ok(())
+}
+
+/// Gives tenant 1 so many long values.
+fn fill<A: Allocator + Copy>(
+    core: &mut Core<A>,
+    alloc: A,
+    (long, keys): (&[u8], u32),
+) -> Result<(), AllocError> {
+    for key in 0..keys {
+        put_long(core, alloc, key, long)?;
+    }
+    Ok(())
 }
 
 /// Gives tenant 1 "old" at the key `a`, and tenant 2 "other".
 fn start<A: Allocator + Copy>(core: &mut Core<A>, alloc: A) -> Result<(), AllocError> {
+    give(core, 1, AMPLE_QUOTA);
     let _done = is_told(core, alloc, 1, "SET a old", "OK")?;
     let _done = is_told(core, alloc, 2, "SET a other", "OK")?;
     Ok(())
 }
 
-/// A core in which they have these.
-fn started<A: Allocator + Copy>(alloc: A, global: Global) -> Result<Core<A>, AllocError> {
-    let mut core = new_core(alloc, global)?;
-    start(&mut core, alloc)?;
-    Ok(core)
+/// Whether tenant 1 has a long value at a key just where it is to.
+fn has_long<A: Allocator + Copy>(
+    core: &mut Core<A>,
+    alloc: A,
+    key: u32,
+    is_put: bool,
+) -> Result<bool, AllocError> {
+    let line = format!(in alloc; "STRLEN {key}")?;
+    let want = if is_put { ":300000" } else { ":0" };
+    is_told(core, alloc, 1, line.as_str(), want)
 }
 
 /// Whether tenant 1 has these values at the keys `a` and `b`, and tenant 2 what it had.
 fn stands<A: Allocator + Copy>(
     core: &mut Core<A>,
     alloc: A,
-    a: &str,
-    b: &str,
+    (a, b): (&str, &str),
 ) -> Result<bool, AllocError> {
     Ok(
         is_told(core, alloc, 1, "GET a", a)?
@@ -46,13 +154,25 @@ fn stands<A: Allocator + Copy>(
     )
 }
 
+/// Whether tenant 1 has the long values before a case, and the case's own one just where it is put.
+fn are_long<A: Allocator + Copy>(
+    core: &mut Core<A>,
+    alloc: A,
+    case: Case<'_>,
+    is_put: bool,
+) -> Result<bool, AllocError> {
+    Ok(
+        has_long(core, alloc, 5, case.keys > 5)?
+            && has_long(core, alloc, case.keys, is_put && !case.long.is_empty())?,
+    )
+}
+
 /// Whether the prepare is refused memory. It is, just where it asks for the request that is refused to it.
 fn is_refused<A: Allocator + Copy, B: Allocator>(
     heap: &Refusing<B>,
     alloc: A,
     core: &mut Core<A>,
-    words: &Words<A>,
-    at: u64,
+    (words, at): (&Words<A>, u64),
 ) -> bool {
     heap.set(Plan::RefuseAt(at));
     let refused = core.prepare(alloc, 1, words).is_err();
@@ -65,210 +185,181 @@ fn commits<A: Allocator + Copy, B: Allocator>(
     heap: &Refusing<B>,
     alloc: A,
     core: &mut Core<A>,
-    words: &Words<A>,
-    told: &str,
+    (words, told): (&Words<A>, &str),
 ) -> Result<bool, AllocError> {
     let prepared = core.prepare(alloc, 1, words)?;
-    let foretold = is_text(alloc, prepared.reply(), told)?;
+    let is_foretold = matches!(is_text(alloc, prepared.reply(), told), Ok(true));
     heap.set(Plan::RefuseAll);
     let reply = core.commit(prepared);
-    let asked = heap.asked();
+    let is_free = heap.asked() == 0;
     heap.set(Plan::Grant);
-    Ok(foretold && asked == 0 && is_text(alloc, &reply, told)?)
+    Ok(is_foretold && is_free && matches!(is_text(alloc, &reply, told), Ok(true)))
 }
 
 /// Whether a case that was refused memory left what stood, and is carried out with memory.
 fn is_carried_out<A: Allocator + Copy, B: Allocator>(
     heap: &Refusing<B>,
     alloc: A,
-    (core, words): (&mut Core<A>, &Words<A>),
-    case: Case,
-) -> Result<bool, AllocError> {
-    let stood = stands(core, alloc, "$old", "nil")?;
-    let done = commits(heap, alloc, core, words, case.told)?;
-    Ok(stood && done && stands(core, alloc, case.a, case.b)?)
+    core: &mut Core<A>,
+    (words, case): (&Words<A>, Case<'_>),
+) -> Result<Option<bool>, AllocError> {
+    Ok(Some(
+        stands(core, alloc, ("$old", "nil"))?
+            && are_long(core, alloc, case, false)?
+            && commits(heap, alloc, core, (words, case.told))?
+            && stands(core, alloc, (case.a, case.b))?
+            && are_long(core, alloc, case, true)?,
+    ))
 }
 
-/// Whether the case withstands the refusal of this request for memory, or `None` if it asks for fewer.
-fn withstands<A: Allocator + Copy, B: Allocator>(
+/// Whether words withstand the refusal of this request for memory, or `None` if their prepare asks for fewer.
+fn words_withstand<A: Allocator + Copy, B: Allocator>(
     heap: &Refusing<B>,
-    (alloc, global): (A, Global),
-    case: Case,
-    at: u64,
+    alloc: A,
+    core: &mut Core<A>,
+    (words, case, at): (&Words<A>, Case<'_>, u64),
 ) -> Result<Option<bool>, AllocError> {
-    let words = words_of(alloc, case.line)?;
-    let mut core = started(alloc, global)?;
-    if !is_refused(heap, alloc, &mut core, &words, at) {
+    start(core, alloc)?;
+    fill(core, alloc, (case.long, case.keys))?;
+    if !is_refused(heap, alloc, core, (words, at)) {
         return Ok(None);
     }
-    Ok(Some(is_carried_out(heap, alloc, (&mut core, &words), case)?))
+    is_carried_out(heap, alloc, core, (words, case))
 }
 
-/// How many requests for memory the case makes, if it withstands the refusal of each.
-fn refusals<B: Allocator>(
+/// Whether a case does in a new core.
+pub(crate) fn withstands<A: Allocator + Copy, B: Allocator>(
     heap: &Refusing<B>,
-    global: Global,
-    case: Case,
+    (alloc, global): (A, Global),
+    case: Case<'_>,
+    at: u64,
+) -> Result<Option<bool>, AllocError> {
+    heap.set(Plan::Grant);
+    let words = words_of_case(alloc, case)?;
+    lend(
+        new_core(alloc, global),
+        |core| words_withstand(heap, alloc, core, (&words, case, at)),
+    )
+}
+
+/// Whether what a refused case left stands, and a small write is carried out.
+fn goes_on<A: Allocator + Copy>(
+    core: &mut Core<A>,
+    alloc: A,
+    case: Case<'_>,
+) -> Result<bool, AllocError> {
+    Ok(
+        stands(core, alloc, ("$old", "nil"))?
+            && are_long(core, alloc, case, false)?
+            && is_told(core, alloc, 1, "SET a old", "OK")?,
+    )
+}
+
+/// How many requests for memory the words' prepare makes, if it withstands the refusal of each in turn in one core.
+fn asked_in_turn<A: Allocator + Copy, B: Allocator>(
+    heap: &Refusing<B>,
+    alloc: A,
+    core: &mut Core<A>,
+    (words, case): (&Words<A>, Case<'_>),
 ) -> Result<Option<u64>, AllocError> {
-    for at in 0..100u64 {
-        match withstands(heap, (heap, global), case, at)? {
-            None => return Ok(Some(at)),
-            Some(true) => {}
-            Some(false) => return Ok(None),
+    for at in 0..1_000u64 {
+        if !is_refused(heap, alloc, core, (words, at)) {
+            return Ok(Some(at));
+        }
+        if !goes_on(core, alloc, case)? {
+            return Ok(None);
         }
     }
     Ok(None)
 }
 
-/// How many requests for memory the line's call makes.
-fn asked_by_call<A: Allocator + Copy, B: Allocator>(
+/// The same, if they are then carried out.
+fn words_withstand_each<A: Allocator + Copy, B: Allocator>(
+    heap: &Refusing<B>,
+    alloc: A,
+    core: &mut Core<A>,
+    (words, case): (&Words<A>, Case<'_>),
+) -> Result<Option<u64>, AllocError> {
+    start(core, alloc)?;
+    fill(core, alloc, (case.long, case.keys))?;
+    let asked = asked_in_turn(heap, alloc, core, (words, case))?;
+    let is_done = is_carried_out(heap, alloc, core, (words, case))?;
+    Ok(if is_done == Some(true) { asked } else { None })
+}
+
+/// The same of a case in a new core.
+pub(crate) fn withstands_each<A: Allocator + Copy, B: Allocator>(
+    heap: &Refusing<B>,
+    (alloc, global): (A, Global),
+    case: Case<'_>,
+) -> Result<Option<u64>, AllocError> {
+    heap.set(Plan::Grant);
+    let words = words_of_case(alloc, case)?;
+    lend(
+        new_core(alloc, global),
+        |core| words_withstand_each(heap, alloc, core, (&words, case)),
+    )
+}
+
+/// How many requests for memory the call of these words makes.
+fn asked_by<A: Allocator + Copy, B: Allocator>(
+    heap: &Refusing<B>,
+    alloc: A,
+    core: &mut Core<A>,
+    words: &Words<A>,
+) -> Result<u64, AllocError> {
+    start(core, alloc)?;
+    heap.set(Plan::Grant);
+    let _reply = call(core, alloc, 1, words);
+    Ok(heap.asked())
+}
+
+/// How many a line's call makes.
+pub(crate) fn asked_by_call<A: Allocator + Copy, B: Allocator>(
     heap: &Refusing<B>,
     (alloc, global): (A, Global),
     line: &str,
 ) -> Result<u64, AllocError> {
     heap.set(Plan::Grant);
     let words = words_of(alloc, line)?;
-    let mut core = started(alloc, global)?;
-    heap.set(Plan::Grant);
-    let _reply = core.call(alloc, 1, &words);
-    Ok(heap.asked())
-}
-
-// Each request for memory of a prepare is refused in turn: what stood before still stands, and the same call
-// succeeds once memory is there. Its commit, to which every request is refused, asks for none. No prepare asks for
-// more than it takes: a sum's digits, what a reply copies, and the way that a range goes down; nor does a call. A write's
-// value is lent, and its keys stand where those of the last write stood.
-#[test]
-fn prepares_withstand_each_refusal(rt: HostRuntime) -> Result<(), Fail> {
-    let global = rt.alloc();
-    let heap = Refusing::new(global);
-    let used = "ERR value is not an integer or out of range";
-    for (line, told, a, b, asked) in [
-        ("SET a new", "OK", "$new", "nil", 0),
-        ("SET b new", "OK", "$old", "$new", 0),
-        ("SET b new NX", "OK", "$old", "$new", 0),
-        ("SET a new NX", "nil", "$old", "nil", 0),
-        ("SET a new XX", "OK", "$new", "nil", 0),
-        ("GET a", "$old", "$old", "nil", 1),
-        ("MGET a b a", "[$old nil $old ]", "$old", "nil", 2),
-        ("EXISTS a b a", ":2", "$old", "nil", 0),
-        ("STRLEN a", ":3", "$old", "nil", 0),
-        ("RANGE '' '' 9", "[$a $old ]", "$old", "nil", 7),
-        ("PING hello", "$hello", "$old", "nil", 1),
-        ("ECHO hello", "$hello", "$old", "nil", 1),
-        ("APPEND a er", ":5", "$older", "nil", 0),
-        ("APPEND b er", ":2", "$old", "$er", 0),
-        ("INCR b", ":1", "$old", "$1", 1),
-        ("DECR b", ":-1", "$old", "$-1", 1),
-        ("INCRBY b 12", ":12", "$old", "$12", 1),
-        ("INCR a", used, "$old", "nil", 0),
-        ("DEL b a", ":1", "nil", "nil", 0),
-    ] {
-        let needed = refusals(&heap, global, Case { line, told, a, b })?;
-        let called = asked_by_call(&heap, (&heap, global), line)?;
-        assert!(rt; needed == Some(asked) && called == asked, "{line}");
-    }
-    Ok(())
-}
-
-/// Bytes of a quota that no number of long values here reaches.
-const AMPLE_QUOTA: u64 = 100_000_000;
-
-/// Gives tenant 1 so many long values.
-fn fill<A: Allocator + Copy>(core: &mut Core<A>, alloc: A, keys: u32) -> Result<(), AllocError> {
-    for key in 0..keys {
-        let line = format!(in alloc; "SET {key} LONG")?;
-        let _done = is_told(core, alloc, 1, line.as_str(), "OK")?;
-    }
-    Ok(())
-}
-
-/// A core in which tenant 1 has also so many long values.
-fn filled<A: Allocator + Copy>(alloc: A, global: Global, keys: u32) -> Result<Core<A>, AllocError> {
-    let mut core = started(alloc, global)?;
-    core.set_quota(1, AMPLE_QUOTA);
-    fill(&mut core, alloc, keys)?;
-    Ok(core)
-}
-
-/// Whether one more long value that was refused memory left what stood, and is put with memory.
-fn is_put<A: Allocator + Copy, B: Allocator>(
-    heap: &Refusing<B>,
-    alloc: A,
-    core: &mut Core<A>,
-    words: &Words<A>,
-) -> Result<bool, AllocError> {
-    let stood = stands(core, alloc, "$old", "nil")?;
-    let kept = is_told(core, alloc, 1, "STRLEN 5", ":300000")?;
-    let done = commits(heap, alloc, core, words, "OK")?;
-    Ok(stood && kept && done && is_told(core, alloc, 1, "STRLEN c", ":300000")?)
-}
-
-/// Whether one more long value withstands the refusal of this request for memory, or `None` if it asks for fewer.
-fn long_withstands<A: Allocator + Copy, B: Allocator>(
-    heap: &Refusing<B>,
-    (alloc, global): (A, Global),
-    keys: u32,
-    at: u64,
-) -> Result<Option<bool>, AllocError> {
-    let words = words_of(alloc, "SET c LONG")?;
-    let mut core = filled(alloc, global, keys)?;
-    if !is_refused(heap, alloc, &mut core, &words, at) {
-        return Ok(None);
-    }
-    Ok(Some(is_put(heap, alloc, &mut core, &words)?))
-}
-
-/// How many requests for memory one more long value makes, if it withstands the refusal of each.
-fn long_refusals<B: Allocator>(
-    heap: &Refusing<B>,
-    global: Global,
-    keys: u32,
-) -> Result<Option<u64>, AllocError> {
-    for at in 0..1_000u64 {
-        match long_withstands(heap, (heap, global), keys, at)? {
-            None => return Ok(Some(at)),
-            Some(true) => {}
-            Some(false) => return Ok(None),
-        }
-    }
-    Ok(None)
+    lend(
+        new_core(alloc, global),
+        |core| asked_by(heap, alloc, core, &words),
+    )
 }
 
 /// Whether one more long value, above two levels of nodes, is what brings more leaves.
 fn reaches_leaves<A: Allocator + Copy>(
+    core: &mut Core<A>,
     alloc: A,
-    global: Global,
-    keys: u32,
+    key: u32,
+    long: &[u8],
 ) -> Result<bool, AllocError> {
-    let mut core = filled(alloc, global, keys)?;
-    let before = core.shape();
-    let done = is_told(&mut core, alloc, 1, "SET c LONG", "OK")?;
-    Ok(done && before.height == 2 && core.shape().leaves > before.leaves)
+    let before = shape_of(core);
+    put_long(core, alloc, key, long)?;
+    Ok(before.height == 2 && shape_of(core).leaves > before.leaves)
 }
 
-/// How many long values there are where one more reaches the leaves below two levels, if fewer than forty.
-fn reaching<A: Allocator + Copy>(alloc: A, global: Global) -> Result<Option<u32>, AllocError> {
-    for keys in 7..40u32 {
-        if reaches_leaves(alloc, global, keys)? {
-            return Ok(Some(keys));
+/// How many long values a core is given where one more reaches the leaves below two levels, if fewer than forty.
+fn reaching<A: Allocator + Copy>(
+    core: &mut Core<A>,
+    alloc: A,
+    long: &[u8],
+) -> Result<Option<u32>, AllocError> {
+    start(core, alloc)?;
+    for key in 0..40u32 {
+        if reaches_leaves(core, alloc, key, long)? {
+            return Ok(Some(key));
         }
     }
     Ok(None)
 }
 
-// A node's buffer holds six of these values, so the seventh takes a flush, which asks for much more. Later one flush goes
-// through two levels: the root's messages are for a child whose own buffer is full.
-#[test]
-fn flushes_withstand_each_refusal(rt: HostRuntime) -> Result<(), Fail> {
-    let global = rt.alloc();
-    let heap = Refusing::new(global);
-    let Some(keys) = reaching(global, global)? else {
-        panic!(rt; "no flush through two levels");
-    };
-    for keys in [6, keys] {
-        let asked = long_refusals(&heap, global, keys)?;
-        assert!(rt; asked.is_some_and(|asked| asked > 10), "{keys}: {asked:?}");
-    }
-    Ok(())
+/// The same of a new core.
+pub(crate) fn new_reaching<A: Allocator + Copy>(
+    alloc: A,
+    global: Global,
+    long: &[u8],
+) -> Result<Option<u32>, AllocError> {
+    lend(new_core(alloc, global), |core| reaching(core, alloc, long))
 }

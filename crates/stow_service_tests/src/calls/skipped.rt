@@ -1,110 +1,77 @@
 //! Each worked list with each of its requests for memory refused in turn: a request that is told want of memory is as if it
 //! had not been asked.
-use crate::making::new_core;
+use crate::calls::alone::is_alike;
+use crate::making::{call, lend, new_core};
+use crate::refused::{left_after, plan_of};
 use std::alloc::{AllocError, Allocator, Global};
-use std::test::Fail;
 use stow_core::Core;
 use stow_model::refusal::Refusal;
 use stow_model::reply::Reply;
 use stow_model::words::Words;
-use stow_plain::plain_request::PlainRequest;
 use stow_plain::plain_store::PlainStore;
 use stow_refusing::{Plan, Refusing};
 use stow_testing::lines::words_of;
-use stow_testing::replies::reply_text;
-use stow_testing::rows::{ROWS, Told};
+use stow_testing::rows::Told;
 use stow_testing::tenants::QUOTA;
 
-/// The words of each line of a list.
-fn asked_of<A: Allocator + Copy>(alloc: A, row: &[Told]) -> Result<Vec<Words<A>, A>, AllocError> {
-    let mut asked = Vec::new(alloc);
-    for (line, _) in row {
-        asked.push(words_of(alloc, line)?)?;
-    }
-    Ok(asked)
-}
-
-/// What a core tells tenant 1 to these words, one after another, in a list that has the places.
-fn tell<A: Allocator + Copy>(
+/// What a core tells tenant 1's words with one request for memory refused, where so many come before it, and how many it makes.
+fn told_refused<A: Allocator + Copy, B: Allocator>(
+    heap: &Refusing<B>,
+    alloc: A,
     core: &mut Core<A>,
-    alloc: A,
-    asked: &[Words<A>],
-    told: &mut Vec<Reply<A>, A>,
-) -> Result<(), AllocError> {
-    for words in asked {
-        told.push(core.call(alloc, 1, words))?;
-    }
-    Ok(())
+    (words, left): (&Words<A>, Option<u64>),
+) -> (Reply<A>, u64) {
+    heap.set(plan_of(left));
+    let reply = call(core, alloc, 1, words);
+    let asked = heap.asked();
+    heap.set(Plan::Grant);
+    (reply, asked)
 }
 
-/// Whether the tenant's own run, in which memory is refused to the same requests, tells the same.
-fn is_told_alone<A: Allocator + Copy>(
+/// Whether the tenant's own store, in which memory is refused to the same request, then tells the same, and how many requests
+/// for memory the core makes.
+fn told_alike<A: Allocator + Copy, B: Allocator>(
+    heap: &Refusing<B>,
     alloc: A,
-    asked: Vec<Words<A>, A>,
-    told: &[Reply<A>],
-) -> Result<bool, AllocError> {
-    let mut store = PlainStore::new(alloc, QUOTA);
-    let mut place = 0usize;
-    for words in asked {
-        let Some(reply) = told.get(place) else {
-            return Ok(false);
-        };
-        let is_refused = matches!(reply, Reply::Error(Refusal::OutOfMemory));
-        let want = store.step(alloc, &PlainRequest { words, is_refused })?;
-        if reply_text(alloc, reply)? != reply_text(alloc, &want)? {
-            return Ok(false);
-        }
-        place = place.saturating_add(1);
-    }
-    Ok(true)
+    (core, store): (&mut Core<A>, &mut PlainStore<A>),
+    (line, left): (&str, Option<u64>),
+) -> Result<(bool, u64), AllocError> {
+    let words = words_of(alloc, line)?;
+    let (told, asked) = told_refused(heap, alloc, core, (&words, left));
+    let is_refused = matches!(told, Reply::Error(Refusal::OutOfMemory));
+    let alike = is_alike(store, alloc, &told, (words, is_refused))?;
+    Ok((alike, asked))
 }
 
 /// Whether a list whose nth request for memory is refused is told so; `None` where it asks for fewer.
-fn is_answered<A: Allocator + Copy, B: Allocator>(
+fn are_told_alike<A: Allocator + Copy, B: Allocator>(
+    heap: &Refusing<B>,
+    alloc: A,
+    (core, store): (&mut Core<A>, &mut PlainStore<A>),
+    (row, n): (&[Told], u64),
+) -> Result<Option<bool>, AllocError> {
+    let mut left = Some(n);
+    for (line, _) in row {
+        let (alike, asked) = told_alike(heap, alloc, (&mut *core, &mut *store), (line, left))?;
+        left = left_after(left, asked);
+        if !alike {
+            return Ok(Some(false));
+        }
+    }
+    Ok(if left.is_some() { None } else { Some(true) })
+}
+
+/// The same of a new core.
+pub(crate) fn withstands<A: Allocator + Copy, B: Allocator>(
     heap: &Refusing<B>,
     (alloc, global): (A, Global),
     row: &[Told],
     n: u64,
 ) -> Result<Option<bool>, AllocError> {
     heap.set(Plan::Grant);
-    let mut core = new_core(alloc, global)?;
-    let asked = asked_of(alloc, row)?;
-    let mut told = Vec::with_capacity(alloc, asked.len())?;
-    heap.set(Plan::RefuseAt(n));
-    tell(&mut core, alloc, asked.as_slice(), &mut told)?;
-    let needed = heap.asked();
-    heap.set(Plan::Grant);
-    if needed <= n {
-        return Ok(None);
-    }
-    Ok(Some(is_told_alone(alloc, asked, told.as_slice())?))
-}
-
-/// How many requests for memory a list makes, if it is told so at the refusal of each.
-fn refusals<B: Allocator>(
-    heap: &Refusing<B>,
-    global: Global,
-    row: &[Told],
-) -> Result<Option<u64>, AllocError> {
-    for n in 0..1_000u64 {
-        match is_answered(heap, (heap, global), row, n)? {
-            None => return Ok(Some(n)),
-            Some(true) => {}
-            Some(false) => return Ok(None),
-        }
-    }
-    Ok(None)
-}
-
-#[test]
-fn refused_requests_are_skipped(rt: HostRuntime) -> Result<(), Fail> {
-    let heap = Refusing::new(rt.alloc());
-    for (number, row) in ROWS.iter().enumerate() {
-        let asked = refusals(&heap, rt.alloc(), row)?;
-        assert!(rt;
-            asked.is_some_and(|asked| asked > 2),
-            "list {number}: {asked:?}"
-        );
-    }
-    Ok(())
+    let store = &mut PlainStore::new(alloc, QUOTA);
+    lend(
+        new_core(alloc, global),
+        |core| are_told_alike(heap, alloc, (core, store), (row, n)),
+    )
 }

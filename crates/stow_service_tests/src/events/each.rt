@@ -1,5 +1,6 @@
 //! An answer of each kind.
-use crate::making::new_house;
+use crate::making::{new_house, step};
+use crate::text::row_of;
 use std::alloc::{AllocError, Allocator, Global};
 use std::test::Fail;
 use stow_bytes::byte_string::ByteString;
@@ -7,25 +8,23 @@ use stow_house::house::House;
 use stow_house::step_result::StepResult;
 use stow_model::event::Event;
 
-/// An event and how it is answered.
-const STEPS: [(&str, &str); 16] = [
-    ("open", "done"),
-    ("open", "refused"),
-    ("serve", "more"),
-    ("plan", "none"),
-    ("merge", "refused"),
-    ("install", "refused"),
-    ("resize", "done"),
-    ("resize too much", "refused"),
-    ("two blanks", "done"),
-    ("serve", "blank"),
-    ("serve", "blank"),
-    ("serve", "more"),
-    ("close", "done"),
-    ("close", "refused"),
-    ("open", "refused"),
-    ("two blanks", "refused"),
-];
+/// Events, and how they are answered.
+const STEPS: &str = "open => done
+open => refused
+serve => more
+plan => none
+merge => refused
+install => refused
+resize => done
+resize too much => refused
+two blanks => done
+serve => blank
+serve => blank
+serve => more
+close => done
+close => refused
+open => refused
+two blanks => refused";
 
 /// The event of a name, of connection or flusher 1.
 fn event_of<A: Allocator>(alloc: A, name: &str) -> Result<Event<A>, AllocError> {
@@ -58,34 +57,40 @@ pub(crate) fn name_of<A: Allocator>(answer: &StepResult<A>) -> &'static str {
     }
 }
 
-/// Whether an event is answered so.
+/// Whether an event is answered as its row says.
 fn is_answered<A: Allocator + Copy>(
     house: &mut House<A>,
     alloc: A,
-    name: &str,
-    want: &str,
+    row: &'static str,
 ) -> Result<bool, AllocError> {
-    let event = event_of(alloc, name)?;
-    Ok(name_of(&house.step(alloc, &event)) == want)
+    let (name, want) = row_of(row);
+    Ok(name_of(&step(house, alloc, &event_of(alloc, name)?)) == want)
 }
 
-/// The first event that a new house answers otherwise.
+/// The first row that a house answers otherwise.
 fn first_other<A: Allocator + Copy>(
+    house: &mut House<A>,
     alloc: A,
-    global: Global,
 ) -> Result<Option<&'static str>, AllocError> {
-    let mut house = new_house(alloc, global)?;
-    for (name, want) in STEPS {
-        if !is_answered(&mut house, alloc, name, want)? {
-            return Ok(Some(name));
+    for row in STEPS.lines() {
+        if !is_answered(house, alloc, row)? {
+            return Ok(Some(row));
         }
     }
     Ok(None)
 }
 
+/// The first that a new house does.
+fn first_other_of_new<A: Allocator + Copy>(
+    alloc: A,
+    global: Global,
+) -> Result<Option<&'static str>, AllocError> {
+    first_other(&mut new_house(alloc, global)?, alloc)
+}
+
 #[test]
 fn each_event_is_answered(rt: HostRuntime) -> Result<(), Fail> {
-    let other = first_other(rt.alloc(), rt.alloc())?;
+    let other = first_other_of_new(rt.alloc(), rt.alloc())?;
     assert!(rt; other.is_none(), "{other:?}");
     Ok(())
 }

@@ -1,117 +1,95 @@
 //! Flushes in two steps between a tenant's requests: what each event is answered, also where memory was refused to it once.
 use crate::events::acts::{ANN, Act, events_of};
-use crate::events::clients::are_told_as_alone;
 use crate::events::each::name_of;
-use crate::making::new_house;
-use crate::text::is_reply;
+use crate::events::runs::are_answered_as_alone;
+use crate::making::{lend, new_house, step};
+use crate::refused::{left_after, plan_of};
+use crate::text::{is_reply, row_of};
 use std::alloc::{AllocError, Allocator, Global};
 use std::test::Fail;
 use stow_house::house::House;
-use stow_house::mark::Mark;
 use stow_house::step_result::StepResult;
 use stow_model::event::Event;
 use stow_model::refusal::Refusal;
 use stow_model::reply::Reply;
 use stow_refusing::{Plan, Refusing};
 
-/// A request, or an event of a flusher, and its answer: a reply's text, or the answer's name.
-type Line = (&'static str, &'static str);
-
-/// Every list.
-const LISTS: [&[Line]; 6] = [
-    &SNAPSHOT,
-    &STALE,
-    &OUT_OF_TURN,
-    &DELETED,
-    &DROPPED,
-    &APPENDED,
-];
+/// Lists of a request, or an event of a flusher, and its answer: a reply's text, or the answer's name.
+pub(crate) const LISTS: [&str; 6] = [SNAPSHOT, STALE, OUT_OF_TURN, DELETED, DROPPED, APPENDED];
 
 // A snapshot and a write come between a job and its install.
-const SNAPSHOT: [Line; 8] = [
-    ("SET a x", "OK"),
-    ("plan 1", "job"),
-    ("merge 1", "done"),
-    ("SNAPSHOT TAKE", ":1"),
-    ("SET a y", "OK"),
-    ("install 1", "installed"),
-    ("SNAPSHOT GET 1 a", "$x"),
-    ("GET a", "$y"),
-];
+const SNAPSHOT: &str = "SET a x => OK
+plan 1 => job
+merge 1 => done
+SNAPSHOT TAKE => :1
+SET a y => OK
+install 1 => installed
+SNAPSHOT GET 1 a => $x
+GET a => $y";
 
 // Two flushers have a job of the same messages: the second result is stale, and its flusher is free then.
-const STALE: [Line; 10] = [
-    ("SET a x", "OK"),
-    ("plan 1", "job"),
-    ("plan 2", "job"),
-    ("merge 1", "done"),
-    ("merge 2", "done"),
-    ("install 1", "installed"),
-    ("install 2", "stale"),
-    ("GET a", "$x"),
-    ("plan 1", "none"),
-    ("plan 2", "none"),
-];
+const STALE: &str = "SET a x => OK
+plan 1 => job
+plan 2 => job
+merge 1 => done
+merge 2 => done
+install 1 => installed
+install 2 => stale
+GET a => $x
+plan 1 => none
+plan 2 => none";
 
 // A flusher has one job at most, and takes one step of it after another.
-const OUT_OF_TURN: [Line; 14] = [
-    ("install 1", "refused"),
-    ("merge 1", "refused"),
-    ("plan 1", "none"),
-    ("merge 1", "refused"),
-    ("SET a x", "OK"),
-    ("plan 1", "job"),
-    ("plan 1", "refused"),
-    ("install 1", "refused"),
-    ("merge 1", "done"),
-    ("merge 1", "refused"),
-    ("plan 1", "refused"),
-    ("install 1", "installed"),
-    ("install 1", "refused"),
-    ("GET a", "$x"),
-];
+const OUT_OF_TURN: &str = "install 1 => refused
+merge 1 => refused
+plan 1 => none
+merge 1 => refused
+SET a x => OK
+plan 1 => job
+plan 1 => refused
+install 1 => refused
+merge 1 => done
+merge 1 => refused
+plan 1 => refused
+install 1 => installed
+install 1 => refused
+GET a => $x";
 
 // The key of the job goes before its install, and its removal is a job then.
-const DELETED: [Line; 10] = [
-    ("SET a x", "OK"),
-    ("plan 1", "job"),
-    ("DEL a", ":1"),
-    ("merge 1", "done"),
-    ("install 1", "installed"),
-    ("GET a", "nil"),
-    ("plan 1", "job"),
-    ("merge 1", "done"),
-    ("install 1", "installed"),
-    ("GET a", "nil"),
-];
+const DELETED: &str = "SET a x => OK
+plan 1 => job
+DEL a => :1
+merge 1 => done
+install 1 => installed
+GET a => nil
+plan 1 => job
+merge 1 => done
+install 1 => installed
+GET a => nil";
 
 // A snapshot comes after the plan, and goes.
-const DROPPED: [Line; 7] = [
-    ("SET a x", "OK"),
-    ("plan 1", "job"),
-    ("SNAPSHOT TAKE", ":1"),
-    ("SNAPSHOT DROP 1", "OK"),
-    ("merge 1", "done"),
-    ("install 1", "installed"),
-    ("GET a", "$x"),
-];
+const DROPPED: &str = "SET a x => OK
+plan 1 => job
+SNAPSHOT TAKE => :1
+SNAPSHOT DROP 1 => OK
+merge 1 => done
+install 1 => installed
+GET a => $x";
 
 // A suffix comes to a value that a leaf has, and one above a snapshot.
-const APPENDED: [Line; 13] = [
-    ("SET a x", "OK"),
-    ("plan 1", "job"),
-    ("merge 1", "done"),
-    ("install 1", "installed"),
-    ("APPEND a y", ":2"),
-    ("SNAPSHOT TAKE", ":1"),
-    ("APPEND a z", ":3"),
-    ("plan 1", "job"),
-    ("merge 1", "done"),
-    ("install 1", "installed"),
-    ("GET a", "$xyz"),
-    ("SNAPSHOT GET 1 a", "$xy"),
-    ("USAGE", "U 1 39 1000000 3 7 0 1"),
-];
+const APPENDED: &str = "SET a x => OK
+plan 1 => job
+merge 1 => done
+install 1 => installed
+APPEND a y => :2
+SNAPSHOT TAKE => :1
+APPEND a z => :3
+plan 1 => job
+merge 1 => done
+install 1 => installed
+GET a => $xyz
+SNAPSHOT GET 1 a => $xy
+USAGE => U 1 39 1000000 3 7 0 1";
 
 /// The act of a flusher that a line names.
 fn flusher_act(line: &str) -> Option<Act> {
@@ -122,15 +100,9 @@ fn flusher_act(line: &str) -> Option<Act> {
         "merge 2" => Some(Act::Merge(2)),
         "install 1" => Some(Act::Install(1)),
         "install 2" => Some(Act::Install(2)),
+        "open" => Some(Act::Open(1)),
         _ => None,
     }
-}
-
-/// What a line's events are, and how the last one is to be answered.
-#[derive(Drop)]
-struct Turn<A: Allocator> {
-    events: Vec<Event<A>, A>,
-    want: &'static str,
 }
 
 /// Adds the acts of a line: a request is sent on connection 1, and served.
@@ -142,25 +114,19 @@ fn push_acts<A: Allocator>(acts: &mut Vec<Act, A>, line: &'static str) -> Result
     Ok(())
 }
 
-fn turn_of<A: Allocator + Copy>(alloc: A, (line, want): Line) -> Result<Turn<A>, AllocError> {
+/// The acts of a line.
+fn acts_of_line<A: Allocator>(alloc: A, line: &'static str) -> Result<Vec<Act, A>, AllocError> {
     let mut acts = Vec::new(alloc);
     push_acts(&mut acts, line)?;
-    let events = events_of(alloc, acts.as_slice())?;
-    Ok(Turn { events, want })
+    Ok(acts)
 }
 
-/// A connection that is opened and logs in, and then the lines.
-fn turns_of<A: Allocator + Copy>(alloc: A, lines: &[Line]) -> Result<Vec<Turn<A>, A>, AllocError> {
-    let mut all = Vec::new(alloc);
-    all.push(Turn {
-        events: events_of(alloc, &[Act::Open(1)])?,
-        want: "done",
-    })?;
-    all.push(turn_of(alloc, (ANN, "OK"))?)?;
-    for line in lines {
-        all.push(turn_of(alloc, *line)?)?;
-    }
-    Ok(all)
+/// The events of a line.
+fn events_of_line<A: Allocator + Copy>(
+    alloc: A,
+    line: &'static str,
+) -> Result<Vec<Event<A>, A>, AllocError> {
+    events_of(alloc, acts_of_line(alloc, line)?.as_slice())
 }
 
 /// How an event is answered; at a second time, where memory was refused to it.
@@ -169,8 +135,8 @@ fn answer_to<A: Allocator + Copy>(
     alloc: A,
     event: &Event<A>,
 ) -> StepResult<A> {
-    match house.step(alloc, event) {
-        StepResult::NoMemory => house.step(alloc, event),
+    match step(house, alloc, event) {
+        StepResult::NoMemory => step(house, alloc, event),
         answer => answer,
     }
 }
@@ -188,21 +154,39 @@ fn answer_to_last<A: Allocator + Copy>(
     answer
 }
 
-/// How each turn is answered; at a second time, where its request was told that memory was refused.
-fn carry_out<A: Allocator + Copy>(
+/// Whether a request was told that memory was refused.
+fn is_refused<A: Allocator>(answer: &StepResult<A>) -> bool {
+    matches!(
+        answer,
+        StepResult::Answered(Reply::Error(Refusal::OutOfMemory))
+    )
+}
+
+/// The same; at a second time, where its request was told that memory was refused.
+fn answer_in_the_end<A: Allocator + Copy>(
     house: &mut House<A>,
     alloc: A,
-    turns: &[Turn<A>],
-    answers: &mut Vec<StepResult<A>, A>,
-) -> Result<(), AllocError> {
-    for turn in turns {
-        let mut answer = answer_to_last(house, alloc, turn.events.as_slice());
-        if let StepResult::Answered(Reply::Error(Refusal::OutOfMemory)) = answer {
-            answer = answer_to_last(house, alloc, turn.events.as_slice());
-        }
-        answers.push(answer)?;
+    events: &[Event<A>],
+) -> StepResult<A> {
+    let answer = answer_to_last(house, alloc, events);
+    if is_refused(&answer) {
+        return answer_to_last(house, alloc, events);
     }
-    Ok(())
+    answer
+}
+
+/// The same with one request for memory refused, where so many come before it, and how many are made.
+fn answer_refused<A: Allocator + Copy, B: Allocator>(
+    heap: &Refusing<B>,
+    alloc: A,
+    house: &mut House<A>,
+    (events, left): (&[Event<A>], Option<u64>),
+) -> (StepResult<A>, u64) {
+    heap.set(plan_of(left));
+    let answer = answer_in_the_end(house, alloc, events);
+    let asked = heap.asked();
+    heap.set(Plan::Grant);
+    (answer, asked)
 }
 
 fn is_answer<A: Allocator + Copy>(
@@ -216,103 +200,95 @@ fn is_answer<A: Allocator + Copy>(
     }
 }
 
-/// Whether each turn has the answer that it is to have.
-fn are_answers<A: Allocator + Copy>(
+/// Whether the row's line is answered so, and how many requests for memory it makes.
+fn is_row_answered<A: Allocator + Copy, B: Allocator>(
+    heap: &Refusing<B>,
     alloc: A,
-    turns: &[Turn<A>],
-    answers: &[StepResult<A>],
-) -> Result<bool, AllocError> {
-    for (turn, answer) in turns.iter().zip(answers) {
-        if !is_answer(alloc, answer, turn.want)? {
-            return Ok(false);
-        }
-    }
-    Ok(answers.len() == turns.len())
+    house: &mut House<A>,
+    (row, left): (&'static str, Option<u64>),
+) -> Result<(bool, u64), AllocError> {
+    let (line, want) = row_of(row);
+    let events = events_of_line(alloc, line)?;
+    let (answer, asked) = answer_refused(heap, alloc, house, (events.as_slice(), left));
+    Ok((is_answer(alloc, &answer, want)?, asked))
 }
 
-/// Whether a new house answers the lines so where this request for memory is refused, or `None` if it does and they ask for
-/// fewer.
-fn withstands<A: Allocator + Copy, B: Allocator>(
+/// How many requests for memory come before the refused one after a list; `None` where a row is answered otherwise.
+fn left_after_list<A: Allocator + Copy, B: Allocator>(
+    heap: &Refusing<B>,
+    alloc: A,
+    house: &mut House<A>,
+    (list, mut left): (&'static str, Option<u64>),
+) -> Result<Option<Option<u64>>, AllocError> {
+    for row in list.lines() {
+        let (is_right, asked) = is_row_answered(heap, alloc, house, (row, left))?;
+        left = left_after(left, asked);
+        if !is_right {
+            return Ok(None);
+        }
+    }
+    Ok(Some(left))
+}
+
+/// A connection that is opened and logs in.
+const LOGIN: &str = "open => done
+AUTH ann bc => OK";
+
+/// Whether a house answers a list after a login so where this request for memory is refused, or `None` if it does and they ask
+/// for fewer.
+fn are_answered<A: Allocator + Copy, B: Allocator>(
+    heap: &Refusing<B>,
+    alloc: A,
+    house: &mut House<A>,
+    (list, at): (&'static str, u64),
+) -> Result<Option<bool>, AllocError> {
+    let Some(left) = left_after_list(heap, alloc, house, (LOGIN, Some(at)))? else {
+        return Ok(Some(false));
+    };
+    match left_after_list(heap, alloc, house, (list, left))? {
+        None => Ok(Some(false)),
+        Some(None) => Ok(Some(true)),
+        Some(Some(_)) => Ok(None),
+    }
+}
+
+/// The same of a new house.
+pub(crate) fn withstands<A: Allocator + Copy, B: Allocator>(
     heap: &Refusing<B>,
     (alloc, global): (A, Global),
-    lines: &[Line],
+    list: &'static str,
     at: u64,
 ) -> Result<Option<bool>, AllocError> {
     heap.set(Plan::Grant);
-    let mut house = new_house(alloc, global)?;
-    let turns = turns_of(alloc, lines)?;
-    let mut answers = Vec::with_capacity(alloc, turns.len())?;
-    heap.set(Plan::RefuseAt(at));
-    carry_out(&mut house, alloc, turns.as_slice(), &mut answers)?;
-    let is_whole = heap.asked() <= at;
-    heap.set(Plan::Grant);
-    let is_right = are_answers(alloc, turns.as_slice(), answers.as_slice())?;
-    if is_whole && is_right {
-        return Ok(None);
-    }
-    Ok(Some(is_right))
-}
-
-/// How many requests for memory the lines make, if a new house withstands the refusal of each.
-fn refusals<B: Allocator>(
-    heap: &Refusing<B>,
-    global: Global,
-    lines: &[Line],
-) -> Result<Option<u64>, AllocError> {
-    for at in 0..1_000u64 {
-        match withstands(heap, (heap, global), lines, at)? {
-            None => return Ok(Some(at)),
-            Some(true) => {}
-            Some(false) => return Ok(None),
-        }
-    }
-    Ok(None)
-}
-
-// Each request for memory is refused in turn: the event to which it was is as if it had not been, and succeeds the next time.
-#[test]
-fn flushes_are_answered(rt: HostRuntime) -> Result<(), Fail> {
-    let heap = Refusing::new(rt.alloc());
-    for (number, lines) in LISTS.iter().enumerate() {
-        let asked = refusals(&heap, rt.alloc(), lines)?;
-        assert!(rt;
-            asked.is_some_and(|asked| asked > 10),
-            "list {number}: {asked:?}"
-        );
-    }
-    Ok(())
+    lend(
+        new_house(alloc, global),
+        |house| are_answered(heap, alloc, house, (list, at)),
+    )
 }
 
 /// A connection that is opened and logs in, and then the lines, as acts.
-fn acts_of<A: Allocator>(alloc: A, lines: &[Line]) -> Result<Vec<Act, A>, AllocError> {
+fn acts_of<A: Allocator>(alloc: A, list: &'static str) -> Result<Vec<Act, A>, AllocError> {
     let mut acts = Vec::from_slice(alloc, &[Act::Open(1)])?;
     push_acts(&mut acts, ANN)?;
-    for (line, _) in lines {
-        push_acts(&mut acts, line)?;
+    for row in list.lines() {
+        push_acts(&mut acts, row_of(row).0)?;
     }
     Ok(acts)
 }
 
-/// Whether a run of a new house tells the lines' connection what the tenant's own run tells.
+/// Whether a run of a new house tells the list's connection what the tenant's own run tells.
 fn are_told<A: Allocator + Copy>(
     alloc: A,
     global: Global,
-    lines: &[Line],
+    list: &'static str,
 ) -> Result<bool, AllocError> {
-    let acts = acts_of(alloc, lines)?;
-    let events = events_of(alloc, acts.as_slice())?;
-    let mut house = new_house(alloc, global)?;
-    let Ok(outputs) = house.run(alloc, events.as_slice()) else {
-        return Ok(false);
-    };
-    let is_kept = outputs.marks().iter().all(|mark| *mark == Mark::Kept);
-    Ok(is_kept && are_told_as_alone(alloc, acts.as_slice(), &outputs)?)
+    are_answered_as_alone(alloc, global, acts_of(alloc, list)?.as_slice(), 1)
 }
 
 #[test]
 fn runs_with_flushes_are_told_as_alone(rt: HostRuntime) -> Result<(), Fail> {
-    for (number, lines) in LISTS.iter().enumerate() {
-        assert!(rt; are_told(rt.alloc(), rt.alloc(), lines)?, "list {number}");
+    for list in LISTS {
+        assert!(rt; are_told(rt.alloc(), rt.alloc(), list)?, "{list}");
     }
     Ok(())
 }

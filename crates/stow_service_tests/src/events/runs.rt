@@ -1,26 +1,23 @@
 //! Runs of a house over two tenants' connections.
 use crate::events::acts::{ACTS, Act, acts_of, events_of, handed_over, random_acts, with_flushes};
-use crate::events::clients::are_told_as_alone;
-use crate::making::{house_of, new_house};
+use crate::events::clients::{are_kept, are_told_as_alone, is_told};
+use crate::making::{index_of, new_house, ran, run};
 use std::alloc::{AllocError, Allocator, Global};
 use std::test::Fail;
-use stow_house::mark::Mark;
 use stow_house::outputs::Outputs;
 use stow_house::run_fault::RunFault;
+use stow_model::event::Event;
 use stow_refusing::{Plan, Refusing};
 use stow_testing::tenants::{OTHERS, THREE};
-use stow_tree::tree_shape::TreeShape;
 
 /// What a new house of a file's tenants tells to acts, to which no memory is refused.
-fn run_of<A: Allocator + Copy>(
+pub(crate) fn run_of<A: Allocator + Copy>(
     alloc: A,
     global: Global,
     text: &str,
     acts: &[Act],
 ) -> Result<Outputs<A>, AllocError> {
-    let events = events_of(alloc, acts)?;
-    let mut house = house_of(alloc, global, text, TreeShape::SMALLEST)?;
-    house.run(alloc, events.as_slice()).map_err(|_| AllocError)
+    ran(alloc, global, text, events_of(alloc, acts)?.as_slice())
 }
 
 /// Whether the connections are told this.
@@ -30,10 +27,7 @@ fn are_told<A: Allocator + Copy>(
     first: &[u8],
     second: &[u8],
 ) -> Result<bool, AllocError> {
-    Ok(
-        outputs.bytes(alloc, 1)?.as_slice() == first
-            && outputs.bytes(alloc, 2)?.as_slice() == second,
-    )
+    Ok(is_told(alloc, outputs, 1, first)? && is_told(alloc, outputs, 2, second)?)
 }
 
 const ANN_TOLD: &[u8] = b"-NOAUTH Authentication required.\r\n+OK\r\n+OK\r\n$1\r\nA\r\n$1\r\nA\r\n";
@@ -41,11 +35,18 @@ const ANN_TOLD: &[u8] = b"-NOAUTH Authentication required.\r\n+OK\r\n+OK\r\n$1\r
 const BEN_TOLD: &[u8] = b"+OK\r\n+OK\r\n:1\r\n$-1\r\n";
 
 /// Whether two tenants with the same key are told their own rows.
+fn are_own_rows<A: Allocator + Copy>(alloc: A, outputs: &Outputs<A>) -> Result<bool, AllocError> {
+    Ok(
+        outputs.told().len() == 9
+            && outputs.marks().len() == 22
+            && are_told_as_alone(alloc, &ACTS, outputs)?
+            && are_told(alloc, outputs, ANN_TOLD, BEN_TOLD)?,
+    )
+}
+
+/// Whether those of a new house are.
 fn keep_own_rows<A: Allocator + Copy>(alloc: A, global: Global) -> Result<bool, AllocError> {
-    let outputs = run_of(alloc, global, THREE, &ACTS)?;
-    let counted = outputs.told().len() == 9 && outputs.marks().len() == 22;
-    let alone = are_told_as_alone(alloc, &ACTS, &outputs)?;
-    Ok(counted && alone && are_told(alloc, &outputs, ANN_TOLD, BEN_TOLD)?)
+    are_own_rows(alloc, &run_of(alloc, global, THREE, &ACTS)?)
 }
 
 #[test]
@@ -54,22 +55,25 @@ fn two_tenants_keep_their_own_rows(rt: HostRuntime) -> Result<(), Fail> {
     Ok(())
 }
 
-/// Whether many requests are told what each tenant's own run tells.
-fn are_answered_as_alone<A: Allocator + Copy>(
+/// Whether acts that a new house is run on, none of which is refused memory, are told what each tenant's own run tells, and so
+/// many replies.
+pub(crate) fn are_answered_as_alone<A: Allocator + Copy>(
     alloc: A,
     global: Global,
     acts: &[Act],
+    replies: usize,
 ) -> Result<bool, AllocError> {
     let outputs = run_of(alloc, global, THREE, acts)?;
-    Ok(outputs.told().len() > 3_600 && are_told_as_alone(alloc, acts, &outputs)?)
+    let are_enough = outputs.told().len() > replies && are_kept(outputs.marks());
+    Ok(are_told_as_alone(alloc, acts, &outputs)? && are_enough)
 }
 
 #[test]
 fn random_requests_are_answered_as_alone(rt: HostRuntime) -> Result<(), Fail> {
     let acts = random_acts(rt.alloc(), 8_000)?;
-    assert!(rt; are_answered_as_alone(rt.alloc(), rt.alloc(), acts.as_slice())?);
+    assert!(rt; are_answered_as_alone(rt.alloc(), rt.alloc(), acts.as_slice(), 3_600)?);
     let flushed = with_flushes(rt.alloc(), acts.as_slice())?;
-    assert!(rt; are_answered_as_alone(rt.alloc(), rt.alloc(), flushed.as_slice())?);
+    assert!(rt; are_answered_as_alone(rt.alloc(), rt.alloc(), flushed.as_slice(), 3_600)?);
     Ok(())
 }
 
@@ -101,23 +105,13 @@ fn is_told_the_same<A: Allocator + Copy>(alloc: A, global: Global) -> Result<boo
     are_told(alloc, &outputs, ANN_TOLD, b"")
 }
 
-/// Ann's index in a file.
-fn index_of_ann<A: Allocator + Copy>(
-    alloc: A,
-    global: Global,
-    text: &str,
-) -> Result<Option<u32>, AllocError> {
-    let house = house_of(alloc, global, text, TreeShape::SMALLEST)?;
-    Ok(house.core().tenants().find(b"ann"))
-}
-
 // Ann's requests among another's, and alone in a house of other tenants, in which her index is another: she is
 // told the same.
 #[test]
 fn a_tenant_is_told_the_same_in_another_house(rt: HostRuntime) -> Result<(), Fail> {
     assert!(rt; is_told_the_same(rt.alloc(), rt.alloc())?);
-    assert_eq!(rt; index_of_ann(rt.alloc(), rt.alloc(), THREE)?, Some(1));
-    assert_eq!(rt; index_of_ann(rt.alloc(), rt.alloc(), OTHERS)?, Some(2));
+    assert_eq!(rt; index_of(rt.alloc(), rt.alloc(), THREE, b"ann")?, Some(1));
+    assert_eq!(rt; index_of(rt.alloc(), rt.alloc(), OTHERS, b"ann")?, Some(2));
     Ok(())
 }
 
@@ -129,19 +123,47 @@ fn is_run_right<A: Allocator + Copy>(
     is_whole: bool,
 ) -> Result<bool, AllocError> {
     match ended {
-        Ok(outputs) => {
-            let kept = outputs.marks().iter().all(|mark| *mark == Mark::Kept);
-            Ok(kept == is_whole && are_told_as_alone(alloc, acts, outputs)?)
-        }
-        Err(fault) => {
-            let is_counted = fault.outputs.marks().len() == fault.done;
-            Ok(is_counted && are_told_as_alone(alloc, acts, &fault.outputs)?)
-        }
+        Ok(outputs) => Ok(
+            are_kept(outputs.marks()) == is_whole && are_told_as_alone(alloc, acts, outputs)?,
+        ),
+        Err(fault) => Ok(
+            fault.outputs.marks().len() == fault.done
+                && are_told_as_alone(alloc, acts, &fault.outputs)?,
+        ),
     }
 }
 
+/// The run of a new house with this request for memory refused.
+fn run_refused<A: Allocator + Copy, B: Allocator>(
+    heap: &Refusing<B>,
+    (alloc, global): (A, Global),
+    events: &[Event<A>],
+    at: u64,
+) -> Result<Result<Outputs<A>, RunFault<A>>, AllocError> {
+    let house = new_house(alloc, global)?;
+    heap.set(Plan::RefuseAt(at));
+    Ok(run(alloc, house, events))
+}
+
+/// Whether it is right, or `None` where it also asks for fewer requests.
+fn is_refused_right<A: Allocator + Copy, B: Allocator>(
+    heap: &Refusing<B>,
+    alloc: A,
+    (acts, at): (&[Act], u64),
+    ended: &Result<Outputs<A>, RunFault<A>>,
+) -> Result<Option<bool>, AllocError> {
+    let is_whole = heap.asked() <= at;
+    heap.set(Plan::Grant);
+    let is_right = is_run_right(alloc, acts, ended, is_whole)?;
+    Ok(if is_whole && is_right {
+        None
+    } else {
+        Some(is_right)
+    })
+}
+
 /// Whether a run withstands the refusal of this request for memory, or `None` where it asks for fewer.
-fn withstands<A: Allocator + Copy, B: Allocator>(
+pub(crate) fn withstands<A: Allocator + Copy, B: Allocator>(
     heap: &Refusing<B>,
     (alloc, global): (A, Global),
     acts: &[Act],
@@ -149,50 +171,6 @@ fn withstands<A: Allocator + Copy, B: Allocator>(
 ) -> Result<Option<bool>, AllocError> {
     heap.set(Plan::Grant);
     let events = events_of(alloc, acts)?;
-    let mut house = new_house(alloc, global)?;
-    heap.set(Plan::RefuseAt(at));
-    let ended = house.run(alloc, events.as_slice());
-    let is_whole = heap.asked() <= at;
-    heap.set(Plan::Grant);
-    let is_right = is_run_right(alloc, acts, &ended, is_whole)?;
-    if is_whole && is_right {
-        return Ok(None);
-    }
-    Ok(Some(is_right))
-}
-
-/// How many requests for memory a run makes, if it withstands the refusal of each.
-fn refusals<B: Allocator>(
-    heap: &Refusing<B>,
-    global: Global,
-    acts: &[Act],
-) -> Result<Option<u64>, AllocError> {
-    for at in 0..1_000u64 {
-        match withstands(heap, (heap, global), acts, at)? {
-            None => return Ok(Some(at)),
-            Some(true) => {}
-            Some(false) => return Ok(None),
-        }
-    }
-    Ok(None)
-}
-
-/// Whether a run makes ten requests for memory at least, and withstands the refusal of each.
-fn is_withstood<B: Allocator>(
-    heap: &Refusing<B>,
-    global: Global,
-    acts: &[Act],
-) -> Result<bool, AllocError> {
-    Ok(refusals(heap, global, acts)?.is_some_and(|asked| asked >= 10))
-}
-
-// Each request for memory of the run is refused in turn: the outputs say where, and all else is told as each
-// tenant's own run tells it. A refused place in the outputs ends the run after the events that took place.
-#[test]
-fn a_run_withstands_each_refusal(rt: HostRuntime) -> Result<(), Fail> {
-    let heap = Refusing::new(rt.alloc());
-    assert!(rt; is_withstood(&heap, rt.alloc(), &ACTS)?);
-    let flushed = with_flushes(rt.alloc(), &ACTS)?;
-    assert!(rt; is_withstood(&heap, rt.alloc(), flushed.as_slice())?);
-    Ok(())
+    let ended = run_refused(heap, (alloc, global), events.as_slice(), at)?;
+    is_refused_right(heap, alloc, (acts, at), &ended)
 }

@@ -1,16 +1,20 @@
 //! Rows that are more than a small node holds, by a run of the house over trees of several shapes: the answers are the
 //! same.
-use crate::making::house_of;
+use crate::events::clients::{are_kept, is_told};
+use crate::making::ran_in;
 use std::alloc::{AllocError, Allocator, Global};
 use std::test::Fail;
 use stow_bytes::byte_string::ByteString;
-use stow_house::mark::Mark;
-use stow_house::outputs::Outputs;
 use stow_model::event::Event;
 use stow_testing::many::{Exchange, login, reads, writes};
 use stow_testing::tenants::AMPLE;
 use stow_tree::shape_report::ShapeReport;
 use stow_tree::tree_shape::TreeShape;
+
+/// The last reads: some fifty rows, and all at once.
+fn last_of<A: Allocator>(reads: &[Exchange<A>]) -> &[Exchange<A>] {
+    &reads[reads.len().min(350)..]
+}
 
 /// What happens, and what its connection is to be told.
 #[derive(Drop)]
@@ -22,6 +26,15 @@ struct Talk<A: Allocator> {
 }
 
 impl<A: Allocator + Copy> Talk<A> {
+    /// Nothing is asked yet.
+    fn new(alloc: A, flushes: bool) -> Talk<A> {
+        Talk {
+            events: Vec::new(alloc),
+            told: Vec::new(alloc),
+            flushes,
+        }
+    }
+
     fn ask(&mut self, alloc: A, exchange: &Exchange<A>) -> Result<(), AllocError> {
         let bytes = ByteString::from_slice(alloc, exchange.asked.as_slice())?;
         self.events.push(Event::Piece(1, bytes))?;
@@ -29,66 +42,74 @@ impl<A: Allocator + Copy> Talk<A> {
         self.told.extend_from_slice(exchange.told.as_slice())
     }
 
+    fn flush(&mut self) -> Result<(), AllocError> {
+        self.events.push(Event::Plan(1))?;
+        self.events.push(Event::Merge(1))?;
+        self.events.push(Event::Install(1))?;
+        Ok(())
+    }
+
     fn ask_all(&mut self, alloc: A, exchanges: &[Exchange<A>]) -> Result<(), AllocError> {
         for (place, exchange) in exchanges.iter().enumerate() {
             self.ask(alloc, exchange)?;
             if self.flushes && place % 3 == 2 {
-                self.events.push(Event::Plan(1))?;
-                self.events.push(Event::Merge(1))?;
-                self.events.push(Event::Install(1))?;
+                self.flush()?;
             }
         }
         Ok(())
     }
-}
 
-/// Rows that are written, and then read with each size of the cache: the first one, 0, 1 and 1000.
-fn rows_read_again<A: Allocator + Copy>(alloc: A, flushes: bool) -> Result<Talk<A>, AllocError> {
-    let mut talk = Talk {
-        events: Vec::new(alloc),
-        told: Vec::new(alloc),
-        flushes,
-    };
-    talk.events.push(Event::Open(1))?;
-    talk.ask(alloc, &login(alloc)?)?;
-    talk.ask_all(alloc, writes(alloc)?.as_slice())?;
-    let reads = reads(alloc)?;
-    talk.ask_all(alloc, reads.as_slice())?;
-    for leaves in [0usize, 1, 1000] {
-        talk.events.push(Event::Resize(leaves))?;
-        talk.ask_all(alloc, reads.as_slice())?;
+    /// Asks the same again with a cache of this size.
+    fn ask_with(
+        &mut self,
+        alloc: A,
+        leaves: usize,
+        exchanges: &[Exchange<A>],
+    ) -> Result<(), AllocError> {
+        self.events.push(Event::Resize(leaves))?;
+        self.ask_all(alloc, exchanges)
     }
-    Ok(talk)
+
+    /// Reads rows with each size of the cache: the first one, and then fewer with 0, 1 and 1000.
+    fn read_again(&mut self, alloc: A, reads: &[Exchange<A>]) -> Result<(), AllocError> {
+        self.ask_all(alloc, reads)?;
+        let last = last_of(reads);
+        self.ask_with(alloc, 0, last)?;
+        self.ask_with(alloc, 1, last)?;
+        self.ask_with(alloc, 1000, last)
+    }
+
+    /// Rows that are written, and then read so.
+    fn go_on(&mut self, alloc: A) -> Result<(), AllocError> {
+        self.events.push(Event::Open(1))?;
+        self.ask(alloc, &login(alloc)?)?;
+        self.ask_all(alloc, writes(alloc)?.as_slice())?;
+        self.read_again(alloc, reads(alloc)?.as_slice())
+    }
+
+    /// How large the tree of a new house of this shape is in the end, if the connection is told what it is to be told, and no
+    /// event was refused memory.
+    fn report(
+        &mut self,
+        alloc: A,
+        global: Global,
+        shape: TreeShape,
+    ) -> Result<Option<ShapeReport>, AllocError> {
+        self.go_on(alloc)?;
+        let (outputs, report) = ran_in(alloc, global, (AMPLE, shape), self.events.as_slice())?;
+        let are_right = is_told(alloc, &outputs, 1, self.told.as_slice())?;
+        Ok((are_right && are_kept(outputs.marks())).then_some(report))
+    }
 }
 
-/// Whether the first connection is told this, and no event was refused memory.
-fn is_told<A: Allocator + Copy>(
-    alloc: A,
-    outputs: &Outputs<A>,
-    told: &[u8],
-) -> Result<bool, AllocError> {
-    let is_kept = outputs.marks().iter().all(|mark| *mark == Mark::Kept);
-    Ok(is_kept && outputs.bytes(alloc, 1)?.as_slice() == told)
-}
-
-/// How large the tree of a house of this shape is in the end, if it tells what it is to tell.
+/// The same of a new talk.
 fn report_of<A: Allocator + Copy>(
     alloc: A,
     global: Global,
     shape: TreeShape,
     flushes: bool,
 ) -> Result<Option<ShapeReport>, AllocError> {
-    let talk = rows_read_again(alloc, flushes)?;
-    let mut house = house_of(alloc, global, AMPLE, shape)?;
-    let Ok(outputs) = house.run(alloc, talk.events.as_slice()) else {
-        return Ok(None);
-    };
-    let report = house.core().shape();
-    if is_told(alloc, &outputs, talk.told.as_slice())? {
-        Ok(Some(report))
-    } else {
-        Ok(None)
-    }
+    Talk::new(alloc, flushes).report(alloc, global, shape)
 }
 
 /// Whether it is told, leaves are held, messages wait, and the leaves are several just where the shape is small.
@@ -101,38 +122,68 @@ fn is_right(report: Option<ShapeReport>, is_small: bool) -> bool {
     }
 }
 
-#[test]
-fn rows_are_read_in_each_shape(rt: HostRuntime) -> Result<(), Fail> {
-    for fan_out in [4, 256] {
-        for cache in [0, 1000] {
-            let shape = TreeShape {
-                fan_out,
-                cache,
-                ..TreeShape::SMALLEST
-            };
-            let report = report_of(rt.alloc(), rt.alloc(), shape, false)?;
-            assert!(rt; is_right(report, true), "{report:?}");
-        }
+/// Shapes of small nodes with a fan-out and a cache.
+fn small(fan_out: u32, cache: u32) -> TreeShape {
+    TreeShape {
+        fan_out,
+        cache,
+        ..TreeShape::SMALLEST
     }
-    let shape = TreeShape {
-        buffer: 4_194_304,
-        ..TreeShape::USUAL
-    };
-    let report = report_of(rt.alloc(), rt.alloc(), shape, false)?;
-    assert!(rt; is_right(report, false), "{report:?}");
+}
+
+/// A shape whose root has room for all rows.
+const LARGE: TreeShape = TreeShape {
+    buffer: 4_194_304,
+    ..TreeShape::USUAL
+};
+
+/// Whether rows are told in a tree of this shape, and so many leaves are left.
+fn is_shape_right<A: Allocator + Copy>(
+    alloc: A,
+    global: Global,
+    shape: TreeShape,
+) -> Result<bool, AllocError> {
+    let report = report_of(alloc, global, shape, false)?;
+    Ok(is_right(report, shape.buffer == TreeShape::SMALLEST.buffer))
+}
+
+#[test]
+fn rows_are_read_at_the_least_fan_out(rt: HostRuntime) -> Result<(), Fail> {
+    assert!(rt; is_shape_right(rt.alloc(), rt.alloc(), small(4, 0))?);
+    Ok(())
+}
+
+#[test]
+fn rows_are_read_at_the_least_fan_out_from_a_cache(rt: HostRuntime) -> Result<(), Fail> {
+    assert!(rt; is_shape_right(rt.alloc(), rt.alloc(), small(4, 1000))?);
+    Ok(())
+}
+
+#[test]
+fn rows_are_read_at_the_greatest_fan_out(rt: HostRuntime) -> Result<(), Fail> {
+    assert!(rt; is_shape_right(rt.alloc(), rt.alloc(), small(256, 0))?);
+    Ok(())
+}
+
+#[test]
+fn rows_are_read_at_the_greatest_fan_out_from_a_cache(rt: HostRuntime) -> Result<(), Fail> {
+    assert!(rt; is_shape_right(rt.alloc(), rt.alloc(), small(256, 1000))?);
+    Ok(())
+}
+
+#[test]
+fn rows_are_read_in_a_large_root(rt: HostRuntime) -> Result<(), Fail> {
+    assert!(rt; is_shape_right(rt.alloc(), rt.alloc(), LARGE)?);
     Ok(())
 }
 
 // The answers are the same where the messages are flushed between the requests, in steps.
 #[test]
 fn rows_are_read_between_flushes(rt: HostRuntime) -> Result<(), Fail> {
-    for cache in [1] {
-        let shape = TreeShape {
-            cache,
-            ..TreeShape::SMALLEST
-        };
-        let report = report_of(rt.alloc(), rt.alloc(), shape, true)?;
-        assert!(rt; report.is_some_and(|sizes| sizes.leaves >= 2), "{report:?}");
-    }
+    let report = report_of(rt.alloc(), rt.alloc(), small(4, 1), true)?;
+    assert!(rt;
+        matches!(report, Some(sizes) if sizes.leaves >= 2),
+        "{report:?}"
+    );
     Ok(())
 }
