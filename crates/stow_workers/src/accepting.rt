@@ -1,18 +1,18 @@
 //! Connections on their way from a listener to the workers.
 use crate::pool_fault::PoolFault;
-use crossbeam_channel::Sender;
+use crate::senders::Senders;
 use std::alloc::Allocator;
 use std::io;
 use std::io::{Error, ErrorKind};
 use std::net::{TcpListener, TcpStream};
 use std::sync::Wait;
 
-/// Accepts so many connections and hands them over; at 0 there is no end. Where one can't be handed over it is
-/// closed.
-pub fn accept<R: Wait, A: Allocator>(
+/// Accepts so many connections, each once there is room for it, and hands them over; at 0 there is no end. Where one
+/// can't be handed over it is closed.
+pub(crate) fn accept<R: Wait, A: Allocator + Copy>(
     rt: &R,
     listener: &TcpListener,
-    streams: &Sender<TcpStream, A>,
+    senders: &mut Senders<A>,
     connections: u64,
 ) -> Option<PoolFault> {
     let count = if connections == 0 {
@@ -21,8 +21,9 @@ pub fn accept<R: Wait, A: Allocator>(
         connections
     };
     for _ in 0..count {
+        senders.wait_for_room(rt);
         match next_stream(listener) {
-            Ok(stream) => drop(streams.send(rt, stream)),
+            Ok(stream) => senders.hand_over(rt, stream),
             Err(error) => return Some(PoolFault::AcceptFailed(error)),
         }
     }

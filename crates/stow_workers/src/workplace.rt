@@ -3,45 +3,78 @@ ghost use Rattle.stow_shared.specs.Seats.{SeatFlushes};
 ghost use Rattle.stow_workers.specs.Flushes.{HasFlushed};
 ghost use Rattle.stow_workers.specs.Pools.{HasCalled};
 
-use crate::counted::Counted;
+use crate::equipment::Equipment;
 use crate::flushing::flush_loop;
 use crate::gate::Gate;
-use crate::parting::part;
-use crate::served::Served;
-use crate::serving::serve_connection;
+use crate::guest::Guest;
+use crate::hall::Hall;
+use crate::turned::Turned;
 use crate::wake::Wake;
 use crate::waker::Waker;
 use crate::waking_desk::WakingDesk;
 use crossbeam_channel::Receiver;
 use std::alloc::Allocator;
-use std::net::TcpStream;
 use std::sync::Wait;
 use stow_shared::desk::Desk;
 use stow_shared::journal::Journal;
 use stow_shared::seat::Seat;
 use stow_shared::shared::Shared;
 
-/// What the workers and flushers of a pool have in common: where connections and wakes come from, and what serves them.
+/// What the workers and flushers of a pool have in common: where wakes come from, and what serves connections.
 #[derive(Drop)]
 pub struct Workplace<'a, R: Wait, J: Journal, G: Gate, A: Allocator + Copy> {
     pub rt: &'a R,
     pub alloc: A,
-    pub streams: &'a Receiver<TcpStream, A>,
     pub wakes: &'a Receiver<Wake, A>,
     pub shared: &'a Shared<J, A>,
     pub gate: &'a G,
 }
 
 impl<'a, R: Wait, J: Journal, G: Gate, A: Allocator + Copy> Workplace<'a, R, J, G, A> {
-    /// Serves one connection after another from a seat, until no more can come, and gives the seat back.
-    pub fn work(&self, mut seat: Seat<J, A>, mut waker: Waker<A>) -> Seat<J, A>
+    /// Serves clients from a seat with what that takes, if it is there, and gives the seat back.
+    pub fn work_with(&self, seat: Seat<J, A>, equipment: Option<Equipment<A>>) -> Seat<J, A>
         ensures { HasCalled J.keeps seat result }
     {
-        for stream in self.streams.iter(self.rt) {
-            let served = self.serve(&stream, &mut seat, &mut waker);
-            part(&stream, served);
+        match equipment {
+            Some(Equipment { waker, hall }) => self.work(seat, waker, hall),
+            None => seat,
+        }
+    }
+
+    /// Serves the clients of a hall from a seat, turn by turn, until all have left and no more can come, and gives the
+    /// seat back.
+    pub fn work(&self, mut seat: Seat<J, A>, mut waker: Waker<A>, mut hall: Hall<A>) -> Seat<J, A>
+        ensures { HasCalled J.keeps seat result }
+    {
+        for _ in self.rt.forever() {
+            if !hall.let_in(self.rt) {
+                break;
+            }
+            hall.look();
+            self.serve_due(&mut seat, &mut waker, &mut hall);
+            hall.see_off(self.rt);
         }
         seat
+    }
+
+    /// Gives each client whose turn is due one turn.
+    fn serve_due(&self, seat: &mut Seat<J, A>, waker: &mut Waker<A>, hall: &mut Hall<A>)
+        ensures { HasCalled J.keeps seat.old seat.new }
+    {
+        for _ in 0..hall.due.len() {
+            self.serve_next(seat, waker, hall);
+        }
+    }
+
+    /// Gives the client whose turn it is its turn, if there is one.
+    fn serve_next(&self, seat: &mut Seat<J, A>, waker: &mut Waker<A>, hall: &mut Hall<A>)
+        ensures { HasCalled J.keeps seat.old seat.new }
+    {
+        let Some((at, mut guest)) = hall.next() else {
+            return;
+        };
+        let turned = self.serve(&mut guest, seat, waker);
+        hall.put(self.rt, at, guest, turned);
     }
 
     /// Flushes from a seat at each wake, until no more can come, and gives the seat back.
@@ -57,13 +90,13 @@ impl<'a, R: Wait, J: Journal, G: Gate, A: Allocator + Copy> Workplace<'a, R, J, 
         seat
     }
 
-    /// Serves one connection, however it ends. Its calls are counted to wake flushers.
-    fn serve(&self, stream: &TcpStream, seat: &mut Seat<J, A>, waker: &mut Waker<A>) -> Served
+    /// Gives a client its turn. Its calls are counted to wake flushers.
+    fn serve(&self, guest: &mut Guest<A>, seat: &mut Seat<J, A>, waker: &mut Waker<A>) -> Turned
         ensures { HasCalled J.keeps seat.old seat.new }
     {
-        let (mut input, mut output) = (stream, stream);
-        let mut reader = Counted::new(&mut input);
-        let mut writer = Counted::new(&mut output);
+        if guest.is_parting() {
+            return guest.read_on();
+        }
         let tenants = self.shared.tenants();
         let desk = Desk {
             rt: self.rt,
@@ -71,13 +104,6 @@ impl<'a, R: Wait, J: Journal, G: Gate, A: Allocator + Copy> Workplace<'a, R, J, 
             seat,
         };
         let mut desk = WakingDesk { desk, waker };
-        serve_connection(
-            self.alloc,
-            &mut reader,
-            &mut writer,
-            tenants,
-            &mut desk,
-            self.gate,
-        )
+        guest.turn(tenants, &mut desk, self.gate)
     }
 }
