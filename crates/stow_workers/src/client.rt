@@ -8,7 +8,7 @@ ghost use Rattle.stow_workers.specs.Sent.{Written, written_of, Sends, StaysSent,
 ghost use Rattle.stow_workers.specs.Turns.{Turns, Shortens, StepsTo, IsRested, Lightens, HasLed, RestsBehind, ServesPiece, CanEndPiece, outcome_of, state_of};
 
 use crate::gate::Gate;
-use crate::outlet::Outlet;
+use crate::nonblocking_sink::NonblockingSink;
 use crate::place::Place;
 use crate::replies::Replies;
 use crate::served::Served;
@@ -143,10 +143,10 @@ impl<A: Allocator + Copy> Client<A> {
     }
 
     /// Writes what waits, as far as the writer takes it.
-    pub fn send<W: Outlet>(&mut self, writer: &mut W)
+    pub fn send<W: NonblockingSink>(&mut self, writer: &mut W)
         ensures sent { StaysSent
-            (sent_at (written_of (W.held writer.old) (W.failed writer.old)) self.old.replies)
-            (sent_at (written_of (W.held writer.new) (W.failed writer.new)) self.new.replies) }
+            (sent_at (written_of (W.contents writer.old) (W.failures writer.old)) self.old.replies)
+            (sent_at (written_of (W.contents writer.new) (W.failures writer.new)) self.new.replies) }
         ensures same { self.new ≡ record self.old { replies = self.new.replies } }
     {
         self.replies.send(writer);

@@ -3,10 +3,10 @@ ghost use Rattle.std.specs.Prelude.{◌≡◌, ◌<◌, IsSome, Some, None};
 ghost use Rattle.std.specs.Io.{ReadsAtMost, WritesAtMost};
 ghost use Rattle.std.specs.Io.KnownBytes.{Keeps, ReadConsumes, WriteAppends};
 ghost use Rattle.stow_workers.specs.Failures.{HasFailed, CountsFailure, CountsWrite};
-ghost use Rattle.stow_workers.specs.Waiting.{TakesAtMost, TakesBytes, GivesAtMost, GivesBytes, CountsGiven};
+ghost use Rattle.stow_workers.specs.Nonblocking.{TryReadsAtMost, TryReadConsumes, TryWritesAtMost, TryWriteAppends, CountsTryWrite};
 
-use crate::inlet::Inlet;
-use crate::outlet::Outlet;
+use crate::nonblocking_source::NonblockingSource;
+use crate::nonblocking_sink::NonblockingSink;
 use crate::sink::Sink;
 use crate::source::Source;
 use std::io;
@@ -139,16 +139,16 @@ impl<T: Write> Sink for Counted<'_, T> {
     }
 }
 
-impl<T: Read> Inlet for Counted<'_, T> {
+impl<T: Read> NonblockingSource for Counted<'_, T> {
     ghost use Rattle.stow_workers.specs.Counted.{inner_of, failures_of};
 
-    ghost left = { λ c. T.remaining (inner_of c) };
+    ghost remaining = { λ c. T.remaining (inner_of c) };
 
-    ghost failed = { λ c. failures_of c };
+    ghost failures = { λ c. failures_of c };
 
-    fn take(&mut self, room: &mut [u8]) -> io::Result<Option<usize>>
-        ensures bound { TakesAtMost result room.new }
-        ensures bytes { TakesBytes (T.remaining (inner_of self.old))
+    fn try_read(&mut self, room: &mut [u8]) -> io::Result<Option<usize>>
+        ensures bound { TryReadsAtMost result room.new }
+        ensures bytes { TryReadConsumes (T.remaining (inner_of self.old))
             (T.remaining (inner_of self.new)) result room.new }
         ensures failures { CountsFailure result (failures_of self.old) (failures_of self.new) }
     {
@@ -164,18 +164,18 @@ impl<T: Read> Inlet for Counted<'_, T> {
     }
 }
 
-impl<T: Write> Outlet for Counted<'_, T> {
+impl<T: Write> NonblockingSink for Counted<'_, T> {
     ghost use Rattle.stow_workers.specs.Counted.{inner_of, failures_of};
 
-    ghost held = { λ c. T.contents (inner_of c) };
+    ghost contents = { λ c. T.contents (inner_of c) };
 
-    ghost failed = { λ c. failures_of c };
+    ghost failures = { λ c. failures_of c };
 
-    fn give(&mut self, bytes: &[u8]) -> io::Result<Option<usize>>
-        ensures bound { GivesAtMost result bytes.now }
-        ensures bytes { GivesBytes (T.contents (inner_of self.old))
+    fn try_write(&mut self, bytes: &[u8]) -> io::Result<Option<usize>>
+        ensures bound { TryWritesAtMost result bytes.now }
+        ensures bytes { TryWriteAppends (T.contents (inner_of self.old))
             (T.contents (inner_of self.new)) result bytes.now }
-        ensures failures { CountsGiven result bytes.now (failures_of self.old)
+        ensures failures { CountsTryWrite result bytes.now (failures_of self.old)
             (failures_of self.new) }
     {
         for _ in 0..u64::MAX {

@@ -19,12 +19,12 @@
 //! - Through a core with empty stores it is the history of one connection, of which the isolation theorem speaks
 //!   (`laws`, whose body is empty, so no wrong body can be tried on it).
 //!
-//! Promised, and proved, of a connection that is served turn by turn (`link::Link::turn`, `specs/Links.antt`):
+//! Promised, and proved, of a connection that is served turn by turn (`nonblocking_connection::NonblockingConnection::turn`, `specs/NonblockingConnections.antt`):
 //!
 //! - Wherever it stood, it stands behind the turn after what was read and asked in it, by the same relations: what it is told
 //!   was written, or waits. Its own calls led the door from its state before the turn to that after it, so a worker may
 //!   serve others between its turns. Where it ends it was served and told as above.
-//! - That a read or a write would wait is neither a failure nor an end (`inlet::Inlet`, `outlet::Outlet`).
+//! - That a read or a write would wait is neither a failure nor an end (`nonblocking_source::NonblockingSource`, `nonblocking_sink::NonblockingSink`).
 //! - While bytes wait for the writer nothing is read, and no door is asked.
 //!
 //! - Bytes are written whole (`writing::write_all`), or a beginning of them where a call of the writer failed.
@@ -39,7 +39,7 @@
 //! Only tested of the pool, over loopback: that it serves at all, that its workers do so side by side and while a flusher
 //! merges, that flushers are woken at all, that a client which is silent, breaks off, faults or reads nothing holds up
 //! nobody, that no more are served than there is room for, which fault it tells, and that it
-//! ends. Which connection a worker serves next, and that a turn has the link's own socket, no clause says. Nothing is said of a socket's bytes, of the channels that hand connections and wakes over, or of when a thread runs;
+//! ends. Which connection a worker serves next, and that a turn has the connection's own socket, no clause says. Nothing is said of a socket's bytes, of the channels that hand connections and wakes over, or of when a thread runs;
 //! a pool that serves nobody meets its contract. That a refused thread, or refused memory, gives the seats back is
 //! proved; that refused memory is told, and only then, is tested of each request that the pool makes itself. No test
 //! refuses it a thread.
@@ -55,20 +55,19 @@ mod accepting;
 mod client;
 pub mod counted;
 mod equipment;
+mod event_loop;
 pub mod flush_promise;
 pub mod flushing;
 pub mod gate;
-mod guest;
-mod hall;
-pub mod inlet;
 pub mod laws;
-pub mod link;
+pub mod nonblocking_connection;
+pub mod nonblocking_sink;
+pub mod nonblocking_source;
 pub mod open_gate;
-pub mod outlet;
 pub mod place;
+mod polled_connection;
 pub mod pool;
 pub mod pool_fault;
-mod port;
 pub mod replies;
 pub mod seat_promise;
 mod senders;
@@ -82,5 +81,6 @@ pub mod wake;
 pub mod waker;
 pub mod waking_desk;
 pub mod worker;
+mod worker_handle;
 pub mod workplace;
 pub mod writing;

@@ -28,11 +28,12 @@ const WAITING: usize = 16;
 pub struct Pool;
 
 impl Pool {
-    /// Serves the listener's connections, so many at once, each by one worker from its first request to its end, with a worker
-    /// for each seat but the last `flushers`. A connection goes to a worker that has fewest, and those of a worker take turns. From each of these a flusher flushes, woken by every 64th call of a worker.
-    /// Returns once so many connections were served, or never at 0, and all its threads have ended; so does a fault,
-    /// once the connections that were accepted are served. Each seat comes back in its place. Nothing but calls was
-    /// done from a worker's, and nothing but plans and installs from a flusher's.
+    /// Serves the listener's connections, up to `clients` at once, each by one worker from its first request to its end, with a
+    /// worker for each seat but the last `flushers`. A connection goes to a worker that has fewest, and those of a worker take
+    /// turns. From each of the last seats a flusher flushes, woken by every 64th call of a worker. Returns once so many connections
+    /// were served, or never at 0, and all its threads have ended; so does a fault, once the connections that were accepted are
+    /// served. Each seat comes back in its place. Nothing but calls was done from a worker's, and nothing but plans and installs
+    /// from a flusher's.
     pub fn run<
         'a,
         R: Threads + Wait + Net + Sync,
@@ -54,7 +55,7 @@ impl Pool {
         ensures { ComeBack J.keeps (vec_len seats - flushers) seats.items result.0.items }
     {
         let count = seats.len() - flushers;
-        let Some((senders, wakes)) = equipment(rt, alloc, count, flushers, clients) else {
+        let Some((senders, wakes)) = set_up(rt, alloc, count, flushers, clients) else {
             return (seats, Some(PoolFault::Refused));
         };
         let place = Workplace {
@@ -68,9 +69,9 @@ impl Pool {
     }
 }
 
-/// What the threads of a pool need: the ends by which they are reached, where wakes come from, and a hall for each worker.
-/// `None` where memory or the system refuses it.
-fn equipment<R: Net, A: Allocator + Copy>(
+/// What the threads of a pool need: the ends by which they are reached, with an event loop for each worker, and where wakes come
+/// from. `None` where memory or the system refuses it.
+fn set_up<R: Net, A: Allocator + Copy>(
     rt: &R,
     alloc: A,
     workers: usize,
@@ -78,19 +79,19 @@ fn equipment<R: Net, A: Allocator + Copy>(
     clients: u32,
 ) -> Option<(Senders<A>, Receiver<Wake, A>)> {
     let (waking, wakes) = bounded(alloc, WAITING).ok()?;
-    let (departing, departures) = bounded(alloc, clients as usize).ok()?;
+    let (closed_sender, closed) = bounded(alloc, clients as usize).ok()?;
     let mut senders = Senders {
         alloc,
-        ports: Vec::new(alloc),
-        halls: Vec::new(alloc),
-        departures,
-        departing,
+        handles: Vec::new(alloc),
+        event_loops: Vec::new(alloc),
+        closed,
+        closed_sender,
         wakes: if flushers > 0 { Some(waking) } else { None },
         count: 0,
         clients,
     };
     for _ in 0..workers {
-        senders.add_hall(rt)?;
+        senders.add_worker(rt)?;
     }
     Some((senders, wakes))
 }

@@ -1,7 +1,7 @@
 //! Replies on their way to a writer.
 ghost use Rattle.std.specs.Prelude.{◌≡◌, ◌≤◌, vec_len, false, [], length, drop, IsTrue, ◌<◌, OnOk, OnErr, option_map};
 
-use crate::outlet::Outlet;
+use crate::nonblocking_sink::NonblockingSink;
 use crate::sink::Sink;
 use crate::writing::write_all;
 use std::alloc::{AllocError, Allocator, Global};
@@ -108,16 +108,16 @@ impl<A: Allocator + Copy> Replies<A> {
     }
 
     /// Writes what waits, as far as the writer takes it without waiting.
-    pub fn send<W: Outlet>(&mut self, writer: &mut W)
+    pub fn send<W: NonblockingSink>(&mut self, writer: &mut W)
         ensures sent { StaysSent
-            (sent_at (written_of (W.held writer.old) (W.failed writer.old)) self.old)
-            (sent_at (written_of (W.held writer.new) (W.failed writer.new)) self.new) }
+            (sent_at (written_of (W.contents writer.old) (W.failures writer.old)) self.old)
+            (sent_at (written_of (W.contents writer.new) (W.failures writer.new)) self.new) }
     {
         if self.has_failed {
             return;
         }
         while self.passed < self.bytes.len() {
-            if !self.give(writer) {
+            if !self.write_some(writer) {
                 return;
             }
         }
@@ -125,17 +125,17 @@ impl<A: Allocator + Copy> Replies<A> {
     }
 
     /// Writes as much of what waits as the writer takes at once: whether it took any. Where it fails nothing waits any more.
-    fn give<W: Outlet>(&mut self, writer: &mut W) -> bool
+    fn write_some<W: NonblockingSink>(&mut self, writer: &mut W) -> bool
         requires right { self.old.has_failed ≡ false }
         requires some { self.old.passed < vec_len self.old.bytes }
         ensures sent { StaysSent
-            (sent_at (written_of (W.held writer.old) (W.failed writer.old)) self.old)
-            (sent_at (written_of (W.held writer.new) (W.failed writer.new)) self.new) }
+            (sent_at (written_of (W.contents writer.old) (W.failures writer.old)) self.old)
+            (sent_at (written_of (W.contents writer.new) (W.failures writer.new)) self.new) }
         ensures bytes { self.new.bytes ≡ self.old.bytes }
         ensures on { IsTrue result → (self.old.passed < self.new.passed)
             × (self.new.has_failed ≡ false) }
     {
-        match writer.give(&self.bytes.as_slice()[self.passed..]) {
+        match writer.try_write(&self.bytes.as_slice()[self.passed..]) {
             Ok(Some(count)) if count > 0 => {
                 self.passed += count;
                 true

@@ -1,8 +1,8 @@
 //! What reaches the threads of a pool.
-use crate::hall::Hall;
-use crate::port::Port;
+use crate::event_loop::EventLoop;
 use crate::wake::Wake;
 use crate::waker::Waker;
+use crate::worker_handle::WorkerHandle;
 use crossbeam_channel::{Receiver, Sender};
 use std::alloc::{Allocator, Global};
 use std::net::{Net, TcpStream};
@@ -12,14 +12,14 @@ use std::sync::Wait;
 #[derive(Drop)]
 pub(crate) struct Senders<A: Allocator = Global> {
     pub(crate) alloc: A,
-    pub(crate) ports: Vec<Port<A>, A>,
-    /// The halls of workers that aren't started yet.
-    pub(crate) halls: Vec<Hall<A>, A>,
-    /// The numbers of workers that a client has left.
-    pub(crate) departures: Receiver<u32, A>,
-    pub(crate) departing: Sender<u32, A>,
+    pub(crate) handles: Vec<WorkerHandle<A>, A>,
+    /// The event loops of workers that aren't started yet.
+    pub(crate) event_loops: Vec<EventLoop<A>, A>,
+    /// The number of a worker for each connection that it has closed.
+    pub(crate) closed: Receiver<u32, A>,
+    pub(crate) closed_sender: Sender<u32, A>,
     pub(crate) wakes: Option<Sender<Wake, A>>,
-    /// How many clients there are, and how many there may be.
+    /// How many connections there are, and how many there may be.
     pub(crate) count: u32,
     pub(crate) clients: u32,
 }
@@ -33,52 +33,53 @@ impl<A: Allocator + Copy> Senders<A> {
         }
     }
 
-    /// Makes a hall for one more worker. `None` where memory or the system refuses it.
-    pub(crate) fn add_hall<R: Net>(&mut self, rt: &R) -> Option<()> {
-        let number = u32::try_from(self.ports.len()).ok()?;
-        let (port, hall) = Port::new(rt, self.alloc, number, &self.departing)?;
-        self.ports.push(port).ok()?;
-        self.halls.push(hall).ok()
+    /// Makes what one more worker needs. `None` where memory or the system refuses it.
+    pub(crate) fn add_worker<R: Net>(&mut self, rt: &R) -> Option<()> {
+        let number = u32::try_from(self.handles.len()).ok()?;
+        let (handle, event_loop) =
+            WorkerHandle::new(rt, self.alloc, number, &self.closed_sender)?;
+        self.handles.push(handle).ok()?;
+        self.event_loops.push(event_loop).ok()
     }
 
-    /// Waits until there is room for one more client.
+    /// Waits until there is room for one more connection.
     pub(crate) fn wait_for_room<R: Wait>(&mut self, rt: &R) {
         for _ in 0..u32::MAX {
-            match self.departures.try_recv(rt) {
-                Ok(number) => self.leave(number),
+            match self.closed.try_recv(rt) {
+                Ok(number) => self.note_closed(number),
                 Err(_) => break,
             }
         }
         if self.count >= self.clients {
-            if let Ok(number) = self.departures.recv(rt) {
-                self.leave(number);
+            if let Ok(number) = self.closed.recv(rt) {
+                self.note_closed(number);
             }
         }
     }
 
-    /// A client has left this worker.
-    fn leave(&mut self, number: u32) {
+    /// This worker has closed a connection.
+    fn note_closed(&mut self, number: u32) {
         self.count = self.count.saturating_sub(1);
         let at = number as usize;
-        if at < self.ports.len() {
-            self.ports[at].count = self.ports[at].count.saturating_sub(1);
+        if at < self.handles.len() {
+            self.handles[at].count = self.handles[at].count.saturating_sub(1);
         }
     }
 
-    /// Hands a connection to a worker that has fewest.
+    /// Hands a connection to a worker that has fewest. Where it can't be handed over it is closed.
     pub(crate) fn hand_over<R: Wait>(&mut self, rt: &R, stream: TcpStream) {
-        let at = self.fewest();
-        if at < self.ports.len() {
-            self.count = self.count.saturating_add(1);
-            self.ports[at].hand_over(rt, stream);
+        let at = self.least_loaded();
+        if at < self.handles.len() {
+            let is_handed_over = self.handles[at].hand_over(rt, stream);
+            self.count = self.count.saturating_add(u32::from(is_handed_over));
         }
     }
 
-    /// The first worker that has fewest clients.
-    fn fewest(&self) -> usize {
+    /// The first worker that has fewest connections.
+    fn least_loaded(&self) -> usize {
         let mut best = 0;
-        for at in 0..self.ports.len() {
-            if best < self.ports.len() && self.ports[at].count < self.ports[best].count {
+        for at in 0..self.handles.len() {
+            if best < self.handles.len() && self.handles[at].count < self.handles[best].count {
                 best = at;
             }
         }

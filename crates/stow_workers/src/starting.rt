@@ -101,10 +101,10 @@ where
     }
 }
 
-/// What a worker needs beside its seat, where there are senders and a hall is left.
+/// What a worker needs beside its seat, where there are senders and an event loop is left.
 fn equipped<A: Allocator + Copy>(senders: &mut Option<Senders<A>>) -> Option<Equipment<A>> {
     let senders = senders.as_mut()?;
-    let hall = senders.halls.pop()?;
+    let event_loop = senders.event_loops.pop()?;
     let waker = senders.waker();
-    Some(Equipment { waker, hall })
+    Some(Equipment { waker, event_loop })
 }

@@ -7,7 +7,7 @@ pub enum Turned {
     /// It can go on at once.
     Again,
     /// All that was read was served and answered, and that was less than there was room for.
-    Short,
+    Drained,
     /// Its stream gives nothing, or takes nothing, until it is ready again.
     Waits,
     /// It has ended.

@@ -4,10 +4,10 @@ ghost use Rattle.stow_workers.specs.Flushes.{HasFlushed};
 ghost use Rattle.stow_workers.specs.Pools.{HasCalled};
 
 use crate::equipment::Equipment;
+use crate::event_loop::EventLoop;
 use crate::flushing::flush_loop;
 use crate::gate::Gate;
-use crate::guest::Guest;
-use crate::hall::Hall;
+use crate::polled_connection::PolledConnection;
 use crate::turned::Turned;
 use crate::wake::Wake;
 use crate::waker::Waker;
@@ -31,50 +31,50 @@ pub struct Workplace<'a, R: Wait, J: Journal, G: Gate, A: Allocator + Copy> {
 }
 
 impl<'a, R: Wait, J: Journal, G: Gate, A: Allocator + Copy> Workplace<'a, R, J, G, A> {
-    /// Serves clients from a seat with what that takes, if it is there, and gives the seat back.
+    /// Serves connections from a seat with what that takes, if it is there, and gives the seat back.
     pub fn work_with(&self, seat: Seat<J, A>, equipment: Option<Equipment<A>>) -> Seat<J, A>
         ensures { HasCalled J.keeps seat result }
     {
         match equipment {
-            Some(Equipment { waker, hall }) => self.work(seat, waker, hall),
+            Some(Equipment { waker, event_loop }) => self.work(seat, waker, event_loop),
             None => seat,
         }
     }
 
-    /// Serves the clients of a hall from a seat, turn by turn, until all have left and no more can come, and gives the
-    /// seat back.
-    pub fn work(&self, mut seat: Seat<J, A>, mut waker: Waker<A>, mut hall: Hall<A>) -> Seat<J, A>
+    /// Serves the connections of an event loop from a seat, turn by turn, until all have ended and no more can come, and gives
+    /// the seat back.
+    pub fn work(&self, mut seat: Seat<J, A>, mut waker: Waker<A>, mut event_loop: EventLoop<A>) -> Seat<J, A>
         ensures { HasCalled J.keeps seat result }
     {
         for _ in self.rt.forever() {
-            if !hall.let_in(self.rt) {
+            if !event_loop.accept_new(self.rt) {
                 break;
             }
-            hall.look();
-            self.serve_due(&mut seat, &mut waker, &mut hall);
-            hall.see_off(self.rt);
+            event_loop.poll_streams();
+            self.serve_due(&mut seat, &mut waker, &mut event_loop);
+            event_loop.close_lingering(self.rt);
         }
         seat
     }
 
-    /// Gives each client whose turn is due one turn.
-    fn serve_due(&self, seat: &mut Seat<J, A>, waker: &mut Waker<A>, hall: &mut Hall<A>)
+    /// Gives each connection whose turn is due one turn.
+    fn serve_due(&self, seat: &mut Seat<J, A>, waker: &mut Waker<A>, event_loop: &mut EventLoop<A>)
         ensures { HasCalled J.keeps seat.old seat.new }
     {
-        for _ in 0..hall.due.len() {
-            self.serve_next(seat, waker, hall);
+        for _ in 0..event_loop.due.len() {
+            self.serve_next(seat, waker, event_loop);
         }
     }
 
-    /// Gives the client whose turn it is its turn, if there is one.
-    fn serve_next(&self, seat: &mut Seat<J, A>, waker: &mut Waker<A>, hall: &mut Hall<A>)
+    /// Gives the connection whose turn it is its turn, if there is one.
+    fn serve_next(&self, seat: &mut Seat<J, A>, waker: &mut Waker<A>, event_loop: &mut EventLoop<A>)
         ensures { HasCalled J.keeps seat.old seat.new }
     {
-        let Some((at, mut guest)) = hall.next() else {
+        let Some((at, mut connection)) = event_loop.next_due() else {
             return;
         };
-        let turned = self.serve(&mut guest, seat, waker);
-        hall.put(self.rt, at, guest, turned);
+        let turned = self.serve(&mut connection, seat, waker);
+        event_loop.put_back(self.rt, at, connection, turned);
     }
 
     /// Flushes from a seat at each wake, until no more can come, and gives the seat back.
@@ -90,12 +90,12 @@ impl<'a, R: Wait, J: Journal, G: Gate, A: Allocator + Copy> Workplace<'a, R, J, 
         seat
     }
 
-    /// Gives a client its turn. Its calls are counted to wake flushers.
-    fn serve(&self, guest: &mut Guest<A>, seat: &mut Seat<J, A>, waker: &mut Waker<A>) -> Turned
+    /// Gives a connection its turn. Its calls are counted to wake flushers.
+    fn serve(&self, connection: &mut PolledConnection<A>, seat: &mut Seat<J, A>, waker: &mut Waker<A>) -> Turned
         ensures { HasCalled J.keeps seat.old seat.new }
     {
-        if guest.is_parting() {
-            return guest.read_on();
+        if connection.is_lingering() {
+            return connection.linger();
         }
         let tenants = self.shared.tenants();
         let desk = Desk {
@@ -104,6 +104,6 @@ impl<'a, R: Wait, J: Journal, G: Gate, A: Allocator + Copy> Workplace<'a, R, J, 
             seat,
         };
         let mut desk = WakingDesk { desk, waker };
-        guest.turn(tenants, &mut desk, self.gate)
+        connection.turn(tenants, &mut desk, self.gate)
     }
 }

@@ -5,7 +5,7 @@ use Rattle.stow_house.specs.Conversations.{Talk, talk_of}
 use Rattle.stow_workers.specs.declared.client.Client.{Client}
 use Rattle.stow_workers.specs.Sent.{sent_at}
 use Rattle.stow_workers.specs.Turns.{IsRested, Shortens}
-use Rattle.stow_workers.specs.Links.{unknown}
+use Rattle.stow_workers.specs.NonblockingConnections.{unknown}
 use Rattle.stow_workers.proofs.Pipelining.{rested_turn, rested_lightens, rested_weight, heard_end, heard_weigh}
 use Rattle.stow_workers.proofs.Sending.{none_left}
 use Rattle.stow_workers.proofs.Turning.{led_none, told_turn, told_shortens}

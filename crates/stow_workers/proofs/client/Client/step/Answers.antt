@@ -4,7 +4,7 @@ use Rattle.stow_model.specs.Reply.{reply_of}
 use Rattle.stow_workers.specs.declared.client.Client.{Client}
 use Rattle.stow_workers.specs.Sent.{sent_at}
 use Rattle.stow_workers.specs.Turns.{IsRested}
-use Rattle.stow_workers.specs.Links.{unknown}
+use Rattle.stow_workers.specs.NonblockingConnections.{unknown}
 use Rattle.stow_workers.proofs.Pipelining.{end_told, end_lightens}
 use Rattle.stow_workers.proofs.Sending.{drop_past}
 use Rattle.stow_workers.proofs.Turning.{led_none}

@@ -1,5 +1,5 @@
 use Rattle.stow_workers.proofs.Sending.{taken_some}
-use Rattle.stow_workers.proofs.replies.Replies.give.Goals as goal
+use Rattle.stow_workers.proofs.replies.Replies.write_some.Goals as goal
 
 pub returns-in-Ok-Some-clause-sent : goal.returns-in-Ok-Some-clause-sent
 returns-in-Ok-Some-clause-sent g c =
