@@ -19,13 +19,17 @@
 //! - Through a core with empty stores it is the history of one connection, of which the isolation theorem speaks
 //!   (`laws`, whose body is empty, so no wrong body can be tried on it).
 //!
-//! Promised, and proved, of a connection that is served turn by turn (`nonblocking_connection::NonblockingConnection::turn`, `specs/NonblockingConnections.antt`):
+//! Promised, and proved, of a connection that is served turn by turn (`nonblocking_connection::NonblockingConnection::turn`,
+//! `specs/NonblockingConnections.antt`):
 //!
 //! - Wherever it stood, it stands behind the turn after what was read and asked in it, by the same relations: what it is told
 //!   was written, or waits. Its own calls led the door from its state before the turn to that after it, so a worker may
 //!   serve others between its turns. Where it ends it was served and told as above.
-//! - That a read or a write would wait is neither a failure nor an end (`nonblocking_source::NonblockingSource`, `nonblocking_sink::NonblockingSink`).
-//! - While bytes wait for the writer nothing is read, and no door is asked.
+//! - That a read or a write would wait is neither a failure nor an end (`nonblocking_source::NonblockingSource`,
+//!   `nonblocking_sink::NonblockingSink`).
+//! - Where bytes wait for the writer when a turn begins, nothing is read in it, and the door isn't asked.
+//!
+//! Promised, and proved, of the others:
 //!
 //! - Bytes are written whole (`writing::write_all`), or a beginning of them where a call of the writer failed.
 //! - One wake of a flusher (`flushing::serve_wake`, `specs/Flushes.antt`) is a plan and an install in turn, until
@@ -38,9 +42,9 @@
 //!
 //! Only tested of the pool, over loopback: that it serves at all, that its workers do so side by side and while a flusher
 //! merges, that flushers are woken at all, that a client which is silent, breaks off, faults or reads nothing holds up
-//! nobody, that no more are served than there is room for, which fault it tells, and that it
-//! ends. Which connection a worker serves next, and that a turn has the connection's own socket, no clause says. Nothing is said of a socket's bytes, of the channels that hand connections and wakes over, or of when a thread runs;
-//! a pool that serves nobody meets its contract. That a refused thread, or refused memory, gives the seats back is
+//! nobody, that no more are served than there is room for, which fault it tells, and that it ends. Which connection a worker
+//! serves next, and that a turn has the connection's own socket, no clause says. Nothing is said of a socket's bytes, of the
+//! channels that hand connections and wakes over, or of when a thread runs; a pool that serves nobody meets its contract. That a refused thread, or refused memory, gives the seats back is
 //! proved; that refused memory is told, and only then, is tested of each request that the pool makes itself. No test
 //! refuses it a thread.
 //!

@@ -384,25 +384,36 @@ fn a_worker_outlives_its_clients(rt: HostRuntime) -> Result<(), Fail> {
     Ok(())
 }
 
-/// Five clients say nothing, and a sixth one is served; then the first one is, too.
+/// What clients say before they fall silent, and the rest of it.
+const SILENT: [(&str, &str); 5] = [
+    ("", ANN),
+    ("AUTH a", "nn bc\n"),
+    ("*3\r\n$4\r\nAUTH\r\n$3\r\nann\r\n$2\r\nb", "c\r\n"),
+    ("", ANN),
+    ("AUTH ann bc", "\n"),
+];
+
+/// Clients say nothing, or half a message, and one more is served; then each of them is, too.
 fn silent_clients<R: Net<Stream = TcpStream>>(
     rt: &R,
     address: SocketAddr,
     alloc: Global,
 ) -> io::Result<bool> {
-    let first = connected(rt, address)?;
     let mut silent = Vec::new(alloc);
-    for _ in 0..4 {
-        silent.push(connected(rt, address)?)?;
+    for (said, rest) in SILENT {
+        let mut stream = connected(rt, address)?;
+        stream.write_all(said.as_bytes())?;
+        silent.push((stream, rest))?;
     }
     let stream = connected(rt, address)?;
-    Ok(
-        is_told(alloc, &stream, ANN, "+OK\r\n")?
-            && is_told(alloc, &stream, "SET k v\n", "+OK\r\n")?
-            && is_told(alloc, &first, ANN, "+OK\r\n")?
-            && is_told(alloc, &first, "GET k\n", "$1\r\nv\r\n")?
-            && silent.len() == 4,
-    )
+    let mut is_right = is_told(alloc, &stream, ANN, "+OK\r\n")?
+        && is_told(alloc, &stream, "SET k v\n", "+OK\r\n")?;
+    for (stream, rest) in silent.iter() {
+        is_right = is_right
+            && is_told(alloc, stream, rest, "+OK\r\n")?
+            && is_told(alloc, stream, "GET k\n", "$1\r\nv\r\n")?;
+    }
+    Ok(is_right)
 }
 
 // A silent client holds no worker.
