@@ -356,9 +356,11 @@ fn broken_clients<R: Net<Stream = TcpStream>>(
     let line = format!(in alloc; "*1\r\n$1048577\r\n{unread}")?;
     let mut is_right = ends_with(rt, address, alloc, line.as_str(), fault)?;
     let value = "v".repeat(alloc, 60_000)?;
-    let mut many = format!(in alloc; "{ANN}SET k {value}\n")?;
-    many.push_str("GET k\n".repeat(alloc, 200)?.as_str())?;
-    breaks_off(rt, address, many.as_bytes())?;
+    let set = format!(in alloc; "{ANN}SET k {value}\n")?;
+    let mut many = connected(rt, address)?;
+    is_right = is_right && is_told(alloc, &many, set.as_str(), "+OK\r\n+OK\r\n")?;
+    many.write_all("GET k\n".repeat(alloc, 200)?.as_bytes())?;
+    drop(many);
     is_right = is_right && ends_with(rt, address, alloc, "QUIT\n", "+OK\r\n")?;
     let stream = connected(rt, address)?;
     let want = format!(in alloc; "$60000\r\n{value}\r\n")?;
