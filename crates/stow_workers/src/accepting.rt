@@ -7,6 +7,9 @@ use std::io::{Error, ErrorKind};
 use std::net::{TcpListener, TcpStream};
 use std::sync::Wait;
 
+/// The system's numbers for no free descriptor, of the system and of the process.
+const NO_DESCRIPTOR: [i32; 2] = [23, 24];
+
 /// Accepts so many connections, each once there is room for it, and hands them over; at 0 there is no end. Where one
 /// can't be handed over it is closed.
 pub(crate) fn accept<R: Wait, A: Allocator + Copy>(
@@ -22,7 +25,7 @@ pub(crate) fn accept<R: Wait, A: Allocator + Copy>(
     };
     for _ in 0..count {
         senders.wait_for_room(rt);
-        match next_stream(listener) {
+        match next_stream(rt, listener, senders) {
             Ok(stream) => senders.hand_over(rt, stream),
             Err(error) => return Some(PoolFault::AcceptFailed(error)),
         }
@@ -30,8 +33,13 @@ pub(crate) fn accept<R: Wait, A: Allocator + Copy>(
     None
 }
 
-/// The next connection. One that went away before it was accepted is passed over.
-fn next_stream(listener: &TcpListener) -> io::Result<TcpStream> {
+/// The next connection. One that went away before it was accepted is passed over. Where no descriptor is free it waits until a
+/// connection is closed, if there is one.
+fn next_stream<R: Wait, A: Allocator + Copy>(
+    rt: &R,
+    listener: &TcpListener,
+    senders: &mut Senders<A>,
+) -> io::Result<TcpStream> {
     for stream in listener.incoming() {
         match stream {
             Ok(stream) => {
@@ -40,7 +48,11 @@ fn next_stream(listener: &TcpListener) -> io::Result<TcpStream> {
                 return Ok(stream);
             }
             Err(error) if is_of_one_client(&error) => {}
-            Err(error) => return Err(error),
+            Err(error) => {
+                if !wants_descriptor(&error) || !senders.wait_for_close(rt) {
+                    return Err(error);
+                }
+            }
         }
     }
     Err(Error::from(ErrorKind::Other))
@@ -52,4 +64,12 @@ fn is_of_one_client(error: &Error) -> bool {
         error.kind(),
         ErrorKind::Interrupted | ErrorKind::ConnectionAborted
     )
+}
+
+/// Whether no descriptor was free.
+fn wants_descriptor(error: &Error) -> bool {
+    match error.raw_os_error() {
+        Some(number) => NO_DESCRIPTOR.contains(&number),
+        None => false,
+    }
 }

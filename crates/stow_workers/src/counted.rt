@@ -5,8 +5,8 @@ ghost use Rattle.std.specs.Io.KnownBytes.{Keeps, ReadConsumes, WriteAppends};
 ghost use Rattle.stow_workers.specs.Failures.{HasFailed, CountsFailure, CountsWrite};
 ghost use Rattle.stow_workers.specs.Nonblocking.{TryReadsAtMost, TryReadConsumes, TryWritesAtMost, TryWriteAppends, CountsTryWrite};
 
-use crate::nonblocking_source::NonblockingSource;
 use crate::nonblocking_sink::NonblockingSink;
+use crate::nonblocking_source::NonblockingSource;
 use crate::sink::Sink;
 use crate::source::Source;
 use std::io;

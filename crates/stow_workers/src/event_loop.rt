@@ -1,5 +1,6 @@
 //! The connections of one worker.
 use crate::polled_connection::PolledConnection;
+use crate::served::Served;
 use crate::turned::Turned;
 use crossbeam_channel::{Receiver, Sender};
 use mio::event::Event;
@@ -86,9 +87,15 @@ impl<A: Allocator + Copy> EventLoop<A> {
     fn add<R: Wait>(&mut self, rt: &R, stream: net::TcpStream) {
         self.count = self.count.saturating_add(1);
         match self.free_token() {
-            Ok(at) if stream.set_nonblocking(true).is_ok() => self.register(rt, at, stream),
-            Ok(at) => self.release(rt, at),
-            Err(_) => self.tell_closed(rt),
+            Ok(at) => {
+                if !self.register(at, stream) {
+                    self.release(rt, at);
+                }
+            }
+            Err(_) => {
+                drop(stream);
+                self.tell_closed(rt);
+            }
         }
     }
 
@@ -104,19 +111,22 @@ impl<A: Allocator + Copy> EventLoop<A> {
         Ok(at)
     }
 
-    /// Has the stream of a new connection reported under its token.
-    fn register<R: Wait>(&mut self, rt: &R, at: usize, stream: net::TcpStream) {
+    /// Has the stream of a new connection reported under its token. Where the system refuses it, it is closed.
+    fn register(&mut self, at: usize, stream: net::TcpStream) -> bool {
+        if at >= self.connections.len() || stream.set_nonblocking(true).is_err() {
+            return false;
+        }
         let mut stream = TcpStream::from_std(stream);
         let interests = Interest::READABLE | Interest::WRITABLE;
-        let registered = self
-            .poll
-            .registry()
-            .register(&mut stream, Token(at), interests);
-        if registered.is_ok() && at < self.connections.len() {
-            self.connections[at] = Some(PolledConnection::new(self.alloc, stream));
-        } else {
-            self.release(rt, at);
+        let registry = self.poll.registry();
+        if registry
+            .register(&mut stream, Token(at), interests)
+            .is_err()
+        {
+            return false;
         }
+        self.connections[at] = Some(PolledConnection::new(self.alloc, stream));
+        true
     }
 
     /// Waits until a stream is ready or the worker is woken, and notes whose turn is due.
@@ -175,14 +185,10 @@ impl<A: Allocator + Copy> EventLoop<A> {
             Turned::Drained => connection.is_read_closed,
             Turned::Waits => false,
             Turned::Ended(served) => {
-                if connection.is_lingering() {
-                    self.lingering = self.lingering.saturating_sub(1);
+                if !self.lingers(&mut connection, served) {
+                    drop(connection);
                     return self.release(rt, at);
                 }
-                if !connection.start_lingering(served) {
-                    return self.release(rt, at);
-                }
-                self.lingering = self.lingering.saturating_add(1);
                 true
             }
         };
@@ -195,13 +201,24 @@ impl<A: Allocator + Copy> EventLoop<A> {
         }
     }
 
+    /// Whether a connection that has ended so is read on, and not closed.
+    fn lingers(&mut self, connection: &mut PolledConnection<A>, served: Served) -> bool {
+        if connection.is_lingering() {
+            self.lingering = self.lingering.saturating_sub(1);
+            return false;
+        }
+        let lingers = connection.start_lingering(served);
+        self.lingering = self.lingering.saturating_add(u32::from(lingers));
+        lingers
+    }
+
     /// Frees the token of a connection that was closed.
     fn release<R: Wait>(&mut self, rt: &R, at: usize) {
         let _ = self.free.push(at);
         self.tell_closed(rt);
     }
 
-    /// Tells that a connection was closed.
+    /// Tells that a connection was closed, behind that, so that its descriptor is free when it is told.
     fn tell_closed<R: Wait>(&mut self, rt: &R) {
         self.count = self.count.saturating_sub(1);
         let _ = self.closed.send(rt, self.number);

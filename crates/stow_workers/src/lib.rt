@@ -42,11 +42,11 @@
 //!
 //! Only tested of the pool, over loopback: that it serves at all, that its workers do so side by side and while a flusher
 //! merges, that flushers are woken at all, that a client which is silent, breaks off, faults or reads nothing holds up
-//! nobody, that no more are served than there is room for, which fault it tells, and that it ends. Which connection a worker
-//! serves next, and that a turn has the connection's own socket, no clause says. Nothing is said of a socket's bytes, of the
-//! channels that hand connections and wakes over, or of when a thread runs; a pool that serves nobody meets its contract. That a refused thread, or refused memory, gives the seats back is
-//! proved; that refused memory is told, and only then, is tested of each request that the pool makes itself. No test
-//! refuses it a thread.
+//! nobody, that no more are served than there is room for, which fault it tells, and that it ends. Which connection a
+//! worker serves next, and that a turn has the connection's own socket, no clause says. Nothing is said of a socket's
+//! bytes, of the channels that hand connections and wakes over, or of when a thread runs; a pool that serves nobody meets
+//! its contract. That a refused thread, or refused memory, gives the seats back is proved; that refused memory is told, and
+//! only then, is tested of each request that the pool makes itself. No test refuses it a thread.
 //!
 //! Only tested of a connection: that want of memory is told only where it was refused, so a body that gives up with it is right by
 //! the contracts; that replies are written before the next piece is read, and once much of them waits; that

@@ -8,8 +8,8 @@ ghost use Rattle.stow_workers.specs.Turns.{HasLed, IsRested, IsEven};
 
 use crate::client::{Client, outcome};
 use crate::gate::Gate;
-use crate::nonblocking_source::NonblockingSource;
 use crate::nonblocking_sink::NonblockingSink;
+use crate::nonblocking_source::NonblockingSource;
 use crate::served::Served;
 use crate::turned::Turned;
 use std::alloc::{Allocator, Global};

@@ -28,12 +28,12 @@ const WAITING: usize = 16;
 pub struct Pool;
 
 impl Pool {
-    /// Serves the listener's connections, up to `clients` at once, each by one worker from its first request to its end, with a
-    /// worker for each seat but the last `flushers`. A connection goes to a worker that has fewest, and those of a worker take
-    /// turns. From each of the last seats a flusher flushes, woken by every 64th call of a worker. Returns once so many connections
-    /// were served, or never at 0, and all its threads have ended; so does a fault, once the connections that were accepted are
-    /// served. Each seat comes back in its place. Nothing but calls was done from a worker's, and nothing but plans and installs
-    /// from a flusher's.
+    /// Serves the listener's connections, up to `clients` at once, or one at 0, each by one worker from its first request to its
+    /// end, with a worker for each seat but the last `flushers`. A connection goes to a worker that has fewest, and those of a
+    /// worker take turns. From each of the last seats a flusher flushes, woken by every 64th call of a worker. Returns once so many
+    /// connections were served, or never at 0, and all its threads have ended; so does a fault, once the connections that were
+    /// accepted are served. Each seat comes back in its place. Nothing but calls was done from a worker's, and nothing but plans and
+    /// installs from a flusher's.
     pub fn run<
         'a,
         R: Threads + Wait + Net + Sync,
@@ -78,6 +78,7 @@ fn set_up<R: Net, A: Allocator + Copy>(
     flushers: usize,
     clients: u32,
 ) -> Option<(Senders<A>, Receiver<Wake, A>)> {
+    let clients = clients.max(1);
     let (waking, wakes) = bounded(alloc, WAITING).ok()?;
     let (closed_sender, closed) = bounded(alloc, clients as usize).ok()?;
     let mut senders = Senders {

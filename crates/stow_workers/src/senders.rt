@@ -36,8 +36,7 @@ impl<A: Allocator + Copy> Senders<A> {
     /// Makes what one more worker needs. `None` where memory or the system refuses it.
     pub(crate) fn add_worker<R: Net>(&mut self, rt: &R) -> Option<()> {
         let number = u32::try_from(self.handles.len()).ok()?;
-        let (handle, event_loop) =
-            WorkerHandle::new(rt, self.alloc, number, &self.closed_sender)?;
+        let (handle, event_loop) = WorkerHandle::new(rt, self.alloc, number, &self.closed_sender)?;
         self.handles.push(handle).ok()?;
         self.event_loops.push(event_loop).ok()
     }
@@ -51,9 +50,21 @@ impl<A: Allocator + Copy> Senders<A> {
             }
         }
         if self.count >= self.clients {
-            if let Ok(number) = self.closed.recv(rt) {
+            self.wait_for_close(rt);
+        }
+    }
+
+    /// Waits until a connection is closed: whether there was one.
+    pub(crate) fn wait_for_close<R: Wait>(&mut self, rt: &R) -> bool {
+        if self.count == 0 {
+            return false;
+        }
+        match self.closed.recv(rt) {
+            Ok(number) => {
                 self.note_closed(number);
+                true
             }
+            Err(_) => false,
         }
     }
 

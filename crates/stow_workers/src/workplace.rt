@@ -43,7 +43,12 @@ impl<'a, R: Wait, J: Journal, G: Gate, A: Allocator + Copy> Workplace<'a, R, J, 
 
     /// Serves the connections of an event loop from a seat, turn by turn, until all have ended and no more can come, and gives
     /// the seat back.
-    pub fn work(&self, mut seat: Seat<J, A>, mut waker: Waker<A>, mut event_loop: EventLoop<A>) -> Seat<J, A>
+    pub fn work(
+        &self,
+        mut seat: Seat<J, A>,
+        mut waker: Waker<A>,
+        mut event_loop: EventLoop<A>,
+    ) -> Seat<J, A>
         ensures { HasCalled J.keeps seat result }
     {
         for _ in self.rt.forever() {
@@ -91,7 +96,12 @@ impl<'a, R: Wait, J: Journal, G: Gate, A: Allocator + Copy> Workplace<'a, R, J, 
     }
 
     /// Gives a connection its turn. Its calls are counted to wake flushers.
-    fn serve(&self, connection: &mut PolledConnection<A>, seat: &mut Seat<J, A>, waker: &mut Waker<A>) -> Turned
+    fn serve(
+        &self,
+        connection: &mut PolledConnection<A>,
+        seat: &mut Seat<J, A>,
+        waker: &mut Waker<A>,
+    ) -> Turned
         ensures { HasCalled J.keeps seat.old seat.new }
     {
         if connection.is_lingering() {
