@@ -16,8 +16,8 @@ use Rattle.stow_workers.specs.Talks.{IsServedBy, ReaderFails}
 use Rattle.stow_workers.specs.Turns.{Origin, LedFrom, Stands, IsEven, outcome_of}
 
 -- a connection between two turns: what was read so far was served and answered up to here
-abbrev pub ConnectionStands : {D A : Type 0} → DoorCall D → List Entry → Origin D → Written → List ℕ → D
-    → NonblockingConnection A → Written → Type 0
+abbrev pub ConnectionStands : {D A : Type 0} → DoorCall D → List Entry → Origin D → Written
+    → List ℕ → D → NonblockingConnection A → Written → Type 0
 ConnectionStands answers entries first start read door connection writer =
     Stands answers entries first start read connection.stop door connection.client
     (sent_at writer connection.client.replies)
@@ -47,14 +47,16 @@ pub record HasTurnedOut {D : Type 0} (answers : DoorCall D) (entries : List Entr
 
 abbrev pub ConnectionTo : {D A : Type 0} → DoorCall D → List Entry → Origin D → Written → List ℕ
     → Turned → Option (List ℕ) → Option (List ℕ) → D → NonblockingConnection A → Written → Type 0
-ConnectionTo answers entries first start read (turned.Ended result) unread left door connection writer =
+ConnectionTo answers entries first start read (turned.Ended result) unread left door connection
+    writer =
     HasTurnedOut answers entries first start read unread left door writer result
 ConnectionTo answers entries first start read _ unread left door connection writer =
     HasTurnedOn answers entries first start read unread left door connection writer
 
 -- a connection that stood somewhere took a turn, which ended so
 abbrev pub TakesTurn : {D A : Type 0} → DoorCall D → List Entry → Turned → Option (List ℕ) → D
-    → NonblockingConnection A → Written → Option (List ℕ) → D → NonblockingConnection A → Written → Type 0
+    → NonblockingConnection A → Written → Option (List ℕ) → D → NonblockingConnection A
+    → Written → Type 0
 TakesTurn answers entries result unread old before writer left new after written =
     (first : _) (start : Written) (read : List ℕ)
     → ConnectionStands answers entries first start read old before writer
@@ -84,23 +86,24 @@ Fed bytes old new =
     × (new.client ≡ record old.client { conversation = new.client.conversation })
     × (new.stop ≡ None)
 
-abbrev pub IsFed : {A : Type 0} → Result ℕ Turned → List ℕ → NonblockingConnection A → NonblockingConnection A → Type 0
+abbrev pub IsFed : {A : Type 0} → Result ℕ Turned → List ℕ → NonblockingConnection A
+    → NonblockingConnection A → Type 0
 IsFed (Ok n) bytes old new = Fed bytes old new
 IsFed (Err (turned.Ended served.NoMemory)) bytes old new =
     new.client.replies ≡ old.client.replies
 IsFed (Err _) bytes old new = ⊥
 
 -- nothing was to be read, or a piece was
-abbrev pub HasReceived : {A : Type 0} → Option (List ℕ) → ℕ → NonblockingConnection A → Option (List ℕ) → ℕ
-    → NonblockingConnection A → Type 0
+abbrev pub HasReceived : {A : Type 0} → Option (List ℕ) → ℕ → NonblockingConnection A
+    → Option (List ℕ) → ℕ → NonblockingConnection A → Type 0
 HasReceived unread failed old left fails new = (fails ≡ failed)
     × (((left ≡ unread) × (new ≡ old))
     ⊎ ((bytes : List ℕ) × Consumes unread left bytes × (old.stop ≡ Some stopped.More)
     × IsEven (sent_at unknown old.client.replies) × Fed bytes old new))
 
 -- the turn ends with the reading
-abbrev pub EndsReceiving : {A : Type 0} → Turned → Option (List ℕ) → ℕ → NonblockingConnection A → Option (List ℕ)
-    → ℕ → NonblockingConnection A → Type 0
+abbrev pub EndsReceiving : {A : Type 0} → Turned → Option (List ℕ) → ℕ → NonblockingConnection A
+    → Option (List ℕ) → ℕ → NonblockingConnection A → Type 0
 EndsReceiving turned.Waits unread failed old left fails new =
     Keeps unread left × (fails ≡ failed) × IsEven (sent_at unknown old.client.replies) × (new ≡ old)
 EndsReceiving (turned.Ended served.Ended) unread failed old left fails new =
@@ -125,8 +128,8 @@ Receives (Err result) unread failed old left fails new =
     EndsReceiving result unread failed old left fails new
 
 -- wherever the connection stood, it stands after this
-abbrev pub GoesOnServing : {D A : Type 0} → DoorCall D → List Entry → Written → D → NonblockingConnection A → D
-    → NonblockingConnection A → Type 0
+abbrev pub GoesOnServing : {D A : Type 0} → DoorCall D → List Entry → Written → D
+    → NonblockingConnection A → D → NonblockingConnection A → Type 0
 GoesOnServing answers entries writer old before new after =
     (first : _) (start : Written) (read : List ℕ)
     → ConnectionStands answers entries first start read old before writer
@@ -146,4 +149,5 @@ turned_at None false = turned.Again
 abbrev pub turned_of : Option Stop → Bool → Bool → Bool → Turned
 turned_of stop true has_failed is_drained = turned.Waits
 turned_of None false has_failed is_drained = turned.Again
-turned_of (Some stop) false has_failed is_drained = turned_at (outcome_of stop has_failed) is_drained
+turned_of (Some stop) false has_failed is_drained =
+    turned_at (outcome_of stop has_failed) is_drained

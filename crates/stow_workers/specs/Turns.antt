@@ -60,7 +60,8 @@ HasSpelled _ start sent all = HasSent start sent all
 
 -- what went on so far, where that leaves the conversation, and what was sent
 pub record IsAfter {D : Type 0} (answers : DoorCall D) (entries : List Entry)
-    (first : Origin D) (start : Written) (read : List ℕ) (stop : Option Stop) (state : State D) : Type 0 where
+    (first : Origin D) (start : Written) (read : List ℕ) (stop : Option Stop)
+    (state : State D) : Type 0 where
   pub exchanges : List Exchange
   pub course : CourseBy (LedFrom answers first state.door) entries read exchanges
   pub at : IsAt entries stop state.talk (steps_of exchanges)
@@ -181,8 +182,8 @@ CanEndPiece served.ReadFailed = ⊥
 CanEndPiece _ = Unit {0}
 
 -- a piece was served and answered
-abbrev pub PieceTo : {D : Type 0} → DoorCall D → List Entry → Origin D → Written → List ℕ → Option Served
-    → State D → Type 0
+abbrev pub PieceTo : {D : Type 0} → DoorCall D → List Entry → Origin D → Written → List ℕ
+    → Option Served → State D → Type 0
 PieceTo answers entries first start read None new =
     IsAfter answers entries first start read (Some stopped.More) new × IsEven new.sent
 PieceTo answers entries first start read (Some result) new =

@@ -103,8 +103,10 @@ impl<A: Allocator + Copy> Client<A> {
         gate: &G,
     ) -> Stop
         ensures goes { StepsTo D.answers tenants.now (Some result)
-            door.old self.old (sent_of (W.contents writer.old) (W.failures writer.old) self.old.replies)
-            door.new self.new (sent_of (W.contents writer.new) (W.failures writer.new) self.new.replies) }
+            door.old self.old
+            (sent_of (W.contents writer.old) (W.failures writer.old) self.old.replies)
+            door.new self.new
+            (sent_of (W.contents writer.new) (W.failures writer.new) self.new.replies) }
         ensures same_borrow { W.borrow writer.new ≡ W.borrow writer.old }
     {
         loop {
@@ -122,7 +124,8 @@ impl<A: Allocator + Copy> Client<A> {
         ensures ok { OnOk result ((talk_of self.new.conversation).unread
             ≡ (talk_of self.old.conversation).unread ++ piece.now) }
         ensures err { OnErr result (talk_of self.new.conversation ≡ talk_of self.old.conversation) }
-        ensures tenant { (talk_of self.new.conversation).tenant ≡ (talk_of self.old.conversation).tenant }
+        ensures tenant { (talk_of self.new.conversation).tenant
+            ≡ (talk_of self.old.conversation).tenant }
         ensures same { self.new ≡ record self.old { conversation = self.new.conversation } }
     {
         self.conversation.feed(piece)
@@ -130,7 +133,8 @@ impl<A: Allocator + Copy> Client<A> {
 
     /// Whether bytes wait for the writer.
     pub fn is_waiting(&self) -> bool
-        ensures { IsTrue result ↔ (0 < length (drop self.now.replies.passed self.now.replies.bytes.items)) }
+        ensures { IsTrue result
+            ↔ (0 < length (drop self.now.replies.passed self.now.replies.bytes.items)) }
     {
         self.replies.waiting() > 0
     }
@@ -146,7 +150,8 @@ impl<A: Allocator + Copy> Client<A> {
     pub fn send<W: NonblockingSink>(&mut self, writer: &mut W)
         ensures sent { StaysSent
             (sent_at (written_of (W.contents writer.old) (W.failures writer.old)) self.old.replies)
-            (sent_at (written_of (W.contents writer.new) (W.failures writer.new)) self.new.replies) }
+            (sent_at (written_of (W.contents writer.new) (W.failures writer.new))
+            self.new.replies) }
         ensures same { self.new ≡ record self.old { replies = self.new.replies } }
     {
         self.replies.send(writer);

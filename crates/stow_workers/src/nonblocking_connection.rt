@@ -57,7 +57,8 @@ impl<A: Allocator + Copy> NonblockingConnection<A> {
         gate: &G,
     ) -> Turned
         ensures turns { TakesTurn D.answers tenants.now result
-            (R.remaining reader.old) door.old self.old (written_of (W.contents writer.old) (W.failures writer.old))
+            (R.remaining reader.old) door.old self.old
+            (written_of (W.contents writer.old) (W.failures writer.old))
             (R.remaining reader.new) door.new self.new
             (written_of (W.contents writer.new) (W.failures writer.new)) }
         ensures reader { ReaderFailsAt result (R.failures reader.old) (R.failures reader.new) }
@@ -132,7 +133,8 @@ impl<A: Allocator + Copy> NonblockingConnection<A> {
     /// How a turn ended behind which what waits was written, as far as it could be.
     fn outcome(&self, is_drained: bool) -> Turned
         ensures { (waits : Bool)
-            → TellsWaiting waits (drop self.now.client.replies.passed self.now.client.replies.bytes.items)
+            → TellsWaiting waits
+            (drop self.now.client.replies.passed self.now.client.replies.bytes.items)
             → result ≡ turned_of self.now.stop waits self.now.client.replies.has_failed is_drained }
     {
         if self.client.is_waiting() {
