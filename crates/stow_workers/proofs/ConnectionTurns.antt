@@ -2,12 +2,12 @@
 use Rattle.std.proofs.Common.{◌≡◌, ℕ, ◌<◌, Bool, true, false, List, [], ◌∷◌, ◌++◌, length, drop, Option, Some, None, refl, ap, ◌∙◌, sym, subst, inl, inr, ◌⊎◌, append-nil, arith}
 use Rattle.std.proofs.KnownBytes.{Consumes-nil, Consumes-kept}
 use Rattle.std.specs.Prelude.{IfSome}
-use Rattle.std.specs.Io.KnownBytes.{Consumes, Keeps, IsAtEnd}
+use Rattle.std.specs.Io.KnownBytes.{Consumes}
 use Rattle.stow_model.specs.Login.{Entry}
 use Rattle.stow_house.specs.declared.stop.Stop.{Stop}
 use Rattle.stow_house.specs.declared.stop.Stop.TheVariants as stopped
 use Rattle.stow_house.specs.declared.conversation.Conversation.{Conversation}
-use Rattle.stow_house.specs.Conversations.{DoorCall, Talk, talk_of}
+use Rattle.stow_house.specs.Conversations.{DoorCall, talk_of}
 use Rattle.stow_workers.specs.declared.client.Client.{Client}
 use Rattle.stow_workers.specs.declared.nonblocking_connection.NonblockingConnection.{NonblockingConnection}
 use Rattle.stow_workers.specs.declared.served.Served.{Served}
@@ -16,8 +16,8 @@ use Rattle.stow_workers.specs.declared.turned.Turned.{Turned}
 use Rattle.stow_workers.specs.declared.turned.Turned.TheVariants as turned
 use Rattle.stow_workers.specs.Sent.{Written, Sent, IsLeft, HasFailedIf, sent_at, StaysSent, NoneWaits}
 use Rattle.stow_workers.specs.Talks.{IsServedBy, bytes_told}
-use Rattle.stow_workers.specs.Turns.{Origin, LedFrom, State, IsAfter, IsEven, HasSpelled, RestsAt, StepsTo, IsHolding, IsRested, Stands, outcome_of, PieceTo, CanEndPiece}
-use Rattle.stow_workers.specs.NonblockingConnections.{TakesTurn, ReaderFailsAt, GoesOnServing, unknown, ConnectionStands, HasTurnedOn, HasTurnedOut, EndsAt, ConnectionTo, Fed, turned_at, turned_of, TellsWaiting, HasReceived, EndsReceiving, HasWaiting}
+use Rattle.stow_workers.specs.Turns.{Origin, LedFrom, State, IsAfter, IsEven, HasSpelled, RestsAt, StepsTo, Stands, outcome_of, PieceTo, CanEndPiece}
+use Rattle.stow_workers.specs.NonblockingConnections.{TakesTurn, ReaderFailsAt, GoesOnServing, unknown, ConnectionStands, EndsAt, ConnectionTo, Fed, turned_at, turned_of, TellsWaiting, HasReceived, EndsReceiving, HasWaiting}
 use Rattle.stow_workers.proofs.Pieces.{piece_written, outcome_ends, reader_stays, told_at_refusal, goes_on, piece_read, ended_served, failed_served}
 use Rattle.stow_workers.proofs.Pipelining.{holds_none, holding_sent}
 

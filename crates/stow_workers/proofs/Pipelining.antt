@@ -20,7 +20,7 @@ use Rattle.stow_workers.specs.declared.served.Served.{Served}
 use Rattle.stow_house.specs.declared.conversation.Conversation.{Conversation}
 use Rattle.stow_workers.specs.Exchanges.{steps_of, told_in, spelled}
 use Rattle.stow_workers.specs.Pipelined.{AsksAll, End, Ends, HearsAll, encodings, SendsFront, TellsOrStops}
-use Rattle.stow_workers.specs.Sent.{Begins, Written, Sent, sent_at, HasSent, Sends, StaysSent, SendsReply}
+use Rattle.stow_workers.specs.Sent.{Begins, Written, Sent, sent_at, HasSent, Sends, StaysSent}
 use Rattle.stow_workers.specs.Talks.{CourseBy, bytes_told}
 use Rattle.stow_workers.specs.Turns.{Origin, LedFrom, Turns, State, IsAfter, Shortens, GoesTo, IsHolding, IsRested, RestsAt, outcome_of, Stands, StepsTo, weight, unread_weight, Lightens}
 use Rattle.stow_workers.proofs.Turning.{asked_turn, asked_shortens, told_turn, told_shortens, sent, not_sent}

@@ -1,7 +1,6 @@
 -- A connection under way, turn by turn: what is said within the service of a connection, and not by
 -- its contract.
 use Rattle.std.specs.Prelude.{◌≡◌, ℕ, ◌<◌, ◌+◌, ◌*◌, Bool, true, false, List, [], ◌++◌, length, drop, Option, Some, None, IfNone}
-use Rattle.std.specs.Io.KnownBytes.{Consumes, IsAtEnd}
 use Rattle.stow_model.specs.Login.{Entry}
 use Rattle.stow_model.specs.Reply.{Reply}
 use Rattle.stow_model.specs.Store.{with_reply}
@@ -16,7 +15,7 @@ use Rattle.stow_workers.specs.declared.served.Served.{Served}
 use Rattle.stow_workers.specs.declared.served.Served.TheVariants as served
 use Rattle.stow_workers.specs.Exchanges.{Call, LeadTo, steps_of, told_in}
 use Rattle.stow_workers.specs.Pipelined.{End, HearsAll}
-use Rattle.stow_workers.specs.Sent.{Begins, Written, Sent, sent_of, sent_at, HasSent}
+use Rattle.stow_workers.specs.Sent.{Begins, Written, Sent, sent_of, HasSent}
 use Rattle.stow_workers.specs.Talks.{HasQuit, HasBroken, CourseBy, IsServedBy, bytes_told}
 
 -- a connection's earlier calls, and the door at which the next ones begin

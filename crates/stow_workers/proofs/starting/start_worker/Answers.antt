@@ -1,10 +1,8 @@
 use denote.Param.Send.{sendable}
 use denote.Ref.{NamedLft}
-use Rattle.std.proofs.CrossingOver.{crosses}
 use Rattle.stow_shared.proofs.seat.Seat.TheSendSync as seat
 use Rattle.stow_workers.proofs.Sends.{workplace_syncs, equipment_sends}
 use Rattle.stow_workers.proofs.Workers.{no_calls}
-use Rattle.stow_workers.proofs.equipment.Equipment.TheSendSync as equipment
 use Rattle.stow_workers.proofs.starting.start_worker.Goals as goal
 
 pub returns-then-is_none : goal.returns-then-is_none

@@ -1,9 +1,9 @@
-use Rattle.std.proofs.Common.{◌≡◌, ◌+◌, ◌∷◌, List, length, map, ap, ◌∙◌, arith}
+use Rattle.std.proofs.Common.{◌+◌, ◌∷◌, List, map, ap, ◌∙◌, arith}
 use Rattle.std.proofs.lemmas.List.{length-map}
 use Rattle.stow_model.specs.Reply.{Reply, reply_of}
 use Rattle.stow_workers.specs.declared.client.Client.{Client}
 use Rattle.stow_workers.specs.Sent.{sent_at}
-use Rattle.stow_workers.proofs.Pipelining.{asked_on, asked_part, asked_lightens}
+use Rattle.stow_workers.proofs.Pipelining.{asked_on, asked_part}
 use Rattle.stow_workers.proofs.Turning.{led_all}
 use Rattle.stow_workers.proofs.client.Client.ask.Goals as goal
 

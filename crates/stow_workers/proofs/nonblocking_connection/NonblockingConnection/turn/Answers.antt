@@ -1,4 +1,4 @@
-use Rattle.std.proofs.Common.{false, refl}
+use Rattle.std.proofs.Common.{refl}
 use Rattle.stow_workers.proofs.ConnectionTurns.{turn_goes, ended_receiving, reader_stays_on, reader_at_end, waits_or_not, not_read, not_read_at_end}
 use Rattle.stow_workers.proofs.Turning.{led_none}
 use Rattle.stow_workers.proofs.nonblocking_connection.NonblockingConnection.turn.Goals as goal
