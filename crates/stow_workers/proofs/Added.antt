@@ -1,12 +1,9 @@
 -- Replies that are added one after another.
-use Rattle.std.proofs.Common.{◌≡◌, ◌+◌, ◌-◌, ◌<◌, ◌≤◌, ℕ, zero, suc, List, [], ◌∷◌, ◌++◌, length, take, drop, get_or, map, refl, ap, ◌∙◌, sym, subst, arith, append-nil, append_assoc, take-append-drop}
+use Rattle.std.proofs.Common.{◌≡◌, ◌+◌, ◌<◌, ◌≤◌, ℕ, zero, suc, List, [], ◌∷◌, ◌++◌, length, take, drop, get_or, map, refl, ap, ◌∙◌, sym, subst, arith, append-nil, append_assoc, take-append-drop}
 use Rattle.std.specs.Prelude.{Result, Ok, Err, OnErr}
-use Rattle.std.proofs.lemmas.List.{take_more, map-append, length-drop}
+use Rattle.std.proofs.lemmas.List.{take_more, map-append}
 use Rattle.stow_model.specs.declared.reply.Reply as coded
 use Rattle.stow_model.specs.Reply.{Reply, reply_of, encoding}
-use Rattle.stow_house.specs.declared.request.Request.{Request}
-use Rattle.stow_house.specs.Conversations.{DoorCall}
-use Rattle.stow_house.specs.Pipelines.{AnswersFront}
 use Rattle.stow_workers.specs.Pipelined.{encodings, SendsFront}
 use Rattle.stow_workers.specs.Sent.{Sent, HasSent, Sends, StaysSent}
 
@@ -17,10 +14,6 @@ encodings-append (x ∷ xs) ys = ap (λ bytes. encoding x ++ bytes) (encodings-a
 -- some bytes, and then others
 pub sends_then : (a b c : Sent) (x y : List ℕ) → Sends a b x → Sends b c y → Sends a c (x ++ y)
 sends_then a b c x y first second start all h = subst (λ bytes. HasSent start c bytes) (append_assoc all x y) (second start (all ++ x) (first start all h))
-
--- nothing was sent yet
-pub sends_none : (a : Sent) → Sends a a []
-sends_none a start all h = subst (λ bytes. HasSent start a bytes) (sym (append-nil all)) h
 
 -- ---- the replies of one answer
 
@@ -65,11 +58,3 @@ on_err (Err error) P p = p
 -- all replies were added
 pub all_added : {A : Type 0} (a b : Sent) (first : coded.Reply A) (told : List (coded.Reply A)) (i : ℕ) → length told ≤ i → Sends a b (encodings (added first told i)) → Sends a b (encodings (reply_of first ∷ map reply_of told))
 all_added a b first told i l sends = subst (λ rs. Sends a b (encodings (reply_of first ∷ map reply_of rs))) (take_whole told i l) sends
-
--- the rest of a list, to its end
-pub whole_rest : {X : Type 0} (xs : List X) (n : ℕ) → take (length xs - n) (drop n xs) ≡ drop n xs
-whole_rest xs n = take_whole (drop n xs) (length xs - n) (let l = length-drop n xs in omega (arith, l))
-
--- what was asked of it
-pub cut_led : {D A : Type 0} (answers : DoorCall D) (old new : D) (all : List (Request A)) (done : ℕ) (rs : List Reply) → AnswersFront answers old (take (length all - done) (drop done all)) rs new → AnswersFront answers old (drop done all) rs new
-cut_led answers old new all done rs led = subst (λ (qs : List (Request _)). AnswersFront answers old qs rs new) (whole_rest all done) led

@@ -16,7 +16,7 @@ use Rattle.stow_workers.specs.declared.turned.Turned.{Turned}
 use Rattle.stow_workers.specs.declared.turned.Turned.TheVariants as turned
 use Rattle.stow_workers.specs.Sent.{Written, Sent, IsLeft, HasFailedIf, sent_at, StaysSent, NoneWaits}
 use Rattle.stow_workers.specs.Talks.{IsServedBy, bytes_told}
-use Rattle.stow_workers.specs.Turns.{Origin, LedFrom, State, IsAfter, IsEven, HasSpelled, RestsAt, StepsTo, Stands, outcome_of, PieceTo, CanEndPiece}
+use Rattle.stow_workers.specs.Turns.{Origin, LedFrom, State, IsAfter, IsEven, HasSpelled, RestsAt, Stands, outcome_of, PieceTo, CanEndPiece}
 use Rattle.stow_workers.specs.NonblockingConnections.{TakesTurn, ReaderFailsAt, GoesOnServing, unknown, ConnectionStands, EndsAt, ConnectionTo, Fed, turned_at, turned_of, TellsWaiting, HasReceived, EndsReceiving, HasWaiting}
 use Rattle.stow_workers.proofs.Pieces.{piece_written, outcome_ends, reader_stays, told_at_refusal, goes_on, piece_read, ended_served, failed_served}
 use Rattle.stow_workers.proofs.Pipelining.{holds_none, holding_sent}
@@ -225,10 +225,3 @@ not_read_at_end turned.Again unread left failed fails old new ends waits = absur
 not_read_at_end turned.Drained unread left failed fails old new ends waits = absurd ends
 not_read_at_end (turned.Ended served.Quit) unread left failed fails old new ends waits = absurd ends
 not_read_at_end (turned.Ended (served.Faulted fault)) unread left failed fails old new ends waits = absurd ends
-
--- ---- served in a turn
-
--- messages were served where any were at hand
-pub serves_on : {D A : Type 0} (answers : DoorCall D) (entries : List Entry) (writer : Written) (door door' : D) (before after : NonblockingConnection A) → before.stop ≡ None → StepsTo answers entries after.stop door before.client (sent_at writer before.client.replies) door' after.client (sent_at writer after.client.replies) → GoesOnServing answers entries writer door before door' after
-serves_on answers entries writer door door' before after none steps first start read stands =
-    steps first start read (subst (λ s. Stands answers entries first start read s door before.client (sent_at writer before.client.replies)) none stands)

@@ -205,15 +205,6 @@ end_told answers entries told stop result door before after sent left none is re
     stands_rested answers entries first start read result door after left rests
     (told_or_stops answers entries (option_map reply_of told) stop result (record { door = door; talk = u.talk; sent = sent }) (record { door = door; talk = talk_of after.conversation; sent = left }) (told_turn answers entries (option_map reply_of told) stop u.talk (talk_of after.conversation) door ended) tells first start read u.after)
 
--- requests were heard, and then this
-pub heard_next : {D A : Type 0} (answers : DoorCall D) (entries : List Entry) (door : D) (before after : Client A) (sent left : Sent) → IsRested before → left ≡ sent
-    → HearsAll entries (drop after.done after.requests.items) after.end (talk_of before.conversation) (talk_of after.conversation) → StepsTo answers entries None door before sent door after left
-heard_next answers entries door before after sent left rested same hears first start read u = record {
-  talk = talk_of before.conversation;
-  hears = hears;
-  after = subst (λ s. IsAfter answers entries first start read None (record { door = door; talk = talk_of before.conversation; sent = s })) (sym same) (at_rest answers entries first start read door before sent rested u);
-}
-
 -- what is written leaves the requests at hand
 pub holding_sent : {D A : Type 0} (answers : DoorCall D) (entries : List Entry) (first : Origin D) (start : Written) (read : List ℕ) (door : D) (before after : Client A) (sent left : Sent) → after.requests ≡ before.requests → after.done ≡ before.done → after.end ≡ before.end → after.conversation ≡ before.conversation
     → StaysSent sent left → IsHolding answers entries first start read door before sent → IsHolding answers entries first start read door after left
@@ -302,11 +293,3 @@ rests_on stop has_failed result client is rests = subst (λ r. IfNone r (IsReste
     by_stop stopped.Quit false r = tt
     by_stop (stopped.Faulted fault) true r = tt
     by_stop (stopped.Faulted fault) false r = tt
-
-pub steps_then : {D A : Type 0} (answers : DoorCall D) (entries : List Entry) (stop : Option Stop) (a b c : D) (x y z : Client A) (r s t : Sent) → StepsTo answers entries None a x r b y s → StepsTo answers entries stop b y s c z t → StepsTo answers entries stop a x r c z t
-steps_then answers entries stop a b c x y z r s t first second door start read u = second door start read (first door start read u)
-
--- what waited was written in between
-pub steps_written : {D A : Type 0} (answers : DoorCall D) (entries : List Entry) (a b : D) (x y z : Client A) (r s t : Sent) → StepsTo answers entries None a x r b y s → z.requests ≡ y.requests → z.done ≡ y.done → z.end ≡ y.end → z.conversation ≡ y.conversation → StaysSent s t → StepsTo answers entries None a x r b z t
-steps_written answers entries a b x y z r s t steps requests done end talk stays first start read u =
-    holding_sent answers entries first start read b y z s t requests done end talk stays (steps first start read u)

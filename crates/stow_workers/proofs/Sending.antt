@@ -1,12 +1,11 @@
 -- What becomes of replies on their way to a writer.
-use Rattle.std.proofs.Common.{◌≡◌, ◌<◌, ◌≤◌, ◌-◌, ◌+◌, ℕ, zero, suc, Bool, true, false, Option, List, [], ◌∷◌, ◌++◌, length, take, drop, refl, ap, ◌∙◌, sym, subst, append_assoc, append-nil, take-append-drop, arith, inl, inr, ⊎_elim, Result, Ok, Err}
+use Rattle.std.proofs.Common.{◌≡◌, ◌<◌, ◌≤◌, ◌-◌, ◌+◌, ℕ, zero, suc, Bool, false, List, [], ◌∷◌, ◌++◌, length, take, drop, refl, ap, ◌∙◌, sym, subst, append_assoc, append-nil, take-append-drop, arith, inl, inr, ⊎_elim, Result, Ok, Err}
 use Rattle.std.specs.Prelude.{OnErr}
 use Rattle.std.specs.Result.{is_err}
-use Rattle.std.proofs.lemmas.List.{take_rest, drop-append-le, drop-drop}
-use Rattle.std.proofs.KnownBytes.{Appends-nil, Appends-trans, Appends-kept}
-use Rattle.std.specs.Io.KnownBytes.{Appends, Keeps}
-use Rattle.stow_workers.specs.Failures.{HasFailed}
-use Rattle.stow_workers.specs.Sent.{Written, Sent, HasSent, Sends, StaysSent, WritesAll}
+use Rattle.std.proofs.lemmas.List.{take_rest, drop-drop}
+use Rattle.std.proofs.KnownBytes.{Appends-trans}
+use Rattle.std.specs.Io.KnownBytes.{Appends}
+use Rattle.stow_workers.specs.Sent.{Written, Sent, HasSent, StaysSent, WritesAll}
 
 -- the front of what is left was written too
 pub goes_on : (all done rest : List ℕ) (n : ℕ) → all ≡ done ++ rest → all ≡ (done ++ take n rest) ++ take (length rest - n) (drop n rest)
@@ -29,25 +28,6 @@ flushed start old new waiting all (Err error) w s = record {
   failures = ⊎_elim (λ (more : old.failures < new.failures). inl (let same : old.failures ≡ start.failures = s.failures in omega arith)) (λ limit. inr limit) w.failures;
 }
 
--- bytes were added behind those that wait
-pub added_behind : (writer : Written) (passed : ℕ) (old new bytes : List ℕ) → passed ≤ length old → new ≡ old ++ bytes
-    → Sends (record { writer = writer; has_failed = false; waiting = drop passed old }) (record { writer = writer; has_failed = false; waiting = drop passed new }) bytes
-added_behind writer passed old new bytes within is start all s = record {
-  written = s.written;
-  appends = s.appends;
-  left = ap (λ xs. xs ++ bytes) s.left ∙ append_assoc s.written (drop passed old) bytes ∙ ap (λ xs. s.written ++ xs) (sym (drop-append-le passed old bytes within) ∙ ap (drop passed) (sym is));
-  failures = s.failures;
-}
-
--- after a failure nothing is added
-pub not_added : (writer : Written) (old new bytes : List ℕ) → Sends (record { writer = writer; has_failed = true; waiting = old }) (record { writer = writer; has_failed = true; waiting = new }) bytes
-not_added writer old new bytes start all s = record {
-  written = s.written;
-  appends = s.appends;
-  left = (s.left.0 ++ bytes, ap (λ xs. xs ++ bytes) s.left.1 ∙ append_assoc s.written s.left.0 bytes);
-  failures = s.failures;
-}
-
 -- some of what waits was written
 pub passed_on : (old new : Written) (waiting : List ℕ) (n : ℕ) → Appends old.contents new.contents (take n waiting) → new.failures ≡ old.failures
     → StaysSent (record { writer = old; has_failed = false; waiting = waiting }) (record { writer = new; has_failed = false; waiting = drop n waiting })
@@ -57,25 +37,6 @@ passed_on old new waiting n appends same start all s = record {
   left = s.left ∙ ap (λ xs. s.written ++ xs) (sym (take-append-drop n waiting)) ∙ sym (append_assoc s.written (take n waiting) (drop n waiting));
   failures = same ∙ s.failures;
 }
-
--- nothing was, since it would have waited
-pub kept_back : (old new : Written) (waiting : List ℕ) → Keeps old.contents new.contents → new.failures ≡ old.failures
-    → StaysSent (record { writer = old; has_failed = false; waiting = waiting }) (record { writer = new; has_failed = false; waiting = waiting })
-kept_back old new waiting keeps same start all s = record { written = s.written; appends = Appends-kept _ _ _ s.written s.appends keeps; left = s.left; failures = same ∙ s.failures }
-
--- nothing was, since a write failed
-pub gave_up : (old new : Written) (waiting left : List ℕ) → Appends old.contents new.contents [] → HasFailed old.failures new.failures
-    → StaysSent (record { writer = old; has_failed = false; waiting = waiting }) (record { writer = new; has_failed = true; waiting = left })
-gave_up old new waiting left appends failed start all s = record {
-  written = s.written;
-  appends = subst (Appends start.contents new.contents) (append-nil s.written) (Appends-trans _ _ _ s.written [] s.appends appends);
-  left = (waiting, s.left);
-  failures = ⊎_elim (λ (more : old.failures < new.failures). inl (let same : old.failures ≡ start.failures = s.failures in omega arith)) (λ limit. inr limit) failed;
-}
-
--- what a failed write leaves
-pub keeps_none : (old new : Option (List ℕ)) → Keeps old new → Appends old new []
-keeps_none old new keeps = Appends-kept old old new [] (Appends-nil old) keeps
 
 -- some of what waits was taken
 pub taken_some : (old new : Written) (was : Bool) (all bytes : List ℕ) (passed n : ℕ) → was ≡ false → all ≡ bytes → Appends old.contents new.contents (take n (take (length all - passed) (drop passed all))) → new.failures ≡ old.failures
