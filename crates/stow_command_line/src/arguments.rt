@@ -65,15 +65,23 @@ const SIZES: [Count; 4] = [
     },
 ];
 
-/// How many connections are served, and how many threads flush.
-const SERVING: [Count; 3] = [
+/// How many threads serve connections, how many of these there are, and how many threads flush.
+const SERVING: [Count; 4] = [
     Count {
         name: "workers",
         value: "COUNT",
-        help: "How many connections are served at once: the others wait",
+        help: "How many threads serve connections, each many of them in turn",
         usual: "4",
         least: 1,
         most: 256,
+    },
+    Count {
+        name: "clients",
+        value: "COUNT",
+        help: "How many connections there are at once: the others wait",
+        usual: "10000",
+        least: 1,
+        most: 65_535,
     },
     Count {
         name: "flushers",
@@ -161,7 +169,7 @@ fn task<'a>(alloc: Global, name: &'a str, about: &'a str) -> Result<Command<'a>,
 
 /// The command that serves connections.
 fn serve<'a>(alloc: Global) -> Result<Command<'a>, Error> {
-    let about = "Serves connections over TCP, each by a thread of its own";
+    let about = "Serves connections over TCP, in turn";
     let command = Command::new(alloc, "serve").about(about);
     let command = command.arg(listen(alloc))?;
     let command = with_counts(alloc, command, &SERVING)?;
@@ -303,6 +311,7 @@ fn serving_of(matches: &ArgMatches<'_>) -> Option<Result<Serving, Failure<'stati
 {
     let listen = matches.get_str("listen")?;
     let workers = matches.get_one::<u32>("workers")?;
+    let clients = matches.get_one::<u32>("clients")?;
     let flushers = matches.get_one::<u32>("flushers")?;
     let connections = matches.get_one::<u32>("connections")?;
     let Ok(listen) = listen.parse() else {
@@ -311,6 +320,7 @@ fn serving_of(matches: &ArgMatches<'_>) -> Option<Result<Serving, Failure<'stati
     Some(Ok(Serving {
         listen,
         workers,
+        clients,
         flushers,
         connections: u64::from(connections),
         notices: matches.get_flag("notices"),

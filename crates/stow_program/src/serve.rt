@@ -1,4 +1,4 @@
-//! Connections over TCP, each served by a thread, beside threads that flush.
+//! Connections over TCP, served by threads, beside threads that flush.
 ghost use Rattle.std.specs.Prelude.{◌≡◌, ◌<◌, IfErr};
 ghost use Rattle.stow_program.specs.Outcomes.{EndsServing};
 
@@ -6,7 +6,7 @@ use log::info;
 use log::sink::Writer;
 use std::alloc::{AllocError, Allocator};
 use std::io::Write;
-use std::net::{SocketAddr, TcpListener};
+use std::net::{Net, SocketAddr, TcpListener};
 use std::sync::{Arc, Wait};
 use std::thread::Threads;
 use stow_login::tenants::Tenants;
@@ -37,7 +37,7 @@ pub fn serve_connections<R, A, W: Sink, E: Write>(
     errors: &mut E,
 ) -> Result<(), Failure<'static>>
 where
-    R: Threads + Wait + Sync,
+    R: Threads + Wait + Net + Sync,
     A: Allocator + Copy + Send + Sync,
     ensures err { IfErr result (EndsServing (W.failures output.old) (W.failures output.new)) }
     ensures same_output { W.borrow output.new ≡ W.borrow output.old }
@@ -59,6 +59,7 @@ where
         &shared,
         seats,
         flushers,
+        serving.clients,
         serving.connections,
         &OpenGate,
     );

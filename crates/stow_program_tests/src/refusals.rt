@@ -81,6 +81,8 @@ bogus --tenants empty.toml
 serve
 serve --tenants three.toml --workers 0
 serve --tenants three.toml --workers 257
+serve --tenants three.toml --clients 0
+serve --tenants three.toml --clients 65536
 serve --tenants three.toml --flushers 17
 serve --tenants three.toml --connections 65536
 serve --tenants three.toml --connections -1

@@ -12,25 +12,27 @@ const WORDS: &str = "
 pipe --tenants t => pipe 2097152 65536 16 1024 t false
 script --tenants t => script 2097152 65536 16 1024 t false
 usage --tenants t => usage 2097152 65536 16 1024 t false
-serve --tenants t => serve 127.0.0.1:6379 4 1 0 false 2097152 65536 16 1024 t false
+serve --tenants t => serve 127.0.0.1:6379 4 10000 1 0 false 2097152 65536 16 1024 t false
 pipe --tenants other/file --explain => pipe 2097152 65536 16 1024 other/file true
 script --tenants t --buffer 4194304 => script 4194304 65536 16 1024 t false
 usage --tenants t --leaf 4096 => usage 2097152 4096 16 1024 t false
 pipe --tenants t --fanout 256 => pipe 2097152 65536 256 1024 t false
 pipe --tenants t --cache 0 => pipe 2097152 65536 16 0 t false
-serve --tenants t --listen [::1]:7000 => serve [::1]:7000 4 1 0 false 2097152 65536 16 1024 t false
-serve --tenants t --workers 256 => serve 127.0.0.1:6379 256 1 0 false 2097152 65536 16 1024 t false
-serve --tenants t --flushers 0 => serve 127.0.0.1:6379 4 0 0 false 2097152 65536 16 1024 t false
-serve --tenants t --flushers 16 => serve 127.0.0.1:6379 4 16 0 false 2097152 65536 16 1024 t false
-serve --tenants t --connections 65535 => serve 127.0.0.1:6379 4 1 65535 false 2097152 65536 16 1024 t false
-serve --tenants t --notices => serve 127.0.0.1:6379 4 1 0 true 2097152 65536 16 1024 t false
-serve --tenants t --leaf 1048576 --fanout 4 --cache 65536 --explain => serve 127.0.0.1:6379 4 1 0 false 2097152 1048576 4 65536 t true
+serve --tenants t --listen [::1]:7000 => serve [::1]:7000 4 10000 1 0 false 2097152 65536 16 1024 t false
+serve --tenants t --workers 256 => serve 127.0.0.1:6379 256 10000 1 0 false 2097152 65536 16 1024 t false
+serve --tenants t --clients 65535 => serve 127.0.0.1:6379 4 65535 1 0 false 2097152 65536 16 1024 t false
+serve --tenants t --flushers 0 => serve 127.0.0.1:6379 4 10000 0 0 false 2097152 65536 16 1024 t false
+serve --tenants t --flushers 16 => serve 127.0.0.1:6379 4 10000 16 0 false 2097152 65536 16 1024 t false
+serve --tenants t --connections 65535 => serve 127.0.0.1:6379 4 10000 1 65535 false 2097152 65536 16 1024 t false
+serve --tenants t --notices => serve 127.0.0.1:6379 4 10000 1 0 true 2097152 65536 16 1024 t false
+serve --tenants t --leaf 1048576 --fanout 4 --cache 65536 --explain => serve 127.0.0.1:6379 4 10000 1 0 false 2097152 1048576 4 65536 t true
 ";
 
 fn spelled_serving(alloc: Global, serving: Serving) -> Result<String, AllocError> {
     let (listen, notices) = (serving.listen, serving.notices);
-    let (workers, flushers, connections) = (serving.workers, serving.flushers, serving.connections);
-    format!(in alloc; "serve {listen} {workers} {flushers} {connections} {notices}")
+    let (workers, clients) = (serving.workers, serving.clients);
+    let (flushers, connections) = (serving.flushers, serving.connections);
+    format!(in alloc; "serve {listen} {workers} {clients} {flushers} {connections} {notices}")
 }
 
 fn spelled_job(alloc: Global, job: Job) -> Result<String, AllocError> {

@@ -1,6 +1,7 @@
 pub mod Sending
 pub mod Turning
 pub mod Pieces
+pub mod ConnectionTurns
 pub mod OneConnection
 pub mod Flushed
 pub mod Pipelining

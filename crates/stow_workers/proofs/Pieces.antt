@@ -14,13 +14,13 @@ use Rattle.stow_workers.specs.declared.served.Served.{Served}
 use Rattle.stow_workers.specs.declared.served.Served.TheVariants as served
 use Rattle.stow_workers.specs.Exchanges.{steps_of, AllFollow, calls_in, LeadTo, told_in, spelled}
 use Rattle.stow_workers.specs.Sent.{Begins, Written, Sent, IsLeft, HasFailedIf, HasSent, StaysSent, NoneWaits}
-use Rattle.stow_workers.specs.Talks.{HasServedAll, ReaderFails, MeetsEnd, IsTold, IsServed, bytes_told}
-use Rattle.stow_workers.specs.Turns.{State, IsAt, IsAfter, IsEven, PieceTo, CanEndPiece, outcome_of}
+use Rattle.stow_workers.specs.Talks.{HasServedAll, ReaderFails, MeetsEnd, IsTold, IsServed, IsServedBy, bytes_told}
+use Rattle.stow_workers.specs.Turns.{Origin, LedFrom, State, IsAt, IsAfter, IsEven, PieceTo, CanEndPiece, outcome_of}
 use Rattle.stow_workers.proofs.Turning.{one_more}
 
 -- ---- what was read
 
-pub piece_read : {D : Type 0} (answers : DoorCall D) (entries : List Entry) (first : D) (start : Written) (read bytes : List ℕ) (old new : State D) → new.door ≡ old.door → new.talk.tenant ≡ old.talk.tenant → new.talk.unread ≡ old.talk.unread ++ bytes → new.sent ≡ old.sent
+pub piece_read : {D : Type 0} (answers : DoorCall D) (entries : List Entry) (first : Origin D) (start : Written) (read bytes : List ℕ) (old new : State D) → new.door ≡ old.door → new.talk.tenant ≡ old.talk.tenant → new.talk.unread ≡ old.talk.unread ++ bytes → new.sent ≡ old.sent
     → IsAfter answers entries first start read None old → IsAfter answers entries first start (read ++ bytes) None new
 unfolding steps_of told_in
 piece_read answers entries first start read bytes old new door tenant unread sent u =
@@ -29,7 +29,7 @@ piece_read answers entries first start read bytes old new door tenant unread sen
     record { exchanges = Read bytes ∷ u.exchanges; course = more.course; at = more.at; spelled = subst (λ s. HasSent start s (bytes_told entries u.exchanges)) (sym sent) u.spelled }
 
 -- a connection that waits goes on with the next piece
-pub goes_on : {D : Type 0} (answers : DoorCall D) (entries : List Entry) (first : D) (start : Written) (read : List ℕ) (state : State D) → IsAfter answers entries first start read (Some stopped.More) state → IsAfter answers entries first start read None state
+pub goes_on : {D : Type 0} (answers : DoorCall D) (entries : List Entry) (first : Origin D) (start : Written) (read : List ℕ) (state : State D) → IsAfter answers entries first start read (Some stopped.More) state → IsAfter answers entries first start read None state
 goes_on answers entries first start read state w = record { exchanges = w.exchanges; course = w.course; at = w.at.0; spelled = w.spelled }
 
 -- ---- what was written
@@ -67,7 +67,7 @@ pub has_served_all : (entries : List Entry) (talk : Talk) (steps : List Connecti
 has_served_all entries talk steps (at, begun) = (sym at.status, (at.front, talk.unread, at.taken, begun, at.stream))
 
 -- what was to be written was written, or a write has failed
-pub piece_written : {D : Type 0} (answers : DoorCall D) (entries : List Entry) (first : D) (start : Written) (read : List ℕ) (old : State D) (writer : Written) (waiting : List ℕ) (stop : Stop) (has_failed : Bool)
+pub piece_written : {D : Type 0} (answers : DoorCall D) (entries : List Entry) (first : Origin D) (start : Written) (read : List ℕ) (old : State D) (writer : Written) (waiting : List ℕ) (stop : Stop) (has_failed : Bool)
     → IsAfter answers entries first start read (Some stop) old → StaysSent old.sent (record { writer = writer; has_failed = has_failed; waiting = waiting }) → NoneWaits has_failed waiting
     → PieceTo answers entries first start read (outcome_of stop has_failed) (record { door = old.door; talk = old.talk; sent = record { writer = writer; has_failed = has_failed; waiting = waiting } })
 piece_written answers entries first start read old writer waiting stopped.NoMemory has_failed e stays written =
@@ -88,7 +88,7 @@ piece_written answers entries first start read old writer waiting (stopped.Fault
     record { exchanges = e.exchanges; course = e.course; stops = e.at; told = record { written = s.written; appends = s.appends; whole = all_written start writer waiting _ s written; failures = s.failures } }
 
 -- the same, of what the piece ended with
-pub piece_ended : {D : Type 0} (answers : DoorCall D) (entries : List Entry) (first : D) (start : Written) (read : List ℕ) (old : State D) (writer : Written) (waiting : List ℕ) (stop : Stop) (result : Option Served) (has_failed was : Bool)
+pub piece_ended : {D : Type 0} (answers : DoorCall D) (entries : List Entry) (first : Origin D) (start : Written) (read : List ℕ) (old : State D) (writer : Written) (waiting : List ℕ) (stop : Stop) (result : Option Served) (has_failed was : Bool)
     → result ≡ outcome_of stop was → was ≡ has_failed → IsAfter answers entries first start read (Some stop) old → StaysSent old.sent (record { writer = writer; has_failed = has_failed; waiting = waiting }) → NoneWaits has_failed waiting
     → PieceTo answers entries first start read result (record { door = old.door; talk = old.talk; sent = record { writer = writer; has_failed = has_failed; waiting = waiting } })
 piece_ended answers entries first start read old writer waiting stop result has_failed was is same e stays written =
@@ -115,13 +115,17 @@ reader_stays served.NoMemory old new left read can same = (same, tt)
 
 -- ---- a whole connection
 
+-- a door at which a connection begins
+abbrev pub from_here : {D : Type 0} → D → Origin D
+from_here door = record { earlier = []; door = door }
+
 -- nothing has come yet
 pub begins : {D : Type 0} (answers : DoorCall D) (entries : List Entry) (door : D) (start : Written) (talk : Talk) (waiting : List ℕ) (has_failed : Bool) → talk.tenant ≡ None → talk.unread ≡ [] → waiting ≡ [] → has_failed ≡ false
-    → IsAfter answers entries door start [] (Some stopped.More) (record { door = door; talk = talk; sent = record { writer = start; has_failed = has_failed; waiting = waiting } })
+    → IsAfter answers entries (from_here door) start [] (Some stopped.More) (record { door = door; talk = talk; sent = record { writer = start; has_failed = has_failed; waiting = waiting } })
 unfolding steps_of AllFollow calls_in told_in spelled LeadTo Follows status_of served_as taken_by stream_of
 begins answers entries door start talk waiting has_failed nobody none empty right = record {
   exchanges = [];
-  course = record { follow = (tt, tt); stream = refl; door = refl };
+  course = record { follow = (tt, tt); stream = refl; door = ([], refl, refl) };
   at = (record { status = refl; tenant = nobody; front = []; taken = refl; stream = sym none }, subst IsBegun (sym none) none_begun);
   spelled = record {
     written = [];
@@ -130,6 +134,17 @@ begins answers entries door start talk waiting has_failed nobody none empty righ
     failures = subst (λ f. HasFailedIf f start.failures start.failures) (sym right) refl;
   };
 }
+
+-- calls that began at a connection's first door lead it from there
+pub served_from_here : {D : Type 0} (answers : DoorCall D) (entries : List Entry) (first new : D) (read : List ℕ) (before after : Written) (result : Served) → IsServedBy (LedFrom answers (from_here first) new) entries read before after result → IsServed answers entries first new read before after result
+served_from_here answers entries first new read before after result s =
+    let (newer, is, led) = s.course.door in
+    record {
+      exchanges = s.exchanges;
+      course = record { follow = s.course.follow; stream = s.course.stream; door = subst (λ calls. LeadTo answers first calls new) (sym (append-nil newer) ∙ sym is) led };
+      stops = s.stops;
+      told = s.told;
+    }
 
 -- ---- the end of a connection whose messages were all served
 
@@ -142,15 +157,15 @@ even_told start sent all s even = (
   subst (λ f. HasFailedIf f start.failures sent.writer.failures) even.0 s.failures,
 )
 
-module _ {D : Type 0} (answers : DoorCall D) (entries : List Entry) (first : D) (start : Written) (read : List ℕ) (state : State D) (waits : IsAfter answers entries first start read (Some stopped.More) state) (even : IsEven state.sent) where
+module _ {D : Type 0} (answers : DoorCall D) (entries : List Entry) (first : Origin D) (start : Written) (read : List ℕ) (state : State D) (waits : IsAfter answers entries first start read (Some stopped.More) state) (even : IsEven state.sent) where
   -- the reader failed
-  pub failed_served : IsServed answers entries first state.door read start state.sent.writer served.ReadFailed
+  pub failed_served : IsServedBy (LedFrom answers first state.door) entries read start state.sent.writer served.ReadFailed
   failed_served =
       let (written, appends, whole, failures) = even_told start state.sent (bytes_told entries waits.exchanges) waits.spelled even in
       record { exchanges = waits.exchanges; course = waits.course; stops = has_served_all entries state.talk _ waits.at; told = record { written = written; appends = appends; whole = whole; failures = failures } }
 
   -- the input ended
-  pub ended_served : IsServed answers entries first state.door read start state.sent.writer served.Ended
+  pub ended_served : IsServedBy (LedFrom answers first state.door) entries read start state.sent.writer served.Ended
   ended_served =
       let (written, appends, whole, failures) = even_told start state.sent (bytes_told entries waits.exchanges) waits.spelled even in
       record { exchanges = waits.exchanges; course = waits.course; stops = has_served_all entries state.talk _ waits.at; told = record { written = written; appends = appends; whole = whole; failures = failures } }

@@ -12,29 +12,33 @@ use Rattle.stow_resp.specs.Next.{IsTaken}
 use Rattle.stow_house.specs.declared.stop.Stop.{Stop}
 use Rattle.stow_house.specs.declared.stop.Stop.TheVariants as stopped
 use Rattle.stow_house.specs.Seen.{Seen}
-use Rattle.stow_house.specs.Conversations.{Exchange, Served, Faulted, step_of, reply_in, told_with, DoorCall, IsAsked, Meets, Talk, as_seen, Tells, Asks}
+use Rattle.stow_house.specs.Conversations.{Exchange, Served, Faulted, step_of, reply_in, told_with, words_of, DoorCall, IsAsked, Meets, Talk, as_seen, Tells, Asks}
+use Rattle.stow_house.specs.declared.request.Request.{Request}
+use Rattle.stow_house.specs.Pipelines.{AnswersAll}
 use Rattle.stow_house.specs.Steps.{StandsAt}
 use Rattle.stow_house.proofs.Stood.{follows, stands_here}
 use Rattle.stow_workers.specs.Exchanges.{steps_of, AllFollow, Call, with_call, calls_in, LeadTo, told_in, spelled}
 use Rattle.stow_workers.specs.Sent.{Begins, Written, Sent, HasSent, StaysSent, SendsReply}
-use Rattle.stow_workers.specs.Talks.{Course, bytes_told}
-use Rattle.stow_workers.specs.Turns.{State, HasSpelled, Turns, Shortens, GoesTo}
+use Rattle.stow_workers.specs.Talks.{CourseBy, bytes_told}
+use Rattle.stow_workers.specs.Turns.{Origin, LedFrom, State, HasSpelled, Turns, Shortens, GoesTo, HasLed}
 
 -- ---- an exchange more
 
 -- what went on with one exchange more
-pub record OneMore {D : Type 0} (answers : DoorCall D) (entries : List Entry) (first : D) (read : List ℕ) (earlier : List Exchange) (x : Exchange) (told : Option Reply) (new : Seen) (door : D) : Type 0 where
-  pub course : Course answers entries first door read (x ∷ earlier)
+pub record OneMore {D : Type 0} (answers : DoorCall D) (entries : List Entry) (first : Origin D) (read : List ℕ) (earlier : List Exchange) (x : Exchange) (told : Option Reply) (new : Seen) (door : D) : Type 0 where
+  pub course : CourseBy (LedFrom answers first door) entries read (x ∷ earlier)
   pub at : StandsAt entries new (step_of x ∷ steps_of earlier)
   pub says : told_in entries (x ∷ earlier) ≡ with_reply told (told_in entries earlier)
 
-leads_on : {D : Type 0} (answers : DoorCall D) (request : Option Service) (r : Reply) (first before after : D) (calls : List Call) → LeadTo answers first calls before → IsAsked answers request r before after → LeadTo answers first (with_call request r calls) after
+leads_on : {D : Type 0} (answers : DoorCall D) (request : Option Service) (r : Reply) (first : Origin D) (before after : D) (calls : List Call) → LedFrom answers first before calls → IsAsked answers request r before after → LedFrom answers first after (with_call request r calls)
 unfolding LeadTo
-leads_on answers None r first before after calls led asked = subst (LeadTo answers first calls) (sym asked) led
-leads_on answers (Some service) r first before after calls led asked = (before, led, asked)
+leads_on answers None r first before after calls led asked = subst (λ d. LedFrom answers first d calls) (sym asked) led
+leads_on answers (Some service) r first before after calls (newer, is, led) asked =
+    let call : Call = record { tenant = service.tenant; words = words_of service.event; reply = r } in
+    (call ∷ newer, ap (λ cs. call ∷ cs) is, (before, led, asked))
 
-pub one_more : {D : Type 0} (answers : DoorCall D) (entries : List Entry) (first : D) (read : List ℕ) (earlier : List Exchange) (x : Exchange) (request : Option Service) (told : Option Reply) (old : Talk) (new : Seen) (before after : D)
-    → Course answers entries first before read earlier → StandsAt entries (as_seen IsOpen old) (steps_of earlier) → Meets entries x request told (as_seen IsOpen old) new → IsAsked answers request (reply_in x) before after
+pub one_more : {D : Type 0} (answers : DoorCall D) (entries : List Entry) (first : Origin D) (read : List ℕ) (earlier : List Exchange) (x : Exchange) (request : Option Service) (told : Option Reply) (old : Talk) (new : Seen) (before after : D)
+    → CourseBy (LedFrom answers first before) entries read earlier → StandsAt entries (as_seen IsOpen old) (steps_of earlier) → Meets entries x request told (as_seen IsOpen old) new → IsAsked answers request (reply_in x) before after
     → OneMore answers entries first (stream_after (step_of x) IsOpen read) earlier x told new after
 unfolding steps_of AllFollow calls_in told_in stream_of
 one_more answers entries first read earlier x request told old new before after course at m asked =
@@ -44,7 +48,7 @@ one_more answers entries first read earlier x request told old new before after 
       course = record {
         follow = (follows entries (step_of x) seen new part at m.moves.unread m.moves.can, course.follow);
         stream = λ i. stream_after (step_of x) (sym at.status i) (course.stream i);
-        door = subst (λ o. LeadTo answers first (with_call o (reply_in x) (calls_in entries earlier)) after) (sym m.asks ∙ ap (request_of (step_of x)) at.tenant)
+        door = subst (λ o. LedFrom answers first after (with_call o (reply_in x) (calls_in entries earlier))) (sym m.asks ∙ ap (request_of (step_of x)) at.tenant)
             (leads_on answers request (reply_in x) first before after (calls_in entries earlier) course.door asked);
       };
       at = stands_here entries (step_of x) seen new part at m.moves.status m.moves.tenant m.moves.unread;
@@ -136,3 +140,27 @@ not_sent answers entries told stop old new turns mid is stays = λ first start r
       at = tt;
       spelled = (bytes_told entries u.exchanges, subst (λ replies. Begins (bytes_told entries u.exchanges) (spelled replies)) (sym t.says) (begins_reply told (told_in entries u.exchanges)), stays start (bytes_told entries u.exchanges) (subst (λ s. HasSent start s (bytes_told entries u.exchanges)) (sym is) u.spelled));
     }
+
+-- ---- calls
+
+pub led_none : {D : Type 0} (answers : DoorCall D) (door : D) → HasLed answers door door
+unfolding LeadTo
+led_none answers door = ([], refl)
+
+pub led_one : {D : Type 0} (answers : DoorCall D) (old : D) (tenant : ℕ) (words : List (List ℕ)) (r : Reply) (new : D) → answers old tenant words r new → HasLed answers old new
+unfolding LeadTo
+led_one answers old tenant words r new asked = ((record { tenant = tenant; words = words; reply = r }) ∷ [], (old, refl, asked))
+
+lead_on : {D : Type 0} (answers : DoorCall D) (old mid : D) (earlier : List Call) → LeadTo answers old earlier mid → (calls : List Call) (new : D) → LeadTo answers mid calls new → LeadTo answers old (calls ++ earlier) new
+unfolding LeadTo
+lead_on answers old mid earlier led [] new on = subst (λ d. LeadTo answers old earlier d) (sym on) led
+lead_on answers old mid earlier led (call ∷ calls) new on = (on.0, lead_on answers old mid earlier led calls on.0 on.1, on.2)
+
+pub led_then : {D : Type 0} (answers : DoorCall D) (old mid new : D) → HasLed answers old mid → HasLed answers mid new → HasLed answers old new
+led_then answers old mid new first second = (second.0 ++ first.0, lead_on answers old mid first.0 first.1 second.0 new second.1)
+
+pub led_all : {D A : Type 0} (answers : DoorCall D) (old : D) (qs : List (Request A)) (rs : List Reply) (new : D) → AnswersAll answers old qs rs new → HasLed answers old new
+led_all answers old [] [] new led = subst (λ d. HasLed answers old d) (sym led) (led_none answers old)
+led_all answers old (q ∷ qs) (r ∷ rs) new led = led_then answers old led.0 new (led_one answers old q.tenant q.words r led.0 led.1) (led_all answers led.0 qs rs new led.2)
+led_all answers old [] (r ∷ rs) new led = absurd led
+led_all answers old (q ∷ qs) [] new led = absurd led

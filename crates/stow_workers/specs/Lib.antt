@@ -4,8 +4,10 @@ pub mod Exchanges
 pub mod Sent
 pub mod Talks
 pub mod Turns
+pub mod NonblockingConnections
 pub mod Laws
 pub mod Flushes
 pub mod Pools
 pub mod WakingDesks
 pub mod Pipelined
+pub mod Nonblocking

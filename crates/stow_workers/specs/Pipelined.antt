@@ -1,13 +1,12 @@
 -- Requests that were heard one after another, and what was done of them.
-use Rattle.std.specs.Prelude.{◌≡◌, ℕ, ◌<◌, List, [], ◌∷◌, ◌++◌, length, take, Option, Some, None, option_map, ◌⊎◌}
+use Rattle.std.specs.Prelude.{◌≡◌, ℕ, List, [], ◌∷◌, ◌++◌, Option, Some, None, option_map, ◌⊎◌}
 use Rattle.stow_model.specs.declared.reply.Reply as coded
 use Rattle.stow_model.specs.Login.{Entry}
 use Rattle.stow_model.specs.Reply.{Reply, reply_of, encoding}
 use Rattle.stow_house.specs.declared.request.Request.{Request}
 use Rattle.stow_house.specs.declared.stop.Stop.{Stop}
 use Rattle.stow_house.specs.declared.stop.Stop.TheVariants as stopped
-use Rattle.stow_house.specs.Conversations.{DoorCall, Talk, Asks, Tells}
-use Rattle.stow_house.specs.Pipelines.{AnswersAll}
+use Rattle.stow_house.specs.Conversations.{Talk, Asks, Tells}
 use Rattle.stow_workers.specs.Sent.{Begins, Sent, Sends, SendsReply, StaysSent}
 
 -- the requests were heard, one after another
@@ -31,11 +30,6 @@ pub record HearsAll {A : Type 0} (entries : List Entry) (requests : List (Reques
   pub asks : AsksAll entries requests old mid
   pub ends : Ends entries end mid new
 
--- something was heard
-abbrev pub HasHeard : {A : Type 0} → List (Request A) → End A → Type 0
-HasHeard requests None = 0 < length requests
-HasHeard requests (Some end) = Unit {0}
-
 -- the bytes of replies, oldest first
 abbrev pub encodings : List Reply → List ℕ
 encodings [] = []
@@ -50,18 +44,3 @@ SendsFront old new replies = (front : List ℕ) × Begins front (encodings repli
 abbrev pub TellsOrStops : Option Reply → Option Stop → Option Stop → Sent → Sent → Type 0
 TellsOrStops told stop result old new = ((result ≡ stop) × SendsReply told old new)
     ⊎ ((result ≡ Some stopped.NoMemory) × StaysSent old new)
-
--- the requests were answered, and the replies added
-pub record AnswersHeard {D A : Type 0} (answers : DoorCall D) (requests : List (Request A))
-    (old new : D) (before after : Sent) : Type 0 where
-  pub replies : List Reply
-  pub led : AnswersAll answers old requests replies new
-  pub sent : Sends before after (encodings replies)
-
--- some of them were answered, and a beginning of the replies added
-pub record AnswersPart {D A : Type 0} (answers : DoorCall D) (requests : List (Request A))
-    (old new : D) (before after : Sent) : Type 0 where
-  pub count : ℕ
-  pub replies : List Reply
-  pub led : AnswersAll answers old (take count requests) replies new
-  pub sent : SendsFront before after replies

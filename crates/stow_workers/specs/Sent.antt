@@ -1,5 +1,5 @@
 -- What a writer was given of the replies, and what waits for it.
-use Rattle.std.specs.Prelude.{◌≡◌, ℕ, Bool, true, false, List, [], ◌++◌, Option, Some, None, Result, Ok, Err}
+use Rattle.std.specs.Prelude.{◌≡◌, ℕ, Bool, true, false, List, [], ◌++◌, drop, Option, Some, None, Result, Ok, Err}
 use Rattle.std.specs.Io.KnownBytes.{Appends}
 use Rattle.stow_model.specs.Reply.{Reply, encoding}
 use Rattle.stow_workers.specs.declared.replies.Replies.{Replies}
@@ -25,7 +25,15 @@ sent_of contents failures replies =
     record {
       writer = record { contents = contents; failures = failures };
       has_failed = replies.has_failed;
-      waiting = replies.bytes.items;
+      waiting = drop replies.passed replies.bytes.items;
+    }
+
+abbrev pub sent_at : {A : Type 0} → Written → Replies A → Sent
+sent_at writer replies =
+    record {
+      writer = writer;
+      has_failed = replies.has_failed;
+      waiting = drop replies.passed replies.bytes.items;
     }
 
 -- of all bytes these were written, and what is left waits; after a failure it is given up

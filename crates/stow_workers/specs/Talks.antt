@@ -8,7 +8,7 @@ use Rattle.stow_house.specs.Conversations.{DoorCall, Exchange}
 use Rattle.stow_workers.specs.declared.served.Served.{Served}
 use Rattle.stow_workers.specs.declared.served.Served.TheVariants as served
 use Rattle.stow_workers.specs.Failures.{HasFailed}
-use Rattle.stow_workers.specs.Exchanges.{steps_of, AllFollow, calls_in, LeadTo, told_in, spelled}
+use Rattle.stow_workers.specs.Exchanges.{Call, steps_of, AllFollow, calls_in, LeadTo, told_in, spelled}
 use Rattle.stow_workers.specs.Sent.{Begins, Written}
 
 -- ---- how a connection's service ends
@@ -67,12 +67,17 @@ abbrev pub bytes_told : List Entry → List Exchange → List ℕ
 bytes_told entries exchanges = spelled (told_in entries exchanges)
 
 -- What went on: each step follows from those before it, their stream is what was read, and the
--- requests among them led the door from one state to the other.
-pub record Course {D : Type 0} (answers : DoorCall D) (entries : List Entry) (old new : D)
-    (read : List ℕ) (exchanges : List Exchange) : Type 0 where
+-- requests among them are calls of the door, of which this holds.
+pub record CourseBy (led : List Call → Type 0) (entries : List Entry) (read : List ℕ)
+    (exchanges : List Exchange) : Type 0 where
   pub follow : AllFollow entries (steps_of exchanges)
   pub stream : stream_of (steps_of exchanges) ≡ read
-  pub door : LeadTo answers old (calls_in entries exchanges) new
+  pub door : led (calls_in entries exchanges)
+
+-- The requests led the door from one state to the other.
+abbrev pub Course : {D : Type 0} → DoorCall D → List Entry → D → D → List ℕ → List Exchange
+    → Type 0
+Course answers entries old new = CourseBy (λ calls. LeadTo answers old calls new) entries
 
 -- What the connection is told was written, or a beginning of it.
 pub record IsTold (result : Served) (old new : Written) (all : List ℕ) : Type 0 where
@@ -81,13 +86,19 @@ pub record IsTold (result : Served) (old new : Written) (all : List ℕ) : Type 
   pub whole : IsWrittenWhole result written all
   pub failures : WriterFails result old.failures new.failures
 
--- These bytes were read, served through the door, and answered to the writer, until it ended so.
-pub record IsServed {D : Type 0} (answers : DoorCall D) (entries : List Entry) (old new : D)
-    (read : List ℕ) (before after : Written) (result : Served) : Type 0 where
+-- These bytes were read, served by calls of which this holds, and answered to the writer, until it
+-- ended so.
+pub record IsServedBy (led : List Call → Type 0) (entries : List Entry) (read : List ℕ)
+    (before after : Written) (result : Served) : Type 0 where
   pub exchanges : List Exchange
-  pub course : Course answers entries old new read exchanges
+  pub course : CourseBy led entries read exchanges
   pub stops : StopsAt result (steps_of exchanges)
   pub told : IsTold result before after (bytes_told entries exchanges)
+
+-- The calls led the door from one state to the other.
+abbrev pub IsServed : {D : Type 0} → DoorCall D → List Entry → D → D → List ℕ → Written → Written
+    → Served → Type 0
+IsServed answers entries old new = IsServedBy (λ calls. LeadTo answers old calls new) entries
 
 -- What was read is the front of what there was to read, and it was served and answered until the
 -- connection ended so; at the end of input nothing is left.

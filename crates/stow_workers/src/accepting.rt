@@ -1,18 +1,21 @@
 //! Connections on their way from a listener to the workers.
 use crate::pool_fault::PoolFault;
-use crossbeam_channel::Sender;
+use crate::senders::Senders;
 use std::alloc::Allocator;
 use std::io;
 use std::io::{Error, ErrorKind};
 use std::net::{TcpListener, TcpStream};
 use std::sync::Wait;
 
-/// Accepts so many connections and hands them over; at 0 there is no end. Where one can't be handed over it is
-/// closed.
-pub fn accept<R: Wait, A: Allocator>(
+/// The system's numbers for no free descriptor, of the system and of the process.
+const NO_DESCRIPTOR: [i32; 2] = [23, 24];
+
+/// Accepts so many connections, each once there is room for it, and hands them over; at 0 there is no end. Where one
+/// can't be handed over it is closed.
+pub(crate) fn accept<R: Wait, A: Allocator + Copy>(
     rt: &R,
     listener: &TcpListener,
-    streams: &Sender<TcpStream, A>,
+    senders: &mut Senders<A>,
     connections: u64,
 ) -> Option<PoolFault> {
     let count = if connections == 0 {
@@ -21,16 +24,22 @@ pub fn accept<R: Wait, A: Allocator>(
         connections
     };
     for _ in 0..count {
-        match next_stream(listener) {
-            Ok(stream) => drop(streams.send(rt, stream)),
+        senders.wait_for_room(rt);
+        match next_stream(rt, listener, senders) {
+            Ok(stream) => senders.hand_over(rt, stream),
             Err(error) => return Some(PoolFault::AcceptFailed(error)),
         }
     }
     None
 }
 
-/// The next connection. One that went away before it was accepted is passed over.
-fn next_stream(listener: &TcpListener) -> io::Result<TcpStream> {
+/// The next connection. One that went away before it was accepted is passed over. Where no descriptor is free it waits until a
+/// connection is closed, if there is one.
+fn next_stream<R: Wait, A: Allocator + Copy>(
+    rt: &R,
+    listener: &TcpListener,
+    senders: &mut Senders<A>,
+) -> io::Result<TcpStream> {
     for stream in listener.incoming() {
         match stream {
             Ok(stream) => {
@@ -39,7 +48,11 @@ fn next_stream(listener: &TcpListener) -> io::Result<TcpStream> {
                 return Ok(stream);
             }
             Err(error) if is_of_one_client(&error) => {}
-            Err(error) => return Err(error),
+            Err(error) => {
+                if !wants_descriptor(&error) || !senders.wait_for_close(rt) {
+                    return Err(error);
+                }
+            }
         }
     }
     Err(Error::from(ErrorKind::Other))
@@ -51,4 +64,12 @@ fn is_of_one_client(error: &Error) -> bool {
         error.kind(),
         ErrorKind::Interrupted | ErrorKind::ConnectionAborted
     )
+}
+
+/// Whether no descriptor was free.
+fn wants_descriptor(error: &Error) -> bool {
+    match error.raw_os_error() {
+        Some(number) => NO_DESCRIPTOR.contains(&number),
+        None => false,
+    }
 }

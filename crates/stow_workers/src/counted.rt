@@ -3,7 +3,10 @@ ghost use Rattle.std.specs.Prelude.{◌≡◌, ◌<◌, IsSome, Some, None};
 ghost use Rattle.std.specs.Io.{ReadsAtMost, WritesAtMost};
 ghost use Rattle.std.specs.Io.KnownBytes.{Keeps, ReadConsumes, WriteAppends};
 ghost use Rattle.stow_workers.specs.Failures.{HasFailed, CountsFailure, CountsWrite};
+ghost use Rattle.stow_workers.specs.Nonblocking.{TryReadsAtMost, TryReadConsumes, TryWritesAtMost, TryWriteAppends, CountsTryWrite};
 
+use crate::nonblocking_sink::NonblockingSink;
+use crate::nonblocking_source::NonblockingSource;
 use crate::sink::Sink;
 use crate::source::Source;
 use std::io;
@@ -129,6 +132,61 @@ impl<T: Write> Sink for Counted<'_, T> {
             match self.inner.flush() {
                 Ok(()) => return Ok(()),
                 Err(error) if error.kind() == ErrorKind::Interrupted => {}
+                Err(error) => return Err(self.fail(error)),
+            }
+        }
+        Err(self.fail(Error::from(ErrorKind::Interrupted)))
+    }
+}
+
+impl<T: Read> NonblockingSource for Counted<'_, T> {
+    ghost use Rattle.stow_workers.specs.Counted.{inner_of, failures_of};
+
+    ghost remaining = { λ c. T.remaining (inner_of c) };
+
+    ghost failures = { λ c. failures_of c };
+
+    fn try_read(&mut self, room: &mut [u8]) -> io::Result<Option<usize>>
+        ensures bound { TryReadsAtMost result room.new }
+        ensures bytes { TryReadConsumes (T.remaining (inner_of self.old))
+            (T.remaining (inner_of self.new)) result room.new }
+        ensures failures { CountsFailure result (failures_of self.old) (failures_of self.new) }
+    {
+        for _ in 0..u64::MAX {
+            match self.inner.read(room) {
+                Ok(count) => return Ok(Some(count)),
+                Err(error) if error.kind() == ErrorKind::Interrupted => {}
+                Err(error) if error.kind() == ErrorKind::WouldBlock => return Ok(None),
+                Err(error) => return Err(self.fail(error)),
+            }
+        }
+        Err(self.fail(Error::from(ErrorKind::Interrupted)))
+    }
+}
+
+impl<T: Write> NonblockingSink for Counted<'_, T> {
+    ghost use Rattle.stow_workers.specs.Counted.{inner_of, failures_of};
+
+    ghost contents = { λ c. T.contents (inner_of c) };
+
+    ghost failures = { λ c. failures_of c };
+
+    fn try_write(&mut self, bytes: &[u8]) -> io::Result<Option<usize>>
+        ensures bound { TryWritesAtMost result bytes.now }
+        ensures bytes { TryWriteAppends (T.contents (inner_of self.old))
+            (T.contents (inner_of self.new)) result bytes.now }
+        ensures failures { CountsTryWrite result bytes.now (failures_of self.old)
+            (failures_of self.new) }
+    {
+        for _ in 0..u64::MAX {
+            match self.inner.write(bytes) {
+                Ok(0) if !bytes.is_empty() => {
+                    let error = Error::new(ErrorKind::WriteZero, "failed to write whole buffer");
+                    return Err(self.fail(error));
+                }
+                Ok(count) => return Ok(Some(count)),
+                Err(error) if error.kind() == ErrorKind::Interrupted => {}
+                Err(error) if error.kind() == ErrorKind::WouldBlock => return Ok(None),
                 Err(error) => return Err(self.fail(error)),
             }
         }

@@ -8,11 +8,12 @@ use crate::gate::Gate;
 use crate::pool_fault::PoolFault;
 use crate::senders::Senders;
 use crate::starting::start;
+use crate::wake::Wake;
 use crate::worker::Worker;
 use crate::workplace::Workplace;
-use crossbeam_channel::bounded;
+use crossbeam_channel::{Receiver, bounded};
 use std::alloc::Allocator;
-use std::net::TcpListener;
+use std::net::{Net, TcpListener};
 use std::sync::Wait;
 use std::thread;
 use std::thread::{Scope, Threads};
@@ -20,21 +21,22 @@ use stow_shared::journal::Journal;
 use stow_shared::seat::Seat;
 use stow_shared::shared::Shared;
 
-/// How many connections that were accepted may wait for a worker, and how many wakes for a flusher.
+/// How many wakes may wait for a flusher.
 const WAITING: usize = 16;
 
 /// Threads that serve the connections of a listener, and threads that flush, each from a seat of its own.
 pub struct Pool;
 
 impl Pool {
-    /// Serves the listener's connections, each by one worker from its first request to its end, with a worker for
-    /// each seat but the last `flushers`. From each of these a flusher flushes, woken by every 64th call of a worker.
-    /// Returns once so many connections were served, or never at 0, and all its threads have ended; so does a fault,
-    /// once the connections that were accepted are served. Each seat comes back in its place. Nothing but calls was
-    /// done from a worker's, and nothing but plans and installs from a flusher's.
+    /// Serves the listener's connections, up to `clients` at once, or one at 0, each by one worker from its first request to its
+    /// end, with a worker for each seat but the last `flushers`. A connection goes to a worker that has fewest, and those of a
+    /// worker take turns. From each of the last seats a flusher flushes, woken by every 64th call of a worker. Returns once so many
+    /// connections were served, or never at 0, and all its threads have ended; so does a fault, once the connections that were
+    /// accepted are served. Each seat comes back in its place. Nothing but calls was done from a worker's, and nothing but plans and
+    /// installs from a flusher's.
     pub fn run<
         'a,
-        R: Threads + Wait + Sync,
+        R: Threads + Wait + Net + Sync,
         J: Journal + Send + Sync,
         G: Gate + Sync,
         A: Allocator + Copy + Send + Sync,
@@ -45,6 +47,7 @@ impl Pool {
         shared: &'a Shared<J, A>,
         seats: Vec<Seat<J, A>, A>,
         flushers: usize,
+        clients: u32,
         connections: u64,
         gate: &'a G,
     ) -> (Vec<Seat<J, A>, A>, Option<PoolFault>)
@@ -52,49 +55,93 @@ impl Pool {
         ensures { ComeBack J.keeps (vec_len seats - flushers) seats.items result.0.items }
     {
         let count = seats.len() - flushers;
-        let Ok(workers) = Vec::with_capacity(alloc, seats.len()) else {
+        let Some((senders, wakes)) = set_up(rt, alloc, count, flushers, clients) else {
             return (seats, Some(PoolFault::Refused));
         };
-        let Ok(returned) = Vec::with_capacity(alloc, seats.len()) else {
-            return (seats, Some(PoolFault::Refused));
-        };
-        let Ok((sender, receiver)) = bounded(alloc, WAITING) else {
-            return (seats, Some(PoolFault::Refused));
-        };
-        let Ok((waking, wakes)) = bounded(alloc, WAITING) else {
-            return (seats, Some(PoolFault::Refused));
-        };
-        let senders = Senders::new(sender, waking, flushers);
         let place = Workplace {
             rt,
             alloc,
-            streams: &receiver,
             wakes: &wakes,
             shared,
             gate,
         };
-        let place = &place;
-        thread::scope(
-            thread::scope_env(),
-            rt,
-            move |scope| -> (Vec<Seat<J, A>, A>, Option<PoolFault>)
-                requires { IsSync R.row × IsSync J.row × IsSync G.row × IsSync A.row
-                    × IsSend J.row × IsSend A.row × Frees A.Allocator A.dealloc_token
-                    × (workers.items ≡ []) × (vec_len seats ≤ vec_capacity workers)
-                    × (returned.items ≡ []) × (vec_len seats ≤ vec_capacity returned) }
-                ensures { ComeBack J.keeps count seats.items result.0.items }
-            {
-                let mut senders = Some(senders);
-                let workers = start_all(scope, place, count, seats, &mut senders, workers);
-                let fault = match &senders {
-                    Some(senders) => accept(rt, listener, &senders.streams, connections),
-                    None => Some(PoolFault::Refused),
-                };
-                drop(senders);
-                (join_all(rt, workers, returned), fault)
-            },
-        )
+        serve(&place, listener, seats, count, connections, Some(senders))
     }
+}
+
+/// What the threads of a pool need: the ends by which they are reached, with an event loop for each worker, and where wakes come
+/// from. `None` where memory or the system refuses it.
+fn set_up<R: Net, A: Allocator + Copy>(
+    rt: &R,
+    alloc: A,
+    workers: usize,
+    flushers: usize,
+    clients: u32,
+) -> Option<(Senders<A>, Receiver<Wake, A>)> {
+    let clients = clients.max(1);
+    let (waking, wakes) = bounded(alloc, WAITING).ok()?;
+    let (closed_sender, closed) = bounded(alloc, clients as usize).ok()?;
+    let mut senders = Senders {
+        alloc,
+        handles: Vec::new(alloc),
+        event_loops: Vec::new(alloc),
+        closed,
+        closed_sender,
+        wakes: if flushers > 0 { Some(waking) } else { None },
+        count: 0,
+        clients,
+    };
+    for _ in 0..workers {
+        senders.add_worker(rt)?;
+    }
+    Some((senders, wakes))
+}
+
+/// Serves and flushes from the seats, as `Pool::run` has it.
+fn serve<
+    'a,
+    R: Threads + Wait + Sync,
+    J: Journal + Send + Sync,
+    G: Gate + Sync,
+    A: Allocator + Copy + Send + Sync,
+>(
+    place: &'a Workplace<'a, R, J, G, A>,
+    listener: &'a TcpListener,
+    seats: Vec<Seat<J, A>, A>,
+    count: usize,
+    connections: u64,
+    senders: Option<Senders<A>>,
+) -> (Vec<Seat<J, A>, A>, Option<PoolFault>)
+    requires { count ≤ vec_len seats }
+    ensures { ComeBack J.keeps count seats.items result.0.items }
+{
+    let (rt, alloc) = (place.rt, place.alloc);
+    let Ok(workers) = Vec::with_capacity(alloc, seats.len()) else {
+        return (seats, Some(PoolFault::Refused));
+    };
+    let Ok(returned) = Vec::with_capacity(alloc, seats.len()) else {
+        return (seats, Some(PoolFault::Refused));
+    };
+    thread::scope(
+        thread::scope_env(),
+        rt,
+        move |scope| -> (Vec<Seat<J, A>, A>, Option<PoolFault>)
+            requires { IsSync R.row × IsSync J.row × IsSync G.row × IsSync A.row
+                × IsSend J.row × IsSend A.row × Frees A.Allocator A.dealloc_token
+                × (workers.items ≡ []) × (vec_len seats ≤ vec_capacity workers)
+                × (returned.items ≡ []) × (vec_len seats ≤ vec_capacity returned) }
+            ensures { ComeBack J.keeps count seats.items result.0.items }
+        {
+            let mut senders = senders;
+            let workers = start_all(scope, place, count, seats, &mut senders, workers);
+            let fault = match &mut senders {
+                Some(senders) => accept(rt, listener, senders, connections),
+                None => Some(PoolFault::Refused),
+            };
+            drop(senders);
+            (join_all(rt, workers, returned), fault)
+        },
+    )
 }
 
 /// A worker for each of the first `count` seats, and a flusher for each of the others. Where a thread is refused the

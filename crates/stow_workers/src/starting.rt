@@ -3,6 +3,7 @@ ghost use denote.Param.Send.{Frees, IsSend, IsSync};
 ghost use Rattle.std.specs.Prelude.{◌≡◌, true, false};
 ghost use Rattle.stow_workers.specs.Pools.{IsFlusherOf, IsWorkerOf};
 
+use crate::equipment::Equipment;
 use crate::flush_promise::FlushPromise;
 use crate::gate::Gate;
 use crate::seat_promise::SeatPromise;
@@ -39,7 +40,7 @@ where
     }
 }
 
-/// A worker, with a thread where there are senders. Where the thread is refused they are dropped.
+/// A worker, with a thread where there are senders. Where the thread, or what it needs, is refused they are dropped.
 fn start_worker<'s, E, R, J, G, A>(
     scope: &Scope<'s, E>,
     place: &'s Workplace<'s, R, J, G, A>,
@@ -53,14 +54,15 @@ where
     A: Allocator + Copy + Send + Sync,
     ensures { IsWorkerOf J.keeps seat result }
 {
-    let waker = match senders {
-        Some(senders) => senders.waker(),
-        None => return Worker::Idle(seat),
-    };
+    let equipment = equipped(senders);
+    if equipment.is_none() {
+        *senders = None;
+        return Worker::Idle(seat);
+    }
     let promise = SeatPromise {
         seat: Snapshot::of(&seat),
     };
-    match scope.spawn_with(promise, move || place.work(seat, waker)) {
+    match scope.spawn_with(promise, move || place.work_with(seat, equipment)) {
         Ok(thread) => Worker::Serving(thread),
         Err(refused) => {
             *senders = None;
@@ -97,4 +99,12 @@ where
             Worker::Idle((refused.value)())
         }
     }
+}
+
+/// What a worker needs beside its seat, where there are senders and an event loop is left.
+fn equipped<A: Allocator + Copy>(senders: &mut Option<Senders<A>>) -> Option<Equipment<A>> {
+    let senders = senders.as_mut()?;
+    let event_loop = senders.event_loops.pop()?;
+    let waker = senders.waker();
+    Some(Equipment { waker, event_loop })
 }

@@ -12,7 +12,7 @@ use std::process::Abort;
 use std::sync::{Arc, Wait};
 use std::test::Fail;
 use std::thread::{Threads, join, map_indices};
-use std::time::Clock;
+use std::time::{Clock, Duration};
 use stow_core::Core;
 use stow_login::tenants::Tenants;
 use stow_model::item::Item;
@@ -117,7 +117,7 @@ fn one_thread_serves_all(rt: HostRuntime) -> Result<(), Fail> {
                 || write_until_over(&rt, address, alloc, &hold),
             )
         },
-        || Pool::run(&rt, alloc, &listener, &shared, seats, 0, 2, &hold),
+        || Pool::run(&rt, alloc, &listener, &shared, seats, 0, 100, 2, &hold),
     );
     assert!(rt; fault.is_none() && one? && other?);
     assert!(rt; hold.were_answered());
@@ -141,7 +141,7 @@ fn lock_held_while_reading_or_merging(rt: HostRuntime) -> Result<(), Fail> {
                 || write_until_over(&rt, address, alloc, &hold),
             )
         },
-        || Pool::run(&rt, alloc, &listener, &shared, seats, 1, 2, &hold),
+        || Pool::run(&rt, alloc, &listener, &shared, seats, 1, 100, 2, &hold),
     );
     assert!(rt; fault.is_none() && one? && other?);
     assert!(rt; hold.were_answered());
@@ -310,7 +310,7 @@ fn two_workers_leave_a_legal_journal(rt: HostRuntime) -> Result<(), Fail> {
             let filled = map_indices(&rt, alloc, 4, &|at| fill(&rt, address, alloc, at))?;
             are_told_right(&rt, address, alloc, filled)
         },
-        || Pool::run(&rt, alloc, &listener, &shared, seats, 0, 6, &OpenGate),
+        || Pool::run(&rt, alloc, &listener, &shared, seats, 0, 100, 6, &OpenGate),
     );
     assert!(rt; fault.is_none() && are_right?);
     let Ok(closed) = shared.close(seats) else {
@@ -356,9 +356,11 @@ fn broken_clients<R: Net<Stream = TcpStream>>(
     let line = format!(in alloc; "*1\r\n$1048577\r\n{unread}")?;
     let mut is_right = ends_with(rt, address, alloc, line.as_str(), fault)?;
     let value = "v".repeat(alloc, 60_000)?;
-    let mut many = format!(in alloc; "{ANN}SET k {value}\n")?;
-    many.push_str("GET k\n".repeat(alloc, 200)?.as_str())?;
-    breaks_off(rt, address, many.as_bytes())?;
+    let set = format!(in alloc; "{ANN}SET k {value}\n")?;
+    let mut many = connected(rt, address)?;
+    is_right = is_right && is_told(alloc, &many, set.as_str(), "+OK\r\n+OK\r\n")?;
+    many.write_all("GET k\n".repeat(alloc, 200)?.as_bytes())?;
+    drop(many);
     is_right = is_right && ends_with(rt, address, alloc, "QUIT\n", "+OK\r\n")?;
     let stream = connected(rt, address)?;
     let want = format!(in alloc; "$60000\r\n{value}\r\n")?;
@@ -378,7 +380,139 @@ fn a_worker_outlives_its_clients(rt: HostRuntime) -> Result<(), Fail> {
     let (are_right, (_, fault)) = join(
         &rt,
         || broken_clients(&rt, address, alloc),
-        || Pool::run(&rt, alloc, &listener, &shared, seats, 0, 5, &OpenGate),
+        || Pool::run(&rt, alloc, &listener, &shared, seats, 0, 100, 5, &OpenGate),
+    );
+    assert!(rt; fault.is_none() && are_right?);
+    Ok(())
+}
+
+/// What clients say before they fall silent, and the rest of it.
+const SILENT: [(&str, &str); 5] = [
+    ("", ANN),
+    ("AUTH a", "nn bc\n"),
+    ("*3\r\n$4\r\nAUTH\r\n$3\r\nann\r\n$2\r\nb", "c\r\n"),
+    ("", ANN),
+    ("AUTH ann bc", "\n"),
+];
+
+/// Clients say nothing, or half a message, and one more is served; then each of them is, too.
+fn silent_clients<R: Net<Stream = TcpStream>>(
+    rt: &R,
+    address: SocketAddr,
+    alloc: Global,
+) -> io::Result<bool> {
+    let mut silent = Vec::new(alloc);
+    for (said, rest) in SILENT {
+        let mut stream = connected(rt, address)?;
+        stream.write_all(said.as_bytes())?;
+        silent.push((stream, rest))?;
+    }
+    let stream = connected(rt, address)?;
+    let mut is_right = is_told(alloc, &stream, ANN, "+OK\r\n")?
+        && is_told(alloc, &stream, "SET k v\n", "+OK\r\n")?;
+    for (stream, rest) in silent.iter() {
+        is_right = is_right
+            && is_told(alloc, stream, rest, "+OK\r\n")?
+            && is_told(alloc, stream, "GET k\n", "$1\r\nv\r\n")?;
+    }
+    Ok(is_right)
+}
+
+// A silent client holds no worker.
+#[test]
+fn silent_clients_keep_nobody_waiting(rt: HostRuntime) -> Result<(), Fail> {
+    let alloc = rt.alloc();
+    let (shared, seats) = opened::<Unkept, Global>(alloc, alloc, 2)?;
+    let listener = TcpListener::bind(&rt, "127.0.0.1:0")?;
+    let address = listener.local_addr()?;
+    let (are_right, (_, fault)) = join(
+        &rt,
+        || silent_clients(&rt, address, alloc),
+        || Pool::run(&rt, alloc, &listener, &shared, seats, 0, 100, 6, &OpenGate),
+    );
+    assert!(rt; fault.is_none() && are_right?);
+    Ok(())
+}
+
+/// A client asks for megabytes and reads none of them before another one is served; then it is told all of them.
+fn slow_client<R: Net<Stream = TcpStream>>(
+    rt: &R,
+    address: SocketAddr,
+    alloc: Global,
+) -> io::Result<bool> {
+    let value = "v".repeat(alloc, 60_000)?;
+    let set = format!(in alloc; "{ANN}SET k {value}\n")?;
+    let told = format!(in alloc; "$60000\r\n{value}\r\n")?;
+    let stream = connected(rt, address)?;
+    let mut is_right = is_told(alloc, &stream, set.as_str(), "+OK\r\n+OK\r\n")?;
+    let mut slow = connected(rt, address)?;
+    slow.write_all(ANN.as_bytes())?;
+    slow.write_all("GET k\n".repeat(alloc, 80)?.as_bytes())?;
+    is_right = is_right && is_told(alloc, &stream, "GET k\n", told.as_str())?;
+    slow.write_all(b"QUIT\n")?;
+    Ok(is_right && count_of(&mut slow)? == 80 * 60_010 + 10)
+}
+
+/// How many bytes come until the connection is closed.
+fn count_of(stream: &mut TcpStream) -> io::Result<usize> {
+    let mut piece = [0u8; 4096];
+    let mut total: usize = 0;
+    for _ in 0..100_000 {
+        let count = stream.read(&mut piece)?;
+        if count == 0 {
+            break;
+        }
+        total = total.saturating_add(count);
+    }
+    Ok(total)
+}
+
+// Where the replies of one client wait, others are served; none of the replies is lost, or told twice.
+#[test]
+fn a_client_that_reads_nothing_keeps_nobody_waiting(rt: HostRuntime) -> Result<(), Fail> {
+    let alloc = rt.alloc();
+    let (shared, seats) = opened::<Unkept, Global>(alloc, alloc, 1)?;
+    let listener = TcpListener::bind(&rt, "127.0.0.1:0")?;
+    let address = listener.local_addr()?;
+    let (are_right, (_, fault)) = join(
+        &rt,
+        || slow_client(&rt, address, alloc),
+        || Pool::run(&rt, alloc, &listener, &shared, seats, 0, 100, 2, &OpenGate),
+    );
+    assert!(rt; fault.is_none() && are_right?);
+    Ok(())
+}
+
+/// While one client is there another one isn't answered; once it has gone it is.
+fn one_by_one<R: Net<Stream = TcpStream>>(
+    rt: &R,
+    address: SocketAddr,
+    alloc: Global,
+) -> io::Result<bool> {
+    let first = connected(rt, address)?;
+    let mut is_right = is_told(alloc, &first, ANN, "+OK\r\n")?;
+    let mut other = connected(rt, address)?;
+    other.write_all(BEN.as_bytes())?;
+    other.set_read_timeout(Some(Duration::from_millis(100)))?;
+    is_right = is_right && other.read(&mut [0u8; 1]).is_err();
+    other.set_read_timeout(None)?;
+    drop(first);
+    let mut told = [0u8; 5];
+    other.read_exact(&mut told)?;
+    Ok(is_right && told.as_slice() == b"+OK\r\n".as_slice())
+}
+
+// No more clients are served at once than may be there.
+#[test]
+fn a_client_waits_for_room(rt: HostRuntime) -> Result<(), Fail> {
+    let alloc = rt.alloc();
+    let (shared, seats) = opened::<Unkept, Global>(alloc, alloc, 2)?;
+    let listener = TcpListener::bind(&rt, "127.0.0.1:0")?;
+    let address = listener.local_addr()?;
+    let (are_right, (_, fault)) = join(
+        &rt,
+        || one_by_one(&rt, address, alloc),
+        || Pool::run(&rt, alloc, &listener, &shared, seats, 0, 1, 2, &OpenGate),
     );
     assert!(rt; fault.is_none() && are_right?);
     Ok(())
@@ -402,7 +536,7 @@ fn seats_come_back_at_a_fault(rt: HostRuntime) -> Result<(), Fail> {
     let alloc = rt.alloc();
     let listener = at_once(&rt)?;
     let (shared, seats) = opened::<Unkept, Global>(alloc, alloc, 3)?;
-    let (seats, fault) = Pool::run(&rt, alloc, &listener, &shared, seats, 1, 0, &OpenGate);
+    let (seats, fault) = Pool::run(&rt, alloc, &listener, &shared, seats, 1, 100, 0, &OpenGate);
     let Some(PoolFault::AcceptFailed(error)) = fault else {
         panic!(rt; "another fault, or none");
     };
@@ -413,7 +547,7 @@ fn seats_come_back_at_a_fault(rt: HostRuntime) -> Result<(), Fail> {
 
 /// Whether a pool that this request for memory is refused to gives all its seats back and tells so, or nothing where
 /// it asks for fewer.
-fn withstands<R: Threads + Wait + Sync, A: Allocator + Copy + Send + Sync, B: Allocator>(
+fn withstands<R: Threads + Wait + Net + Sync, A: Allocator + Copy + Send + Sync, B: Allocator>(
     rt: &R,
     heap: &Refusing<B>,
     (alloc, global): (A, Global),
@@ -423,7 +557,7 @@ fn withstands<R: Threads + Wait + Sync, A: Allocator + Copy + Send + Sync, B: Al
     heap.set(Plan::Grant);
     let (shared, seats) = opened::<Unkept, A>(alloc, global, 3)?;
     heap.set(Plan::RefuseAt(at));
-    let (seats, fault) = Pool::run(rt, alloc, listener, &shared, seats, 1, 0, &OpenGate);
+    let (seats, fault) = Pool::run(rt, alloc, listener, &shared, seats, 1, 100, 0, &OpenGate);
     let asked = heap.asked();
     heap.set(Plan::Grant);
     let is_told = matches!(fault, Some(PoolFault::Refused)) && are_three(seats.as_slice());

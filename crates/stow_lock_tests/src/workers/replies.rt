@@ -5,7 +5,7 @@ use stow_model::reply::Reply;
 use stow_workers::counted::Counted;
 use stow_workers::replies::Replies;
 
-// A reply of 65,545 bytes is written at once, and its room given back.
+// Once a reply of 65,545 bytes is written its room is given back.
 #[test]
 fn room_for_a_long_reply_is_not_kept(rt: HostRuntime) -> Result<(), Fail> {
     let alloc = rt.alloc();
@@ -13,12 +13,13 @@ fn room_for_a_long_reply_is_not_kept(rt: HostRuntime) -> Result<(), Fail> {
     let mut output = Vec::new(alloc);
     let mut writer = Counted::new(&mut output);
     let mut replies = Replies::new(alloc);
-    replies.add(&mut writer, &Some(Reply::Bulk(value)))?;
+    replies.add(&Some(Reply::Bulk(value)))?;
+    replies.flush(&mut writer);
     assert!(rt; replies.waiting() == 0 && replies.room() <= 65_536);
     Ok(())
 }
 
-// Four replies of 16,384 bytes wait together, and a fifth has all of them written.
+// Four replies of 16,384 bytes wait together, and a fifth is too much.
 #[test]
 fn replies_wait_up_to_a_limit(rt: HostRuntime) -> Result<(), Fail> {
     let alloc = rt.alloc();
@@ -28,7 +29,10 @@ fn replies_wait_up_to_a_limit(rt: HostRuntime) -> Result<(), Fail> {
     let mut writer = Counted::new(&mut output);
     let mut replies = Replies::new(alloc);
     for waiting in [16_384, 32_768, 49_152, 65_536, 0usize] {
-        replies.add(&mut writer, &reply)?;
+        replies.add(&reply)?;
+        if replies.is_long() {
+            replies.flush(&mut writer);
+        }
         assert_eq!(rt; replies.waiting(), waiting);
     }
     Ok(())

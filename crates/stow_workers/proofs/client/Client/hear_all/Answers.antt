@@ -7,7 +7,7 @@ use Rattle.stow_workers.proofs.Turning.{asked_shortens}
 use Rattle.stow_workers.proofs.client.Client.hear_all.Goals as goal
 
 pub loop-self-init : goal.loop-self-init
-loop-self-init g c = (subst (λ requests. AsksAll c.args.tenants.now requests (talk_of c.args.self.now.conversation) (talk_of c.args.self.now.conversation)) (sym c.requires) refl, refl)
+loop-self-init g c = (subst (λ requests. AsksAll c.args.tenants.now requests (talk_of c.args.self.now.conversation) (talk_of c.args.self.now.conversation)) (sym c.requires) refl, refl, refl, refl)
 
 pub returns-in-Told-clause-hears : goal.returns-in-Told-clause-hears
 returns-in-Told-clause-hears g c = record { mid = talk_of c.lend_words.new.self.conversation; asks = asks_still c.args.tenants.now _ _ _ _ _ (ap (λ (s : Client _). s.requests.items) c.lend_words.ensures.same) c.lend_words.ensures.talk c.loop-self.invariant.0; ends = c.in-Told.ensures }
@@ -17,6 +17,8 @@ loop-self-preserved g c = (
   subst (λ requests. AsksAll c.args.tenants.now requests (talk_of c.args.self.now.conversation) (talk_of c.hear.new.self)) (sym c.push_reserved.ensures.items)
       (asks_on c.args.tenants.now c.lend_words.new.self.requests.items (record { tenant = c.in-Request.tenant; words = c.in-Request.words }) (talk_of c.args.self.now.conversation) (talk_of c.lend_words.new.self.conversation) (talk_of c.hear.new.self) (asks_still c.args.tenants.now _ _ _ _ _ (ap (λ (s : Client _). s.requests.items) c.lend_words.ensures.same) c.lend_words.ensures.talk c.loop-self.invariant.0) c.in-Request.ensures),
   ap (λ (s : Client _). s.replies) c.lend_words.ensures.same ∙ c.loop-self.invariant.1,
+  ap (λ (s : Client _). s.done) c.lend_words.ensures.same ∙ c.loop-self.invariant.2,
+  ap (λ (s : Client _). s.end) c.lend_words.ensures.same ∙ c.loop-self.invariant.3,
 )
 
 pub loop-self-smaller : goal.loop-self-smaller

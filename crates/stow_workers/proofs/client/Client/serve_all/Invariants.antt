@@ -1,13 +1,13 @@
-use Rattle.std.proofs.Common.{◌≡◌, length, None}
-use Rattle.stow_house.specs.Conversations.{talk_of}
-use Rattle.stow_workers.specs.Turns.{GoesTo, state_of}
+use Rattle.std.proofs.Common.{◌≡◌, None}
+use Rattle.stow_workers.specs.Sent.{sent_of}
+use Rattle.stow_workers.specs.Turns.{StepsTo, weight}
 use Rattle.stow_workers.proofs.client.Client.serve_all.Given as goal
 
--- whatever went on before, the connection is under way, and its writer is the same
+-- whatever was at hand before, the connection goes on, and its writer is the same
 abbrev pub invariant-loop-stop : goal.invariant-loop-stop
-invariant-loop-stop g l = GoesTo g.D.Door.answers l.tenants None (state_of l.initial.door (g.W.Sink.contents l.initial.writer) (g.W.Sink.failures l.initial.writer) l.initial.self) (state_of l.door (g.W.Sink.contents l.writer) (g.W.Sink.failures l.writer) l.self)
+invariant-loop-stop g l = StepsTo g.D.Door.answers l.tenants None l.initial.door l.initial.self (sent_of (g.W.Sink.contents l.initial.writer) (g.W.Sink.failures l.initial.writer) l.initial.self.replies) l.door l.self (sent_of (g.W.Sink.contents l.writer) (g.W.Sink.failures l.writer) l.self.replies)
     × (g.W.Sink.borrow l.writer ≡ g.W.Sink.borrow l.initial.writer)
 
--- the unread bytes grow fewer
+-- less is left to do
 abbrev pub decreases-loop-stop : goal.decreases-loop-stop
-decreases-loop-stop g l = length (talk_of l.self.conversation).unread
+decreases-loop-stop g l = weight l.self

@@ -4,12 +4,3 @@ use Rattle.stow_workers.proofs.pool.Pool.run.Goals as goal
 
 pub returns-in_default : goal.returns-in_default
 returns-in_default g c = same_up_to _ _ _ (no_calls _) (none_flushed _) _
-
-pub returns-in_default-with_capacity : goal.returns-in_default-with_capacity
-returns-in_default-with_capacity g c = same_up_to _ _ _ (no_calls _) (none_flushed _) _
-
-pub returns-in_default-bounded : goal.returns-in_default-bounded
-returns-in_default-bounded g c = same_up_to _ _ _ (no_calls _) (none_flushed _) _
-
-pub returns-in_default-bounded-2 : goal.returns-in_default-bounded-2
-returns-in_default-bounded-2 g c = same_up_to _ _ _ (no_calls _) (none_flushed _) _

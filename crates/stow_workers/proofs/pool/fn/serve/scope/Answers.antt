@@ -2,7 +2,7 @@ use Rattle.stow_workers.specs.Pools.{GivesBack, HasCalled, IsFlusherOf, IsWorker
 use Rattle.stow_workers.specs.Flushes.{HasFlushed}
 use Rattle.stow_shared.specs.Seats.{SeatFlushes}
 use Rattle.stow_workers.proofs.Workers.{then_up_to}
-use Rattle.stow_workers.proofs.pool.fn.Pool.run.scope.Goals as goal
+use Rattle.stow_workers.proofs.pool.fn.serve.scope.Goals as goal
 
 pub returns : goal.returns
 returns g c =

@@ -1,4 +1,4 @@
-use Rattle.stow_workers.proofs.pool.fn.Pool.run.scope+FnOnce.call_once.Goals as goal
+use Rattle.stow_workers.proofs.pool.fn.serve.scope+FnOnce.call_once.Goals as goal
 
 -- what the closure's types may do in other threads is what it requires, behind that its types live long enough
 pub scope-requires : goal.scope-requires
