@@ -3,6 +3,7 @@ pub mod PinNumbers
 pub mod Tenancies
 pub mod Stores
 pub mod Kept
+pub mod Later
 pub mod Moved
 pub mod Written
 pub mod Changed

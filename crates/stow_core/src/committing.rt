@@ -46,6 +46,8 @@ impl<A: Allocator + Copy> Core<A> {
         let number = self.tenancies[index].versions.last() + 1;
         put(&mut self.tree, number, given.op(), keys.lent(), &places);
         self.keys = keys;
+        let rows = self.tenancies[index].account.present().rows;
+        self.held.count(rows, charge.rows);
         self.tenancies[index].write(charge);
         self.lengths.keep(tenant, number, length);
     }

@@ -24,6 +24,10 @@
 //! (`specs/Flushing.antt`). Neither changes a tenant's store. A body of either that always answers want of memory meets its
 //! contract: tests call both with ample memory.
 //!
+//! Where memory is short removals still have some: it is held back (`HeldBack`) and given up by the removal that is refused memory,
+//! which is then tried once more. Every other write first gets back what is missing of it. No contract speaks of that, nor of when
+//! leaves are drained: a body of `drain`, `make_way` or `hold_back` that does nothing is right too, and a test fills a heap.
+//!
 //! A body of `prepare`, `prepare_command` or `prepare_change` that prepares the same twice is right too, since
 //! a prepared answer that is never carried out changes nothing.
 //! So is one of `told_version`, `length_of` or `kept_length` that tells nothing, and one of `keep` that holds nothing: values
@@ -43,6 +47,7 @@ ghost use Rattle.stow_tree.specs.Shapes.{IsInRange};
 ghost use Rattle.stow_tree.specs.TreeState.{new_tree};
 
 use change::Change;
+use held_back::HeldBack;
 use lengths::Lengths;
 use prepared::Prepared;
 use preparing::only_counted;
@@ -69,6 +74,7 @@ mod deleting;
 mod flushing;
 mod found_change;
 pub mod given;
+mod held_back;
 mod interval;
 mod keys;
 mod length_entry;
@@ -79,6 +85,7 @@ pub mod prepared;
 mod preparing;
 mod ranging;
 mod reading;
+mod recovering;
 mod row_answer;
 pub mod rows_at;
 mod sized_row;
@@ -106,6 +113,10 @@ pub struct Core<A: Allocator + Copy = Global> {
     lengths: Lengths<A>,
     /// Where a write's keys are listed. They mean nothing between calls, so that their memory serves one after another.
     keys: Words<A>,
+    /// Memory that is held back for removals.
+    held: HeldBack<A>,
+    /// What all tenants were charged together when memory was last refused, or leaves last drained.
+    full: u64,
 }
 
 impl<A: Allocator + Copy> Model for Core<A> {
@@ -150,6 +161,7 @@ impl<A: Allocator + Copy> Core<A> {
         let tenancies = new_tenancies(alloc, &tenants)?;
         let lengths = Lengths::new(alloc)?;
         let pins = Pins::new(alloc);
+        let held = HeldBack::new(alloc, shape.buffer)?;
         Ok(Core {
             tenants,
             tenancies,
@@ -159,6 +171,8 @@ impl<A: Allocator + Copy> Core<A> {
             lengths,
             buffer: Vec::new(alloc),
             keys: Words::new(alloc),
+            held,
+            full: 0,
         })
     }
 

@@ -47,13 +47,13 @@ impl<A: Allocator + Copy> Core<A> {
             return Ok(only_counted(tenant, Reply::Simple(SimpleString::Pong)));
         }
         let mut buffer = mem::replace(&mut self.buffer, Vec::new(alloc));
-        let prepared = self.prepare_in(&mut buffer, alloc, tenant, command);
+        let prepared = self.prepare_by_kind(&mut buffer, alloc, tenant, command);
         self.buffer = buffer;
         prepared
     }
 
     /// The same with keys packed in a buffer.
-    fn prepare_in<'a>(
+    pub(crate) fn prepare_in<'a>(
         &mut self,
         buffer: &mut Vec<u8, A>,
         alloc: A,

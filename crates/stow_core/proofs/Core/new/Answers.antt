@@ -1,5 +1,6 @@
 use Rattle.std.proofs.lemmas.Grind.{common_steps}
-use Rattle.std.proofs.Common.{map, ap, ◌∙◌, arith, refl}
+use Rattle.std.proofs.Common.{◌≡◌, map, ap, ◌∙◌, arith, refl}
+use Rattle.std.specs.Prelude.{Result, Ok, Err}
 use Rattle.std.proofs.lemmas.List.{length-map}
 use Rattle.stow_core.specs.Tenancies.{new_tenancy, tenancy_of}
 use Rattle.stow_core.proofs.Made.{is_new, new_kept}
@@ -26,3 +27,13 @@ returns-in_err-tree-clause-empty g c = grind (arith, common_steps)
 
 pub returns-in_err-tree-clause-tree : goal.returns-in_err-tree-clause-tree
 returns-in_err-tree-clause-tree g c = grind (arith, common_steps)
+
+-- what was made was not refused
+made_not_refused : {X E : Type 0} {x : X} {e : E} → ◌≡◌ {A = Result X E} (Ok x) (Err e) → ⊥
+made_not_refused is = cc
+
+pub returns-in_err-held-clause-out_of_range : goal.returns-in_err-held-clause-out_of_range
+returns-in_err-held-clause-out_of_range g c = λ no. absurd (made_not_refused (c.in_ok-tree.ensures.out_of_range no))
+
+pub returns-clause-out_of_range : goal.returns-clause-out_of_range
+returns-clause-out_of_range g c = λ no. absurd (made_not_refused (c.in_ok-tree.ensures.out_of_range no))
