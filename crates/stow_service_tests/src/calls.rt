@@ -2,6 +2,7 @@
 //! several tenants.
 pub(crate) mod alone;
 mod flushes;
+mod full;
 mod held;
 pub(crate) mod refusals;
 pub(crate) mod skipped;

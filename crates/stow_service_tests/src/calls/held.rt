@@ -165,7 +165,7 @@ fn new_holds_no_more<A: Allocator + Copy>(
 
 #[test]
 fn rounds_hold_no_more_than_the_first(rt: HostRuntime) -> Result<(), Fail> {
-    let heap = LocalHeap::new(rt.alloc(), 33_554_432)?;
+    let heap = LocalHeap::new(rt.alloc(), 100_663_296)?;
     assert!(rt; new_holds_no_more(&heap, (&heap, rt.alloc()))?);
     Ok(())
 }

@@ -75,7 +75,7 @@ fn new_holds_no_more<A: Allocator + Copy>(
 
 #[test]
 fn a_second_round_holds_no_more(rt: HostRuntime) -> Result<(), Fail> {
-    let heap = LocalHeap::new(rt.alloc(), 33_554_432)?;
+    let heap = LocalHeap::new(rt.alloc(), 100_663_296)?;
     let acts = random_acts(rt.alloc(), ACTS)?;
     assert!(rt; new_holds_no_more(&heap, (&heap, rt.alloc()), acts.as_slice())?);
     Ok(())
