@@ -77,7 +77,8 @@ pub record Unloads {A : Type 0} (pins : TenantPins) (children : List (Child A)) 
 
 abbrev pub Unlades : {A : Type 0} → TenantPins → List (Child A) → ℕ → List ℕ → Option (Room A)
     → List (Child A) → Cache → Cache → Type 0
-Unlades pins children i above None children' cache cache' = IsLight children i children' cache cache'
+Unlades pins children i above None children' cache cache' =
+    IsLight children i children' cache cache'
 Unlades pins children i above (Some room) children' cache cache' =
     Unloads pins children i above room children' cache cache'
 

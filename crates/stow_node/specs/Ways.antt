@@ -116,7 +116,8 @@ pub record GoesDown {A : Type 0}
   pub way : ChildTakes (slice_set to.children to.index (in_child.Node ready)) to.index old new came
       cache cache'
       ⊎ (TakesAndMerges pins (slice_set to.children to.index (in_child.Node ready)) to.index old
-      new came cache cache' ⊎ Enters below pins to.children to.index ready old new came cache cache')
+      new came cache cache'
+      ⊎ Enters below pins to.children to.index ready old new came cache cache')
 
 -- the step of a node of this height goes down along the heaviest children
 abbrev pub Goes : {A : Type 0} → ℕ → TenantPins → Subtree → Subtree → List (Child A)
