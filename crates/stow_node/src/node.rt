@@ -14,8 +14,8 @@ ghost use Rattle.stow_node.specs.Eases.{Eases};
 ghost use Rattle.stow_node.specs.Flushes.{AreShort, Flushes, KeepsRoot};
 ghost use Rattle.stow_node.specs.Halves.{AreHalves};
 ghost use Rattle.stow_node.specs.Installs.{AreGone, BatchIsGone, CanComeIn, CanInstall, CoversAll};
-ghost use Rattle.stow_node.specs.Moves.{accepted, CanAccept, IsLaden, IsSqueezed, StaysInMeaning};
-ghost use Rattle.stow_node.specs.Nodes.{AreAmong, AreChildren, AreLeafSizes, leaves_of, nearest_in, node_part};
+ghost use Rattle.stow_node.specs.Moves.{accepted, CanAccept, IsLaden, IsReallocated, IsSqueezed, StaysInMeaning};
+ghost use Rattle.stow_node.specs.Nodes.{AreAmong, AreChildren, AreLeafSizes, HasNodeBlock, leaves_of, nearest_in, node_part};
 ghost use Rattle.stow_leaf.specs.Intervals.{top_key};
 ghost use Rattle.stow_node.specs.Parts.{IsTile};
 ghost use Rattle.stow_node.specs.Plans.{HasLeafTarget, IsPlanned, Plans, TakesLeaf, TakesOwn};
@@ -28,7 +28,7 @@ ghost use Rattle.stow_node.specs.declared.child.Child.TheVariants as in_child;
 ghost use Rattle.stow_node.specs.declared.installed.Installed.TheVariants as installed;
 
 use crate::absorbing::{all_merged, installed, merged};
-use crate::child::{Child, child_for, high_after};
+use crate::child::{Child, child_for, close_all, high_after};
 use crate::coming::{moved_from, take_in};
 use crate::counting::room_for;
 use crate::fence::Fence;
@@ -140,39 +140,42 @@ impl<A: Allocator + Copy> Node<A> {
         }
     }
 
-    /// Where neither it nor the node behind it has a message, that one gets its block, and leaves it its own.
-    fn leave_block(&mut self, behind: &mut Node<A>)
-        requires { self.old.buffer.capacity ≡ behind.old.buffer.capacity }
-        ensures own { IsSqueezed self.old self.new }
-        ensures behind { IsSqueezed behind.old behind.new }
+    /// Gives its block back, where it holds no message.
+    pub(crate) fn close(&mut self, alloc: A)
+        ensures { IsReallocated self.old self.new }
     {
-        if self.buffer.len() + behind.buffer.len() > 0 {
+        let _known = self.buffer.used();
+        if self.buffer.len() > 0 || self.buffer.capacity() == 0 {
             return;
         }
-        self.buffer.reset();
-        behind.buffer.reset();
-        mem::swap(&mut self.buffer, &mut behind.buffer);
-    }
-
-    /// Cuts it (`cut_off`). Where it stays behind full, the node that goes on takes a block with no message along: what was written
-    /// once takes memory, and what never was takes none.
-    fn cut_last(&mut self, at: usize, shell: Shell<A>, full: bool) -> Node<A>
-        requires inside { (0 < at) × (at < self.old.width) }
-        requires few { self.old.width ≤ self.old.shape.fan_out + at }
-        requires shape { shell ≡ self.old.shape }
-        ensures halves { AreHalves self.old self.new result }
-        ensures width { self.new.width ≡ at }
-    {
-        let mut behind = self.cut_off(at, shell);
-        if full {
-            self.leave_block(&mut behind);
+        if let Ok(none) = MessageBuf::with_capacity(alloc, 0) {
+            self.buffer = none;
         }
-        behind
     }
 
-    /// Cuts it, where it has too many children, into as few nodes as hold them, evenly, or full ones first. It keeps the
-    /// lowest; the others come behind it. It asks for no memory.
-    fn settle(&mut self, room: &mut Room<A>, full: bool)
+    /// Gets its block, where it has none. Where memory is refused nothing has changed.
+    fn open(&mut self, alloc: A) -> Result<(), AllocError>
+        ensures same { IsReallocated self.old self.new }
+        ensures block { OnOk result (self.new.buffer.capacity ≡ self.new.shape.buffer) }
+        ensures err { OnErr result (self.new ≡ self.old) }
+    {
+        let _known = self.buffer.used();
+        if self.buffer.capacity() == 0 {
+            self.buffer = MessageBuf::with_capacity(alloc, self.shape.buffer as usize)?;
+        }
+        Ok(())
+    }
+
+    /// Each child that holds no message gives its block back (`close`).
+    fn close_children(&mut self, alloc: A)
+        ensures { self.new ≡ self.old }
+    {
+        close_all(alloc, &mut self.children);
+    }
+
+    /// Children that hold no message give their blocks back. Then it is cut, where it has too many children, into as few nodes as
+    /// hold them, evenly, or full ones first. It keeps the lowest; the others come behind it. It asks for no memory.
+    fn settle(&mut self, alloc: A, room: &mut Room<A>, full: bool)
         requires fan_out { 1 ≤ self.old.shape.fan_out }
         requires none { room.old.came.items ≡ [] }
         requires came { groups self.old.shape.fan_out self.old.width
@@ -189,12 +192,13 @@ impl<A: Allocator + Copy> Node<A> {
         ensures capacity { vec_capacity room.old.came ≤ vec_capacity room.new.came }
         ensures wides { room.new.wides ≡ room.old.wides }
     {
+        self.close_children(alloc);
         let fan_out = self.shape().fan_out as usize;
         let mut groups = groups(fan_out, self.width());
         while groups > 1 {
             let width = self.width();
             let at = width - share_of_last(fan_out, width, groups, full);
-            let node = self.cut_last(at, room.shell(), full);
+            let node = self.cut_off(at, room.shell());
             room.bring(node);
             groups -= 1;
         }
@@ -242,7 +246,7 @@ impl<A: Allocator + Copy> Node<A> {
         let high = high_after(self.children.as_slice(), index);
         self.buffer.drop_range(self.children[index].low(), high);
         self.children = fresh;
-        self.settle(&mut room, full);
+        self.settle(alloc, &mut room, full);
         Ok(room)
     }
 
@@ -284,7 +288,7 @@ impl<A: Allocator + Copy> Node<A> {
         let mut room = room_for(alloc, self.shape, fresh.len(), above)?;
         self.buffer.reset();
         self.children = fresh;
-        self.settle(&mut room, full);
+        self.settle(alloc, &mut room, full);
         Ok(room)
     }
 
@@ -324,7 +328,7 @@ impl<A: Allocator + Copy> Node<A> {
         from.drop_range(self.low.as_key(), end);
         self.buffer.reset();
         self.children = fresh;
-        self.settle(&mut room, full);
+        self.settle(alloc, &mut room, full);
         Ok(room)
     }
 
@@ -358,7 +362,7 @@ impl<A: Allocator + Copy> Node<A> {
         requires few { self.old.width ≤ self.old.shape.fan_out }
         requires fan_out { 4 ≤ self.old.shape.fan_out }
         requires short { AreShort (messages_of self.old) }
-        requires spare { self.old.buffer.capacity ≤ spare.old.capacity }
+        requires spare { self.old.shape.buffer ≤ spare.old.capacity }
         ensures ok { IfOk result (λ room.
             StepsAsOne (pins_in pins.now) self.old self.new room.came.items) }
         ensures goes { IfOk result (λ room.
@@ -384,10 +388,11 @@ impl<A: Allocator + Copy> Node<A> {
         match &mut self.children[index] {
             Child::Leaf(_) => unreachable!(),
             Child::Node(node) => {
-                if !node.makes_room(bytes, ample, spare) {
+                let has_room = node.gets_room(alloc, bytes, ample, spare)?;
+                if !has_room {
                     let mut room = node.step_below(alloc, pins, spare, cache, above)?;
                     take_in(&mut self.children, index, &mut room);
-                    self.settle(&mut room, full);
+                    self.settle(alloc, &mut room, full);
                     return Ok(room);
                 }
             }
@@ -400,12 +405,13 @@ impl<A: Allocator + Copy> Node<A> {
             return Ok(Room::none(alloc));
         };
         take_in(&mut self.children, index, &mut room);
-        self.settle(&mut room, full);
+        self.settle(alloc, &mut room, full);
         Ok(room)
     }
 
     /// Puts a node above this one and those that came behind it, or as many as it takes. It asks for no memory.
-    fn rise(&mut self, room: &mut Room<A>)
+    fn rise(&mut self, alloc: A, room: &mut Room<A>)
+        requires block { self.old.buffer.capacity ≡ self.old.shape.buffer }
         requires came { 0 < length room.old.came.items }
         requires room { HasRoom self.old.shape [] room.old }
         requires fan_out { 4 ≤ self.old.shape.fan_out }
@@ -435,7 +441,7 @@ impl<A: Allocator + Copy> Node<A> {
         self.children.push(Child::Node(lower)).unwrap();
         take_in(&mut self.children, 0, room);
         self.height += 1;
-        self.settle(room, true);
+        self.settle(alloc, room, true);
     }
 
     /// One step of a root's messages towards the leaves (`step_below`). Where nodes come behind it, it becomes higher. Where
@@ -451,7 +457,8 @@ impl<A: Allocator + Copy> Node<A> {
         requires few { self.old.width ≤ self.old.shape.fan_out }
         requires fan_out { 4 ≤ self.old.shape.fan_out }
         requires short { AreShort (messages_of self.old) }
-        requires spare { self.old.buffer.capacity ≤ spare.old.capacity }
+        requires block { self.old.buffer.capacity ≡ self.old.shape.buffer }
+        requires spare { self.old.shape.buffer ≤ spare.old.capacity }
         ensures ok { OnOk result (Flushes (pins_in pins.now) self.old self.new) }
         ensures down { OnOk result (StepsDown A (pins_in pins.now) self.old self.new
             cache.old cache.new) }
@@ -466,25 +473,30 @@ impl<A: Allocator + Copy> Node<A> {
         let mut above = Vec::new(alloc);
         let mut room = self.step_below(alloc, pins, spare, cache, &mut above)?;
         while !room.came.is_empty() {
-            self.rise(&mut room);
+            self.rise(alloc, &mut room);
         }
         Ok(())
     }
 }
 
 impl<A: Allocator + Copy> Node<A> {
-    /// Drops the dead bytes of its own buffer, which holds no message.
-    fn clear(&mut self)
+    /// Makes its own buffer, which holds no message, a whole empty block. Where memory is refused nothing has changed.
+    fn clear(&mut self, alloc: A) -> Result<(), AllocError>
         requires { self.old.buffer.messages ≡ [] }
-        ensures same { IsSqueezed self.old self.new }
-        ensures empty { self.new.buffer.used ≡ 0 }
+        ensures same { IsReallocated self.old self.new }
+        ensures block { OnOk result (self.new.buffer.capacity ≡ self.new.shape.buffer) }
+        ensures empty { OnOk result (self.new.buffer.used ≡ 0) }
+        ensures err { OnErr result (self.new ≡ self.old) }
     {
+        self.open(alloc)?;
         self.buffer.reset();
+        Ok(())
     }
 
     /// The job of the leaf for which most bytes are buffered, of a node right above leaves.
     fn plan_leaf(&self, alloc: A, pins: &Pins<A>) -> Result<FlushJob<A>, AllocError>
         requires level { self.now.height ≡ 1 }
+        requires block { self.now.buffer.capacity ≡ self.now.shape.buffer }
         requires some { 0 < length self.now.buffer.messages }
         requires short { AreShort (messages_of self.now) }
         requires target { HasLeafTarget self.now.shape }
@@ -520,7 +532,7 @@ impl<A: Allocator + Copy> Node<A> {
         let index = heaviest(self.children.as_slice(), &self.buffer);
         match &mut self.children[index] {
             Child::Leaf(_) => unreachable!(),
-            Child::Node(node) => node.clear(),
+            Child::Node(node) => node.clear(alloc)?,
         }
         hand_down(&mut self.children, index, &mut self.buffer);
         match &mut self.children[index] {
@@ -604,7 +616,7 @@ impl<A: Allocator + Copy> Node<A> {
         let full = self.children.len() - index == 1;
         let _taken = self.buffer.take_out(&merge.job.batch);
         self.children = fresh;
-        self.settle(&mut room, full);
+        self.settle(alloc, &mut room, full);
         Ok(room)
     }
 
@@ -644,7 +656,7 @@ impl<A: Allocator + Copy> Node<A> {
             Child::Node(node) => {
                 let mut room = node.install_below(alloc, merge, cache, above)?;
                 take_in(&mut self.children, index, &mut room);
-                self.settle(&mut room, full);
+                self.settle(alloc, &mut room, full);
                 Ok(room)
             }
         }
@@ -658,6 +670,7 @@ impl<A: Allocator + Copy> Node<A> {
         merge: &FlushResult<A>,
         cache: &mut LeafCache<A>,
     ) -> Result<(), AllocError>
+        requires block { self.old.buffer.capacity ≡ self.old.shape.buffer }
         requires few { self.old.width ≤ self.old.shape.fan_out }
         requires fan_out { 4 ≤ self.old.shape.fan_out }
         requires can { CanComeIn self.old merge.now.job }
@@ -677,17 +690,17 @@ impl<A: Allocator + Copy> Node<A> {
         let mut above = Vec::new(alloc);
         let mut room = self.install_below(alloc, merge, cache, &mut above)?;
         while !room.came.is_empty() {
-            self.rise(&mut room);
+            self.rise(alloc, &mut room);
         }
         Ok(())
     }
 
     /// One move of its messages towards the leaves that merges nothing: those for the child for which most bytes are buffered
     /// move into that child's buffer. Where they don't fit there, dead bytes dropped, the move is that child's own; right
-    /// above leaves nothing moves, nor does what holds a message of the batch. It asks for no memory.
-    fn ease_below(&mut self, batch: &MessageBuf<A>, spare: &mut RawBuf<A>)
+    /// above leaves nothing moves, nor does what holds a message of the batch, nor anything where a block is refused.
+    fn ease_below(&mut self, alloc: A, batch: &MessageBuf<A>, spare: &mut RawBuf<A>)
         requires some { 0 < length self.old.buffer.messages }
-        requires spare { self.old.buffer.capacity ≤ spare.old.capacity }
+        requires spare { self.old.shape.buffer ≤ spare.old.capacity }
         ensures eases { Eases batch.now.messages self.old self.new }
         ensures spare { spare.new.capacity ≡ spare.old.capacity }
     {
@@ -702,8 +715,11 @@ impl<A: Allocator + Copy> Node<A> {
         match &mut self.children[index] {
             Child::Leaf(_) => unreachable!(),
             Child::Node(node) => {
-                if !node.makes_room(bytes, ample, spare) {
-                    node.ease_below(batch, spare);
+                let Ok(has_room) = node.gets_room(alloc, bytes, ample, spare) else {
+                    return;
+                };
+                if !has_room {
+                    node.ease_below(alloc, batch, spare);
                     return;
                 }
             }
@@ -715,14 +731,14 @@ impl<A: Allocator + Copy> Node<A> {
 
     /// Eases a root in which a job's batch came in, where its own messages take more than half of its block (`ease_below`): the
     /// next request that wants room there is to find it.
-    fn ease(&mut self, batch: &MessageBuf<A>, spare: &mut RawBuf<A>)
-        requires spare { self.old.buffer.capacity ≤ spare.old.capacity }
+    fn ease(&mut self, alloc: A, batch: &MessageBuf<A>, spare: &mut RawBuf<A>)
+        requires spare { self.old.shape.buffer ≤ spare.old.capacity }
         ensures eases { Eases batch.now.messages self.old self.new }
         ensures spare { spare.new.capacity ≡ spare.old.capacity }
     {
         if self.buffer.live() > self.buffer.capacity() / 2 {
             self.order();
-            self.ease_below(batch, spare);
+            self.ease_below(alloc, batch, spare);
         }
     }
 
@@ -738,9 +754,10 @@ impl<A: Allocator + Copy> Node<A> {
         spare: &mut RawBuf<A>,
         cache: &mut LeafCache<A>,
     ) -> Result<Installed, (FlushResult<A>, AllocError)>
+        requires block { self.old.buffer.capacity ≡ self.old.shape.buffer }
         requires few { self.old.width ≤ self.old.shape.fan_out }
         requires fan_out { 4 ≤ self.old.shape.fan_out }
-        requires spare { self.old.buffer.capacity ≤ spare.old.capacity }
+        requires spare { self.old.shape.buffer ≤ spare.old.capacity }
         ensures root { KeepsRoot (pins_in pins.now) self.old self.new }
         ensures stale { IfOk result (λ r. r ≡ installed.Stale
             ↔ ¬ CanInstall self.old merge.job (pins_in pins.now)) }
@@ -757,7 +774,7 @@ impl<A: Allocator + Copy> Node<A> {
         }
         match self.install_result(alloc, &merge, cache) {
             Ok(()) => {
-                self.ease(&merge.job.batch, spare);
+                self.ease(alloc, &merge.job.batch, spare);
                 Ok(Installed::Done)
             }
             Err(refused) => Err((merge, refused)),
@@ -788,10 +805,10 @@ impl<A: Allocator> Node<A> {
         self.children.len()
     }
 
-    /// How large it may grow. Its buffer's block has the node size.
+    /// How large it may grow. Its buffer's block has the node size, or there is none.
     pub fn shape(&self) -> Shape
         ensures shape { result ≡ self.now.shape }
-        ensures block { self.now.buffer.capacity ≡ self.now.shape.buffer }
+        ensures block { HasNodeBlock self.now }
         ensures sizes { AreLeafSizes self.now.shape.leaf self.now.leaves }
         ensures tile { IsTile (node_part self.now) top_key }
     {
@@ -868,5 +885,31 @@ impl<A: Allocator> Node<A> {
         }
         self.buffer.squeeze(spare);
         true
+    }
+}
+
+impl<A: Allocator + Copy> Node<A> {
+    /// Gets its block, where it has none, and tells whether so many bytes fit into it (`makes_room`). Where memory is refused
+    /// nothing has changed.
+    fn gets_room(
+        &mut self,
+        alloc: A,
+        bytes: usize,
+        ample: usize,
+        spare: &mut RawBuf<A>,
+    ) -> Result<bool, AllocError>
+        requires spare { self.old.shape.buffer ≤ spare.old.capacity }
+        requires ample { bytes ≤ ample }
+        ensures same { IsReallocated self.old self.new }
+        ensures block { OnOk result (self.new.buffer.capacity ≡ self.new.shape.buffer) }
+        ensures room { IfOk result (λ fits. IsTrue fits
+            → self.new.buffer.used + bytes ≤ self.new.buffer.capacity) }
+        ensures full { IfOk result (λ fits. fits ≡ false → self.new.buffer.capacity
+            < sum_by message_size self.new.buffer.messages + ample) }
+        ensures err { OnErr result (self.new ≡ self.old) }
+        ensures spare { spare.new.capacity ≡ spare.old.capacity }
+    {
+        self.open(alloc)?;
+        Ok(self.makes_room(bytes, ample, spare))
     }
 }
