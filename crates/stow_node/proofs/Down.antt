@@ -8,7 +8,7 @@ use Rattle.std.proofs.lemmas.List.{length-set, map-set, with_items_is}
 use Rattle.std.proofs.lemmas.Option.{slice_get-get_or}
 use Rattle.stow_tree_model.specs.Order.{MessagesRise}
 use Rattle.stow_tree_model.specs.TreeMessage.{TreeMessage}
-use Rattle.stow_message.specs.MessageBuf.{MessageList, message_list, without_range}
+use Rattle.stow_message.specs.MessageBuf.{MessageList, without_range}
 use Rattle.stow_message.specs.Packed.{message_size}
 use Rattle.stow_message.specs.Rising.{in_range}
 use Rattle.stow_node.specs.declared.child.Child.{Child}

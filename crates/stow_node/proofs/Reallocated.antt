@@ -1,6 +1,5 @@
 -- A node with another block for its messages, or with none.
-use Rattle.std.proofs.Common.{zero, suc, ◌≡◌, ℕ, ◌+◌, ◌*◌, ◌<◌, ◌≤◌, List, [], ◌∷◌, ◌++◌, length, set, get_or, Some, refl, sym, ap, ◌∙◌, subst, arith, ⊎_elim, inl, inr}
-use Rattle.std.specs.Prelude.{slice_get}
+use Rattle.std.proofs.Common.{zero, suc, ◌≡◌, ℕ, ◌+◌, ◌*◌, ◌<◌, ◌≤◌, List, [], ◌∷◌, ◌++◌, length, set, get_or, refl, sym, ap, ◌∙◌, subst, arith, ⊎_elim, inl, inr}
 use Rattle.std.specs.List.{AllByRecursion, sum_by}
 use Rattle.std.specs.Vec.{with_items}
 use Rattle.std.specs.declared.vec.Vec.{Vec}
@@ -19,7 +18,7 @@ use Rattle.stow_node.specs.declared.node.Node.TheInside.{Inside}
 use Rattle.stow_node.specs.declared.shape.Shape.{Shape}
 use Rattle.stow_node.specs.Moves.{IsSqueezed, IsReallocated, IsReallocatedChild, AreReallocated, StaysInMeaning}
 use Rattle.stow_node.specs.Nodes.{HasBlock, HasNodeBlock, IsBelow, IsNode, AreLeafSizes, AreNewer, deepest_in, deepest_of, nearest_in, nearest_of, node_part, part_of, parts_of, subtree_of}
-use Rattle.stow_node.specs.Parts.{Part, TiledTo, low_or, messages_in, leaves_in, weight_in}
+use Rattle.stow_node.specs.Parts.{TiledTo, low_or, messages_in, leaves_in, weight_in}
 use Rattle.stow_node.specs.Subtree.{Subtree, buffered, deepest_buffer, lower_height, right_above_leaves}
 
 -- ---- the block

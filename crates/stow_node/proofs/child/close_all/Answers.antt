@@ -1,4 +1,4 @@
-use Rattle.std.proofs.Common.{◌≡◌, ◌<◌, sym, subst, arith}
+use Rattle.std.proofs.Common.{sym, subst, arith}
 use Rattle.stow_node.specs.Moves.{IsReallocatedChild}
 use Rattle.stow_node.proofs.Reallocated.{children_itself, children_set, reallocated_count}
 use Rattle.stow_node.proofs.child.close_all.Goals as goal

@@ -1,4 +1,4 @@
-use Rattle.std.proofs.Common.{◌≡◌, ◌≤◌, length, refl, arith, inr}
+use Rattle.std.proofs.Common.{refl, arith, inr}
 use Rattle.stow_node.proofs.Reallocated.{OtherBlock, emptied, reallocated_itself}
 use Rattle.stow_node.proofs.node.Node.close.Given as given
 use Rattle.stow_node.proofs.node.Node.close.Goals as goal

@@ -1,6 +1,5 @@
-use Rattle.std.proofs.Common.{◌≡◌, sym, ◌∙◌, subst}
+use Rattle.std.proofs.Common.{◌∙◌}
 use Rattle.std.specs.Vec.{with_items}
-use Rattle.stow_node.specs.Moves.{AreReallocated}
 use Rattle.stow_node.proofs.Reallocated.{SameNode, same_with, reallocated_items}
 use Rattle.stow_node.proofs.node.Node.close_children.Given as given
 use Rattle.stow_node.proofs.node.Node.close_children.Goals as goal

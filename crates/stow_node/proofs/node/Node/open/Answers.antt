@@ -1,4 +1,4 @@
-use Rattle.std.proofs.Common.{◌≡◌, ◌≤◌, length, refl, ◌∙◌, subst, arith, ⊎_elim, inl}
+use Rattle.std.proofs.Common.{◌≡◌, refl, ◌∙◌, subst, arith, ⊎_elim, inl}
 use Rattle.stow_node.specs.Subtree.{Subtree}
 use Rattle.stow_node.proofs.Reallocated.{OtherBlock, emptied, none_without, reallocated_itself}
 use Rattle.stow_node.proofs.node.Node.open.Given as given
