@@ -57,7 +57,7 @@ impl<A: Allocator + Copy> Core<A> {
     fn flush(&mut self, alloc: A) -> bool
         ensures { Keeps self.old self.new }
     {
-        let Ok(Some(job)) = self.plan(alloc) else {
+        let Ok(Some(job)) = self.plan_emptiest(alloc) else {
             return false;
         };
         let Ok(merge) = job.merge(alloc) else {
