@@ -6,7 +6,6 @@ use stow_merge::flush_job::FlushJob;
 use stow_merge::flush_result::FlushResult;
 use stow_merge::pins::Pins;
 use stow_node::installed::Installed;
-use stow_node::pick::Pick;
 use stow_read::found::Found;
 use stow_read::newest::Newest;
 use stow_read::row::Row;
@@ -295,7 +294,7 @@ impl<A: Allocator + Copy> Run<A> {
 
     /// A job, if a buffer holds a message.
     pub(crate) fn plan(&mut self, alloc: A) -> Result<Option<FlushJob<A>>, AllocError> {
-        self.tree.plan(alloc, &self.pins, Pick::Fullest)
+        self.tree.plan(alloc, &self.pins)
     }
 
     /// Installs a result, which comes back where memory is refused.
