@@ -48,7 +48,9 @@ impl<A: Allocator + Copy> HeldBack<A> {
 
     /// A tenant's charge and rows are others now: what is wanted grows and shrinks with the rows.
     pub(crate) fn count(&mut self, before: Charge, after: Charge) {
-        let more = self.wanted.saturating_add(after.rows.saturating_mul(EACH_ROW));
+        let more = self
+            .wanted
+            .saturating_add(after.rows.saturating_mul(EACH_ROW));
         self.wanted = more.saturating_sub(before.rows.saturating_mul(EACH_ROW));
         let more = self.charged.saturating_add(after.charge);
         self.charged = more.saturating_sub(before.charge);
