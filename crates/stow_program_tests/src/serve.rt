@@ -58,6 +58,13 @@ struct Clients<'a, R> {
     streams: Vec<Option<TcpStream>>,
 }
 
+/// The address that is told, if one is.
+fn address_in(told: &[u8]) -> Option<SocketAddr> {
+    let text = std::str::from_utf8(told).unwrap_or("");
+    let address = text.strip_prefix("listening ")?;
+    address.trim_end().parse::<SocketAddr>().ok()
+}
+
 impl<R: Net<Stream = TcpStream>> Clients<'_, R> {
     /// A client comes.
     fn visit(&mut self, address: SocketAddr, visit: Visit) -> io::Result<()> {
@@ -77,13 +84,10 @@ impl<R: Net<Stream = TcpStream>> Write for Clients<'_, R> {
     }
 
     fn flush(&mut self) -> io::Result<()> {
-        let told = std::str::from_utf8(self.told.as_slice()).unwrap_or("");
-        let Some(address) = told.strip_prefix("listening ") else {
-            return Ok(());
-        };
-        if let Ok(address) = address.trim_end().parse::<SocketAddr>() {
+        if let Some(address) = address_in(self.told.as_slice()) {
             for i in 0..self.visits.len() {
-                self.visit(address, self.visits[i])?;
+                let visit = self.visits[i];
+                self.visit(address, visit)?;
             }
         }
         Ok(())
