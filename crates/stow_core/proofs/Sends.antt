@@ -20,7 +20,7 @@ fields_send A g sent shared free =
       search (tenants.the_send, tenants.the_sync, crosses, sendable) depth 8,
       (
         search (tenancy.the_send, crosses, sendable) depth 8,
-        (search (pins.the_send, crosses, sendable) depth 8, (search sendable, (tree_sends A g sent shared free, (search (crosses, sendable) depth 8, (search (lengths.the_send, crosses, sendable) depth 8, (search (words.the_send, crosses, sendable) depth 8, (search (held_back.the_send, crosses, sendable) depth 8, (search sendable, tt)))))))),
+        (search (pins.the_send, crosses, sendable) depth 8, (search sendable, (tree_sends A g sent shared free, (search (crosses, sendable) depth 8, (search (lengths.the_send, crosses, sendable) depth 8, (search (words.the_send, crosses, sendable) depth 8, (search (held_back.the_send, crosses, sendable) depth 16, tt))))))),
       ),
     )
 

@@ -46,8 +46,8 @@ impl<A: Allocator + Copy> Core<A> {
         let number = self.tenancies[index].versions.last() + 1;
         put(&mut self.tree, number, given.op(), keys.lent(), &places);
         self.keys = keys;
-        let rows = self.tenancies[index].account.present().rows;
-        self.held.count(rows, charge.rows);
+        let before = self.tenancies[index].account.present();
+        self.held.count(before, charge);
         self.tenancies[index].write(charge);
         self.lengths.keep(tenant, number, length);
     }
@@ -69,7 +69,10 @@ impl<A: Allocator + Copy> Core<A> {
         requires { CanDropSnapshot self.old tenant id charge }
         ensures { Moves self.old tenant (after_drop id (store_of self.old tenant)) self.new }
     {
-        let number = self.tenancies[tenant as usize - 1].drop_snapshot(id, charge);
+        let index = tenant as usize - 1;
+        let before = self.tenancies[index].account.present();
+        self.held.count(before, charge);
+        let number = self.tenancies[index].drop_snapshot(id, charge);
         remove_pin(&mut self.pins, tenant, number);
         self.pin_room = 0;
     }

@@ -11,6 +11,7 @@ use std::alloc::{AllocError, Allocator};
 use stow_merge::flush_job::FlushJob;
 use stow_merge::flush_result::FlushResult;
 use stow_node::installed::Installed;
+use stow_node::pick::Pick;
 
 impl<A: Allocator + Copy> Core<A> {
     /// A job for a flush, under the numbers of live snapshots, if a buffer holds a message. No tenant's store changes, also
@@ -20,7 +21,14 @@ impl<A: Allocator + Copy> Core<A> {
         ensures none { IfOk result (λ job. job ≡ None ↔ IsDrained self.old) }
         ensures job { IfOk result (λ job. IfSome job (IsPlannedFrom self.new)) }
     {
-        self.tree.plan(alloc, &self.pins)
+        self.tree.plan(alloc, &self.pins, Pick::Fullest)
+    }
+
+    /// The same, of the deepest buffer that holds least: one after another is empty then, and gives its block back.
+    pub(crate) fn plan_emptiest(&mut self, alloc: A) -> Result<Option<FlushJob<A>>, AllocError>
+        ensures { Keeps self.old self.new }
+    {
+        self.tree.plan(alloc, &self.pins, Pick::Emptiest)
     }
 
     /// Puts the pages of a job's result into the tree, unless it is stale: then nothing changes. No tenant's store changes.

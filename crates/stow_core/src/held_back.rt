@@ -1,5 +1,6 @@
 //! Memory that is held back for removals.
 use std::alloc::{AllocError, Allocator, Global};
+use stow_ledger::charge::Charge;
 
 /// How many blocks are held back where there are no rows.
 const BLOCKS: u64 = 16;
@@ -19,6 +20,12 @@ pub struct HeldBack<A: Allocator = Global> {
     wanted: u64,
     /// How many bytes the pieces have.
     held: u64,
+    /// What all tenants are charged together.
+    charged: u64,
+    /// What they were charged when memory was first refused, or leaves last drained.
+    full: u64,
+    /// The least that they were charged since then.
+    least: u64,
     pieces: Vec<Vec<u8, A>, A>,
 }
 
@@ -30,16 +37,38 @@ impl<A: Allocator + Copy> HeldBack<A> {
             block,
             wanted: block.saturating_mul(BLOCKS),
             held: 0,
+            charged: 0,
+            full: 0,
+            least: 0,
             pieces: Vec::new(alloc),
         };
         held.fill(alloc)?;
         Ok(held)
     }
 
-    /// So many rows came where there were others: what is wanted grows and shrinks with them.
-    pub(crate) fn count(&mut self, before: u64, after: u64) {
-        let more = self.wanted.saturating_add(after.saturating_mul(EACH_ROW));
-        self.wanted = more.saturating_sub(before.saturating_mul(EACH_ROW));
+    /// A tenant's charge and rows are others now: what is wanted grows and shrinks with the rows.
+    pub(crate) fn count(&mut self, before: Charge, after: Charge) {
+        let more = self
+            .wanted
+            .saturating_add(after.rows.saturating_mul(EACH_ROW));
+        self.wanted = more.saturating_sub(before.rows.saturating_mul(EACH_ROW));
+        let more = self.charged.saturating_add(after.charge);
+        self.charged = more.saturating_sub(before.charge);
+        self.least = self.least.min(self.charged);
+    }
+
+    /// Whether an eighth of what tenants were charged when memory was first refused, or leaves last drained, came or went since
+    /// then. If so, what they are charged now is kept for the next time.
+    pub(crate) fn is_due(&mut self) -> bool {
+        let is_first = self.full == 0;
+        let eighth = self.full / 8;
+        let has_come = self.charged > self.full.saturating_add(eighth);
+        let has_gone = self.least.saturating_add(eighth) < self.full;
+        if is_first || has_come || has_gone {
+            self.full = self.charged;
+            self.least = self.charged;
+        }
+        !is_first && (has_come || has_gone)
     }
 
     /// Whether less than a block of what is wanted is missing.

@@ -115,8 +115,6 @@ pub struct Core<A: Allocator + Copy = Global> {
     keys: Words<A>,
     /// Memory that is held back for removals.
     held: HeldBack<A>,
-    /// What all tenants were charged together when memory was last refused, or leaves last drained.
-    full: u64,
 }
 
 impl<A: Allocator + Copy> Model for Core<A> {
@@ -172,7 +170,6 @@ impl<A: Allocator + Copy> Core<A> {
             buffer: Vec::new(alloc),
             keys: Words::new(alloc),
             held,
-            full: 0,
         })
     }
 

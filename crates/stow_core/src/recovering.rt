@@ -13,27 +13,11 @@ use std::alloc::{AllocError, Allocator};
 use stow_commands::command::Command;
 
 impl<A: Allocator + Copy> Core<A> {
-    /// What all tenants are charged together.
-    fn charged(&self) -> u64 {
-        let mut charged = 0u64;
-        for index in 0..self.tenancies.len() {
-            let own = self.tenancies[index].account.present();
-            charged = charged.saturating_add(own.charge);
-        }
-        charged
-    }
-
-    /// Whether tenants are charged at most half of what they were when memory was last refused, or leaves last drained. What
-    /// they are charged now is kept for the next time, unless it was more.
-    fn is_half_gone(&mut self) -> bool
+    /// Whether leaves are to be drained (`HeldBack::is_due`).
+    fn is_due(&mut self) -> bool
         ensures { self.new ≡ self.old }
     {
-        let charged = self.charged();
-        let is_half = self.full > 0 && charged <= self.full / 2;
-        if is_half || charged > self.full {
-            self.full = charged;
-        }
-        is_half
+        self.held.is_due()
     }
 
     /// Gives up the memory that is held back.
@@ -57,7 +41,7 @@ impl<A: Allocator + Copy> Core<A> {
     fn flush(&mut self, alloc: A) -> bool
         ensures { Keeps self.old self.new }
     {
-        let Ok(Some(job)) = self.plan(alloc) else {
+        let Ok(Some(job)) = self.plan_emptiest(alloc) else {
             return false;
         };
         let Ok(merge) = job.merge(alloc) else {
@@ -78,13 +62,13 @@ impl<A: Allocator + Copy> Core<A> {
         }
     }
 
-    /// Merges all leaves with what is buffered for them, with the memory that is held back, where half of what filled the
-    /// memory is gone. It answers whether it is.
+    /// Merges all leaves with what is buffered for them, with the memory that is held back, where much came or went since it was
+    /// done last. It answers whether it did.
     fn drain(&mut self, alloc: A) -> bool
         ensures { Keeps self.old self.new }
     {
         let _known = self.is_tenant(0);
-        if !self.is_half_gone() {
+        if !self.is_due() {
             return false;
         }
         self.give_up();

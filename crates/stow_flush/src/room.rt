@@ -22,6 +22,7 @@ fn flush<A: Allocator + Copy>(
     spare: &mut RawBuf<A>,
     cache: &mut LeafCache<A>,
 ) -> Result<(), AllocError>
+    requires block { root.old.buffer.capacity ≡ root.old.shape.buffer }
     requires few { root.old.width ≤ root.old.shape.fan_out }
     requires shape { 4 ≤ root.old.shape.fan_out }
     requires bytes { bytes ≤ root.old.shape.buffer }
@@ -51,6 +52,7 @@ pub fn make_room<A: Allocator + Copy>(
     spare: &mut RawBuf<A>,
     cache: &mut LeafCache<A>,
 ) -> Result<(), AllocError>
+    requires block { root.old.buffer.capacity ≡ root.old.shape.buffer }
     requires few { root.old.width ≤ root.old.shape.fan_out }
     requires shape { 4 ≤ root.old.shape.fan_out }
     requires bytes { bytes ≤ root.old.shape.buffer }

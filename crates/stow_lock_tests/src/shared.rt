@@ -376,6 +376,49 @@ fn calls_withstand_each_refusal(rt: HostRuntime) {
     assert!(rt; refusals >= 4, "{refusals} refusals");
 }
 
+/// Whether this request for memory is refused to a flush that follows a call. What was refused has no entry and no receipt, no store
+/// changes, and the flush made again comes in.
+fn flush_withstands<R: Wait + Abort, B: Allocator>(
+    rt: &R,
+    heap: &Refusing<B>,
+    global: Global,
+    at: u64,
+) -> bool {
+    let (shared, mut seat) = opened_for_one::<_, Kept, _>(rt, heap, global);
+    told(rt, heap, &shared, &mut seat, 1, "SET a x");
+    heap.set(Plan::RefuseAt(at));
+    let came = flushes(rt, heap, &shared, &mut seat);
+    let asked = heap.asked();
+    heap.set(Plan::Grant);
+    if asked <= at {
+        return false;
+    }
+    assert!(rt; !came, "request {at}");
+    let told_of = seat.receipts().len();
+    assert!(rt; told_of == 1 || told_of == 2, "request {at}");
+    assert!(rt; flushes(rt, heap, &shared, &mut seat), "request {at}");
+    let found = told(rt, heap, &shared, &mut seat, 1, "STRLEN a");
+    assert!(rt; matches!(found, Reply::Integer(1)), "request {at}");
+    assert_eq!(rt;
+        closed_by_one(rt, heap, shared, seat).entries().len(),
+        told_of.saturating_add(3)
+    );
+    true
+}
+
+#[test]
+fn flushes_withstand_each_refusal(rt: HostRuntime) {
+    let heap = Refusing::new(rt.alloc());
+    let mut refusals: u64 = 0;
+    for at in 0..100u64 {
+        if !flush_withstands(&rt, &heap, rt.alloc(), at) {
+            break;
+        }
+        refusals = at + 1;
+    }
+    assert!(rt; refusals >= 8, "{refusals} refusals");
+}
+
 /// Whether a call under the lock is told what the core alone tells, and asks for as much memory.
 fn asks_as_alone<A: Allocator + Copy, B: Allocator, R: Wait + Abort>(
     rt: &R,

@@ -61,7 +61,7 @@ took {A} a ms node can rise =
         first = node.first;
         level = node.level;
         some = node.some;
-        fits = node.fits;
+        block = node.block;
         from = record {
           outside = λ key n o.
               ops-all_placed ms a.buffer.messages key n rise (others a ms can)

@@ -1,5 +1,5 @@
 -- A node cut in two between its children.
-use Rattle.std.proofs.Common.{zero, suc, ◌≡◌, ℕ, ◌+◌, ◌*◌, ◌<◌, Bool, true, false, cond, List, [], ◌∷◌, ◌++◌, length, take, drop, get_or, Option, Some, None, refl, sym, ap, ◌∙◌, subst, arith, length-append, length-drop}
+use Rattle.std.proofs.Common.{zero, suc, ◌≡◌, ℕ, ◌+◌, ◌*◌, ◌<◌, Bool, true, false, cond, List, [], ◌∷◌, ◌++◌, length, take, drop, get_or, Option, Some, None, refl, sym, ap, ◌∙◌, subst, arith, length-append, length-drop, inl}
 use Rattle.std.specs.Prelude.{IsSome, not}
 use Rattle.std.specs.List.{AllByRecursion}
 use Rattle.std.specs.Ordering.{is_lt}
@@ -157,7 +157,7 @@ cut {A} a v w low node e some more is rise = record {
     first = first;
     level = (all_split (IsBelow a.height a.shape) v.items w.items level).0;
     some = omega arith;
-    fits = node.fits;
+    block = node.block;
     from = record { outside = λ key n o. ops-out_of_range low top_key ms key n ∙ none_cond (not (spans low top_key key)) (ops_in ms key n) (node.from.outside key n o) };
     sizes = leaf_sizes.0;
     newer = record {
@@ -170,8 +170,9 @@ cut {A} a v w low node e some more is rise = record {
   upper = upper_node;
   halves = record {
     low = refl;
-    lower_like = record { height = refl; shape = refl; capacity = refl };
-    upper_like = record { height = refl; shape = refl; capacity = sym node.fits };
+    capacity = refl;
+    lower_like = record { height = refl; shape = refl; block = node.block };
+    upper_like = record { height = refl; shape = refl; block = inl refl };
     widths = sym widths;
     leaves = ap leaves_in parts ∙ flat_map-append (λ (p : Part). p.leaves) ps qs;
     messages = λ key n.
@@ -294,7 +295,7 @@ cut {A} a v w low node e some more is rise = record {
       first = sym is;
       level = (all_split (IsBelow a.height a.shape) v.items w.items level).1;
       some = omega arith;
-      fits = refl;
+      block = inl refl;
       from = record { outside = λ key n o. upper_ops key n ∙ ap (λ t. cond t (ops_in ms key n) None) o };
       sizes = leaf_sizes.1;
       newer = record {

@@ -8,7 +8,7 @@ use Rattle.std.proofs.lemmas.List.{length-set, map-set, with_items_is}
 use Rattle.std.proofs.lemmas.Option.{slice_get-get_or}
 use Rattle.stow_tree_model.specs.Order.{MessagesRise}
 use Rattle.stow_tree_model.specs.TreeMessage.{TreeMessage}
-use Rattle.stow_message.specs.MessageBuf.{MessageList, message_list, without_range}
+use Rattle.stow_message.specs.MessageBuf.{MessageList, without_range}
 use Rattle.stow_message.specs.Packed.{message_size}
 use Rattle.stow_message.specs.Rising.{in_range}
 use Rattle.stow_node.specs.declared.child.Child.{Child}
@@ -18,10 +18,11 @@ use Rattle.stow_node.specs.Subtree.{Subtree}
 use Rattle.stow_node.specs.Parts.{Part, high_of}
 use Rattle.stow_leaf.specs.Intervals.{top_key}
 use Rattle.stow_node.specs.Nodes.{part_of, node_part, parts_of, subtree_of, IsNode}
-use Rattle.stow_node.specs.Moves.{accepted, CanAccept, IsSqueezed, StaysInMeaning, bytes_for, messages_for, HandsDown}
+use Rattle.stow_node.specs.Moves.{accepted, CanAccept, IsReallocated, StaysInMeaning, bytes_for, messages_for, HandsDown}
 use Rattle.stow_node.proofs.HandedDown.{same_node}
 use Rattle.stow_node.proofs.Lowered.{for_child, can_hand, Lowered, lowered, end_of-set}
 use Rattle.stow_leaf.proofs.Steps.{inside_of}
+use Rattle.stow_node.proofs.Reallocated.{reallocated_same}
 use Rattle.stow_node.proofs.Stayed.{part_at, ChildStays, child_stays}
 
 pub stays_then : {x y z : Subtree} → StaysInMeaning x y → StaysInMeaning y z → StaysInMeaning x z
@@ -38,13 +39,6 @@ stays_then s t = record {
 
 pub stays_itself : (x : Subtree) → StaysInMeaning x x
 stays_itself x = record { low = refl; height = refl; width = refl; shape = refl; capacity = refl; leaves = refl; messages = λ key n. refl; count = refl }
-
-squeezed_stays : (x : Subtree) (used : ℕ) → StaysInMeaning x (record x { buffer = message_list x.buffer.messages used x.buffer.capacity })
-squeezed_stays x used = record { low = refl; height = refl; width = refl; shape = refl; capacity = refl; leaves = refl; messages = λ key n. refl; count = refl }
-
--- dropping dead bytes leaves what a node means
-pub squeezed_same : (x y : Subtree) → IsSqueezed x y → StaysInMeaning x y × (y.weight ≡ x.weight) × (y.buffer.messages ≡ x.buffer.messages)
-squeezed_same x y s = rw s.is (squeezed_stays x s.used, refl, refl)
 
 -- the child at the place is this node
 pub node_at : {A : Type 0} (cs : List (Child A)) (i : ℕ) (c : Child A) (x : Subtree) → i < length cs → c ≡ get_or cs i c → c ≡ in_child.Node x → slice_get cs i ≡ Some (in_child.Node x)
@@ -66,23 +60,23 @@ pub record MadeRoom {A : Type 0} (a : Inside A) (i : ℕ) (x y : Subtree) : Type
   pub bytes : sum_by message_size (for_child (record a { children = with_item a.children i (in_child.Node y) }) i y) ≡ bytes_for (parts_of a.children.items) a.buffer i (node_part x)
   pub weight : y.weight ≡ x.weight
 
-pub made_room : {A : Type 0} (a : Inside A) (i : ℕ) (x y : Subtree) → IsNode a → slice_get a.children.items i ≡ Some (in_child.Node x) → IsSqueezed x y → y.buffer.used + bytes_for (parts_of a.children.items) a.buffer i (node_part x) ≤ y.buffer.capacity → MadeRoom a i x y
+pub made_room : {A : Type 0} (a : Inside A) (i : ℕ) (x y : Subtree) → IsNode a → slice_get a.children.items i ≡ Some (in_child.Node x) → IsReallocated x y → y.buffer.used + bytes_for (parts_of a.children.items) a.buffer i (node_part x) ≤ y.buffer.capacity → MadeRoom a i x y
 made_room {A} a i x y node at s room = record {
   made = made;
   at = here;
   can = can_hand (record a { children = with_item a.children i (in_child.Node y) }) i y made.is_node here (let b = bytes in omega arith);
   bytes = bytes;
-  weight = (squeezed_same x y s).1;
+  weight = (reallocated_same x y s).1;
 }
   where
     made : ChildStays a x y (with_item a.children i (in_child.Node y))
-    made = child_stays a (with_item a.children i (in_child.Node y)) i x y node at refl (squeezed_same x y s).0
+    made = child_stays a (with_item a.children i (in_child.Node y)) i x y node at refl (reallocated_same x y s).0
 
     here : slice_get (set a.children.items i (in_child.Node y)) i ≡ Some (in_child.Node y)
     here = get-set a.children.items i (in_child.Node y) (inside_of a.children.items i (in_child.Node x) at)
 
     low : y.low ≡ (get_or (parts_of a.children.items) i (node_part x)).low
-    low = let same = (squeezed_same x y s).0 in same.low ∙ ap (λ (p : Part). p.low) (sym (part_at a.children.items i (in_child.Node x) (node_part x) at))
+    low = let same = (reallocated_same x y s).0 in same.low ∙ ap (λ (p : Part). p.low) (sym (part_at a.children.items i (in_child.Node x) (node_part x) at))
 
     high : high_of (parts_of (set a.children.items i (in_child.Node y))) i ≡ high_of (parts_of a.children.items) i
     high = ap (λ ps. high_of ps i) (map-set part_of a.children.items i (in_child.Node y)) ∙ end_of-set top_key (parts_of a.children.items) i (node_part y)
@@ -127,7 +121,6 @@ pub record IsNext {A : Type 0} (a : Inside A) (i bytes : ℕ) (x : Subtree) : Ty
   pub bytes_are : bytes ≡ bytes_for (parts_of a.children.items) a.buffer i (node_part x)
   pub some : 0 < bytes
   pub few : bytes ≤ a.buffer.capacity
-  pub capacity : x.buffer.capacity ≡ a.buffer.capacity
   pub lower : x.height < a.height
 
 -- the children are those that the slice had in the end

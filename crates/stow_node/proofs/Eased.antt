@@ -28,11 +28,12 @@ use Rattle.stow_node.specs.declared.child.Child.TheVariants as in_child
 use Rattle.stow_node.specs.declared.node.Node.TheInside.{Inside}
 use Rattle.stow_node.specs.Eases.{Eases}
 use Rattle.stow_node.specs.Flushes.{KeepsRoot}
-use Rattle.stow_node.specs.Moves.{accepted, CanAccept, IsSqueezed, StaysInMeaning, HandsDown}
+use Rattle.stow_node.specs.Moves.{accepted, CanAccept, IsReallocated, StaysInMeaning, HandsDown}
 use Rattle.stow_node.specs.Nodes.{part_of, parts_of, nearest_of, nearest_in, subtree_of, IsBelow, IsNode}
 use Rattle.stow_node.specs.Parts.{low_or, high_of}
 use Rattle.stow_node.specs.Subtree.{Subtree, nearest_at, buffered, messages_of, right_above_leaves}
-use Rattle.stow_node.proofs.Down.{stays_itself, stays_then, squeezed_same, MadeRoom, WentInto}
+use Rattle.stow_node.proofs.Down.{stays_itself, MadeRoom, WentInto}
+use Rattle.stow_node.proofs.Reallocated.{StaysLike, like_then, reallocated_same, stays_like}
 use Rattle.stow_node.proofs.HandedDown.{same_node}
 use Rattle.stow_node.proofs.Nearest.{in_own, out_of_own, nearest_up}
 use Rattle.stow_node.proofs.Newer.{all_new_to, newer_than_part}
@@ -138,26 +139,26 @@ above_node {A} a i x node at =
     let level : IsBelow {A = A} a.height a.shape (in_child.Node x) = level_at a.height a.shape a.children.items i (in_child.Node x) node.level at in
     let l = level.level in let h = level.same.2 in omega (arith, l, h)
 
--- dead bytes leave what stands right above the leaves
-squeezed_none : (x y : Subtree) (key : List ℕ) (n : ℕ) → IsSqueezed x y → ops_in (right_above_leaves x) key n ≡ None → ops_in (right_above_leaves y) key n ≡ None
-squeezed_none x y key n q none = ap (λ (t : Subtree). ops_in (right_above_leaves t) key n) q.is ∙ none
+-- another block leaves what stands right above the leaves
+reallocated_none : (x y : Subtree) (key : List ℕ) (n : ℕ) → IsReallocated x y → ops_in (right_above_leaves x) key n ≡ None → ops_in (right_above_leaves y) key n ≡ None
+reallocated_none x y key n q none = ap (λ (t : Subtree). ops_in (right_above_leaves t) key n) q.is ∙ none
 
-pub eased_below : {A : Type 0} (a : Inside A) (i : ℕ) (x y z : Subtree) (batch : List TreeMessage) → IsNode a → slice_get a.children.items i ≡ Some (in_child.Node x) → IsSqueezed x y → Eases batch y z → EasedBelow a (with_item a.children i (in_child.Node z)) batch
+pub eased_below : {A : Type 0} (a : Inside A) (i : ℕ) (x y z : Subtree) (batch : List TreeMessage) → IsNode a → slice_get a.children.items i ≡ Some (in_child.Node x) → IsReallocated x y → Eases batch y z → EasedBelow a (with_item a.children i (in_child.Node z)) batch
 eased_below {A} a i x y z batch node at q e = record {
   is_node = made.is_node;
   eases = record {
     stays = made.stays;
-    nearer = let w = made.weight in let l = e.nearer in let s = (squeezed_same x y q).1 in omega (arith, w, l, s);
+    nearer = let w = made.weight in let l = e.nearer in let s = (reallocated_same x y q).1 in omega (arith, w, l, s);
     apart = λ key n s none.
         ap (λ ms. ops_in ms key n) (nearest_up a.height a.buffer.messages (nearest_in (set a.children.items i (in_child.Node z))) up)
         ∙ nearest-set a.children.items i x z key n at kept.low
-        (λ own old. e.apart key n s (squeezed_none x y key n q old))
+        (λ own old. e.apart key n s (reallocated_none x y key n q old))
         (ap (λ ms. ops_in ms key n) (sym (nearest_up a.height a.buffer.messages (nearest_in a.children.items) up)) ∙ none);
   };
 }
   where
-    kept : StaysInMeaning x z
-    kept = stays_then (squeezed_same x y q).0 e.stays
+    kept : StaysLike x z
+    kept = like_then (reallocated_same x y q).0 (stays_like e.stays)
 
     made : ChildStays a x z (with_item a.children i (in_child.Node z))
     made = child_stays a (with_item a.children i (in_child.Node z)) i x z node at refl kept
@@ -166,7 +167,7 @@ eased_below {A} a i x y z batch node at q e = record {
     up = above_node a i x node at
 
 -- of the batch none is in the buffer above the child
-pub eased_into : {A : Type 0} (a : Inside A) (i : ℕ) (x y : Subtree) (v : Vec (Child A) A) (b : MessageList) (batch : List TreeMessage) → IsNode a → MessagesRise a.buffer.messages → slice_get a.children.items i ≡ Some (in_child.Node x) → IsSqueezed x y → MadeRoom a i x y → WentInto a v b
+pub eased_into : {A : Type 0} (a : Inside A) (i : ℕ) (x y : Subtree) (v : Vec (Child A) A) (b : MessageList) (batch : List TreeMessage) → IsNode a → MessagesRise a.buffer.messages → slice_get a.children.items i ≡ Some (in_child.Node x) → IsReallocated x y → MadeRoom a i x y → WentInto a v b
     → HandsDown (set a.children.items i (in_child.Node y)) i a.buffer v.items b → AreNew (in_range y.low (high_of (parts_of (set a.children.items i (in_child.Node y))) i) batch) a.buffer.messages
     → Eases batch (subtree_of a) (subtree_of (record a { children = v; buffer = b }))
 eased_into {A} a i x y v b batch node rise at q m went h new = record {
@@ -177,8 +178,8 @@ eased_into {A} a i x y v b batch node rise at q m went h new = record {
       ∙ ap (λ cs. ops_in (nearest_in cs) key n) into
       ∙ nearest-set cs i y (accepted ms y) key n m.at refl
       (λ own old. accepted_none ms y key n m.can rising (moved key n own s) old)
-      (nearest-set a.children.items i x y key n at (squeezed_same x y q).0.low
-      (λ own old. squeezed_none x y key n q old)
+      (nearest-set a.children.items i x y key n at (reallocated_same x y q).0.low
+      (λ own old. reallocated_none x y key n q old)
       (ap (λ l. ops_in l key n) (sym (nearest_up a.height a.buffer.messages (nearest_in a.children.items) up)) ∙ none));
 }
   where

@@ -142,7 +142,7 @@ emptied {A} a v end ms pins node m leaves s = record {
       first = now.low top_key ∙ first_any top_key end (leaves_of v.items) s.some ∙ s.first ∙ begins a end node was;
       level = now.level a.height a.shape m.level;
       some = let c = now.count in let some = s.some in omega (arith, c, some);
-      fits = node.fits;
+      block = node.block;
       from = record { outside = λ key n o. refl };
       sizes = s.sizes;
       newer = record { above = λ key n k u l. absurd cc };

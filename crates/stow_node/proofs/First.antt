@@ -1,5 +1,5 @@
 -- A node above one empty leaf.
-use Rattle.std.proofs.Common.{◌≡◌, ◌+◌, ◌*◌, ◌≤◌, length, List, [], ◌∷◌, refl, sym, ap, arith, subst}
+use Rattle.std.proofs.Common.{◌≡◌, ◌+◌, ◌*◌, ◌≤◌, length, List, [], ◌∷◌, refl, sym, ap, arith, subst, inl}
 use Rattle.stow_message.specs.MessageBuf.{message_list}
 use Rattle.stow_tree_model.specs.Keys.{packed}
 use Rattle.std.specs.declared.vec.Vec.{Vec}
@@ -36,7 +36,7 @@ is_first {A} shape v e = record {
     first = facts.first;
     level = facts.level;
     some = facts.some;
-    fits = refl;
+    block = inl refl;
     from = record { outside = λ key n o. refl };
     sizes = facts.sizes;
     newer = record { above = λ key n k u l. absurd cc };

@@ -254,7 +254,7 @@ merged_leaf {A} a v i low high pins cache cache' node one heavy can leaves m s l
       first = now.low top_key ∙ s.first ∙ sym (was.low top_key) ∙ node.first;
       level = now.level a.height a.shape one;
       some = let c = now.count in let some = s.some in omega (arith, c, some);
-      fits = node.fits;
+      block = node.block;
       from = record { outside = λ key n o. ops-out_of_range low high ms key n ∙ none_cond (not (spans low high key)) (ops_in ms key n) (node.from.outside key n o) };
       sizes = s.sizes;
       newer = record {

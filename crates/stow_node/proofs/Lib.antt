@@ -10,8 +10,8 @@ pub mod Lowered
 pub mod Filled
 pub mod Down
 pub mod Raised
+pub mod Reallocated
 pub mod Cut
-pub mod Blocks
 pub mod Leaves
 pub mod Standing
 pub mod Spliced

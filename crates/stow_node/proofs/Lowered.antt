@@ -240,7 +240,7 @@ lowered {A} a v b i x node at rise can items is = rw is (record {
     first = row.first;
     level = row.level;
     some = let w = node.some in let same = row.width in omega arith;
-    fits = node.fits;
+    block = node.block;
     from = record { outside = λ key n o. ops-out_of_range x.low high a.buffer.messages key n ∙ none_of (not (spans x.low high key)) (ops_in a.buffer.messages key n) (node.from.outside key n o) };
     sizes = subst (AreLeafSizes a.shape.leaf) (sym row.leaves) node.sizes;
     newer = record {

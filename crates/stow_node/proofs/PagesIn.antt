@@ -231,7 +231,7 @@ installed_leaf {A} a v i job pins node one is can held some leaves puts tiled = 
       first = now.low top_key ∙ below.first ∙ sym (was.low top_key) ∙ node.first;
       level = now.level a.height a.shape one;
       some = let c = now.count in let l = below.some in omega (arith, c, l);
-      fits = node.fits;
+      block = node.block;
       from = record { outside = λ key n o. or_none_left (ops_in left key n) (ops_in batch key n) (sym (goes.parts key n) ∙ node.from.outside key n o) };
       sizes = subst (λ t. AllByRecursion (λ (l : LeafRows). IsLeafSize t l.1) (leaves_of v.items)) can.target below.sizes;
       newer = record {

@@ -19,19 +19,21 @@ use Rattle.stow_node.specs.declared.child.Child.{Child}
 use Rattle.stow_node.specs.declared.child.Child.TheVariants as in_child
 use Rattle.stow_node.specs.declared.node.Node.TheInside.{Inside}
 use Rattle.stow_node.specs.Flushes.{AreShort}
-use Rattle.stow_node.specs.Moves.{accepted, IsSqueezed, StaysInMeaning, bytes_for, IsHeaviest, HandsDown}
+use Rattle.stow_node.specs.Moves.{accepted, IsReallocated, StaysInMeaning, bytes_for, IsHeaviest, HandsDown}
 use Rattle.stow_node.specs.Nodes.{part_of, node_part, parts_of, IsBelow, subtree_of, IsNode, deepest_of}
 use Rattle.stow_node.specs.Parts.{high_of, messages_in}
 use Rattle.stow_node.specs.Plans.{HasLeafTarget, IsPlanned, HasDeepest, MovesDown, TakesOwn, GoesToDeepest, Plans}
 use Rattle.stow_node.specs.Subtree.{Subtree, buffered, messages_of}
 use Rattle.stow_node.proofs.Accepted.{length-all_placed}
 use Rattle.stow_node.proofs.Deepest.{append_nothing}
-use Rattle.stow_node.proofs.Down.{IsNext, node_at, get-set, squeezed_same, MadeRoom, made_room, WentInto, some_there}
+use Rattle.stow_node.proofs.Down.{IsNext, node_at, get-set, MadeRoom, made_room, WentInto, some_there}
 use Rattle.stow_node.proofs.Entered.{Entered, entered}
 use Rattle.stow_node.proofs.Filled.{some_bytes}
 use Rattle.stow_node.proofs.HandedDown.{same_node}
 use Rattle.stow_node.proofs.Lowered.{for_child}
 use Rattle.stow_node.proofs.Planned.{planned_above}
+use Rattle.stow_node.specs.declared.shape.Shape.{Shape}
+use Rattle.stow_node.proofs.Reallocated.{block_most, reallocated_same, stays_like}
 use Rattle.stow_node.proofs.Spliced.{child_short}
 use Rattle.stow_node.proofs.Standing.{parts_ops}
 use Rattle.stow_node.proofs.Stayed.{child_stays, level_at}
@@ -65,7 +67,7 @@ can_plan {A} a i x node at short target = record {
 pub child_planned : {A : Type 0} (a : Inside A) (i : ℕ) (x z : Subtree) (job : FlushJob A) (pins : TenantPins) → IsNode a → slice_get a.children.items i ≡ Some (in_child.Node x) → StaysInMeaning x z → IsPlanned pins z job → IsPlanned pins (subtree_of (record a { children = with_item a.children i (in_child.Node z) })) job
 child_planned {A} a i x z job pins node at s p =
     planned_above (record a { children = with_item a.children i (in_child.Node z) }) i z job pins
-    (child_stays a (with_item a.children i (in_child.Node z)) i x z node at refl s).is_node
+    (child_stays a (with_item a.children i (in_child.Node z)) i x z node at refl (stays_like s)).is_node
     (get-set a.children.items i (in_child.Node z) (inside_of a.children.items i (in_child.Node x) at)) p
 
 -- ---- the child below which the deepest buffer stands
@@ -101,7 +103,7 @@ plans_below {A} a i x z job node h at s p =
       planned = z;
       way = p;
       own = refl;
-      after = are_children (record a { children = with_item a.children i (in_child.Node z) }) (child_stays a (with_item a.children i (in_child.Node z)) i x z node at refl s).is_node;
+      after = are_children (record a { children = with_item a.children i (in_child.Node z) }) (child_stays a (with_item a.children i (in_child.Node z)) i x z node at refl (stays_like s)).is_node;
     })
   where
     level : IsBelow {A = A} a.height a.shape (in_child.Node x)
@@ -127,7 +129,6 @@ next_own {A} a i x c lent node high_up many e heavy here is live = record {
   bytes_are = refl;
   some = subst (λ n. 0 < bytes_for (parts_of a.children.items) a.buffer i (node_part n)) (same_node h.node x (sym h.at ∙ at)) h.some;
   few = let less = some_bytes (is_between (get_or (parts_of a.children.items) i (node_part x)).low (high_of (parts_of a.children.items) i)) a.buffer.messages in omega (arith, less, live);
-  capacity = level.same.1 ∙ sym node.fits;
   lower = let up : x.height + 1 ≡ a.height = level.level in omega arith;
 }
   where
@@ -145,9 +146,12 @@ pub next_is_empty : {A : Type 0} (a : Inside A) (i bytes : ℕ) (x : Subtree) �
 next_is_empty a i bytes x none n = none_in_part a.children.items i (in_child.Node x) none n.at
 
 -- its own bytes are all free
-pub room_when_empty : {A : Type 0} (a : Inside A) (i bytes : ℕ) (x y : Subtree) → IsNode a → IsNext a i bytes x → IsSqueezed x y → y.buffer.used ≡ 0 → MadeRoom a i x y
-room_when_empty a i bytes x y node n q free = made_room a i x y node n.at q
-    (let b = n.bytes_are in let f = n.few in let c = n.capacity in let k = (squeezed_same x y q).0.capacity in omega (arith, b, f, c, k, free))
+pub room_when_empty : {A : Type 0} (a : Inside A) (i bytes : ℕ) (x y : Subtree) → IsNode a → IsNext a i bytes x → IsReallocated x y → y.buffer.capacity ≡ y.shape.buffer → y.buffer.used ≡ 0 → MadeRoom a i x y
+room_when_empty {A} a i bytes x y node n q block free = made_room a i x y node n.at q
+    (let level : IsBelow {A = A} a.height a.shape (in_child.Node x) = level_at a.height a.shape a.children.items i (in_child.Node x) node.level n.at in
+    let size = ap (λ (s : Shape). s.buffer) ((reallocated_same x y q).0.shape ∙ level.same.0) in
+    let own = block_most a.shape.buffer a.buffer node.block in
+    let b = n.bytes_are in let f = n.few in omega (arith, b, f, own, size, block, free))
 
 -- the child with the messages that moved into it
 pub record IsFilled {A : Type 0} (a : Inside A) (v : Vec (Child A) A) (i : ℕ) (b : MessageList) : Type 0 where
@@ -156,7 +160,7 @@ pub record IsFilled {A : Type 0} (a : Inside A) (v : Vec (Child A) A) (i : ℕ) 
   pub some : 0 < length filled.buffer.messages
   pub none : filled.deeper ≡ []
 
-pub is_filled : {A : Type 0} (a : Inside A) (i : ℕ) (x y : Subtree) (v : Vec (Child A) A) (b : MessageList) → buffered x ≡ [] → IsSqueezed x y → MadeRoom a i x y → 0 < bytes_for (parts_of a.children.items) a.buffer i (node_part x) → HandsDown (set a.children.items i (in_child.Node y)) i a.buffer v.items b → IsFilled a v i b
+pub is_filled : {A : Type 0} (a : Inside A) (i : ℕ) (x y : Subtree) (v : Vec (Child A) A) (b : MessageList) → buffered x ≡ [] → IsReallocated x y → MadeRoom a i x y → 0 < bytes_for (parts_of a.children.items) a.buffer i (node_part x) → HandsDown (set a.children.items i (in_child.Node y)) i a.buffer v.items b → IsFilled a v i b
 is_filled {A} a i x y v b empty q m some h = record {
   filled = accepted ms h.node;
   at = ap (λ cs. slice_get cs i) h.into ∙ get-set (set a.children.items i (in_child.Node y)) i (in_child.Node (accepted ms h.node)) (inside_of (set a.children.items i (in_child.Node y)) i (in_child.Node h.node) h.at);
@@ -179,14 +183,14 @@ takes_higher zero height old new job l e m = absurd (omega (arith, l))
 takes_higher (suc k) height old new job l e m = subst (λ h. TakesOwn h old new job) (let t : suc (suc k) ≡ suc k + 1 = omega arith in t ∙ e) m
 
 -- the way of a node whose messages moved into its child first
-pub own_way : {A : Type 0} (a : Inside A) (i bytes : ℕ) (x y w z : Subtree) (v : Vec (Child A) A) (b : MessageList) (job : FlushJob A) → IsNode a → IsHeaviest (parts_of a.children.items) a.buffer i → IsNext a i bytes x → buffered x ≡ [] → IsSqueezed x y → HandsDown (set a.children.items i (in_child.Node y)) i a.buffer v.items b
+pub own_way : {A : Type 0} (a : Inside A) (i bytes : ℕ) (x y w z : Subtree) (v : Vec (Child A) A) (b : MessageList) (job : FlushJob A) → IsNode a → IsHeaviest (parts_of a.children.items) a.buffer i → IsNext a i bytes x → buffered x ≡ [] → IsReallocated x y → HandsDown (set a.children.items i (in_child.Node y)) i a.buffer v.items b
     → WentInto a v b → slice_get v.items i ≡ Some (in_child.Node w) → StaysInMeaning w z → TakesOwn w.height w z job → TakesOwn a.height (subtree_of a) (subtree_of (record a { children = with_item v i (in_child.Node z); buffer = b })) job
 own_way {A} a i bytes x y w z v b job node heavy n empty q down went at s t = takes_higher w.height a.height (subtree_of a) (subtree_of (record a { children = with_item v i (in_child.Node z); buffer = b })) job level.same.2 level.level (record {
   to = record { children = a.children.items; stand = are_children a node; index = i; most = heavy };
   node = x;
   at = n.at;
   ready = y;
-  emptied = q;
+  reallocated = q;
   empty = ap buffered q.is ∙ empty;
   after = v.items;
   down = down;
@@ -194,7 +198,7 @@ own_way {A} a i bytes x y w z v b job node heavy n empty q down went at s t = ta
   taken = at;
   planned = z;
   way = t;
-  stand = are_children (record a { children = with_item v i (in_child.Node z); buffer = b }) (child_stays (record a { children = v; buffer = b }) (with_item v i (in_child.Node z)) i w z went.is_node at refl s).is_node;
+  stand = are_children (record a { children = with_item v i (in_child.Node z); buffer = b }) (child_stays (record a { children = v; buffer = b }) (with_item v i (in_child.Node z)) i w z went.is_node at refl (stays_like s)).is_node;
 })
   where
     level : IsBelow {A = A} a.height a.shape (in_child.Node w)

@@ -1,5 +1,5 @@
 -- A node that is cut into several, and a root above several.
-use Rattle.std.proofs.Common.{suc, ◌≡◌, ℕ, ◌+◌, ◌-◌, ◌*◌, ◌<◌, ◌≤◌, List, [], ◌∷◌, ◌++◌, length, refl, sym, ap, ◌∙◌, subst, arith, append_assoc, append-nil, true}
+use Rattle.std.proofs.Common.{suc, ◌≡◌, ℕ, ◌+◌, ◌-◌, ◌*◌, ◌<◌, ◌≤◌, List, [], ◌∷◌, ◌++◌, length, refl, sym, ap, ◌∙◌, subst, arith, append_assoc, append-nil, true, inl}
 use Rattle.std.specs.List.{AllByRecursion}
 use Rattle.std.specs.Ordering.{is_lt}
 use Rattle.std.specs.Prelude.{IsSome}
@@ -27,7 +27,7 @@ use Rattle.std.specs.Vec.{vec_capacity}
 use Rattle.stow_leaf.specs.Replacements.{MeanTheSame}
 use Rattle.stow_node.specs.Flushes.{KeepsMeaning}
 use Rattle.stow_node.specs.Halves.{IsLike, AreHalves}
-use Rattle.stow_node.specs.Nodes.{leaves_of, nearest_in, AreAmong}
+use Rattle.stow_node.specs.Nodes.{leaves_of, nearest_in, AreAmong, HasNodeBlock}
 use Rattle.stow_node.specs.Nodes.{node_part, parts_of, AreLeafSizes, IsBelow, subtree_of, IsNode}
 use Rattle.stow_node.specs.Parts.{Part, low_or, IsTile, TiledTo, messages_in, leaves_in, weight_in}
 use Rattle.stow_node.specs.Regroups.{nodes, run_parts, run_messages, TakePlace, AreFew, Grows, StandAsOne, StepsAsOne, AreBehind}
@@ -61,6 +61,7 @@ place_then pins x y run shape p q = record {
 pub record Settling {A : Type 0} (pins : TenantPins) (old now : Subtree) (came : List (Child A)) : Type 0 where
   pub run : List Subtree
   pub are : came ≡ nodes A run
+  pub capacity : now.buffer.capacity ≡ old.buffer.capacity
   pub like : AllByRecursion (IsLike old) (now ∷ run)
   pub place : TakePlace pins old (now ∷ run)
   pub few : AreFew run
@@ -69,11 +70,12 @@ pub record Settling {A : Type 0} (pins : TenantPins) (old now : Subtree) (came :
   pub whole : IsTile (node_part old) top_key
   pub nearest : AreAmong (nearest_in (nodes A (now ∷ run))) (right_above_leaves old)
 
-pub settling_first : (A : Type 0) (pins : TenantPins) (x : Subtree) → AreLeafSizes x.shape.leaf x.leaves → IsTile (node_part x) top_key → Settling {A = A} pins x x []
-settling_first A pins x sizes whole = record {
+pub settling_first : (A : Type 0) (pins : TenantPins) (x : Subtree) → HasNodeBlock x → AreLeafSizes x.shape.leaf x.leaves → IsTile (node_part x) top_key → Settling {A = A} pins x x []
+settling_first A pins x block sizes whole = record {
   run = [];
   are = refl;
-  like = (record { height = refl; shape = refl; capacity = refl }, tt);
+  capacity = refl;
+  like = (record { height = refl; shape = refl; block = block }, tt);
   place = one_takes_place pins x x (record {
     low = refl;
     height = refl;
@@ -98,10 +100,11 @@ pub settling_next : {A : Type 0} (pins : TenantPins) (old now lower upper : Subt
 settling_next {A} pins old now lower upper came s h fits = record {
   run = upper ∷ s.run;
   are = ap (λ l. in_child.Node upper ∷ l) s.are;
+  capacity = h.capacity ∙ s.capacity;
   like = (
-    record { height = h.lower_like.height ∙ s.like.0.height; shape = h.lower_like.shape ∙ s.like.0.shape; capacity = h.lower_like.capacity ∙ s.like.0.capacity },
+    record { height = h.lower_like.height ∙ s.like.0.height; shape = h.lower_like.shape ∙ s.like.0.shape; block = h.lower_like.block },
     (
-      record { height = h.upper_like.height ∙ s.like.0.height; shape = h.upper_like.shape ∙ s.like.0.shape; capacity = h.upper_like.capacity ∙ s.like.0.capacity },
+      record { height = h.upper_like.height ∙ s.like.0.height; shape = h.upper_like.shape ∙ s.like.0.shape; block = h.upper_like.block },
       s.like.1,
     ),
   );
@@ -155,7 +158,7 @@ settling_next {A} pins old now lower upper came s h fits = record {
         ∙ sym (row_ops_are (run_parts (now ∷ s.run)) key n)
 
 pub settled : {A : Type 0} (pins : TenantPins) (old now : Subtree) (came : List (Child A)) → Settling pins old now came → now.width ≤ now.shape.fan_out → Grows pins old now came
-settled pins old now came s fits = record { run = s.run; are = s.are; like = s.like; place = s.place; few = (fits, s.few); weight = s.weight; leaves = s.leaves; nearest = s.nearest }
+settled pins old now came s fits = record { run = s.run; are = s.are; capacity = s.capacity; like = s.like; place = s.place; few = (fits, s.few); weight = s.weight; leaves = s.leaves; nearest = s.nearest }
 
 -- how far the code is: so many nodes are still to be one
 pub record IsSettling {A : Type 0} (old : Subtree) (room : Room A) (now : Subtree) (room' : Room A) (left : ℕ) : Type 0 where
@@ -169,9 +172,9 @@ pub record IsSettling {A : Type 0} (old : Subtree) (room : Room A) (now : Subtre
   pub wides : room'.wides ≡ room.wides
   pub shells : (rest : ℕ) → AreShells ((groups old.shape.fan_out old.width - 1) + rest) old.shape room.shells.items → AreShells ((left - 1) + rest) old.shape room'.shells.items
 
-pub settling_begins : {A : Type 0} (x : Subtree) (room : Room A) (left : ℕ) → AreLeafSizes x.shape.leaf x.leaves → IsTile (node_part x) top_key → 1 ≤ x.shape.fan_out → 1 ≤ x.width → room.came.items ≡ [] → left ≡ groups x.shape.fan_out x.width → IsSettling x room x room left
-settling_begins {A} x room left sizes whole fan some none e = subst (IsSettling x room x room) (sym e) (record {
-  settling = λ pins. subst (Settling pins x x) (sym none) (settling_first A pins x sizes whole);
+pub settling_begins : {A : Type 0} (x : Subtree) (room : Room A) (left : ℕ) → HasNodeBlock x → AreLeafSizes x.shape.leaf x.leaves → IsTile (node_part x) top_key → 1 ≤ x.shape.fan_out → 1 ≤ x.width → room.came.items ≡ [] → left ≡ groups x.shape.fan_out x.width → IsSettling x room x room left
+settling_begins {A} x room left block sizes whole fan some none e = subst (IsSettling x room x room) (sym e) (record {
+  settling = λ pins. subst (Settling pins x x) (sym none) (settling_first A pins x block sizes whole);
   shape = refl;
   some = omega arith;
   few = groups_few x.shape.fan_out x.width some;
@@ -233,7 +236,7 @@ steps {A} pins x y z came k less g few = record {
     run = g.run;
     are = g.are;
     shape = g.like.0.shape ∙ k.shape;
-    capacity = g.like.0.capacity ∙ k.capacity;
+    capacity = g.capacity ∙ k.capacity;
     like = all_like g.run g.like.1;
     place = place_then pins x y (z ∷ g.run) k.shape (one_takes_place pins x y k) g.place;
     few = g.few;
@@ -245,7 +248,7 @@ steps {A} pins x y z came k less g few = record {
   where
     all_like : (ts : List Subtree) → AllByRecursion (IsLike y) ts → AllByRecursion (IsLike z) ts
     all_like [] h = tt
-    all_like (t ∷ ts) h = (record { height = h.0.height ∙ sym g.like.0.height; shape = h.0.shape ∙ sym g.like.0.shape; capacity = h.0.capacity ∙ sym g.like.0.capacity }, all_like ts h.1)
+    all_like (t ∷ ts) h = (record { height = h.0.height ∙ sym g.like.0.height; shape = h.0.shape ∙ sym g.like.0.shape; block = h.0.block }, all_like ts h.1)
 
 -- the leaves of what grew
 pub grown_leaves : {A : Type 0} (pins : TenantPins) (y z : Subtree) (came : List (Child A)) → Grows pins y z came → z.leaves ++ leaves_of came ≡ y.leaves
@@ -280,17 +283,17 @@ pub record Rooted {A : Type 0} (a : Inside A) (v : Vec (Child A) A) (came : List
   pub leaves : leaves_in (parts_of v.items) ≡ (subtree_of a).leaves ++ leaves_of came
   pub nearest : (pins : TenantPins) (z : Subtree) (came' : List (Child A)) → Grows pins (subtree_of (root_above a v (message_list [] 0 a.shape.buffer))) z came' → AreAmong (nearest_in (in_child.Node z ∷ came')) (nearest_in (in_child.Node (subtree_of a) ∷ came))
 
-pub rooted : {A : Type 0} (a : Inside A) (v : Vec (Child A) A) (came : List (Child A)) → IsNode a → AreBehind (subtree_of a) came → v.items ≡ in_child.Node (subtree_of a) ∷ came → Rooted a v came
-rooted {A} a v came node b items = record {
+pub rooted : {A : Type 0} (a : Inside A) (v : Vec (Child A) A) (came : List (Child A)) → IsNode a → a.buffer.capacity ≡ a.shape.buffer → AreBehind (subtree_of a) came → v.items ≡ in_child.Node (subtree_of a) ∷ came → Rooted a v came
+rooted {A} a v came node whole_block b items = record {
   is_node = record {
     tiled = subst (TiledTo top_key) (sym parts) tiled.0;
     first = ap (low_or top_key) parts;
     level = subst (AllByRecursion (IsBelow {A = A} (a.height + 1) a.shape)) (sym items) (
-      record { level = refl; same = (refl, node.fits, above_leaves a node, b.stands.few.0) },
+      record { level = refl; same = (refl, node.block, above_leaves a node, b.stands.few.0) },
       subst (AllByRecursion (IsBelow {A = A} (a.height + 1) a.shape)) (sym b.stands.are) (each b.stands.run b.stands.like b.stands.few.1),
     );
     some = subst (λ (l : List (Child A)). 1 ≤ length l) (sym items) (omega arith);
-    fits = refl;
+    block = inl refl;
     from = record { outside = λ key n o. refl };
     newer = record { above = λ key n k u l. absurd cc };
     sizes = subst (λ ps. AreLeafSizes a.shape.leaf (leaves_in ps)) (sym parts) (subst (λ (s : Shape). AreLeafSizes s.leaf (leaves_in (run_parts (subtree_of a ∷ b.stands.run)))) (sym b.stands.shape) b.stands.place.sizes);
@@ -316,7 +319,7 @@ rooted {A} a v came node b items = record {
     each (t ∷ ts) h f = (
       record {
         level = ap (λ k. k + 1) h.0.height;
-        same = (h.0.shape, h.0.capacity ∙ node.fits, let e = h.0.height in let l = above_leaves a node in omega (arith, e, l), subst (λ (s : Shape). t.width ≤ s.fan_out) h.0.shape f.0);
+        same = (h.0.shape, h.0.block, let e = h.0.height in let l = above_leaves a node in omega (arith, e, l), subst (λ (s : Shape). t.width ≤ s.fan_out) h.0.shape f.0);
       },
       each ts h.1 f.1,
     )
@@ -329,7 +332,7 @@ rooted {A} a v came node b items = record {
       run = g.run;
       are = g.are;
       shape = g.like.0.shape ∙ s.shape;
-      capacity = g.like.0.capacity ∙ sym node.fits ∙ s.capacity;
+      capacity = g.capacity ∙ sym whole_block ∙ s.capacity;
       like = all_like g.run g.like.1;
       place = place_then pins x root (z ∷ g.run) s.shape one g.place;
       few = g.few;
@@ -342,7 +345,7 @@ rooted {A} a v came node b items = record {
       where
         all_like : (ts : List Subtree) → AllByRecursion (IsLike root) ts → AllByRecursion (IsLike z) ts
         all_like [] h = tt
-        all_like (t ∷ ts) h = (record { height = h.0.height ∙ sym g.like.0.height; shape = h.0.shape ∙ sym g.like.0.shape; capacity = h.0.capacity ∙ sym g.like.0.capacity }, all_like ts h.1)
+        all_like (t ∷ ts) h = (record { height = h.0.height ∙ sym g.like.0.height; shape = h.0.shape ∙ sym g.like.0.shape; block = h.0.block }, all_like ts h.1)
 
         one : TakePlace pins x (root ∷ [])
         one = record {

@@ -257,7 +257,7 @@ spliced {A} a v i x run pins node at r like few filled items = record {
         each (t ∷ ts) h f = (
           record {
             level = ap (λ k. k + 1) h.0.height ∙ p.below.level;
-            same = (h.0.shape ∙ p.below.same.0, h.0.capacity ∙ p.below.same.1, let e = h.0.height in let l = p.below.same.2 in omega (arith, e, l), subst (λ (s : Shape). t.width ≤ s.fan_out) (h.0.shape ∙ p.below.same.0) f.0);
+            same = (h.0.shape ∙ p.below.same.0, h.0.block, let e = h.0.height in let l = p.below.same.2 in omega (arith, e, l), subst (λ (s : Shape). t.width ≤ s.fan_out) (h.0.shape ∙ p.below.same.0) f.0);
           },
           each ts h.1 f.1,
         )
@@ -302,7 +302,7 @@ spliced {A} a v i x run pins node at r like few filled items = record {
       first = ap (low_or top_key) parts ∙ low_or-append top_key xs (qs ++ ys) ∙ ap (λ low. low_or low xs) begins ∙ sym (low_or-append top_key xs (node_part x ∷ ys)) ∙ ap (low_or top_key) (sym p.are) ∙ node.first;
       level = subst (AllByRecursion (IsBelow {A = A} a.height a.shape)) (sym items) level;
       some = omega (arith, count, filled, inside);
-      fits = node.fits;
+      block = node.block;
       from = node.from;
       newer = record { above = λ key n k u l. above_same (pins (tenant_of key)) (ops_in a.buffer.messages key) (ops_in (below_of a) key) (ops_in (below_of (record a { children = v })) key) (node.newer.above key) (below_means key) n k u l };
       sizes = sizes;

@@ -21,6 +21,7 @@ use Rattle.stow_node.specs.Nodes.{part_of, node_part, parts_of, IsBelow, subtree
 use Rattle.stow_node.specs.Moves.{StaysInMeaning}
 use Rattle.stow_leaf.proofs.Ops.{ops-append}
 use Rattle.stow_leaf.proofs.Steps.{inside_of}
+use Rattle.stow_node.proofs.Reallocated.{StaysLike}
 use Rattle.stow_node.proofs.Row.{message_taken, same_at, low_or-set, tiled-set, tile_at}
 
 -- the part at the place is the child's
@@ -50,7 +51,7 @@ level_at height shape (d ∷ cs) zero c all e = subst (IsBelow height shape) (so
 level_at height shape (d ∷ cs) (suc i) c all e = level_at height shape cs i c all.1 e
 
 -- a child that means the same is a tile where the other was one
-pub same_tile : (x y : Subtree) (high : List ℕ) → StaysInMeaning x y → IsTile (node_part x) high → IsTile (node_part y) high
+pub same_tile : (x y : Subtree) (high : List ℕ) → StaysLike x y → IsTile (node_part x) high → IsTile (node_part y) high
 same_tile x y high s t = record {
   fences = rw (s.leaves, s.low) t.fences;
   first = rw (s.leaves, s.low) t.first;
@@ -70,7 +71,7 @@ pub record RowStays {A : Type 0} (a : Inside A) (x y : Subtree) (l : List (Child
   pub count : length (messages_in (parts_of l)) ≡ length (messages_in (parts_of a.children.items))
   pub weight : weight_in (parts_of l) + x.weight ≡ weight_in (parts_of a.children.items) + y.weight
 
-row_stays : {A : Type 0} (a : Inside A) (i : ℕ) (x y : Subtree) → IsNode a → slice_get a.children.items i ≡ Some (in_child.Node x) → StaysInMeaning x y → RowStays a x y (set a.children.items i (in_child.Node y))
+row_stays : {A : Type 0} (a : Inside A) (i : ℕ) (x y : Subtree) → IsNode a → slice_get a.children.items i ≡ Some (in_child.Node x) → StaysLike x y → RowStays a x y (set a.children.items i (in_child.Node y))
 row_stays {A} a i x y node at s = record {
   tiled = subst (TiledTo top_key) (sym parts) (tiled-set top_key ps i (node_part x) (node_part y) node.tiled inside low (same_tile x y (high_of ps i) s tile));
   first = ap (low_or top_key) parts ∙ low_or-set top_key ps i (node_part x) (node_part y) inside low ∙ node.first;
@@ -104,7 +105,7 @@ row_stays {A} a i x y node at s = record {
     old = level_at a.height a.shape a.children.items i (in_child.Node x) node.level at
 
     below : IsBelow {A = A} a.height a.shape (in_child.Node y)
-    below = record { level = ap (λ h. h + 1) s.height ∙ old.level; same = (s.shape ∙ old.same.0, s.capacity ∙ old.same.1, let h = s.height in let l = old.same.2 in omega (arith, h, l), let w = s.width in let f = old.same.3 in omega (arith, w, f)) }
+    below = record { level = ap (λ h. h + 1) s.height ∙ old.level; same = (s.shape ∙ old.same.0, s.block old.same.1, let h = s.height in let l = old.same.2 in omega (arith, h, l), let w = s.width in let f = old.same.3 in omega (arith, w, f)) }
 
     counted : length (messages_in (set ps i (node_part y))) ≡ length (messages_in ps)
     counted = let c = count-set ps i (node_part x) (node_part y) inside in let e = ap (λ (p : Part). length p.messages) here in let f = s.count in omega arith
@@ -115,14 +116,14 @@ pub record ChildStays {A : Type 0} (a : Inside A) (x y : Subtree) (v : Vec (Chil
   pub stays : StaysInMeaning (subtree_of a) (subtree_of (record a { children = v }))
   pub weight : (subtree_of (record a { children = v })).weight + x.weight ≡ (subtree_of a).weight + y.weight
 
-pub child_stays : {A : Type 0} (a : Inside A) (v : Vec (Child A) A) (i : ℕ) (x y : Subtree) → IsNode a → slice_get a.children.items i ≡ Some (in_child.Node x) → v.items ≡ set a.children.items i (in_child.Node y) → StaysInMeaning x y → ChildStays a x y v
+pub child_stays : {A : Type 0} (a : Inside A) (v : Vec (Child A) A) (i : ℕ) (x y : Subtree) → IsNode a → slice_get a.children.items i ≡ Some (in_child.Node x) → v.items ≡ set a.children.items i (in_child.Node y) → StaysLike x y → ChildStays a x y v
 child_stays {A} a v i x y node at e s = record {
   is_node = record {
     tiled = row.tiled;
     first = row.first;
     level = row.level;
     some = let w = node.some in let same = row.width in omega arith;
-    fits = node.fits;
+    block = node.block;
     from = node.from;
     sizes = subst (AreLeafSizes a.shape.leaf) (sym row.leaves) node.sizes;
     newer = record { above = λ key n k u l. node.newer.above key n k u (subst IsSome (lower key k) l) };

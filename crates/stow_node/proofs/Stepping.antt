@@ -23,13 +23,14 @@ use Rattle.stow_node.specs.Flushes.{AreShort, KeepsMeaning}
 use Rattle.stow_leaves.specs.Forgets.{Forgets}
 use Rattle.stow_node.specs.Halves.{IsLike}
 use Rattle.stow_node.specs.Nodes.{leaves_of}
-use Rattle.stow_node.specs.Moves.{IsSqueezed, StaysInMeaning, bytes_for, IsHeaviest}
+use Rattle.stow_node.specs.Moves.{IsReallocated, StaysInMeaning, bytes_for, IsHeaviest}
 use Rattle.stow_node.specs.Nodes.{part_of, node_part, parts_of, AreLeafSizes, IsBelow, subtree_of, IsNode}
 use Rattle.stow_node.specs.Parts.{Part, high_of, leaves_in}
 use Rattle.stow_node.specs.Regroups.{nodes, run_parts, run_messages, TakePlace, StepsAsOne, ForgetsCame}
 use Rattle.stow_node.specs.Subtree.{Subtree, messages_of}
-use Rattle.stow_node.proofs.Down.{IsNext, node_at, squeezed_same, full_has_messages}
+use Rattle.stow_node.proofs.Down.{IsNext, node_at, full_has_messages}
 use Rattle.stow_node.proofs.Entered.{Entered, entered}
+use Rattle.stow_node.proofs.Reallocated.{StaysLike, block_kept, block_most, like_itself, reallocated_same, stays_like}
 use Rattle.stow_node.proofs.Filled.{some_bytes}
 use Rattle.stow_node.proofs.Spliced.{old_parts}
 use Rattle.stow_leaves.proofs.Forgotten.{forgets_within}
@@ -46,7 +47,7 @@ stays_keeps pins x y s sizes = record {
   shape = s.shape;
   capacity = s.capacity;
   sizes = sizes;
-  tile = λ high t. same_tile x y high s t;
+  tile = λ high t. same_tile x y high (stays_like s) t;
   means = λ key. same_pointwise (pins (tenant_of key)) (ops_in (messages_of x) key) (ops_in (messages_of y) key) (λ n.
       parts_ops y key n
       ∙ (λ i. or_else (s.messages key n i) (ops_in (row_messages (s.leaves i)) key n))
@@ -61,7 +62,6 @@ next_is {A} a i bytes x c lent lent' node high_up many e heavy here is e' given 
   bytes_are = are (node_part x);
   some = let b = are (node_part h.node) in let s = h.some in omega (arith, b, s);
   few = let less = some_bytes (is_between (get_or (parts_of a.children.items) i (node_part x)).low (high_of (parts_of a.children.items) i)) a.buffer.messages in let b = are (node_part x) in omega (arith, b, less, live);
-  capacity = level.same.1 ∙ sym node.fits;
   lower = let up : x.height + 1 ≡ a.height = level.level in omega arith;
 }
   where
@@ -80,36 +80,40 @@ next_is {A} a i bytes x c lent lent' node high_up many e heavy here is e' given 
 -- ---- a step of the child's own
 
 -- a child that lacks room, of a node that has messages for it, has messages
-pub next_filled : {A : Type 0} (a : Inside A) (i bytes ample : ℕ) (x y : Subtree) → IsNode a → IsNext a i bytes x → IsSqueezed x y → y.buffer.capacity < sum_by message_size y.buffer.messages + ample → (bytes ≤ a.shape.buffer → ample ≤ a.shape.buffer) → 0 < length y.buffer.messages
-next_filled a i bytes ample x y node n q full most =
-    full_has_messages y ample full (let b = node.fits in let f = most (let l = n.few in omega (arith, l, b)) in let k = (squeezed_same x y q).0.capacity in let c = n.capacity in omega (arith, b, f, k, c))
+pub next_filled : {A : Type 0} (a : Inside A) (i bytes ample : ℕ) (x y : Subtree) → IsNode a → IsNext a i bytes x → IsReallocated x y → y.buffer.capacity ≡ y.shape.buffer → y.buffer.capacity < sum_by message_size y.buffer.messages + ample → (bytes ≤ a.shape.buffer → ample ≤ a.shape.buffer) → 0 < length y.buffer.messages
+next_filled {A} a i bytes ample x y node n q block full most =
+    let level : IsBelow {A = A} a.height a.shape (in_child.Node x) = level_at a.height a.shape a.children.items i (in_child.Node x) node.level n.at in
+    let size = ap (λ (s : Shape). s.buffer) ((reallocated_same x y q).0.shape ∙ level.same.0) in
+    let own = block_most a.shape.buffer a.buffer node.block in
+    let f = most (let l = n.few in omega (arith, l, own)) in
+    full_has_messages y ample full (omega (arith, f, block, size))
 
-pub record CanStep (y : Subtree) (height capacity fan_out : ℕ) : Type 0 where
+pub record CanStep (y : Subtree) (height size fan_out : ℕ) : Type 0 where
   pub filled : 0 < length y.buffer.messages
   pub few : y.width ≤ y.shape.fan_out
   pub wide : y.shape.fan_out ≡ fan_out
   pub short : AreShort (messages_of y)
-  pub same : y.buffer.capacity ≡ capacity
+  pub same : y.shape.buffer ≡ size
   pub lower : y.height < height
 
-pub can_step : {A : Type 0} (a : Inside A) (i bytes ample : ℕ) (x y : Subtree) → IsNode a → IsNext a i bytes x → IsSqueezed x y → y.buffer.capacity < sum_by message_size y.buffer.messages + ample → (bytes ≤ a.shape.buffer → ample ≤ a.shape.buffer) → AreShort (messages_of (subtree_of a)) → CanStep y a.height a.buffer.capacity a.shape.fan_out
-can_step {A} a i bytes ample x y node n q full most short = record {
-  filled = next_filled a i bytes ample x y node n q full most;
-  few = let e = fan_out in let w = squeezed.width in let f = level.same.3 in omega (arith, e, w, f);
+pub can_step : {A : Type 0} (a : Inside A) (i bytes ample : ℕ) (x y : Subtree) → IsNode a → IsNext a i bytes x → IsReallocated x y → y.buffer.capacity ≡ y.shape.buffer → y.buffer.capacity < sum_by message_size y.buffer.messages + ample → (bytes ≤ a.shape.buffer → ample ≤ a.shape.buffer) → AreShort (messages_of (subtree_of a)) → CanStep y a.height a.shape.buffer a.shape.fan_out
+can_step {A} a i bytes ample x y node n q block full most short = record {
+  filled = next_filled a i bytes ample x y node n q block full most;
+  few = let e = fan_out in let w = like.width in let f = level.same.3 in omega (arith, e, w, f);
   wide = fan_out;
   short = rw q.is (child_short a i x node n.at short);
-  same = squeezed.capacity ∙ n.capacity;
-  lower = let h = squeezed.height in let l = n.lower in omega (arith, h, l);
+  same = ap (λ (t : Shape). t.buffer) (like.shape ∙ level.same.0);
+  lower = let h = like.height in let l = n.lower in omega (arith, h, l);
 }
   where
-    squeezed : StaysInMeaning x y
-    squeezed = (squeezed_same x y q).0
+    like : StaysLike x y
+    like = (reallocated_same x y q).0
 
     level : IsBelow {A = A} a.height a.shape (in_child.Node x)
     level = level_at a.height a.shape a.children.items i (in_child.Node x) node.level n.at
 
     fan_out : y.shape.fan_out ≡ a.shape.fan_out
-    fan_out = ap (λ (t : Shape). t.fan_out) (squeezed.shape ∙ level.same.0)
+    fan_out = ap (λ (t : Shape). t.fan_out) (like.shape ∙ level.same.0)
 
 -- ---- the node with the child after its step, and what came behind it
 
@@ -149,7 +153,7 @@ steps_alone pins x y came s sizes less few none = record {
 }
 
 -- a node that stands where another stays
-pub place_of_stayed : (pins : TenantPins) (x y : Subtree) (run : List Subtree) → StaysInMeaning x y → TakePlace pins y run → TakePlace pins x run
+pub place_of_stayed : (pins : TenantPins) (x y : Subtree) (run : List Subtree) → StaysLike x y → TakePlace pins y run → TakePlace pins x run
 place_of_stayed pins x y run s p = record {
   tiled = λ high t. let u = p.tiled high (same_tile x y high s t) in (u.0, u.1 ∙ s.low);
   sizes = subst (λ (h : Shape). AreLeafSizes h.leaf (leaves_in (run_parts run))) s.shape p.sizes;
@@ -166,42 +170,32 @@ pub record Stepped {A : Type 0} (a : Inside A) (v : Vec (Child A) A) (pins : Ten
   pub keeps : KeepsMeaning pins (subtree_of a) (subtree_of (record a { children = v }))
   pub lighter : (subtree_of (record a { children = v })).weight < (subtree_of a).weight
 
--- a step of a node that another stays in the place of
-pub steps_from : {A : Type 0} (pins : TenantPins) (x y z : Subtree) (came : List (Child A)) → StaysInMeaning x y → y.weight ≡ x.weight → StepsAsOne pins y z came → StepsAsOne pins x z came
-steps_from pins x y z came st weight s = record {
-  stands = record {
-    run = s.stands.run;
-    are = s.stands.are;
-    shape = s.stands.shape ∙ st.shape;
-    capacity = s.stands.capacity ∙ st.capacity;
-    like = s.stands.like;
-    place = place_of_stayed pins x y (z ∷ s.stands.run) st s.stands.place;
-    few = s.stands.few;
-    lighter = let l = s.stands.lighter in omega (arith, l, weight);
-  };
-  height = s.height ∙ st.height;
-  counted = s.counted;
-}
-
--- the child stepped, and what came behind it stands there
-pub came_in : {A : Type 0} (a : Inside A) (v : Vec (Child A) A) (i : ℕ) (x z : Subtree) (came : List (Child A)) (pins : TenantPins) → IsNode a → slice_get a.children.items i ≡ Some (in_child.Node x) → StepsAsOne pins x z came → v.items ≡ take (i + 1) (set a.children.items i (in_child.Node z)) ++ (came ++ drop (i + 1) (set a.children.items i (in_child.Node z))) → Stepped a v pins
-came_in {A} a v i x z came pins node at s items = record {
+-- the child, in whose place another stays, stepped, and what came behind it stands there
+came_from : {A : Type 0} (a : Inside A) (v : Vec (Child A) A) (i : ℕ) (x y z : Subtree) (came : List (Child A)) (pins : TenantPins) → IsNode a → slice_get a.children.items i ≡ Some (in_child.Node x) → StaysLike x y → y.weight ≡ x.weight → StepsAsOne pins y z came → v.items ≡ take (i + 1) (set a.children.items i (in_child.Node z)) ++ (came ++ drop (i + 1) (set a.children.items i (in_child.Node z))) → Stepped a v pins
+came_from {A} a v i x y z came pins node at st weight s items = record {
   is_node = whole.is_node;
   keeps = whole.keeps;
-  lighter = let w = whole.weight in let l = s.stands.lighter in omega (arith, w, l);
+  lighter = let w = whole.weight in let l = s.stands.lighter in omega (arith, w, l, weight);
 }
   where
+    level : IsBelow {A = A} a.height a.shape (in_child.Node x)
+    level = level_at a.height a.shape a.children.items i (in_child.Node x) node.level at
+
     like_x : IsLike x z
-    like_x = record { height = s.height; shape = s.stands.shape; capacity = s.stands.capacity }
+    like_x = record { height = s.height ∙ st.height; shape = s.stands.shape ∙ st.shape; block = block_kept y z s.stands.shape s.stands.capacity (st.block level.same.1) }
 
     all_like : (ts : List Subtree) → AllByRecursion (IsLike z) ts → AllByRecursion (IsLike x) ts
     all_like [] h = tt
-    all_like (t ∷ ts) h = (record { height = h.0.height ∙ like_x.height; shape = h.0.shape ∙ like_x.shape; capacity = h.0.capacity ∙ like_x.capacity }, all_like ts h.1)
+    all_like (t ∷ ts) h = (record { height = h.0.height ∙ like_x.height; shape = h.0.shape ∙ like_x.shape; block = h.0.block }, all_like ts h.1)
 
     whole : Spliced a v x (z ∷ s.stands.run) pins
-    whole = spliced a v i x (z ∷ s.stands.run) pins node at s.stands.place (like_x, all_like s.stands.run s.stands.like) s.stands.few (omega arith)
+    whole = spliced a v i x (z ∷ s.stands.run) pins node at (place_of_stayed pins x y (z ∷ s.stands.run) st s.stands.place) (like_x, all_like s.stands.run s.stands.like) s.stands.few (omega arith)
         (items ∙ ap (λ (l : List (Child A)). take (i + 1) (set a.children.items i (in_child.Node z)) ++ (l ++ drop (i + 1) (set a.children.items i (in_child.Node z)))) s.stands.are
         ∙ behind_set a.children.items i (in_child.Node z) (nodes A s.stands.run) (inside_of a.children.items i (in_child.Node x) at))
+
+-- the child stepped, and what came behind it stands there
+pub came_in : {A : Type 0} (a : Inside A) (v : Vec (Child A) A) (i : ℕ) (x z : Subtree) (came : List (Child A)) (pins : TenantPins) → IsNode a → slice_get a.children.items i ≡ Some (in_child.Node x) → StepsAsOne pins x z came → v.items ≡ take (i + 1) (set a.children.items i (in_child.Node z)) ++ (came ++ drop (i + 1) (set a.children.items i (in_child.Node z))) → Stepped a v pins
+came_in a v i x z came pins node at s items = came_from a v i x x z came pins node at (like_itself x) refl s items
 
 -- the leaves that went with the child, the cache lost
 pub came_forgets : {A : Type 0} (a : Inside A) (v : Vec (Child A) A) (i : ℕ) (x z : Subtree) (came : List (Child A)) (cache cache' : Cache) → slice_get a.children.items i ≡ Some (in_child.Node x) → v.items ≡ take (i + 1) (set a.children.items i (in_child.Node z)) ++ (came ++ drop (i + 1) (set a.children.items i (in_child.Node z)))
@@ -222,13 +216,13 @@ came_forgets {A} a v i x z came cache cache' at items f =
         ap leaves_in parts ∙ flat_map-append (λ (p : Part). p.leaves) (before_of a i) ((node_part z ∷ parts_of came) ++ after_of a i)
         ∙ ap (λ l. leaves_in (before_of a i) ++ l) (flat_map-append (λ (p : Part). p.leaves) (node_part z ∷ parts_of came) (after_of a i))
 
-pub stepped : {A : Type 0} (a : Inside A) (v : Vec (Child A) A) (i bytes : ℕ) (x y z : Subtree) (came : List (Child A)) (pins : TenantPins) → IsNode a → IsNext a i bytes x → IsSqueezed x y → StepsAsOne pins y z came → v.items ≡ take (i + 1) (set a.children.items i (in_child.Node z)) ++ (came ++ drop (i + 1) (set a.children.items i (in_child.Node z))) → Stepped a v pins
-stepped a v i bytes x y z came pins node n q s items = let st = squeezed_same x y q in came_in a v i x z came pins node n.at (steps_from pins x y z came st.0 st.1 s) items
+pub stepped : {A : Type 0} (a : Inside A) (v : Vec (Child A) A) (i bytes : ℕ) (x y z : Subtree) (came : List (Child A)) (pins : TenantPins) → IsNode a → IsNext a i bytes x → IsReallocated x y → StepsAsOne pins y z came → v.items ≡ take (i + 1) (set a.children.items i (in_child.Node z)) ++ (came ++ drop (i + 1) (set a.children.items i (in_child.Node z))) → Stepped a v pins
+stepped a v i bytes x y z came pins node n q s items = let st = reallocated_same x y q in came_from a v i x y z came pins node n.at st.0 st.1 s items
 
-pub stepped_forgets : {A : Type 0} (a : Inside A) (v : Vec (Child A) A) (i bytes : ℕ) (x y z : Subtree) (came : List (Child A)) (pins : TenantPins) (cache cache' : Cache) → IsNode a → IsNext a i bytes x → IsSqueezed x y → StepsAsOne pins y z came → v.items ≡ take (i + 1) (set a.children.items i (in_child.Node z)) ++ (came ++ drop (i + 1) (set a.children.items i (in_child.Node z)))
+pub stepped_forgets : {A : Type 0} (a : Inside A) (v : Vec (Child A) A) (i bytes : ℕ) (x y z : Subtree) (came : List (Child A)) (pins : TenantPins) (cache cache' : Cache) → IsNode a → IsNext a i bytes x → IsReallocated x y → StepsAsOne pins y z came → v.items ≡ take (i + 1) (set a.children.items i (in_child.Node z)) ++ (came ++ drop (i + 1) (set a.children.items i (in_child.Node z)))
     → ForgetsCame y z came cache cache' → Forgets (leaves_in (parts_of a.children.items)) (leaves_in (parts_of v.items)) cache cache'
 stepped_forgets a v i bytes x y z came pins cache cache' node n q s items f =
-    came_forgets a v i x z came cache cache' n.at items (subst (λ ls. Forgets ls (z.leaves ++ leaves_of came) cache cache') (squeezed_same x y q).0.leaves f)
+    came_forgets a v i x z came cache cache' n.at items (subst (λ ls. Forgets ls (z.leaves ++ leaves_of came) cache cache') (reallocated_same x y q).0.leaves f)
 
 -- ---- results
 

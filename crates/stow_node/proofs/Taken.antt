@@ -26,7 +26,7 @@ use Rattle.stow_node.specs.declared.node.Node.TheInside.{Inside}
 use Rattle.stow_node.specs.declared.room.Room.{Room}
 use Rattle.stow_node.specs.declared.shape.Shape.{Shape}
 use Rattle.stow_node.specs.Flushes.{AreShort, KeepsMeaning}
-use Rattle.stow_node.specs.Moves.{accepted, bytes_for, HandsDown, IsHeaviest, IsSqueezed, messages_for, StaysInMeaning}
+use Rattle.stow_node.specs.Moves.{accepted, bytes_for, HandsDown, IsHeaviest, IsReallocated, messages_for, StaysInMeaning}
 use Rattle.stow_node.specs.Nodes.{parts_of, subtree_of, IsBelow, IsNode}
 use Rattle.stow_node.specs.Parts.{Part, high_of, leaves_in}
 use Rattle.stow_node.specs.Regroups.{Grows, StepsAsOne, ForgetsCame}
@@ -34,8 +34,9 @@ use Rattle.stow_node.specs.Rooms.{HasRoom}
 use Rattle.stow_node.specs.Subtree.{Subtree, messages_of}
 use Rattle.stow_node.specs.TakesDown.{CanTakeDown, MayHandDown, MergesDown, TakesDown, TakesLight}
 use Rattle.stow_node.specs.Ways.{Goes}
-use Rattle.stow_node.proofs.Down.{IsNext, MadeRoom, WentInto, get-set, new_items, some_there, squeezed_same, went_into}
+use Rattle.stow_node.proofs.Down.{IsNext, MadeRoom, WentInto, get-set, new_items, some_there, went_into}
 use Rattle.stow_node.proofs.Lowered.{AtChild, at_child, end_at_most, for_child}
+use Rattle.stow_node.proofs.Reallocated.{reallocated_same}
 use Rattle.stow_node.proofs.Row.{message_taken, messages_apart}
 use Rattle.stow_node.proofs.Spliced.{child_short}
 use Rattle.stow_node.proofs.Standing.{parts_ops}
@@ -158,11 +159,11 @@ pub record Refused {A : Type 0} (a : Inside A) (v : Vec (Child A) A) (b : Messag
   pub is_node : IsNode (record a { children = v; buffer = b })
   pub stays : StaysInMeaning (subtree_of a) (subtree_of (record a { children = v; buffer = b }))
 
-pub refused : {A : Type 0} (a : Inside A) (i bytes : ℕ) (x y : Subtree) (l : List (Child A)) (b : MessageList) → IsNode a → MessagesRise a.buffer.messages → IsNext a i bytes x → IsSqueezed x y → MadeRoom a i x y → MayHandDown (set a.children.items i (in_child.Node y)) i a.buffer l b → Refused a (with_items (with_item a.children i (in_child.Node y)) l) b
+pub refused : {A : Type 0} (a : Inside A) (i bytes : ℕ) (x y : Subtree) (l : List (Child A)) (b : MessageList) → IsNode a → MessagesRise a.buffer.messages → IsNext a i bytes x → IsReallocated x y → MadeRoom a i x y → MayHandDown (set a.children.items i (in_child.Node y)) i a.buffer l b → Refused a (with_items (with_item a.children i (in_child.Node y)) l) b
 refused {A} a i bytes x y l b node rise n q m may = ⊎_elim
     (λ (k : (l ≡ set a.children.items i (in_child.Node y)) × (b ≡ a.buffer)).
     let items = lent_items a.children i (in_child.Node y) l (ap length k.0 ∙ length-set a.children.items i (in_child.Node y)) ∙ k.0 in
-    let kept : ChildStays a x y (with_items (with_item a.children i (in_child.Node y)) l) = child_stays a (with_items (with_item a.children i (in_child.Node y)) l) i x y node n.at items (squeezed_same x y q).0 in
+    let kept : ChildStays a x y (with_items (with_item a.children i (in_child.Node y)) l) = child_stays a (with_items (with_item a.children i (in_child.Node y)) l) i x y node n.at items (reallocated_same x y q).0 in
     subst (Refused a (with_items (with_item a.children i (in_child.Node y)) l)) (sym k.1) (record { is_node = kept.is_node; stays = kept.stays }))
     (λ (h : HandsDown (set a.children.items i (in_child.Node y)) i a.buffer l b).
     let items = new_items a.children i (in_child.Node y) l a.buffer b h in
@@ -176,7 +177,7 @@ pub record IsUnladen {A : Type 0} (a : Inside A) (v : Vec (Child A) A) (b : Mess
   pub wide : length v.items ≡ length a.children.items + length behind
   pub goes : (new : Subtree) (came : List (Child A)) → IsHeaviest (parts_of a.children.items) a.buffer i → Grows pins (subtree_of (record a { children = v; buffer = b })) new came → Goes a.height pins (subtree_of a) new came cache cache'
 
-pub unladen : {A : Type 0} (a : Inside A) (v : Vec (Child A) A) (b : MessageList) (i bytes : ℕ) (x y : Subtree) (above : List ℕ) (room : Room A) (l : List (Child A)) (pins : TenantPins) (cache cache' : Cache) → IsNode a → MessagesRise a.buffer.messages → IsNext a i bytes x → IsSqueezed x y → MadeRoom a i x y → MergesDown pins (set a.children.items i (in_child.Node y)) i a.buffer above room l b cache cache'
+pub unladen : {A : Type 0} (a : Inside A) (v : Vec (Child A) A) (b : MessageList) (i bytes : ℕ) (x y : Subtree) (above : List ℕ) (room : Room A) (l : List (Child A)) (pins : TenantPins) (cache cache' : Cache) → IsNode a → MessagesRise a.buffer.messages → IsNext a i bytes x → IsReallocated x y → MadeRoom a i x y → MergesDown pins (set a.children.items i (in_child.Node y)) i a.buffer above room l b cache cache'
     → v.items ≡ take (i + 1) (with_items (with_item a.children i (in_child.Node y)) l).items ++ (room.came.items ++ drop (i + 1) (with_items (with_item a.children i (in_child.Node y)) l).items) → IsUnladen a v b i bytes x y room.came.items pins cache cache'
 unladen {A} a v b i bytes x y above room l pins cache cache' node rise n q m d items = record {
   drained = drained a w v b i d.filled d.merged room.came.items pins cache cache' went (ap (λ (k : List (Child A)). slice_get k i) w_items ∙ d.taken) d.steps d.forgets

@@ -127,7 +127,7 @@ put_node {A} a v node e = record {
   first = subst (λ (cs : List (Child A)). low_or top_key (parts_of cs) ≡ a.low) (sym e) node.first;
   level = subst (λ (cs : List (Child A)). AllByRecursion (IsBelow {A = A} a.height a.shape) cs) (sym e) node.level;
   some = subst (λ (cs : List (Child A)). 1 ≤ length cs) (sym e) node.some;
-  fits = node.fits;
+  block = node.block;
   from = node.from;
   newer = subst (λ (cs : List (Child A)). AreNewer a.buffer.messages (messages_in (parts_of cs) ++ row_messages (leaves_in (parts_of cs)))) (sym e) node.newer;
   sizes = subst (λ (cs : List (Child A)). AreLeafSizes a.shape.leaf (leaves_in (parts_of cs))) (sym e) node.sizes;

@@ -7,17 +7,18 @@ use Rattle.stow_tree_model.specs.Operations.{or_else}
 use Rattle.stow_node.specs.Subtree.{Subtree, buffered, right_above_leaves}
 use Rattle.stow_leaf.specs.Intervals.{top_key}
 use Rattle.stow_node.specs.Parts.{IsTile}
-use Rattle.stow_node.specs.Nodes.{node_part}
+use Rattle.stow_node.specs.Nodes.{node_part, HasNodeBlock}
 
 -- a node stands where another does, and grows as it does
 pub record IsLike (old half : Subtree) : Type 0 where
   pub height : half.height ≡ old.height
   pub shape : half.shape ≡ old.shape
-  pub capacity : half.buffer.capacity ≡ old.buffer.capacity
+  pub block : HasNodeBlock half
 
 -- the lower children, and the others, with what is below them and the messages for them
 pub record AreHalves (old lower upper : Subtree) : Type 0 where
   pub low : lower.low ≡ old.low
+  pub capacity : lower.buffer.capacity ≡ old.buffer.capacity
   pub lower_like : IsLike old lower
   pub upper_like : IsLike old upper
   pub widths : lower.width + upper.width ≡ old.width

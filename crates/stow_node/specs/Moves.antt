@@ -1,5 +1,5 @@
 -- Messages on their way down.
-use Rattle.std.specs.Prelude.{◌≡◌, ℕ, ◌+◌, ◌*◌, ◌/◌, ◌<◌, ◌≤◌, List, length, max, slice_index_or, slice_get, slice_set, Some}
+use Rattle.std.specs.Prelude.{◌≡◌, ℕ, ◌+◌, ◌*◌, ◌/◌, ◌<◌, ◌≤◌, List, [], ◌∷◌, length, max, slice_index_or, slice_get, slice_set, Some}
 use Rattle.std.specs.List.{sum_by}
 use Rattle.stow_leaf.specs.LeafRows.{LeafRows}
 use Rattle.stow_message.specs.MessageBuf.{MessageList, message_list, with_messages, without_range}
@@ -13,7 +13,7 @@ use Rattle.stow_node.specs.declared.child.Child.TheVariants as in_child
 use Rattle.stow_node.specs.Subtree.{Subtree, buffered, messages_of}
 use Rattle.stow_node.specs.Parts.{Part, high_of}
 use Rattle.stow_leaf.specs.Intervals.{top_key, NoneOutside}
-use Rattle.stow_node.specs.Nodes.{AreNewer, parts_of}
+use Rattle.stow_node.specs.Nodes.{AreNewer, HasNodeBlock, parts_of}
 
 -- the node with these messages more in its own buffer
 abbrev pub accepted : List TreeMessage → Subtree → Subtree
@@ -35,6 +35,27 @@ pub record IsSqueezed (old new : Subtree) : Type 0 where
   pub used : ℕ
   pub is : new ≡ record old { buffer = message_list old.buffer.messages used old.buffer.capacity }
   pub fewer : used ≤ old.buffer.used
+
+-- the same messages with other dead bytes, in a block of the node size or in none
+pub record IsReallocated (old new : Subtree) : Type 0 where
+  pub used : ℕ
+  pub capacity : ℕ
+  pub is : new ≡ record old { buffer = message_list old.buffer.messages used capacity }
+  pub fewer : used ≤ old.buffer.used
+  pub block : HasNodeBlock old → HasNodeBlock new
+
+-- a leaf is the same, a node the same in another block or in none
+abbrev pub IsReallocatedChild : {A : Type 0} → Child A → Child A → Type 0
+IsReallocatedChild (in_child.Leaf leaf) d = d ≡ in_child.Leaf leaf
+IsReallocatedChild (in_child.Node x) (in_child.Leaf leaf) = ⊥
+IsReallocatedChild (in_child.Node x) (in_child.Node y) = IsReallocated x y
+
+-- each of the children is
+abbrev pub AreReallocated : {A : Type 0} → List (Child A) → List (Child A) → Type 0
+AreReallocated [] [] = Unit {0}
+AreReallocated [] (d ∷ ds) = ⊥
+AreReallocated (c ∷ cs) [] = ⊥
+AreReallocated (c ∷ cs) (d ∷ ds) = IsReallocatedChild c d × AreReallocated cs ds
 
 -- the larger of so many bytes and a quarter of the block doesn't fit, even once dead bytes are
 -- dropped

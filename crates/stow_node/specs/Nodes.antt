@@ -1,6 +1,7 @@
 -- What a node keeps.
-use Rattle.std.specs.Prelude.{◌≡◌, ℕ, ◌+◌, ◌*◌, ◌<◌, ◌≤◌, List, [], ◌∷◌, ◌++◌, map, length, IsSome, Option, None}
+use Rattle.std.specs.Prelude.{◌≡◌, ◌⊎◌, ℕ, ◌+◌, ◌*◌, ◌<◌, ◌≤◌, List, [], ◌∷◌, ◌++◌, map, length, IsSome, Option, None}
 use Rattle.std.specs.List.{AllByRecursion}
+use Rattle.stow_message.specs.MessageBuf.{MessageList}
 use Rattle.stow_message.specs.Rising.{in_range}
 use Rattle.stow_tree_model.specs.Messages.{ops_in}
 use Rattle.stow_tree_model.specs.TreeMessage.{TreeMessage}
@@ -85,10 +86,18 @@ AreAmong ms others = (key : List ℕ) (n : ℕ) → IsSome (ops_in ms key n)
 abbrev pub AreLeafSizes : ℕ → List LeafRows → Type 0
 AreLeafSizes target leaves = AllByRecursion (λ leaf. IsLeafSize target leaf.1) leaves
 
+-- a buffer's block has this size, or there is none
+abbrev pub HasBlock : ℕ → MessageList → Type 0
+HasBlock size b = (b.capacity ≡ size) ⊎ (b.capacity ≡ 0)
+
+-- a node's block has the node size, or it has none
+abbrev pub HasNodeBlock : Subtree → Type 0
+HasNodeBlock t = HasBlock t.shape.buffer t.buffer
+
 -- a node grows as its parent does, stands above leaves, and has no more children than it may
 abbrev pub HasShape : {A : Type 0} → Shape → Child A → Type 0
 HasShape shape (in_child.Leaf leaf) = Unit {0}
-HasShape shape (in_child.Node node) = (node.shape ≡ shape) × (node.buffer.capacity ≡ shape.buffer)
+HasShape shape (in_child.Node node) = (node.shape ≡ shape) × HasNodeBlock node
     × (1 ≤ node.height) × (node.width ≤ shape.fan_out)
 
 -- a child stands one level lower, and grows as its parent does
@@ -116,7 +125,7 @@ pub record IsNode {A : Type 0} (a : Inside A) : Type 0 where
   pub first : low_or top_key (parts_of a.children.items) ≡ a.low
   pub level : AllByRecursion (IsBelow a.height a.shape) a.children.items
   pub some : 1 ≤ length a.children.items
-  pub fits : a.buffer.capacity ≡ a.shape.buffer
+  pub block : HasBlock a.shape.buffer a.buffer
   pub from : NoneOutside a.low top_key a.buffer.messages
   pub newer : AreNewer a.buffer.messages
       (messages_in (parts_of a.children.items)

@@ -11,7 +11,7 @@ use Rattle.stow_node.specs.declared.child.Child.{Child}
 use Rattle.stow_node.specs.declared.child.Child.TheVariants as in_child
 use Rattle.stow_node.specs.declared.shape.Shape.{Shape}
 use Rattle.stow_node.specs.Installs.{CanInstall}
-use Rattle.stow_node.specs.Moves.{IsSqueezed, HandsDown}
+use Rattle.stow_node.specs.Moves.{IsReallocated, HandsDown}
 use Rattle.stow_node.specs.Nodes.{AreAmong, part_of, parts_of, leaves_of, deepest_of, deepest_in, AreChildren}
 use Rattle.stow_node.specs.Parts.{high_of, messages_in}
 use Rattle.stow_node.specs.Subtree.{Subtree, buffered, deepest_buffer}
@@ -69,7 +69,7 @@ pub record MovesDown {A : Type 0} (below : Subtree → Subtree → FlushJob A �
   pub node : Subtree
   pub at : slice_get to.children to.index ≡ Some (in_child.Node node)
   pub ready : Subtree
-  pub emptied : IsSqueezed node ready
+  pub reallocated : IsReallocated node ready
   pub empty : buffered ready ≡ []
   pub after : List (Child A)
   pub down : HandsDown (slice_set to.children to.index (in_child.Node ready)) to.index old.buffer

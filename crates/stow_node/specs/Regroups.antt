@@ -44,6 +44,7 @@ pub record Grows {A : Type 0} (pins : TenantPins) (old new : Subtree)
     (came : List (Child A)) : Type 0 where
   pub run : List Subtree
   pub are : came ≡ nodes A run
+  pub capacity : new.buffer.capacity ≡ old.buffer.capacity
   pub like : AllByRecursion (IsLike old) (new ∷ run)
   pub place : TakePlace pins old (new ∷ run)
   pub few : AreFew (new ∷ run)

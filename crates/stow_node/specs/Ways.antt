@@ -9,7 +9,7 @@ use Rattle.stow_tree_model.specs.Agreement.{TenantPins}
 use Rattle.stow_tree_model.specs.TreeMessage.{TreeMessage}
 use Rattle.stow_node.specs.declared.child.Child.{Child}
 use Rattle.stow_node.specs.declared.child.Child.TheVariants as in_child
-use Rattle.stow_node.specs.Moves.{IsHeaviest, IsLaden, IsSqueezed, HandsDown, LacksRoom, bytes_for}
+use Rattle.stow_node.specs.Moves.{IsHeaviest, IsLaden, IsReallocated, HandsDown, LacksRoom, bytes_for}
 use Rattle.stow_node.specs.Nodes.{node_part, parts_of, leaves_of, AreLeaves, AreChildren}
 use Rattle.stow_node.specs.Parts.{high_of}
 use Rattle.stow_node.specs.Regroups.{Grows}
@@ -103,8 +103,8 @@ pub record Enters {A : Type 0}
   pub cut : IsCutFrom pins (take index children
       ++ ((in_child.Node stepped ∷ behind) ++ drop (index + 1) children)) old.buffer new came
 
--- further up: the heaviest child, a node of which dead bytes may have gone, takes them, and merges
--- all that it has then where it is laden; or it is entered
+-- further up: the heaviest child, a node that may have got a block and of which dead bytes may have
+-- gone, takes them, and merges all that it has then where it is laden; or it is entered
 pub record GoesDown {A : Type 0}
     (below : Subtree → Subtree → List (Child A) → Cache → Cache → Type 0) (pins : TenantPins)
     (old new : Subtree) (came : List (Child A)) (cache cache' : Cache) : Type 0 where
@@ -112,7 +112,7 @@ pub record GoesDown {A : Type 0}
   pub node : Subtree
   pub at : slice_get to.children to.index ≡ Some (in_child.Node node)
   pub ready : Subtree
-  pub squeezed : IsSqueezed node ready
+  pub reallocated : IsReallocated node ready
   pub way : ChildTakes (slice_set to.children to.index (in_child.Node ready)) to.index old new came
       cache cache'
       ⊎ (TakesAndMerges pins (slice_set to.children to.index (in_child.Node ready)) to.index old

@@ -3,6 +3,7 @@ ghost use Rattle.std.specs.Prelude.{◌≡◌, ◌<◌, length, true};
 ghost use Rattle.std.specs.Ordering.{is_lt};
 ghost use Rattle.stow_bytes.specs.Bytes.{bytes_cmp};
 ghost use Rattle.stow_node.specs.Nodes.{part_of, parts_of};
+ghost use Rattle.stow_node.specs.Moves.{AreReallocated, IsReallocatedChild};
 ghost use Rattle.stow_node.specs.Parts.{low_or, high_of, IsFor};
 ghost use Rattle.stow_leaf.specs.Intervals.{top_key, spans};
 
@@ -31,6 +32,26 @@ impl<A: Allocator> Child<A> {
             Child::Leaf(leaf) => leaf.low.as_key(),
             Child::Node(node) => node.low(),
         }
+    }
+}
+
+impl<A: Allocator + Copy> Child<A> {
+    /// Gives its block back, where it is a node that holds no message (`Node::close`).
+    fn close(&mut self, alloc: A)
+        ensures { IsReallocatedChild self.old self.new }
+    {
+        if let Child::Node(node) = self {
+            node.close(alloc);
+        }
+    }
+}
+
+/// Each node among them that holds no message gives its block back (`Node::close`).
+pub(crate) fn close_all<A: Allocator + Copy>(alloc: A, children: &mut [Child<A>])
+    ensures { AreReallocated children.old children.new }
+{
+    for i in 0..children.len() {
+        children[i].close(alloc);
     }
 }
 

@@ -2,22 +2,23 @@
 //!
 //! A `Node` is seen as a `Subtree`: its own buffer, the messages in the buffers below it, the leaves from the lowest, and
 //! its shape. Its type keeps that all leaves stand at one depth, that it has a child at least and each node below it one to
-//! fan-out children, that the children share out the keys by their fences, that each buffer has the node size, that each
-//! message of a key is newer than those below it, and that a leaf above the leaf target has one key.
+//! fan-out children, that the children share out the keys by their fences, that each buffer's block has the node size or isn't
+//! there (`HasNodeBlock`), that each message of a key is newer than those below it, and that a leaf above the leaf target has one key.
 //!
 //! `step` moves messages one edge towards the leaves, or merges all messages for a leaf into it, which gives way to any
 //! number of leaves; neighbours of which one page is below a quarter of the leaf target become one leaf, where both fit
 //! it (`stow_leaves`). A child right above leaves that holds a quarter of their bytes once messages moved into it (`IsLaden`)
 //! merges all that it has into them in the same step; where it had none before, straight from the buffer above it
-//! (`take_down`), so that nothing is written to its block. Then nodes regroup, level by level up to new roots: a node that has
+//! (`take_down`), so that nothing is written to its block. A node below a root has a block while it holds messages: it gets it before
+//! any come in (`gets_room`), and gives it back when its parent settles (`close_children`). Then nodes regroup, level by level up to new roots: a node that has
 //! too many children is cut into as few as hold them (`settle`), evenly, or full ones first where the new children stand at
-//! its upper end; and a root with others behind it gets one above it (`rise`). All memory is got before a merge changes
-//! anything (`room_for`); then nothing can fail. So where memory is refused messages have moved into a child's buffer at
+//! its upper end; and a root with others behind it gets one above it (`rise`). A root always has its block. All memory is got before
+//! a merge changes anything (`room_for`); then nothing can fail. So where memory is refused messages have moved into a child's buffer at
 //! most. The root means the same under the pins, its messages are fewer or nearer to the leaves (`Flushes`), and no node is
 //! too wide. `buffer` and `children` lend what reads go by.
 //!
 //! `plan` gives a job for a flush outside the lock, or none exactly where no buffer holds a message: of the deepest buffer
-//! that holds one, from which the messages for the heaviest child move down first, into empty buffers, where it stands above
+//! that holds one, of equals the fullest or the emptiest (`Pick`), from which the messages for the heaviest child move down first, into empty buffers, where it stands above
 //! nodes; all messages for one leaf are copied (`specs/Plans.antt`). `CanInstall` (`specs/Installs.antt`) is that none of the
 //! causes is there for which a job's result is stale, and a job is planned so. What the node means stays, also after an `Err`.
 //!
@@ -26,8 +27,8 @@
 //! Then nodes regroup as after a step. The root means the same under the present pins (`KeepsRoot`), and no message of the
 //! batch is left right above the leaves (`BatchIsGone`). Where memory is refused the result comes back, and the node is as it was.
 //! Behind a result that came in a root that is more than half full is eased (`Eases`): messages for one child move into its
-//! buffer, or into one further down where they don't fit. A body of `ease` that does nothing meets its contract: `bench/flushers`
-//! tells it.
+//! buffer, or into one further down where they don't fit; where a block is refused nothing moves. A body of `ease` that does nothing
+//! meets its contract: `bench/flushers` tells it. So does one of `close` (`bench/memory` and `bench/full` tell it), and a `Pick` that is not asked for.
 //!
 //! Which way a step goes stands in `specs/Ways.antt`, and `step` promises it (`StepsDown`): to the child for which most
 //! bytes are buffered, the leftmost of equals. A node gets all its messages, and merges all that it has then if it is
@@ -47,8 +48,10 @@ mod counting;
 mod fence;
 pub mod installed;
 mod installing;
+mod merging;
 mod moving;
 pub mod node;
+pub mod pick;
 mod planning;
 mod room;
 pub mod shape;

@@ -1,5 +1,5 @@
 //! Inner nodes.
-ghost use Rattle.std.specs.Prelude.{◌≡◌, ◌≢◌, ◌↔◌, ◌+◌, ◌-◌, ◌^◌, ◌<◌, ◌≤◌, ◌++◌, ℕ, IsTrue, [], ◌∷◌, length, true, false, None, IfOk, IfErr, IfSome, OnOk, OnErr};
+ghost use Rattle.std.specs.Prelude.{◌≡◌, ◌≢◌, ◌↔◌, ◌+◌, ◌-◌, ◌^◌, ◌<◌, ◌≤◌, ◌++◌, ℕ, IsTrue, [], ◌∷◌, length, true, false, None, IfOk, IfSome, OnOk, OnErr};
 ghost use Rattle.std.specs.List.{sum_by};
 ghost use Rattle.std.specs.Vec.{vec_capacity};
 ghost use Rattle.stow_groups.specs.Groups.{groups};
@@ -10,33 +10,24 @@ ghost use Rattle.stow_message.specs.Packed.{message_size};
 ghost use Rattle.stow_message.specs.Rising.{in_range};
 ghost use Rattle.stow_tree_model.specs.Agreement.{TenantPins};
 ghost use Rattle.stow_tree_model.specs.TreeMessage.{message_of};
-ghost use Rattle.stow_node.specs.Eases.{Eases};
-ghost use Rattle.stow_node.specs.Flushes.{AreShort, Flushes, KeepsRoot};
+ghost use Rattle.stow_node.specs.Flushes.{AreShort, Flushes};
 ghost use Rattle.stow_node.specs.Halves.{AreHalves};
-ghost use Rattle.stow_node.specs.Installs.{AreGone, BatchIsGone, CanComeIn, CanInstall, CoversAll};
-ghost use Rattle.stow_node.specs.Moves.{accepted, CanAccept, IsLaden, IsSqueezed, StaysInMeaning};
-ghost use Rattle.stow_node.specs.Nodes.{AreAmong, AreChildren, AreLeafSizes, leaves_of, nearest_in, node_part};
+ghost use Rattle.stow_node.specs.Moves.{accepted, CanAccept, IsReallocated, IsSqueezed, StaysInMeaning};
+ghost use Rattle.stow_node.specs.Nodes.{AreAmong, AreChildren, AreLeafSizes, HasNodeBlock, leaves_of, nearest_in, node_part};
 ghost use Rattle.stow_leaf.specs.Intervals.{top_key};
 ghost use Rattle.stow_node.specs.Parts.{IsTile};
 ghost use Rattle.stow_node.specs.Plans.{HasLeafTarget, IsPlanned, Plans, TakesLeaf, TakesOwn};
 ghost use Rattle.stow_node.specs.Regroups.{Grows, StepsAsOne, StandAsOne, AreBehind, ForgetsCame};
 ghost use Rattle.stow_node.specs.Rooms.{AreShells, HasRoom};
 ghost use Rattle.stow_node.specs.Subtree.{Subtree, buffered, first_subtree, messages_of};
-ghost use Rattle.stow_node.specs.TakesDown.{CanMergeFrom};
-ghost use Rattle.stow_node.specs.Ways.{Goes, MergesInto, StepsDown};
+ghost use Rattle.stow_node.specs.Ways.{Goes, StepsDown};
 ghost use Rattle.stow_node.specs.declared.child.Child.TheVariants as in_child;
-ghost use Rattle.stow_node.specs.declared.installed.Installed.TheVariants as installed;
 
-use crate::absorbing::{all_merged, installed, merged};
-use crate::child::{Child, child_for, high_after};
+use crate::child::{Child, close_all, high_after};
 use crate::coming::{moved_from, take_in};
-use crate::counting::room_for;
 use crate::fence::Fence;
-use crate::installed::Installed;
-use crate::installing::can_install;
-use crate::moving::{
-    are_for_last, are_within, bytes_for, hand_down, heaviest, is_apart, take_down,
-};
+use crate::moving::{bytes_for, hand_down, heaviest, take_down};
+use crate::pick::Pick;
 use crate::planning::{deepest_child, is_drained, job_for};
 use crate::room::Room;
 use crate::shape::Shape;
@@ -49,7 +40,6 @@ use stow_leaf::ends::top_key;
 use stow_leaf::leaf::Leaf;
 use stow_leaf_cache::leaf_cache::LeafCache;
 use stow_merge::flush_job::FlushJob;
-use stow_merge::flush_result::FlushResult;
 use stow_merge::pins::Pins;
 use stow_message::message_buf::MessageBuf;
 use stow_page::packed_rows::PackedRows;
@@ -60,17 +50,17 @@ use stow_tree_model::tenant_key::TenantKey;
 use stow_tree_model::tenant_key_buf::TenantKeyBuf;
 
 /// The most levels of a root that may become higher. No memory holds as many, each with a block of its own.
-const MOST_HEIGHT: u64 = 9_223_372_036_854_775_808;
+pub(crate) const MOST_HEIGHT: u64 = 9_223_372_036_854_775_808;
 
 /// A node with a buffer of messages, and all that stands below it.
 #[cycle(node)]
 #[derive(Drop)]
 pub struct Node<A: Allocator = Global> {
-    low: Fence<A>,
-    height: u64,
-    shape: Shape,
-    buffer: MessageBuf<A>,
-    children: Vec<Child<A>, A>,
+    pub(crate) low: Fence<A>,
+    pub(crate) height: u64,
+    pub(crate) shape: Shape,
+    pub(crate) buffer: MessageBuf<A>,
+    pub(crate) children: Vec<Child<A>, A>,
 }
 
 impl<A: Allocator> Model for Node<A> {
@@ -140,39 +130,42 @@ impl<A: Allocator + Copy> Node<A> {
         }
     }
 
-    /// Where neither it nor the node behind it has a message, that one gets its block, and leaves it its own.
-    fn leave_block(&mut self, behind: &mut Node<A>)
-        requires { self.old.buffer.capacity ≡ behind.old.buffer.capacity }
-        ensures own { IsSqueezed self.old self.new }
-        ensures behind { IsSqueezed behind.old behind.new }
+    /// Gives its block back, where it holds no message.
+    pub(crate) fn close(&mut self, alloc: A)
+        ensures { IsReallocated self.old self.new }
     {
-        if self.buffer.len() + behind.buffer.len() > 0 {
+        let _known = self.buffer.used();
+        if self.buffer.len() > 0 || self.buffer.capacity() == 0 {
             return;
         }
-        self.buffer.reset();
-        behind.buffer.reset();
-        mem::swap(&mut self.buffer, &mut behind.buffer);
-    }
-
-    /// Cuts it (`cut_off`). Where it stays behind full, the node that goes on takes a block with no message along: what was written
-    /// once takes memory, and what never was takes none.
-    fn cut_last(&mut self, at: usize, shell: Shell<A>, full: bool) -> Node<A>
-        requires inside { (0 < at) × (at < self.old.width) }
-        requires few { self.old.width ≤ self.old.shape.fan_out + at }
-        requires shape { shell ≡ self.old.shape }
-        ensures halves { AreHalves self.old self.new result }
-        ensures width { self.new.width ≡ at }
-    {
-        let mut behind = self.cut_off(at, shell);
-        if full {
-            self.leave_block(&mut behind);
+        if let Ok(none) = MessageBuf::with_capacity(alloc, 0) {
+            self.buffer = none;
         }
-        behind
     }
 
-    /// Cuts it, where it has too many children, into as few nodes as hold them, evenly, or full ones first. It keeps the
-    /// lowest; the others come behind it. It asks for no memory.
-    fn settle(&mut self, room: &mut Room<A>, full: bool)
+    /// Gets its block, where it has none. Where memory is refused nothing has changed.
+    fn open(&mut self, alloc: A) -> Result<(), AllocError>
+        ensures same { IsReallocated self.old self.new }
+        ensures block { OnOk result (self.new.buffer.capacity ≡ self.new.shape.buffer) }
+        ensures err { OnErr result (self.new ≡ self.old) }
+    {
+        let _known = self.buffer.used();
+        if self.buffer.capacity() == 0 {
+            self.buffer = MessageBuf::with_capacity(alloc, self.shape.buffer as usize)?;
+        }
+        Ok(())
+    }
+
+    /// Each child that holds no message gives its block back (`close`).
+    fn close_children(&mut self, alloc: A)
+        ensures { self.new ≡ self.old }
+    {
+        close_all(alloc, &mut self.children);
+    }
+
+    /// Children that hold no message give their blocks back. Then it is cut, where it has too many children, into as few nodes as
+    /// hold them, evenly, or full ones first. It keeps the lowest; the others come behind it. It asks for no memory.
+    pub(crate) fn settle(&mut self, alloc: A, room: &mut Room<A>, full: bool)
         requires fan_out { 1 ≤ self.old.shape.fan_out }
         requires none { room.old.came.items ≡ [] }
         requires came { groups self.old.shape.fan_out self.old.width
@@ -189,154 +182,16 @@ impl<A: Allocator + Copy> Node<A> {
         ensures capacity { vec_capacity room.old.came ≤ vec_capacity room.new.came }
         ensures wides { room.new.wides ≡ room.old.wides }
     {
+        self.close_children(alloc);
         let fan_out = self.shape().fan_out as usize;
         let mut groups = groups(fan_out, self.width());
         while groups > 1 {
             let width = self.width();
             let at = width - share_of_last(fan_out, width, groups, full);
-            let node = self.cut_last(at, room.shell(), full);
+            let node = self.cut_off(at, room.shell());
             room.bring(node);
             groups -= 1;
         }
-    }
-}
-
-impl<A: Allocator + Copy> Node<A> {
-    /// Merges all messages for a leaf into it, of a node right above leaves: the leaf for which most bytes are buffered. Then
-    /// small leaves are joined with a neighbour. Where memory is refused nothing has changed.
-    fn merge_leaf(
-        &mut self,
-        alloc: A,
-        pins: &Pins<A>,
-        cache: &mut LeafCache<A>,
-        above: &[usize],
-    ) -> Result<Room<A>, AllocError>
-        requires level { self.old.height ≡ 1 }
-        requires some { 0 < length self.old.buffer.messages }
-        requires fan_out { 1 ≤ self.old.shape.fan_out }
-        requires short { AreShort (messages_of self.old) }
-        ensures ok { IfOk result (λ room.
-            StepsAsOne (pins_in pins.now) self.old self.new room.came.items) }
-        ensures goes { IfOk result (λ room.
-            Goes self.old.height (pins_in pins.now) self.old self.new
-            room.came.items cache.old cache.new) }
-        ensures room { IfOk result (HasRoom self.old.shape above.now) }
-        ensures err { OnErr result (self.new ≡ self.old) }
-        ensures cache { IfOk result (λ room. ForgetsCame self.old self.new room.came.items
-            cache.old cache.new) }
-        ensures kept { OnErr result (Forgets self.old.leaves self.old.leaves cache.old cache.new) }
-    {
-        let index = heaviest(self.children.as_slice(), &self.buffer);
-        let target = self.shape.leaf;
-        let fresh = merged(
-            alloc,
-            self.children.as_slice(),
-            index,
-            &self.buffer,
-            pins,
-            target,
-            cache,
-        )?;
-        let mut room = room_for(alloc, self.shape, fresh.len(), above)?;
-        let full = self.children.len() - index == 1;
-        let high = high_after(self.children.as_slice(), index);
-        self.buffer.drop_range(self.children[index].low(), high);
-        self.children = fresh;
-        self.settle(&mut room, full);
-        Ok(room)
-    }
-
-    /// Merges all its messages into its leaves, of a node right above leaves. Then small leaves are joined with a neighbour.
-    /// Where memory is refused nothing has changed.
-    pub(crate) fn merge_all(
-        &mut self,
-        alloc: A,
-        pins: &Pins<A>,
-        cache: &mut LeafCache<A>,
-        above: &[usize],
-    ) -> Result<Room<A>, AllocError>
-        requires level { self.old.height ≡ 1 }
-        requires some { 0 < length self.old.buffer.messages }
-        requires fan_out { 1 ≤ self.old.shape.fan_out }
-        requires short { AreShort (messages_of self.old) }
-        ensures ok { IfOk result (λ room.
-            StepsAsOne (pins_in pins.now) self.old self.new room.came.items) }
-        ensures merges { IfOk result (λ room. MergesInto top_key self.old.buffer.messages
-            (pins_in pins.now) self.old self.new room.came.items cache.old cache.new) }
-        ensures room { IfOk result (HasRoom self.old.shape above.now) }
-        ensures err { OnErr result (self.new ≡ self.old) }
-        ensures cache { IfOk result (λ room. ForgetsCame self.old self.new room.came.items
-            cache.old cache.new) }
-        ensures kept { OnErr result (Forgets self.old.leaves self.old.leaves cache.old cache.new) }
-    {
-        let children = self.children.as_slice();
-        let full = are_for_last(children, &self.buffer, top_key());
-        let target = self.shape.leaf;
-        let fresh = all_merged(
-            alloc,
-            children,
-            top_key(),
-            &self.buffer,
-            pins,
-            target,
-            cache,
-        )?;
-        let mut room = room_for(alloc, self.shape, fresh.len(), above)?;
-        self.buffer.reset();
-        self.children = fresh;
-        self.settle(&mut room, full);
-        Ok(room)
-    }
-
-    /// Merges the messages for it, up to where its keys end, out of the buffer above it straight into its leaves, of a node right
-    /// above leaves that has no message: as if it had taken them first, but nothing is written to its own block. Where memory
-    /// is refused nothing has changed.
-    pub(crate) fn merge_from(
-        &mut self,
-        alloc: A,
-        from: &mut MessageBuf<A>,
-        end: TenantKey<'_>,
-        pins: &Pins<A>,
-        cache: &mut LeafCache<A>,
-        above: &[usize],
-    ) -> Result<Room<A>, AllocError>
-        requires { CanMergeFrom from.old.messages end.bytes.now self.old }
-        ensures ok { IfOk result (λ room. StepsAsOne (pins_in pins.now)
-            (accepted (in_range self.old.low end.entry.bytes.now from.old.messages) self.old)
-            self.new room.came.items) }
-        ensures left { IfOk result (λ room. from.new
-            ≡ without_range self.old.low end.entry.bytes.now from.old) }
-        ensures merges { IfOk result (λ room. MergesInto end.entry.bytes.now from.old.messages
-            (pins_in pins.now) self.old self.new room.came.items cache.old cache.new) }
-        ensures room { IfOk result (HasRoom self.old.shape above.now) }
-        ensures err { OnErr result (self.new ≡ self.old) }
-        ensures unmoved { OnErr result (from.new ≡ from.old) }
-        ensures cache { IfOk result (λ room. ForgetsCame self.old self.new room.came.items
-            cache.old cache.new) }
-        ensures kept { OnErr result (Forgets self.old.leaves self.old.leaves cache.old cache.new) }
-    {
-        let _known = from.len();
-        let children = self.children.as_slice();
-        let full = are_for_last(children, from, end);
-        let target = self.shape.leaf;
-        let fresh = all_merged(alloc, children, end, from, pins, target, cache)?;
-        let mut room = room_for(alloc, self.shape, fresh.len(), above)?;
-        from.drop_range(self.low.as_key(), end);
-        self.buffer.reset();
-        self.children = fresh;
-        self.settle(&mut room, full);
-        Ok(room)
-    }
-
-    /// Whether it stands right above leaves, and with so many bytes more its buffer holds a quarter of their pages' bytes or
-    /// more, dead bytes among what it holds.
-    pub(crate) fn is_laden(&self, bytes: usize) -> bool
-        requires { self.now.buffer.used + bytes ≤ self.now.buffer.capacity }
-        ensures { IsTrue result ↔ IsLaden bytes self.now }
-    {
-        let _known = self.shape();
-        let held = self.buffer.used() + bytes;
-        self.height == 1 && are_within(self.children.as_slice(), 4 * held)
     }
 }
 
@@ -358,7 +213,7 @@ impl<A: Allocator + Copy> Node<A> {
         requires few { self.old.width ≤ self.old.shape.fan_out }
         requires fan_out { 4 ≤ self.old.shape.fan_out }
         requires short { AreShort (messages_of self.old) }
-        requires spare { self.old.buffer.capacity ≤ spare.old.capacity }
+        requires spare { self.old.shape.buffer ≤ spare.old.capacity }
         ensures ok { IfOk result (λ room.
             StepsAsOne (pins_in pins.now) self.old self.new room.came.items) }
         ensures goes { IfOk result (λ room.
@@ -384,10 +239,11 @@ impl<A: Allocator + Copy> Node<A> {
         match &mut self.children[index] {
             Child::Leaf(_) => unreachable!(),
             Child::Node(node) => {
-                if !node.makes_room(bytes, ample, spare) {
+                let has_room = node.gets_room(alloc, bytes, ample, spare)?;
+                if !has_room {
                     let mut room = node.step_below(alloc, pins, spare, cache, above)?;
                     take_in(&mut self.children, index, &mut room);
-                    self.settle(&mut room, full);
+                    self.settle(alloc, &mut room, full);
                     return Ok(room);
                 }
             }
@@ -400,12 +256,13 @@ impl<A: Allocator + Copy> Node<A> {
             return Ok(Room::none(alloc));
         };
         take_in(&mut self.children, index, &mut room);
-        self.settle(&mut room, full);
+        self.settle(alloc, &mut room, full);
         Ok(room)
     }
 
     /// Puts a node above this one and those that came behind it, or as many as it takes. It asks for no memory.
-    fn rise(&mut self, room: &mut Room<A>)
+    pub(crate) fn rise(&mut self, alloc: A, room: &mut Room<A>)
+        requires block { self.old.buffer.capacity ≡ self.old.shape.buffer }
         requires came { 0 < length room.old.came.items }
         requires room { HasRoom self.old.shape [] room.old }
         requires fan_out { 4 ≤ self.old.shape.fan_out }
@@ -435,7 +292,7 @@ impl<A: Allocator + Copy> Node<A> {
         self.children.push(Child::Node(lower)).unwrap();
         take_in(&mut self.children, 0, room);
         self.height += 1;
-        self.settle(room, true);
+        self.settle(alloc, room, true);
     }
 
     /// One step of a root's messages towards the leaves (`step_below`). Where nodes come behind it, it becomes higher. Where
@@ -451,7 +308,8 @@ impl<A: Allocator + Copy> Node<A> {
         requires few { self.old.width ≤ self.old.shape.fan_out }
         requires fan_out { 4 ≤ self.old.shape.fan_out }
         requires short { AreShort (messages_of self.old) }
-        requires spare { self.old.buffer.capacity ≤ spare.old.capacity }
+        requires block { self.old.buffer.capacity ≡ self.old.shape.buffer }
+        requires spare { self.old.shape.buffer ≤ spare.old.capacity }
         ensures ok { OnOk result (Flushes (pins_in pins.now) self.old self.new) }
         ensures down { OnOk result (StepsDown A (pins_in pins.now) self.old self.new
             cache.old cache.new) }
@@ -466,25 +324,30 @@ impl<A: Allocator + Copy> Node<A> {
         let mut above = Vec::new(alloc);
         let mut room = self.step_below(alloc, pins, spare, cache, &mut above)?;
         while !room.came.is_empty() {
-            self.rise(&mut room);
+            self.rise(alloc, &mut room);
         }
         Ok(())
     }
 }
 
 impl<A: Allocator + Copy> Node<A> {
-    /// Drops the dead bytes of its own buffer, which holds no message.
-    fn clear(&mut self)
+    /// Makes its own buffer, which holds no message, a whole empty block. Where memory is refused nothing has changed.
+    fn clear(&mut self, alloc: A) -> Result<(), AllocError>
         requires { self.old.buffer.messages ≡ [] }
-        ensures same { IsSqueezed self.old self.new }
-        ensures empty { self.new.buffer.used ≡ 0 }
+        ensures same { IsReallocated self.old self.new }
+        ensures block { OnOk result (self.new.buffer.capacity ≡ self.new.shape.buffer) }
+        ensures empty { OnOk result (self.new.buffer.used ≡ 0) }
+        ensures err { OnErr result (self.new ≡ self.old) }
     {
+        self.open(alloc)?;
         self.buffer.reset();
+        Ok(())
     }
 
     /// The job of the leaf for which most bytes are buffered, of a node right above leaves.
     fn plan_leaf(&self, alloc: A, pins: &Pins<A>) -> Result<FlushJob<A>, AllocError>
         requires level { self.now.height ≡ 1 }
+        requires block { self.now.buffer.capacity ≡ self.now.shape.buffer }
         requires some { 0 < length self.now.buffer.messages }
         requires short { AreShort (messages_of self.now) }
         requires target { HasLeafTarget self.now.shape }
@@ -520,7 +383,7 @@ impl<A: Allocator + Copy> Node<A> {
         let index = heaviest(self.children.as_slice(), &self.buffer);
         match &mut self.children[index] {
             Child::Leaf(_) => unreachable!(),
-            Child::Node(node) => node.clear(),
+            Child::Node(node) => node.clear(alloc)?,
         }
         hand_down(&mut self.children, index, &mut self.buffer);
         match &mut self.children[index] {
@@ -530,7 +393,12 @@ impl<A: Allocator + Copy> Node<A> {
     }
 
     /// The job of the deepest buffer that holds a message, of it and all below it (`plan_own`).
-    fn plan_below(&mut self, alloc: A, pins: &Pins<A>) -> Result<FlushJob<A>, AllocError>
+    fn plan_below(
+        &mut self,
+        alloc: A,
+        pins: &Pins<A>,
+        pick: Pick,
+    ) -> Result<FlushJob<A>, AllocError>
         requires some { buffered self.old ≢ [] }
         requires short { AreShort (messages_of self.old) }
         requires target { HasLeafTarget self.old.shape }
@@ -538,25 +406,30 @@ impl<A: Allocator + Copy> Node<A> {
         ensures job { IfOk result (IsPlanned (pins_in pins.now) self.new) }
         ensures way { IfOk result (Plans self.old.height self.old self.new) }
     {
-        let Some(index) = deepest_child(self.children.as_slice()) else {
+        let Some(index) = deepest_child(self.children.as_slice(), pick) else {
             return self.plan_own(alloc, pins);
         };
         match &mut self.children[index] {
             Child::Leaf(_) => unreachable!(),
-            Child::Node(node) => node.plan_below(alloc, pins),
+            Child::Node(node) => node.plan_below(alloc, pins, pick),
         }
     }
 
     /// Orders what was put last into its own buffer, so that all that is there is read fast. No message moves.
-    fn order(&mut self)
+    pub(crate) fn order(&mut self)
         ensures { self.new ≡ self.old }
     {
         self.buffer.settle();
     }
 
-    /// A job for a flush outside the lock, under pins, where a buffer holds a message: it is of the deepest such buffer.
-    /// Messages may have moved towards the leaves, also where memory is refused.
-    pub fn plan(&mut self, alloc: A, pins: &Pins<A>) -> Result<Option<FlushJob<A>>, AllocError>
+    /// A job for a flush outside the lock, under pins, where a buffer holds a message: it is of the deepest such buffer, of equals
+    /// the one to pick. Messages may have moved towards the leaves, also where memory is refused.
+    pub fn plan(
+        &mut self,
+        alloc: A,
+        pins: &Pins<A>,
+        pick: Pick,
+    ) -> Result<Option<FlushJob<A>>, AllocError>
         requires short { AreShort (messages_of self.old) }
         requires target { HasLeafTarget self.old.shape }
         ensures same { StaysInMeaning self.old self.new }
@@ -568,200 +441,7 @@ impl<A: Allocator + Copy> Node<A> {
             return Ok(None);
         }
         self.order();
-        Ok(Some(self.plan_below(alloc, pins)?))
-    }
-}
-
-impl<A: Allocator + Copy> Node<A> {
-    /// Puts the pages of a job's result in its leaf's place, of a node right above leaves, and takes the job's batch out of its
-    /// own buffer. Where memory is refused nothing has changed.
-    fn install_leaf(
-        &mut self,
-        alloc: A,
-        merge: &FlushResult<A>,
-        cache: &mut LeafCache<A>,
-        above: &[usize],
-    ) -> Result<Room<A>, AllocError>
-        requires level { self.old.height ≡ 1 }
-        requires some { merge.now.job.batch.messages ≢ [] }
-        requires fan_out { 1 ≤ self.old.shape.fan_out }
-        requires can { CanComeIn self.old merge.now.job }
-        ensures ok { IfOk result (λ room. (pins : TenantPins) → CoversAll merge.now.job pins
-            → StepsAsOne pins self.old self.new room.came.items) }
-        ensures gone { IfOk result (λ room. AreGone merge.now.job.batch.messages
-            (nearest_in (in_child.Node self.new ∷ room.came.items))) }
-        ensures room { IfOk result (HasRoom self.old.shape above.now) }
-        ensures err { OnErr result (self.new ≡ self.old) }
-        ensures cache { IfOk result (λ room. ForgetsCame self.old self.new room.came.items
-            cache.old cache.new) }
-        ensures kept { OnErr result (Forgets self.old.leaves self.old.leaves cache.old cache.new) }
-    {
-        let _known = merge.job.batch.len();
-        let fence = merge.job.target.low_fence.as_key();
-        let index = child_for(self.children.as_slice(), fence);
-        let fresh = installed(alloc, self.children.as_slice(), index, merge, cache)?;
-        let mut room = room_for(alloc, self.shape, fresh.len(), above)?;
-        let full = self.children.len() - index == 1;
-        let _taken = self.buffer.take_out(&merge.job.batch);
-        self.children = fresh;
-        self.settle(&mut room, full);
-        Ok(room)
-    }
-
-    /// Puts the pages of a job's result in its leaf's place, and takes the job's batch out of the buffer right above it. The
-    /// nodes that are to stand behind this one come with the room for more above it, where nodes of the widths in `above`
-    /// stand. Where memory is refused nothing has changed.
-    fn install_below(
-        &mut self,
-        alloc: A,
-        merge: &FlushResult<A>,
-        cache: &mut LeafCache<A>,
-        above: &mut Vec<usize, A>,
-    ) -> Result<Room<A>, AllocError>
-        requires some { merge.now.job.batch.messages ≢ [] }
-        requires few { self.old.width ≤ self.old.shape.fan_out }
-        requires fan_out { 4 ≤ self.old.shape.fan_out }
-        requires can { CanComeIn self.old merge.now.job }
-        ensures ok { IfOk result (λ room. (pins : TenantPins) → CoversAll merge.now.job pins
-            → StepsAsOne pins self.old self.new room.came.items) }
-        ensures gone { IfOk result (λ room. AreGone merge.now.job.batch.messages
-            (nearest_in (in_child.Node self.new ∷ room.came.items))) }
-        ensures room { IfOk result (HasRoom self.old.shape above.old.items) }
-        ensures err { OnErr result (self.new ≡ self.old) }
-        ensures cache { IfOk result (λ room. ForgetsCame self.old self.new room.came.items
-            cache.old cache.new) }
-        ensures kept { OnErr result (Forgets self.old.leaves self.old.leaves cache.old cache.new) }
-    {
-        if self.height == 1 {
-            return self.install_leaf(alloc, merge, cache, above.as_slice());
-        }
-        let fence = merge.job.target.low_fence.as_key();
-        let index = child_for(self.children.as_slice(), fence);
-        let full = self.children.len() - index == 1;
-        above.insert(0, self.children.len())?;
-        match &mut self.children[index] {
-            Child::Leaf(_) => unreachable!(),
-            Child::Node(node) => {
-                let mut room = node.install_below(alloc, merge, cache, above)?;
-                take_in(&mut self.children, index, &mut room);
-                self.settle(&mut room, full);
-                Ok(room)
-            }
-        }
-    }
-
-    /// Puts the pages of a job's result in its leaf's place, of a root (`install_below`). Where nodes come behind it, it becomes
-    /// higher. A job of no message leaves all as it is. Where memory is refused nothing has changed.
-    fn install_result(
-        &mut self,
-        alloc: A,
-        merge: &FlushResult<A>,
-        cache: &mut LeafCache<A>,
-    ) -> Result<(), AllocError>
-        requires few { self.old.width ≤ self.old.shape.fan_out }
-        requires fan_out { 4 ≤ self.old.shape.fan_out }
-        requires can { CanComeIn self.old merge.now.job }
-        ensures ok { OnOk result ((pins : TenantPins) → CoversAll merge.now.job pins
-            → KeepsRoot pins self.old self.new) }
-        ensures gone { OnOk result (BatchIsGone merge.now.job.batch.messages self.new) }
-        ensures err { OnErr result (self.new ≡ self.old) }
-        ensures cache { Forgets self.old.leaves self.new.leaves cache.old cache.new }
-    {
-        let _known = self.shape();
-        if self.height() > MOST_HEIGHT {
-            return Err(AllocError);
-        }
-        if merge.job.batch.len() == 0 {
-            return Ok(());
-        }
-        let mut above = Vec::new(alloc);
-        let mut room = self.install_below(alloc, merge, cache, &mut above)?;
-        while !room.came.is_empty() {
-            self.rise(&mut room);
-        }
-        Ok(())
-    }
-
-    /// One move of its messages towards the leaves that merges nothing: those for the child for which most bytes are buffered
-    /// move into that child's buffer. Where they don't fit there, dead bytes dropped, the move is that child's own; right
-    /// above leaves nothing moves, nor does what holds a message of the batch. It asks for no memory.
-    fn ease_below(&mut self, batch: &MessageBuf<A>, spare: &mut RawBuf<A>)
-        requires some { 0 < length self.old.buffer.messages }
-        requires spare { self.old.buffer.capacity ≤ spare.old.capacity }
-        ensures eases { Eases batch.now.messages self.old self.new }
-        ensures spare { spare.new.capacity ≡ spare.old.capacity }
-    {
-        let _known = self.buffer.used();
-        let _known = self.buffer.len();
-        if self.height == 1 {
-            return;
-        }
-        let index = heaviest(self.children.as_slice(), &self.buffer);
-        let bytes = bytes_for(self.children.as_slice(), index, &self.buffer);
-        let ample = self.shape.ample(bytes);
-        match &mut self.children[index] {
-            Child::Leaf(_) => unreachable!(),
-            Child::Node(node) => {
-                if !node.makes_room(bytes, ample, spare) {
-                    node.ease_below(batch, spare);
-                    return;
-                }
-            }
-        }
-        if is_apart(self.children.as_slice(), index, &self.buffer, batch) {
-            hand_down(&mut self.children, index, &mut self.buffer);
-        }
-    }
-
-    /// Eases a root in which a job's batch came in, where its own messages take more than half of its block (`ease_below`): the
-    /// next request that wants room there is to find it.
-    fn ease(&mut self, batch: &MessageBuf<A>, spare: &mut RawBuf<A>)
-        requires spare { self.old.buffer.capacity ≤ spare.old.capacity }
-        ensures eases { Eases batch.now.messages self.old self.new }
-        ensures spare { spare.new.capacity ≡ spare.old.capacity }
-    {
-        if self.buffer.live() > self.buffer.capacity() / 2 {
-            self.order();
-            self.ease_below(batch, spare);
-        }
-    }
-
-    /// Puts the pages of a job's result in its leaf's place, of a root, and takes the job's batch out of the buffer right above the
-    /// leaf: the root means the same under the pins. Then some of its messages may move towards the leaves (`ease`). Where
-    /// it can't come any more the result is stale, and nothing changes. Where memory is refused the result comes back, and no
-    /// message has moved.
-    pub fn install(
-        &mut self,
-        alloc: A,
-        merge: FlushResult<A>,
-        pins: &Pins<A>,
-        spare: &mut RawBuf<A>,
-        cache: &mut LeafCache<A>,
-    ) -> Result<Installed, (FlushResult<A>, AllocError)>
-        requires few { self.old.width ≤ self.old.shape.fan_out }
-        requires fan_out { 4 ≤ self.old.shape.fan_out }
-        requires spare { self.old.buffer.capacity ≤ spare.old.capacity }
-        ensures root { KeepsRoot (pins_in pins.now) self.old self.new }
-        ensures stale { IfOk result (λ r. r ≡ installed.Stale
-            ↔ ¬ CanInstall self.old merge.job (pins_in pins.now)) }
-        ensures unmoved { IfOk result (λ r. r ≡ installed.Stale
-            → (self.new ≡ self.old) × (cache.new ≡ cache.old)) }
-        ensures done { IfOk result (λ r. r ≡ installed.Done
-            → BatchIsGone merge.job.batch.messages self.new) }
-        ensures err { IfErr result (λ e. (e.0 ≡ merge) × (self.new ≡ self.old)) }
-        ensures cache { Forgets self.old.leaves self.new.leaves cache.old cache.new }
-        ensures spare { spare.new.capacity ≡ spare.old.capacity }
-    {
-        if !can_install(self, &merge.job, pins) {
-            return Ok(Installed::Stale);
-        }
-        match self.install_result(alloc, &merge, cache) {
-            Ok(()) => {
-                self.ease(&merge.job.batch, spare);
-                Ok(Installed::Done)
-            }
-            Err(refused) => Err((merge, refused)),
-        }
+        Ok(Some(self.plan_below(alloc, pins, pick)?))
     }
 }
 
@@ -788,10 +468,10 @@ impl<A: Allocator> Node<A> {
         self.children.len()
     }
 
-    /// How large it may grow. Its buffer's block has the node size.
+    /// How large it may grow. Its buffer's block has the node size, or there is none.
     pub fn shape(&self) -> Shape
         ensures shape { result ≡ self.now.shape }
-        ensures block { self.now.buffer.capacity ≡ self.now.shape.buffer }
+        ensures block { HasNodeBlock self.now }
         ensures sizes { AreLeafSizes self.now.shape.leaf self.now.leaves }
         ensures tile { IsTile (node_part self.now) top_key }
     {
@@ -868,5 +548,31 @@ impl<A: Allocator> Node<A> {
         }
         self.buffer.squeeze(spare);
         true
+    }
+}
+
+impl<A: Allocator + Copy> Node<A> {
+    /// Gets its block, where it has none, and tells whether so many bytes fit into it (`makes_room`). Where memory is refused
+    /// nothing has changed.
+    pub(crate) fn gets_room(
+        &mut self,
+        alloc: A,
+        bytes: usize,
+        ample: usize,
+        spare: &mut RawBuf<A>,
+    ) -> Result<bool, AllocError>
+        requires spare { self.old.shape.buffer ≤ spare.old.capacity }
+        requires ample { bytes ≤ ample }
+        ensures same { IsReallocated self.old self.new }
+        ensures block { OnOk result (self.new.buffer.capacity ≡ self.new.shape.buffer) }
+        ensures room { IfOk result (λ fits. IsTrue fits
+            → self.new.buffer.used + bytes ≤ self.new.buffer.capacity) }
+        ensures full { IfOk result (λ fits. fits ≡ false → self.new.buffer.capacity
+            < sum_by message_size self.new.buffer.messages + ample) }
+        ensures err { OnErr result (self.new ≡ self.old) }
+        ensures spare { spare.new.capacity ≡ spare.old.capacity }
+    {
+        self.open(alloc)?;
+        Ok(self.makes_room(bytes, ample, spare))
     }
 }

@@ -10,6 +10,7 @@ ghost use Rattle.stow_tree_model.specs.Merged.{row_message};
 
 use crate::child::Child;
 use crate::node::Node;
+use crate::pick::Pick;
 use crate::shape::Shape;
 use std::alloc::{AllocError, Allocator};
 use stow_leaf::leaf::Leaf;
@@ -122,15 +123,15 @@ fn is_before(a: Option<u64>, b: Option<u64>, of_equals: bool) -> bool
     }
 }
 
-/// The place of the child below which the deepest buffer stands that holds a message, if one does: of equals the fullest.
-pub(crate) fn deepest_child<A: Allocator>(children: &[Child<A>]) -> Option<usize>
+/// The place of the child below which the deepest buffer stands that holds a message, if one does: of equals the one to pick.
+pub(crate) fn deepest_child<A: Allocator>(children: &[Child<A>], pick: Pick) -> Option<usize>
     ensures { IsDeepestChild children.now result }
 {
     let (mut best, mut lowest, mut most) = (0, None, 0);
     for i in 0..children.len() {
         let height = deepest_of(&children[i]);
         let bytes = fullest_of(&children[i], height);
-        if is_before(height, lowest, bytes > most) {
+        if is_before(height, lowest, pick.is_first(bytes, most)) {
             best = i;
             lowest = height;
             most = bytes;

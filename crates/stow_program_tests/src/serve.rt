@@ -1,45 +1,119 @@
-//! `stow serve` over loopback: one client, and an address that is taken.
+//! `stow serve` over loopback: clients that come and go, and an address that is taken.
 use crate::given::Given;
 use crate::running::{Shelf, run_over, wants};
 use std::alloc::Global;
 use std::io;
 use std::io::{Read, Write};
-use std::net::{Net, SocketAddr, TcpListener, TcpStream};
+use std::net::{Net, Shutdown, SocketAddr, TcpListener, TcpStream};
 use std::process::Abort;
 use std::sync::Wait;
 use std::test::Fail;
 use std::thread::Threads;
 
-/// An output that, once it tells an address, makes a client's requests there.
-#[derive(Drop)]
-struct Client<'a, R> {
-    rt: &'a R,
-    told: Vec<u8>,
-    stream: Option<TcpStream>,
+/// A client: what it asks before it closes its half, whether it then waits for replies, and what it is told.
+#[derive(Clone, Copy)]
+struct Visit {
+    asks: &'static [u8],
+    waits: bool,
+    told: &'static [u8],
 }
 
-impl<R: Net<Stream = TcpStream>> Write for Client<'_, R> {
+/// One that is served and quits.
+const ONE: [Visit; 1] = [Visit {
+    asks: b"AUTH ann bc\nSET k v\nGET k\nQUIT\n",
+    waits: true,
+    told: b"+OK\r\n+OK\r\n$1\r\nv\r\n+OK\r\n",
+}];
+
+/// One that is served, one that goes away in the middle of a message, one that breaks the protocol, and one that closes its half.
+const SEVERAL: [Visit; 4] = [
+    Visit {
+        asks: b"AUTH ann bc\nSET k v\nGET k\nQUIT\n",
+        waits: true,
+        told: b"+OK\r\n+OK\r\n$1\r\nv\r\n+OK\r\n",
+    },
+    Visit {
+        asks: b"AUTH ann bc\nSET gone x\n*2\r\n$3\r\nGE",
+        waits: false,
+        told: b"",
+    },
+    Visit {
+        asks: b"PING\n*1\r\n:4\r\nPING\n",
+        waits: true,
+        told: b"-NOAUTH Authentication required.\r\n-ERR Protocol error: expected '$'\r\n",
+    },
+    Visit {
+        asks: b"AUTH ann bc\nSTRLEN none\n*2\r\n$3\r\nGE",
+        waits: true,
+        told: b"+OK\r\n:0\r\n",
+    },
+];
+
+/// An output that, once it tells an address, makes the clients' requests there.
+#[derive(Drop)]
+struct Clients<'a, R> {
+    rt: &'a R,
+    told: Vec<u8>,
+    visits: &'a [Visit],
+    streams: Vec<Option<TcpStream>>,
+}
+
+/// The address that is told, if one is.
+fn address_in(told: &[u8]) -> Option<SocketAddr> {
+    let text = std::str::from_utf8(told).unwrap_or("");
+    let address = text.strip_prefix("listening ")?;
+    address.trim_end().parse::<SocketAddr>().ok()
+}
+
+impl<R: Net<Stream = TcpStream>> Clients<'_, R> {
+    /// A client comes.
+    fn visit(&mut self, address: SocketAddr, visit: Visit) -> io::Result<()> {
+        let mut stream = TcpStream::connect(self.rt, address)?;
+        stream.write_all(visit.asks)?;
+        stream.shutdown(Shutdown::Write)?;
+        self.streams
+            .push(if visit.waits { Some(stream) } else { None })?;
+        Ok(())
+    }
+}
+
+impl<R: Net<Stream = TcpStream>> Write for Clients<'_, R> {
     fn write(&mut self, bytes: &[u8]) -> io::Result<usize> {
         self.told.extend_from_slice(bytes)?;
         Ok(bytes.len())
     }
 
     fn flush(&mut self) -> io::Result<()> {
-        let told = std::str::from_utf8(self.told.as_slice()).unwrap_or("");
-        let Some(address) = told.strip_prefix("listening ") else {
-            return Ok(());
-        };
-        if let Ok(address) = address.trim_end().parse::<SocketAddr>() {
-            let mut stream = TcpStream::connect(self.rt, address)?;
-            stream.write_all(b"AUTH ann bc\nSET k v\nGET k\nQUIT\n")?;
-            self.stream = Some(stream);
+        if let Some(address) = address_in(self.told.as_slice()) {
+            for i in 0..self.visits.len() {
+                let visit = self.visits[i];
+                self.visit(address, visit)?;
+            }
         }
         Ok(())
     }
 }
 
-/// What a client is told, and what is told of the serving.
-fn served<H>(rt: &H) -> Result<(u8, Vec<u8>, Vec<u8>), Fail>
+/// Whether each client that waited is told what it is to be told, and nothing more.
+fn are_told(
+    visits: &[Visit],
+    streams: &mut [Option<TcpStream>],
+    alloc: Global,
+) -> io::Result<bool> {
+    for i in 0..visits.len().min(streams.len()) {
+        let mut replies = Vec::new(alloc);
+        if let Some(stream) = &mut streams[i] {
+            stream.read_to_end(&mut replies)?;
+        }
+        if replies.as_slice() != visits[i].told {
+            return Ok(false);
+        }
+    }
+    Ok(streams.len() == visits.len())
+}
+
+/// The status of a serving with these options, whether its clients are told what they are to be told, and its notices.
+fn served<H>(rt: &H, visits: &[Visit], options: &str) -> Result<(u8, bool, Vec<u8>), Fail>
 where
     H: Abort
         + Alloc<A = Global>
@@ -49,20 +123,25 @@ where
         + Sync,
 {
     let alloc = rt.alloc();
-    let line = "serve --tenants three.toml --listen 127.0.0.1:0 --connections 1 --notices";
+    let line = format!(in alloc; "serve --tenants three.toml --listen 127.0.0.1:0 {options}")?;
     let (mut input, mut errors) = (Given::all(b""), Vec::new(alloc));
-    let mut output = Client {
+    let mut output = Clients {
         rt,
         told: Vec::new(alloc),
-        stream: None,
+        visits,
+        streams: Vec::new(alloc),
     };
     let shelf = Shelf { own: b"" };
-    let status = run_over(rt, &shelf, line, &mut input, &mut output, &mut errors)?;
-    let mut replies = Vec::new(alloc);
-    if let Some(mut stream) = output.stream {
-        stream.read_to_end(&mut replies)?;
-    }
-    Ok((status, replies, errors))
+    let status = run_over(
+        rt,
+        &shelf,
+        line.as_str(),
+        &mut input,
+        &mut output,
+        &mut errors,
+    )?;
+    let are_told = are_told(visits, &mut output.streams, alloc)?;
+    Ok((status, are_told, errors))
 }
 
 /// Whether two notices are told, of the start and of the end.
@@ -80,13 +159,20 @@ fn are_notices(text: &str) -> bool {
 
 #[test]
 fn a_client_is_served(rt: HostRuntime) -> Result<(), Fail> {
-    let (status, replies, errors) = served(&rt)?;
-    let is_answered = replies.as_slice() == b"+OK\r\n+OK\r\n$1\r\nv\r\n+OK\r\n".as_slice();
+    let (status, are_told, errors) = served(&rt, &ONE, "--connections 1 --notices")?;
     let notices = std::str::from_utf8(errors.as_slice()).unwrap_or("");
     assert!(rt;
-        status == 0 && is_answered && are_notices(notices),
+        status == 0 && are_told && are_notices(notices),
         "{notices}"
     );
+    Ok(())
+}
+
+// More clients than workers: one after another ends, and none keeps another from its replies.
+#[test]
+fn clients_come_and_go(rt: HostRuntime) -> Result<(), Fail> {
+    let (status, are_told, _) = served(&rt, &SEVERAL, "--connections 4 --workers 1")?;
+    assert!(rt; status == 0 && are_told);
     Ok(())
 }
 

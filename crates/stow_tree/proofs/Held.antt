@@ -64,7 +64,7 @@ resized_held cache new limit leaves held e leaf c = held leaf (in_front limit ca
 
 -- a tree with another cache
 with_cache : {A : Type 0} (tree : Inside A) (cache : Cache) → IsTree tree → HoldsLeaves cache tree.root.leaves → IsTree (record tree { cache = cache })
-with_cache tree cache is held = record { sizes = is.sizes; low = is.low; few = is.few; block = is.block; short = is.short; held = held }
+with_cache tree cache is held = record { sizes = is.sizes; low = is.low; few = is.few; root_block = is.root_block; block = is.block; short = is.short; held = held }
 
 pub used_tree : {A : Type 0} (tree : Inside A) (cache : Cache) (fence : List ℕ) → IsTree tree → cache ≡ cache_used fence tree.cache → IsTree (record tree { cache = cache })
 used_tree tree cache fence is e = with_cache tree cache is (subst (λ c. HoldsLeaves c tree.root.leaves) (sym e) (used_held tree.cache fence tree.root.leaves is.held))

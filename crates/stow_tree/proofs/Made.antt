@@ -28,6 +28,7 @@ new_is_tree new shape nodes in_range is root spare cache = record {
   sizes = subst AreInRange (sym (ap (λ (t : Subtree). t.shape) whole)) in_range.nodes;
   low = ap (λ (t : Subtree). t.low) whole;
   few = subst (λ (t : Subtree). t.width ≤ t.shape.fan_out) (sym whole) (let f = in_range.nodes.fan_out.0 in omega (arith, f));
+  root_block = subst (λ (t : Subtree). t.buffer.capacity ≡ t.shape.buffer) (sym whole) refl;
   block =
       let a = ap (λ (t : Subtree). t.buffer.capacity) whole in
       let b = ap (λ (r : RawLists). r.capacity) spare in
@@ -52,6 +53,7 @@ room_kept old new pins tree stands forgets spare few = record {
   sizes = subst AreInRange (sym stands.shape) tree.sizes;
   low = stands.low ∙ tree.low;
   few = few;
+  root_block = stands.capacity ∙ tree.root_block ∙ sym (ap (λ (s : Shape). s.buffer) stands.shape);
   block =
       let a = stands.capacity in
       let b = tree.block in

@@ -27,6 +27,7 @@ moved_tree old root tree m = record {
   sizes = subst AreInRange (sym m.shape) tree.sizes;
   low = m.low ∙ tree.low;
   few = let w = m.width in let f = ap (λ (s : Shape). s.fan_out) m.shape in let t = tree.few in omega (arith, w, f, t);
+  root_block = m.capacity ∙ tree.root_block ∙ sym (ap (λ (s : Shape). s.buffer) m.shape);
   block = let c = m.capacity in let b = tree.block in omega (arith, c, b);
   short = stays_short old.root root m tree.short;
   held = subst (HoldsLeaves old.cache) (sym m.leaves) tree.held;

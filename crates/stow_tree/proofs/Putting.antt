@@ -53,6 +53,7 @@ putting_on ms old now new i m l is so becomes = subst (IsPutting (map message_of
     sizes = so.is_tree.sizes;
     low = so.is_tree.low;
     few = so.is_tree.few;
+    root_block = so.is_tree.root_block;
     block = so.is_tree.block;
     short = short_after (state_of now) (message_of m) reserved.can.each.0 so.is_tree.short;
     held = so.is_tree.held;

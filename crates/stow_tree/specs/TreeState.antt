@@ -39,6 +39,7 @@ pub record IsTree {A : Type 0} (tree : Inside A) : Type 0 where
   pub sizes : AreInRange tree.root.shape
   pub low : tree.root.low ≡ packed 0 []
   pub few : tree.root.width ≤ tree.root.shape.fan_out
+  pub root_block : tree.root.buffer.capacity ≡ tree.root.shape.buffer
   pub block : tree.root.buffer.capacity ≤ tree.spare.capacity
   pub short : AreShort (messages_of tree.root)
   pub held : HoldsLeaves tree.cache tree.root.leaves

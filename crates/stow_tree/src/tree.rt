@@ -40,6 +40,7 @@ use stow_merge::pins::Pins;
 use stow_message::head::size;
 use stow_node::installed::Installed;
 use stow_node::node::Node;
+use stow_node::pick::Pick;
 use stow_raw::raw_buf::RawBuf;
 use stow_read::found::Found;
 use stow_read::getting::get;
@@ -171,10 +172,15 @@ impl<A: Allocator + Copy> Tree<A> {
         self.root.push_near(message, guess);
     }
 
-    /// A job for a flush outside the lock, under pins, if a buffer holds a message: it is of the deepest such buffer, from
-    /// which messages for one child move down first, where it stands above nodes. What the tree means stays, also where
+    /// A job for a flush outside the lock, under pins, if a buffer holds a message: it is of the deepest such buffer, of equals
+    /// the one to pick, from which messages for one child move down first, where it stands above nodes. What the tree means stays, also where
     /// memory is refused.
-    pub fn plan(&mut self, alloc: A, pins: &Pins<A>) -> Result<Option<FlushJob<A>>, AllocError>
+    pub fn plan(
+        &mut self,
+        alloc: A,
+        pins: &Pins<A>,
+        pick: Pick,
+    ) -> Result<Option<FlushJob<A>>, AllocError>
         ensures same { tree_messages self.new ≡ tree_messages self.old }
         ensures moves { StaysInMeaning self.old.root self.new.root }
         ensures cache { self.new.cache ≡ self.old.cache }
@@ -184,7 +190,7 @@ impl<A: Allocator + Copy> Tree<A> {
         ensures way { IfOk result (λ job. IfSome job
             (Plans self.old.root.height self.old.root self.new.root)) }
     {
-        self.root.plan(alloc, pins)
+        self.root.plan(alloc, pins, pick)
     }
 
     /// Puts the pages of a job's result in its leaf's place, and takes the job's batch out of the buffer above: the tree means the

@@ -12,6 +12,7 @@ use stow_merge::flush_job::FlushJob;
 use stow_merge::flush_result::FlushResult;
 use stow_merge::pins::Pins;
 use stow_node::installed::Installed;
+use stow_node::pick::Pick;
 use stow_read::row::Row;
 use stow_tree::tree::Tree;
 use stow_tree::tree_shape::{LEAST_BUFFER, TreeShape};
@@ -118,7 +119,7 @@ impl<A: Allocator + Copy> Numbered<A> {
         alloc: A,
         pins: &Pins<A>,
     ) -> Result<Option<FlushJob<A>>, AllocError> {
-        self.tree.plan(alloc, pins)
+        self.tree.plan(alloc, pins, Pick::Fullest)
     }
 
     /// The tree's `install`.

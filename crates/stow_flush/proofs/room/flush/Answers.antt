@@ -1,7 +1,7 @@
-use Rattle.std.proofs.Common.{◌∙◌, ◌/◌, max, ap, arith}
-use Rattle.std.proofs.lemmas.Grind.{common_steps}
+use Rattle.std.proofs.Common.{◌≤◌, ◌∙◌, ◌/◌, max, sym, ap, arith}
 use Rattle.stow_merge.specs.Pins.{pins_in}
 use Rattle.stow_node.specs.declared.shape.Shape.{Shape}
+use Rattle.stow_node.proofs.Down.{full_has_messages}
 use Rattle.stow_flush.proofs.Making.{IsMaking, making_first, squeezed_then, moved_then, flushes_stands, stays_stands, stays_few, makes_none, makes_squeezed, makes_more}
 use Rattle.stow_flush.proofs.room.flush.Given as given
 use Rattle.stow_flush.proofs.room.flush.Goals as goal
@@ -56,5 +56,27 @@ returns-clause-few g c = (making g (goal.at.returns-clause-few g c).After-makes_
 pub returns-clause-made : goal.returns-clause-made
 returns-clause-made g c = makes_squeezed g.row.A.Denot c.args.bytes (pins_in c.args.pins.now) c.args.root.now c.loop-alloc.root c.makes_room.new.self c.args.cache.now c.loop-alloc.cache c.loop-alloc.invariant.1 c.makes_room.ensures.same
 
+pub step-requires-clause-block : goal.step-requires-clause-block
+step-requires-clause-block g c =
+    let m = (making g (goal.at.step-requires-clause-block g c).After-makes_room).stands in
+    m.capacity ∙ c.requires.block ∙ sym (ap (λ (h : Shape). h.buffer) m.shape)
+
+pub step-requires-clause-spare : goal.step-requires-clause-spare
+step-requires-clause-spare g c =
+    let m = making g (goal.at.step-requires-clause-spare g c).After-makes_room in
+    let size = ap (λ (h : Shape). h.buffer) m.stands.shape in
+    let kept = m.block in
+    let spare = c.requires.spare in
+    let block = c.requires.block in
+    omega (arith, size, kept, spare, block)
+
+-- a root that lacks room, whose block is whole, has messages
 pub step-requires-clause-some : goal.step-requires-clause-some
-step-requires-clause-some g c = grind (arith, common_steps)
+step-requires-clause-some g c =
+    let m = (making g (goal.at.step-requires-clause-some g c).After-makes_room).stands in
+    let size = ap (λ (h : Shape). h.buffer) (c.shape.ensures.shape ∙ c.loop-alloc.invariant.0.stands.shape) in
+    let bytes = c.requires.bytes in
+    let most = c.ample.ensures.most (omega (arith, bytes, size)) in
+    let whole = m.capacity in
+    let block = c.requires.block in
+    full_has_messages c.makes_room.new.self c.ample.result (c.makes_room.ensures.full c.loop-alloc-test.true) (omega (arith, most, size, whole, block))

@@ -15,6 +15,7 @@ use Rattle.stow_node.proofs.Down.{node_at}
 use Rattle.stow_node.proofs.Entered.{not_leaf}
 use Rattle.stow_node.proofs.HandedDown.{same_node}
 use Rattle.stow_node.proofs.PlanSteps.{CanPlan, can_plan, child_planned, deepest_node, plans_own, plans_below}
+use Rattle.stow_node.proofs.Reallocated.{stays_like}
 use Rattle.stow_node.proofs.Stayed.{ChildStays, child_stays}
 use Rattle.stow_node.proofs.node.Node.+plan_below.Given as given
 use Rattle.stow_node.proofs.node.Node.+plan_below.Goals as goal
@@ -29,7 +30,7 @@ is_there g t c =
     node_at c.self.inside.children.items c.in-Some.index c.index_mut.result.now c.in-Node.node (inside_of c.self.inside.children.items c.in-Some.index h.child h.at) c.index_mut.ensures.value c.in-Node.is
 
 is_kept : (g : given.Over) (t : ℕ) (c : After-plan_below g t) → slice_get c.self.inside.children.items c.in-Some.index ≡ Some (in_child.Node c.in-Node.node) → ChildStays c.self.inside c.in-Node.node c.plan_below.new.self (with_item c.self.inside.children c.in-Some.index (in_child.Node c.plan_below.new.self))
-is_kept g t c at = child_stays c.self.inside (with_item c.self.inside.children c.in-Some.index (in_child.Node c.plan_below.new.self)) c.in-Some.index c.in-Node.node c.plan_below.new.self c.self.invariant at refl c.plan_below.ensures.same
+is_kept g t c at = child_stays c.self.inside (with_item c.self.inside.children c.in-Some.index (in_child.Node c.plan_below.new.self)) c.in-Some.index c.in-Node.node c.plan_below.new.self c.self.invariant at refl (stays_like c.plan_below.ensures.same)
 
 -- where none is buffered below, some message is the node's own
 some_own : (s : Subtree) → s.deeper ≡ [] → buffered s ≢ [] → 0 < length s.buffer.messages

@@ -16,6 +16,7 @@ use Rattle.stow_node.proofs.Down.{IsNext, stays_then, MadeRoom, WentInto, went_i
 use Rattle.stow_node.proofs.Entered.{Entered, entered, not_leaf}
 use Rattle.stow_node.proofs.HandedDown.{same_node}
 use Rattle.stow_node.proofs.PlanSteps.{stays_short, CanPlan, can_plan, child_planned, next_own, next_is_empty, room_when_empty, IsFilled, is_filled, own_way, looked_into}
+use Rattle.stow_node.proofs.Reallocated.{block_whole, reallocated_same, stays_like}
 use Rattle.stow_node.proofs.Stayed.{ChildStays, child_stays}
 use Rattle.stow_node.proofs.node.Node.+plan_own.Given as given
 use Rattle.stow_node.proofs.node.Node.+plan_own.Goals as goal
@@ -30,7 +31,7 @@ is_empty : (g : given.Over) (t : ℕ) (c : In-Node g t) → buffered c.in-Node.n
 is_empty g t c = next_is_empty c.self.inside c.heaviest-index.result (bytes_for (parts_of c.self.inside.children.items) c.self.inside.buffer c.heaviest-index.result (node_part c.in-Node.node)) c.in-Node.node (ap (λ (s : Subtree). s.deeper) c.self.view_is ∙ c.requires.none) (is_next g t c)
 
 is_made : (g : given.Over) (t : ℕ) (c : After-deref_mut g t) → IsNext c.self.inside c.heaviest-index.result (bytes_for (parts_of c.self.inside.children.items) c.self.inside.buffer c.heaviest-index.result (node_part c.in-Node.node)) c.in-Node.node → MadeRoom c.self.inside c.heaviest-index.result c.in-Node.node c.clear.new.self
-is_made g t c n = room_when_empty c.self.inside c.heaviest-index.result (bytes_for (parts_of c.self.inside.children.items) c.self.inside.buffer c.heaviest-index.result (node_part c.in-Node.node)) c.in-Node.node c.clear.new.self c.self.invariant n c.clear.ensures.same c.clear.ensures.empty
+is_made g t c n = room_when_empty c.self.inside c.heaviest-index.result (bytes_for (parts_of c.self.inside.children.items) c.self.inside.buffer c.heaviest-index.result (node_part c.in-Node.node)) c.in-Node.node c.clear.new.self c.self.invariant n c.clear.ensures.same c.in_ok-clear-in-Node.ensures.block c.in_ok-clear-in-Node.ensures.empty
 
 is_down : (g : given.Over) (t : ℕ) (c : After-hand_down g t) → HandsDown (set c.self.inside.children.items c.heaviest-index.result (in_child.Node c.clear.new.self)) c.heaviest-index.result c.self.inside.buffer (with_items (with_item c.self.inside.children c.heaviest-index.result (in_child.Node c.clear.new.self)) c.hand_down.new.children).items c.hand_down.new.buffer
 is_down g t c =
@@ -68,7 +69,7 @@ is_kept : (g : given.Over) (t : ℕ) (c : After-plan_own g t) → WentInto c.sel
 is_kept g t c went at =
     child_stays (record c.self.inside { children = with_items (with_item c.self.inside.children c.heaviest-index.result (in_child.Node c.clear.new.self)) c.hand_down.new.children; buffer = c.hand_down.new.buffer })
     (with_item (with_items (with_item c.self.inside.children c.heaviest-index.result (in_child.Node c.clear.new.self)) c.hand_down.new.children) c.heaviest-index.result (in_child.Node c.plan_own.new.self))
-    c.heaviest-index.result c.in-Node-index_mut.node c.plan_own.new.self went.is_node at refl c.plan_own.ensures.same
+    c.heaviest-index.result c.in-Node-index_mut.node c.plan_own.new.self went.is_node at refl (stays_like c.plan_own.ensures.same)
 
 pub returns-then-self-eq1-clause-way : goal.returns-then-self-eq1-clause-way
 returns-then-self-eq1-clause-way g t c =
@@ -92,6 +93,22 @@ nothing_own x e = (append_nothing x.buffer.messages x.deeper e).0
 
 pub clear-requires : goal.clear-requires
 clear-requires g t c = nothing_own c.in-Node.node (is_empty g t (goal.at.clear-requires g t c).In-Node)
+
+pub invariant_of-self : goal.invariant_of-self
+invariant_of-self g t c =
+    let next = is_next g t (goal.at.invariant_of-self g t c).In-Node in
+    (child_stays c.self.inside (with_item c.self.inside.children c.heaviest-index.result (in_child.Node c.clear.new.self)) c.heaviest-index.result c.in-Node.node c.clear.new.self c.self.invariant next.at refl (reallocated_same c.in-Node.node c.clear.new.self c.clear.ensures.same).0).is_node
+
+pub returns-in_err-clear-in-Node-clause-same : goal.returns-in_err-clear-in-Node-clause-same
+returns-in_err-clear-in-Node-clause-same g t c =
+    let next = is_next g t (goal.at.returns-in_err-clear-in-Node-clause-same g t c).In-Node in
+    rw (← c.self.view_is) (child_stays c.self.inside (with_item c.self.inside.children c.heaviest-index.result (in_child.Node c.clear.new.self)) c.heaviest-index.result c.in-Node.node c.clear.new.self c.self.invariant next.at refl (reallocated_same c.in-Node.node c.clear.new.self c.clear.ensures.same).0).stays
+
+pub plan_leaf-requires-clause-block : goal.plan_leaf-requires-clause-block
+plan_leaf-requires-clause-block g t c =
+    subst (λ (s : Subtree). s.buffer.capacity ≡ s.shape.buffer) c.self.view_is
+    (block_whole c.self.inside.shape.buffer c.self.inside.buffer c.self.invariant.block (subst (λ (s : Subtree). 0 < length s.buffer.messages) (sym c.self.view_is) c.requires.some)
+    (let u = c.used-known.ensures.live in let w = c.used-known.ensures.within in omega (arith, u, w)))
 
 pub hand_down-requires : goal.hand_down-requires
 hand_down-requires g t c =
@@ -127,9 +144,9 @@ plan_own-requires g t c κs within =
     let less : c.in-Node-index_mut.node.height < c.args.self.now.height = let low = can.lower in let own = ap (λ (s : Subtree). s.height) c.self.view_is in omega (arith, low, own) in
     (search (rules, less), (within, (subst (λ (s : Subtree). 0 < length s.buffer.messages) same m.filled.some, (ap (λ (s : Subtree). s.deeper) (sym same) ∙ m.filled.none, (can.short, can.target)))))
 
-pub invariant_of-self : goal.invariant_of-self
-invariant_of-self g t c =
-    let h = goal.at.invariant_of-self g t c in
+pub invariant_of-self-2 : goal.invariant_of-self-2
+invariant_of-self-2 g t c =
+    let h = goal.at.invariant_of-self-2 g t c in
     let next = is_next g t h.In-Node in
     let m = is_moved g t h.After-hand_down next (is_empty g t h.In-Node) (is_made g t h.After-deref_mut next) in
     let kept = is_kept g t h.After-plan_own m.went (is_taken g t h.In-Node-index_mut m.filled) in

@@ -18,10 +18,11 @@ use Rattle.stow_node.specs.Rooms.{AreShells, AreLists, HasRoom}
 use Rattle.stow_node.specs.Subtree.{Subtree, messages_of}
 use Rattle.stow_node.specs.TakesDown.{MergesDown, TakesDown, TakesLight}
 use Rattle.stow_node.specs.Ways.{Goes}
-use Rattle.stow_node.proofs.Down.{IsNext, squeezed_same, stays_then, MadeRoom, made_room, WentInto, went_into, new_items}
+use Rattle.stow_node.proofs.Down.{IsNext, MadeRoom, made_room, WentInto, went_into, new_items}
 use Rattle.stow_node.proofs.Entered.{Entered, entered, not_leaf}
 use Rattle.stow_leaves.proofs.Forgotten.{on_err}
 use Rattle.stow_leaves.proofs.Forgotten.{forgets_nothing}
+use Rattle.stow_node.proofs.Reallocated.{like_then, reallocated_same, stays_like}
 use Rattle.stow_node.proofs.Rooms.{LevelReady, level_ready, level_left, none_needed, groups_stay}
 use Rattle.stow_node.proofs.Regrouped.{steps, grown_leaves}
 use Rattle.stow_node.proofs.Stayed.{ChildStays, child_stays, level_at}
@@ -51,11 +52,11 @@ are_some g t c = let f = c.requires.fan_out in let e = ap (λ (s : Subtree). s.s
 has_room : (g : given.Over) (t : ℕ) (c : In_ok-room-in-Node g t) → IsNext c.self.inside c.heaviest-index.result c.bytes_for-bytes.result c.in-Node.node → HasRoom c.self.inside.shape (length c.self.inside.children.items ∷ c.args.above.now.items) c.in_ok-room-in-Node.room
 has_room g t c n =
     let below : IsBelow c.self.inside.height c.self.inside.shape (in_child.Node c.in-Node.node) = level_at c.self.inside.height c.self.inside.shape c.self.inside.children.items c.heaviest-index.result (in_child.Node c.in-Node.node) c.self.invariant.level n.at in
-    let own : c.makes_room.new.self.shape ≡ c.self.inside.shape = (squeezed_same c.in-Node.node c.makes_room.new.self c.makes_room.ensures.same).0.shape ∙ below.same.0 in
+    let own : c.gets_room.new.self.shape ≡ c.self.inside.shape = (reallocated_same c.in-Node.node c.gets_room.new.self c.gets_room.ensures.same).0.shape ∙ below.same.0 in
     let len : c.len-2.result ≡ length c.self.inside.children.items = let e = c.len-2.ensures in let o = c.self.inside.children.ok.0 in omega (arith, e, o) in
     subst (λ (s : Shape). HasRoom s (length c.self.inside.children.items ∷ c.args.above.now.items) c.in_ok-room-in-Node.room) own
-    (subst (λ n. HasRoom c.makes_room.new.self.shape (n ∷ c.args.above.now.items) c.in_ok-room-in-Node.room) len
-    (subst (λ l. HasRoom c.makes_room.new.self.shape l c.in_ok-room-in-Node.room) c.in_ok-insert.ensures.items c.in_ok-room-in-Node.ensures.room))
+    (subst (λ n. HasRoom c.gets_room.new.self.shape (n ∷ c.args.above.now.items) c.in_ok-room-in-Node.room) len
+    (subst (λ l. HasRoom c.gets_room.new.self.shape l c.in_ok-room-in-Node.room) c.in_ok-insert.ensures.items c.in_ok-room-in-Node.ensures.room))
 
 is_ready : (g : given.Over) (t : ℕ) (c : In_ok-room-in-Node g t) → IsNext c.self.inside c.heaviest-index.result c.bytes_for-bytes.result c.in-Node.node → length c.self.inside.children.items ≤ c.self.inside.shape.fan_out → 1 ≤ c.self.inside.shape.fan_out → LevelReady c.self.inside.shape (length c.self.inside.children.items) (length c.in_ok-room-in-Node.room.came.items) c.in_ok-room-in-Node.room
 is_ready g t c n f o = level_ready c.self.inside.shape (length c.self.inside.children.items) (length c.in_ok-room-in-Node.room.came.items) c.args.above.now.items c.in_ok-room-in-Node.room o f (has_room g t c n)
@@ -68,30 +69,30 @@ are_wide g t c n =
     omega (arith, e, l)
 
 is_stepped : (g : given.Over) (t : ℕ) (c : After-take_in g t) → IsNext c.self.inside c.heaviest-index.result c.bytes_for-bytes.result c.in-Node.node → Stepped c.self.inside c.take_in.new.children (pins_in c.args.pins.now)
-is_stepped g t c n = stepped c.self.inside c.take_in.new.children c.heaviest-index.result c.bytes_for-bytes.result c.in-Node.node c.makes_room.new.self c.step_below.new.self c.in_ok-room-in-Node.room.came.items (pins_in c.args.pins.now) c.self.invariant n c.makes_room.ensures.same c.in_ok-room-in-Node.ensures.ok c.take_in.ensures.children
+is_stepped g t c n = stepped c.self.inside c.take_in.new.children c.heaviest-index.result c.bytes_for-bytes.result c.in-Node.node c.gets_room.new.self c.step_below.new.self c.in_ok-room-in-Node.room.came.items (pins_in c.args.pins.now) c.self.invariant n c.gets_room.ensures.same c.in_ok-room-in-Node.ensures.ok c.take_in.ensures.children
 
 -- ---- its messages moved into the child
 
-is_made : (g : given.Over) (t : ℕ) (c : After-deref_mut g t) → IsNext c.self.inside c.heaviest-index.result c.bytes_for-bytes.result c.in-Node.node → MadeRoom c.self.inside c.heaviest-index.result c.in-Node.node c.makes_room.new.self
-is_made g t c n = made_room c.self.inside c.heaviest-index.result c.in-Node.node c.makes_room.new.self c.self.invariant n.at c.makes_room.ensures.same (let r = c.makes_room.ensures.room c.if-not-makes_room.false in let b = n.bytes_are in omega arith)
+is_made : (g : given.Over) (t : ℕ) (c : After-deref_mut g t) → IsNext c.self.inside c.heaviest-index.result c.bytes_for-bytes.result c.in-Node.node → MadeRoom c.self.inside c.heaviest-index.result c.in-Node.node c.gets_room.new.self
+is_made g t c n = made_room c.self.inside c.heaviest-index.result c.in-Node.node c.gets_room.new.self c.self.invariant n.at c.gets_room.ensures.same (let r = c.in_ok-has_room-in-Node.ensures.room c.if-not-has_room.false in let b = n.bytes_are in omega arith)
 
-takes : (g : given.Over) (t : ℕ) (c : In_ok-taken g t) → TakesDown (pins_in c.args.pins.now) (set c.self.inside.children.items c.heaviest-index.result (in_child.Node c.makes_room.new.self)) c.heaviest-index.result c.self.inside.buffer c.as_slice-above.result.now c.in_ok-taken.taken c.take_down.new.children c.take_down.new.buffer c.args.cache.now c.take_down.new.cache
+takes : (g : given.Over) (t : ℕ) (c : In_ok-taken g t) → TakesDown (pins_in c.args.pins.now) (set c.self.inside.children.items c.heaviest-index.result (in_child.Node c.gets_room.new.self)) c.heaviest-index.result c.self.inside.buffer c.as_slice-above.result.now c.in_ok-taken.taken c.take_down.new.children c.take_down.new.buffer c.args.cache.now c.take_down.new.cache
 takes g t c = rw (← c.deref_mut.ensures.value) c.in_ok-taken.ensures.takes
 
 -- it isn't laden then
-is_light : (g : given.Over) (t : ℕ) (c : In_default g t) → TakesDown (pins_in c.args.pins.now) (set c.self.inside.children.items c.heaviest-index.result (in_child.Node c.makes_room.new.self)) c.heaviest-index.result c.self.inside.buffer c.as_slice-above.result.now c.in_ok-taken.taken c.take_down.new.children c.take_down.new.buffer c.args.cache.now c.take_down.new.cache → TakesLight (set c.self.inside.children.items c.heaviest-index.result (in_child.Node c.makes_room.new.self)) c.heaviest-index.result c.self.inside.buffer (with_items (with_item c.self.inside.children c.heaviest-index.result (in_child.Node c.makes_room.new.self)) c.take_down.new.children).items c.take_down.new.buffer c.args.cache.now c.take_down.new.cache
+is_light : (g : given.Over) (t : ℕ) (c : In_default g t) → TakesDown (pins_in c.args.pins.now) (set c.self.inside.children.items c.heaviest-index.result (in_child.Node c.gets_room.new.self)) c.heaviest-index.result c.self.inside.buffer c.as_slice-above.result.now c.in_ok-taken.taken c.take_down.new.children c.take_down.new.buffer c.args.cache.now c.take_down.new.cache → TakesLight (set c.self.inside.children.items c.heaviest-index.result (in_child.Node c.gets_room.new.self)) c.heaviest-index.result c.self.inside.buffer (with_items (with_item c.self.inside.children c.heaviest-index.result (in_child.Node c.gets_room.new.self)) c.take_down.new.children).items c.take_down.new.buffer c.args.cache.now c.take_down.new.cache
 is_light g t c takes =
-    let l = light_of (pins_in c.args.pins.now) (set c.self.inside.children.items c.heaviest-index.result (in_child.Node c.makes_room.new.self)) c.heaviest-index.result c.self.inside.buffer c.as_slice-above.result.now c.in_ok-taken.taken c.take_down.new.children c.take_down.new.buffer c.args.cache.now c.take_down.new.cache takes c.in_default.is in
-    subst (λ (k : List (Child g.row.A.Denot)). TakesLight (set c.self.inside.children.items c.heaviest-index.result (in_child.Node c.makes_room.new.self)) c.heaviest-index.result c.self.inside.buffer k c.take_down.new.buffer c.args.cache.now c.take_down.new.cache)
-    (sym (new_items c.self.inside.children c.heaviest-index.result (in_child.Node c.makes_room.new.self) c.take_down.new.children c.self.inside.buffer c.take_down.new.buffer l.down)) l
+    let l = light_of (pins_in c.args.pins.now) (set c.self.inside.children.items c.heaviest-index.result (in_child.Node c.gets_room.new.self)) c.heaviest-index.result c.self.inside.buffer c.as_slice-above.result.now c.in_ok-taken.taken c.take_down.new.children c.take_down.new.buffer c.args.cache.now c.take_down.new.cache takes c.in_default.is in
+    subst (λ (k : List (Child g.row.A.Denot)). TakesLight (set c.self.inside.children.items c.heaviest-index.result (in_child.Node c.gets_room.new.self)) c.heaviest-index.result c.self.inside.buffer k c.take_down.new.buffer c.args.cache.now c.take_down.new.cache)
+    (sym (new_items c.self.inside.children c.heaviest-index.result (in_child.Node c.gets_room.new.self) c.take_down.new.children c.self.inside.buffer c.take_down.new.buffer l.down)) l
 
-is_went : (g : given.Over) (t : ℕ) (c : In_default g t) → IsNext c.self.inside c.heaviest-index.result c.bytes_for-bytes.result c.in-Node.node → MadeRoom c.self.inside c.heaviest-index.result c.in-Node.node c.makes_room.new.self → TakesLight (set c.self.inside.children.items c.heaviest-index.result (in_child.Node c.makes_room.new.self)) c.heaviest-index.result c.self.inside.buffer (with_items (with_item c.self.inside.children c.heaviest-index.result (in_child.Node c.makes_room.new.self)) c.take_down.new.children).items c.take_down.new.buffer c.args.cache.now c.take_down.new.cache → WentInto c.self.inside (with_items (with_item c.self.inside.children c.heaviest-index.result (in_child.Node c.makes_room.new.self)) c.take_down.new.children) c.take_down.new.buffer
+is_went : (g : given.Over) (t : ℕ) (c : In_default g t) → IsNext c.self.inside c.heaviest-index.result c.bytes_for-bytes.result c.in-Node.node → MadeRoom c.self.inside c.heaviest-index.result c.in-Node.node c.gets_room.new.self → TakesLight (set c.self.inside.children.items c.heaviest-index.result (in_child.Node c.gets_room.new.self)) c.heaviest-index.result c.self.inside.buffer (with_items (with_item c.self.inside.children c.heaviest-index.result (in_child.Node c.gets_room.new.self)) c.take_down.new.children).items c.take_down.new.buffer c.args.cache.now c.take_down.new.cache → WentInto c.self.inside (with_items (with_item c.self.inside.children c.heaviest-index.result (in_child.Node c.gets_room.new.self)) c.take_down.new.children) c.take_down.new.buffer
 is_went g t c n m l =
-    went_into c.self.inside c.heaviest-index.result c.in-Node.node c.makes_room.new.self (with_items (with_item c.self.inside.children c.heaviest-index.result (in_child.Node c.makes_room.new.self)) c.take_down.new.children) c.take_down.new.buffer c.self.invariant c.len-known.ensures.rising m (let some = n.some in let b = n.bytes_are in omega arith) l.down
+    went_into c.self.inside c.heaviest-index.result c.in-Node.node c.gets_room.new.self (with_items (with_item c.self.inside.children c.heaviest-index.result (in_child.Node c.gets_room.new.self)) c.take_down.new.children) c.take_down.new.buffer c.self.invariant c.len-known.ensures.rising m (let some = n.some in let b = n.bytes_are in omega arith) l.down
 
 -- it is laden then, and merged all that it had
-is_merging : (g : given.Over) (t : ℕ) (c : In-Some g t) → TakesDown (pins_in c.args.pins.now) (set c.self.inside.children.items c.heaviest-index.result (in_child.Node c.makes_room.new.self)) c.heaviest-index.result c.self.inside.buffer c.as_slice-above.result.now c.in_ok-taken.taken c.take_down.new.children c.take_down.new.buffer c.args.cache.now c.take_down.new.cache → MergesDown (pins_in c.args.pins.now) (set c.self.inside.children.items c.heaviest-index.result (in_child.Node c.makes_room.new.self)) c.heaviest-index.result c.self.inside.buffer c.as_slice-above.result.now c.in-Some.room c.take_down.new.children c.take_down.new.buffer c.args.cache.now c.take_down.new.cache
-is_merging g t c takes = merging_of (pins_in c.args.pins.now) (set c.self.inside.children.items c.heaviest-index.result (in_child.Node c.makes_room.new.self)) c.heaviest-index.result c.self.inside.buffer c.as_slice-above.result.now c.in_ok-taken.taken c.in-Some.room c.take_down.new.children c.take_down.new.buffer c.args.cache.now c.take_down.new.cache takes c.in-Some.is
+is_merging : (g : given.Over) (t : ℕ) (c : In-Some g t) → TakesDown (pins_in c.args.pins.now) (set c.self.inside.children.items c.heaviest-index.result (in_child.Node c.gets_room.new.self)) c.heaviest-index.result c.self.inside.buffer c.as_slice-above.result.now c.in_ok-taken.taken c.take_down.new.children c.take_down.new.buffer c.args.cache.now c.take_down.new.cache → MergesDown (pins_in c.args.pins.now) (set c.self.inside.children.items c.heaviest-index.result (in_child.Node c.gets_room.new.self)) c.heaviest-index.result c.self.inside.buffer c.as_slice-above.result.now c.in-Some.room c.take_down.new.children c.take_down.new.buffer c.args.cache.now c.take_down.new.cache
+is_merging g t c takes = merging_of (pins_in c.args.pins.now) (set c.self.inside.children.items c.heaviest-index.result (in_child.Node c.gets_room.new.self)) c.heaviest-index.result c.self.inside.buffer c.as_slice-above.result.now c.in_ok-taken.taken c.in-Some.room c.take_down.new.children c.take_down.new.buffer c.args.cache.now c.take_down.new.cache takes c.in-Some.is
 
 pub same-self : goal.same-self
 same-self g t c = refl
@@ -150,36 +151,49 @@ unreachable-requires g t c =
 pub unreachable-unreachable : goal.unreachable-unreachable
 unreachable-unreachable g t c = c.unreachable.result
 
-pub makes_room-requires-clause-spare : goal.makes_room-requires-clause-spare
-makes_room-requires-clause-spare g t c =
-    let next = is_next g t (goal.at.makes_room-requires-clause-spare g t c).In-Node in
-    let same = next.capacity in
-    let own = ap (λ (s : Subtree). s.buffer.capacity) c.self.view_is in
+pub gets_room-requires-clause-spare : goal.gets_room-requires-clause-spare
+gets_room-requires-clause-spare g t c =
+    let next = is_next g t (goal.at.gets_room-requires-clause-spare g t c).In-Node in
+    let below : IsBelow c.self.inside.height c.self.inside.shape (in_child.Node c.in-Node.node) = level_at c.self.inside.height c.self.inside.shape c.self.inside.children.items c.heaviest-index.result (in_child.Node c.in-Node.node) c.self.invariant.level next.at in
+    let size = ap (λ (s : Shape). s.buffer) below.same.0 in
+    let own = ap (λ (s : Subtree). s.shape.buffer) c.self.view_is in
     let spare = c.requires.spare in
-    omega (arith, same, own, spare)
+    omega (arith, size, own, spare)
 
-pub makes_room-requires-clause-ample : goal.makes_room-requires-clause-ample
-makes_room-requires-clause-ample g t c = c.ample-ample.ensures.least
-
-pub step_below-requires : goal.step_below-requires
-step_below-requires g t c κs within =
-    let next = is_next g t (goal.at.step_below-requires g t c).In-Node in
-    let can : CanStep c.makes_room.new.self c.self.inside.height c.self.inside.buffer.capacity c.self.inside.shape.fan_out =
-    can_step c.self.inside c.heaviest-index.result c.bytes_for-bytes.result c.ample-ample.result c.in-Node.node c.makes_room.new.self c.self.invariant next c.makes_room.ensures.same (c.makes_room.ensures.full c.if-not-makes_room.true) c.ample-ample.ensures.most (subst (λ (s : Subtree). AreShort (messages_of s)) (sym c.self.view_is) c.requires.short) in
-    let less : c.makes_room.new.self.height < c.args.self.now.height = let low = can.lower in let own = ap (λ (s : Subtree). s.height) c.self.view_is in omega arith in
-    let size = can.same in
-    let mine = ap (λ (s : Subtree). s.buffer.capacity) c.self.view_is in
-    let spare = c.requires.spare in
-    let kept = c.makes_room.ensures.spare in
-    let fan : 4 ≤ c.makes_room.new.self.shape.fan_out = let f = c.requires.fan_out in let w = can.wide in let e = ap (λ (s : Subtree). s.shape.fan_out) c.self.view_is in omega (arith, f, w, e) in
-    (search (rules, less), (within, (can.filled, (can.few, (fan, (can.short, omega arith))))))
+pub gets_room-requires-clause-ample : goal.gets_room-requires-clause-ample
+gets_room-requires-clause-ample g t c = c.ample-ample.ensures.least
 
 pub invariant_of-self : goal.invariant_of-self
 invariant_of-self g t c =
     let next = is_next g t (goal.at.invariant_of-self g t c).In-Node in
+    (child_stays c.self.inside (with_item c.self.inside.children c.heaviest-index.result (in_child.Node c.gets_room.new.self)) c.heaviest-index.result c.in-Node.node c.gets_room.new.self c.self.invariant next.at refl (reallocated_same c.in-Node.node c.gets_room.new.self c.gets_room.ensures.same).0).is_node
+
+pub returns-in_err-has_room-in-Node-clause-err : goal.returns-in_err-has_room-in-Node-clause-err
+returns-in_err-has_room-in-Node-clause-err g t c =
+    let next = is_next g t (goal.at.returns-in_err-has_room-in-Node-clause-err g t c).In-Node in
+    let kept : ChildStays c.self.inside c.in-Node.node c.gets_room.new.self (with_item c.self.inside.children c.heaviest-index.result (in_child.Node c.gets_room.new.self)) =
+    child_stays c.self.inside (with_item c.self.inside.children c.heaviest-index.result (in_child.Node c.gets_room.new.self)) c.heaviest-index.result c.in-Node.node c.gets_room.new.self c.self.invariant next.at refl (reallocated_same c.in-Node.node c.gets_room.new.self c.gets_room.ensures.same).0 in
+    on_err c.from_residual-in_err-has_room-in-Node.result (rw (← c.self.view_is) kept.stays)
+
+pub step_below-requires : goal.step_below-requires
+step_below-requires g t c κs within =
+    let next = is_next g t (goal.at.step_below-requires g t c).In-Node in
+    let can : CanStep c.gets_room.new.self c.self.inside.height c.self.inside.shape.buffer c.self.inside.shape.fan_out =
+    can_step c.self.inside c.heaviest-index.result c.bytes_for-bytes.result c.ample-ample.result c.in-Node.node c.gets_room.new.self c.self.invariant next c.gets_room.ensures.same c.in_ok-has_room-in-Node.ensures.block (c.in_ok-has_room-in-Node.ensures.full c.if-not-has_room.true) c.ample-ample.ensures.most (subst (λ (s : Subtree). AreShort (messages_of s)) (sym c.self.view_is) c.requires.short) in
+    let less : c.gets_room.new.self.height < c.args.self.now.height = let low = can.lower in let own = ap (λ (s : Subtree). s.height) c.self.view_is in omega arith in
+    let size = can.same in
+    let mine = ap (λ (s : Subtree). s.shape.buffer) c.self.view_is in
+    let spare = c.requires.spare in
+    let kept = c.gets_room.ensures.spare in
+    let fan : 4 ≤ c.gets_room.new.self.shape.fan_out = let f = c.requires.fan_out in let w = can.wide in let e = ap (λ (s : Subtree). s.shape.fan_out) c.self.view_is in omega (arith, f, w, e) in
+    (search (rules, less), (within, (can.filled, (can.few, (fan, (can.short, omega arith))))))
+
+pub invariant_of-self-in_err-room-in-Node : goal.invariant_of-self-in_err-room-in-Node
+invariant_of-self-in_err-room-in-Node g t c =
+    let next = is_next g t (goal.at.invariant_of-self-in_err-room-in-Node g t c).In-Node in
     let kept : ChildStays c.self.inside c.in-Node.node c.step_below.new.self (with_item c.self.inside.children c.heaviest-index.result (in_child.Node c.step_below.new.self)) =
     child_stays c.self.inside (with_item c.self.inside.children c.heaviest-index.result (in_child.Node c.step_below.new.self)) c.heaviest-index.result c.in-Node.node c.step_below.new.self c.self.invariant next.at refl
-    (stays_then (squeezed_same c.in-Node.node c.makes_room.new.self c.makes_room.ensures.same).0 c.in_err-room-in-Node.ensures.err) in
+    (like_then (reallocated_same c.in-Node.node c.gets_room.new.self c.gets_room.ensures.same).0 (stays_like c.in_err-room-in-Node.ensures.err)) in
     kept.is_node
 
 pub returns-in_err-room-in-Node-clause-err : goal.returns-in_err-room-in-Node-clause-err
@@ -187,7 +201,7 @@ returns-in_err-room-in-Node-clause-err g t c =
     let next = is_next g t (goal.at.returns-in_err-room-in-Node-clause-err g t c).In-Node in
     let kept : ChildStays c.self.inside c.in-Node.node c.step_below.new.self (with_item c.self.inside.children c.heaviest-index.result (in_child.Node c.step_below.new.self)) =
     child_stays c.self.inside (with_item c.self.inside.children c.heaviest-index.result (in_child.Node c.step_below.new.self)) c.heaviest-index.result c.in-Node.node c.step_below.new.self c.self.invariant next.at refl
-    (stays_then (squeezed_same c.in-Node.node c.makes_room.new.self c.makes_room.ensures.same).0 c.in_err-room-in-Node.ensures.err) in
+    (like_then (reallocated_same c.in-Node.node c.gets_room.new.self c.gets_room.ensures.same).0 (stays_like c.in_err-room-in-Node.ensures.err)) in
     on_err c.from_residual-in_err-room-in-Node.result (rw (← c.self.view_is) kept.stays)
 
 pub take_in-requires-clause-inside : goal.take_in-requires-clause-inside
@@ -208,10 +222,10 @@ take_in-requires-clause-places g t c = λ s.
     let e : length c.self.inside.children.items + length c.in_ok-room-in-Node.room.came.items ≡ c.self.inside.children.len + vec_len c.in_ok-room-in-Node.room.came = omega (arith, o, p) in
     subst (λ n. AreLists 1 n c.in_ok-room-in-Node.room.wides.items) e (ready.places (omega (arith, s, p)))
 
-pub invariant_of-self-then-not-makes_room : goal.invariant_of-self-then-not-makes_room
-invariant_of-self-then-not-makes_room g t c =
-    let next = is_next g t (goal.at.invariant_of-self-then-not-makes_room g t c).In-Node in
-    let st = is_stepped g t (goal.at.invariant_of-self-then-not-makes_room g t c).After-take_in next in
+pub invariant_of-self-then-not-has_room : goal.invariant_of-self-then-not-has_room
+invariant_of-self-then-not-has_room g t c =
+    let next = is_next g t (goal.at.invariant_of-self-then-not-has_room g t c).In-Node in
+    let st = is_stepped g t (goal.at.invariant_of-self-then-not-has_room g t c).After-take_in next in
     st.is_node
 
 pub settle-requires-clause-fan_out : goal.settle-requires-clause-fan_out
@@ -241,21 +255,21 @@ settle-requires-clause-shells g t c =
     let wide = are_wide g t (goal.at.settle-requires-clause-shells g t c).After-take_in next in
     rw (wide, c.take_in.ensures.shells) ready.shells
 
-pub returns-then-not-makes_room-clause-goes : goal.returns-then-not-makes_room-clause-goes
-returns-then-not-makes_room-clause-goes g t c =
-    let next = is_next g t (goal.at.returns-then-not-makes_room-clause-goes g t c).In-Node in
-    let st = is_stepped g t (goal.at.returns-then-not-makes_room-clause-goes g t c).After-take_in next in
+pub returns-then-not-has_room-clause-goes : goal.returns-then-not-has_room-clause-goes
+returns-then-not-has_room-clause-goes g t c =
+    let next = is_next g t (goal.at.returns-then-not-has_room-clause-goes g t c).In-Node in
+    let st = is_stepped g t (goal.at.returns-then-not-has_room-clause-goes g t c).After-take_in next in
     subst (λ (s : Subtree). Goes s.height (pins_in c.args.pins.now) s c.settle.new.self c.settle.new.room.came.items c.args.cache.now c.step_below.new.cache) c.self.view_is
-    (goes_below c.self.inside c.take_in.new.children c.heaviest-index.result c.bytes_for-bytes.result c.ample-ample.result c.in-Node.node c.makes_room.new.self c.step_below.new.self c.settle.new.self c.in_ok-room-in-Node.room.came.items c.settle.new.room.came.items (pins_in c.args.pins.now) c.args.cache.now c.step_below.new.cache
-    c.self.invariant st.is_node (is_heavy g t (goal.at.returns-then-not-makes_room-clause-goes g t c).In-Node) next c.makes_room.ensures.same c.ample-ample.ensures.is (c.makes_room.ensures.full c.if-not-makes_room.true) c.in_ok-room-in-Node.ensures.goes c.take_in.ensures.children (c.settle.ensures.settles (pins_in c.args.pins.now)))
+    (goes_below c.self.inside c.take_in.new.children c.heaviest-index.result c.bytes_for-bytes.result c.ample-ample.result c.in-Node.node c.gets_room.new.self c.step_below.new.self c.settle.new.self c.in_ok-room-in-Node.room.came.items c.settle.new.room.came.items (pins_in c.args.pins.now) c.args.cache.now c.step_below.new.cache
+    c.self.invariant st.is_node (is_heavy g t (goal.at.returns-then-not-has_room-clause-goes g t c).In-Node) next c.gets_room.ensures.same c.ample-ample.ensures.is (c.in_ok-has_room-in-Node.ensures.full c.if-not-has_room.true) c.in_ok-room-in-Node.ensures.goes c.take_in.ensures.children (c.settle.ensures.settles (pins_in c.args.pins.now)))
 
-pub returns-then-not-makes_room-clause-ok : goal.returns-then-not-makes_room-clause-ok
-returns-then-not-makes_room-clause-ok g t c =
-    let next = is_next g t (goal.at.returns-then-not-makes_room-clause-ok g t c).In-Node in
-    let few = are_few g t (goal.at.returns-then-not-makes_room-clause-ok g t c).In-Node in
-    let some = are_some g t (goal.at.returns-then-not-makes_room-clause-ok g t c).In-Node in
-    let wide = are_wide g t (goal.at.returns-then-not-makes_room-clause-ok g t c).After-take_in next in
-    let st = is_stepped g t (goal.at.returns-then-not-makes_room-clause-ok g t c).After-take_in next in
+pub returns-then-not-has_room-clause-ok : goal.returns-then-not-has_room-clause-ok
+returns-then-not-has_room-clause-ok g t c =
+    let next = is_next g t (goal.at.returns-then-not-has_room-clause-ok g t c).In-Node in
+    let few = are_few g t (goal.at.returns-then-not-has_room-clause-ok g t c).In-Node in
+    let some = are_some g t (goal.at.returns-then-not-has_room-clause-ok g t c).In-Node in
+    let wide = are_wide g t (goal.at.returns-then-not-has_room-clause-ok g t c).After-take_in next in
+    let st = is_stepped g t (goal.at.returns-then-not-has_room-clause-ok g t c).After-take_in next in
     subst (λ (s : Subtree). StepsAsOne (pins_in c.args.pins.now) s c.settle.new.self c.settle.new.room.came.items) c.self.view_is
     (steps (pins_in c.args.pins.now) (subtree_of c.self.inside) _ c.settle.new.self c.settle.new.room.came.items st.keeps st.lighter (c.settle.ensures.settles (pins_in c.args.pins.now))
     (let k = c.settle.ensures.count in
@@ -264,13 +278,13 @@ returns-then-not-makes_room-clause-ok g t c =
     let n = c.in_ok-room-in-Node.ensures.ok.counted in
     omega (arith, k, e, g, n)))
 
-pub returns-then-not-makes_room-clause-room : goal.returns-then-not-makes_room-clause-room
-returns-then-not-makes_room-clause-room g t c =
-    let next = is_next g t (goal.at.returns-then-not-makes_room-clause-room g t c).In-Node in
-    let few = are_few g t (goal.at.returns-then-not-makes_room-clause-room g t c).In-Node in
-    let some = are_some g t (goal.at.returns-then-not-makes_room-clause-room g t c).In-Node in
-    let room = has_room g t (goal.at.returns-then-not-makes_room-clause-room g t c).In_ok-room-in-Node next in
-    let wide = are_wide g t (goal.at.returns-then-not-makes_room-clause-room g t c).After-take_in next in
+pub returns-then-not-has_room-clause-room : goal.returns-then-not-has_room-clause-room
+returns-then-not-has_room-clause-room g t c =
+    let next = is_next g t (goal.at.returns-then-not-has_room-clause-room g t c).In-Node in
+    let few = are_few g t (goal.at.returns-then-not-has_room-clause-room g t c).In-Node in
+    let some = are_some g t (goal.at.returns-then-not-has_room-clause-room g t c).In-Node in
+    let room = has_room g t (goal.at.returns-then-not-has_room-clause-room g t c).In_ok-room-in-Node next in
+    let wide = are_wide g t (goal.at.returns-then-not-has_room-clause-room g t c).After-take_in next in
     let p = c.in_ok-room-in-Node.room.came.ok.0 in
     rw (← c.self.view_is) (level_left c.self.inside.shape (length c.self.inside.children.items) (length c.in_ok-room-in-Node.room.came.items) c.args.above.now.items c.in_ok-room-in-Node.room c.take_in.new.room c.settle.new.room some few room
     c.take_in.ensures.shells c.take_in.ensures.capacity
@@ -280,38 +294,38 @@ returns-then-not-makes_room-clause-room g t c =
     c.settle.ensures.capacity c.settle.ensures.wides
     (let k = c.settle.ensures.count in let e = ap (groups c.self.inside.shape.fan_out) wide in omega (arith, k, e)))
 
-pub returns-then-not-makes_room-clause-cache : goal.returns-then-not-makes_room-clause-cache
-returns-then-not-makes_room-clause-cache g t c =
-    let next = is_next g t (goal.at.returns-then-not-makes_room-clause-cache g t c).In-Node in
+pub returns-then-not-has_room-clause-cache : goal.returns-then-not-has_room-clause-cache
+returns-then-not-has_room-clause-cache g t c =
+    let next = is_next g t (goal.at.returns-then-not-has_room-clause-cache g t c).In-Node in
     subst (λ ls. Forgets c.args.self.now.leaves ls c.args.cache.now c.step_below.new.cache) (sym (grown_leaves (pins_in c.args.pins.now) _ c.settle.new.self c.settle.new.room.came.items (c.settle.ensures.settles (pins_in c.args.pins.now))))
     (subst (λ ls. Forgets ls (leaves_in (parts_of c.take_in.new.children.items)) c.args.cache.now c.step_below.new.cache) (ap (λ (s : Subtree). s.leaves) c.self.view_is)
-    (stepped_forgets c.self.inside c.take_in.new.children c.heaviest-index.result c.bytes_for-bytes.result c.in-Node.node c.makes_room.new.self c.step_below.new.self c.in_ok-room-in-Node.room.came.items (pins_in c.args.pins.now) c.args.cache.now c.step_below.new.cache c.self.invariant next c.makes_room.ensures.same c.in_ok-room-in-Node.ensures.ok c.take_in.ensures.children c.in_ok-room-in-Node.ensures.cache))
+    (stepped_forgets c.self.inside c.take_in.new.children c.heaviest-index.result c.bytes_for-bytes.result c.in-Node.node c.gets_room.new.self c.step_below.new.self c.in_ok-room-in-Node.room.came.items (pins_in c.args.pins.now) c.args.cache.now c.step_below.new.cache c.self.invariant next c.gets_room.ensures.same c.in_ok-room-in-Node.ensures.ok c.take_in.ensures.children c.in_ok-room-in-Node.ensures.cache))
 
 -- ---- where it merged, there is room for what came
 
-room_above : (g : given.Over) (t : ℕ) (c : In-Some g t) → IsNext c.self.inside c.heaviest-index.result c.bytes_for-bytes.result c.in-Node.node → MadeRoom c.self.inside c.heaviest-index.result c.in-Node.node c.makes_room.new.self → MergesDown (pins_in c.args.pins.now) (set c.self.inside.children.items c.heaviest-index.result (in_child.Node c.makes_room.new.self)) c.heaviest-index.result c.self.inside.buffer c.as_slice-above.result.now c.in-Some.room c.take_down.new.children c.take_down.new.buffer c.args.cache.now c.take_down.new.cache
+room_above : (g : given.Over) (t : ℕ) (c : In-Some g t) → IsNext c.self.inside c.heaviest-index.result c.bytes_for-bytes.result c.in-Node.node → MadeRoom c.self.inside c.heaviest-index.result c.in-Node.node c.gets_room.new.self → MergesDown (pins_in c.args.pins.now) (set c.self.inside.children.items c.heaviest-index.result (in_child.Node c.gets_room.new.self)) c.heaviest-index.result c.self.inside.buffer c.as_slice-above.result.now c.in-Some.room c.take_down.new.children c.take_down.new.buffer c.args.cache.now c.take_down.new.cache
     → HasRoom c.self.inside.shape (length c.self.inside.children.items ∷ c.args.above.now.items) c.in-Some.room
 room_above g t c n m d =
     let len : c.len-2.result ≡ length c.self.inside.children.items = let e = c.len-2.ensures in let o = c.self.inside.children.ok.0 in omega (arith, e, o) in
     subst (λ n. HasRoom c.self.inside.shape (n ∷ c.args.above.now.items) c.in-Some.room) len
     (subst (λ l. HasRoom c.self.inside.shape l c.in-Some.room) (c.as_slice-above.ensures.value ∙ c.in_ok-insert.ensures.items)
-    (merging_room c.self.inside c.take_down.new.buffer c.heaviest-index.result c.bytes_for-bytes.result c.in-Node.node c.makes_room.new.self c.as_slice-above.result.now c.in-Some.room c.take_down.new.children (pins_in c.args.pins.now) c.args.cache.now c.take_down.new.cache c.self.invariant c.len-known.ensures.rising n m d))
+    (merging_room c.self.inside c.take_down.new.buffer c.heaviest-index.result c.bytes_for-bytes.result c.in-Node.node c.gets_room.new.self c.as_slice-above.result.now c.in-Some.room c.take_down.new.children (pins_in c.args.pins.now) c.args.cache.now c.take_down.new.cache c.self.invariant c.len-known.ensures.rising n m d))
 
 ready_above : (g : given.Over) (t : ℕ) (c : In-Some g t) → HasRoom c.self.inside.shape (length c.self.inside.children.items ∷ c.args.above.now.items) c.in-Some.room → length c.self.inside.children.items ≤ c.self.inside.shape.fan_out → 1 ≤ c.self.inside.shape.fan_out → LevelReady c.self.inside.shape (length c.self.inside.children.items) (length c.in-Some.room.came.items) c.in-Some.room
 ready_above g t c r few some = level_ready c.self.inside.shape (length c.self.inside.children.items) (length c.in-Some.room.came.items) c.args.above.now.items c.in-Some.room some few r
 
-is_unladen : (g : given.Over) (t : ℕ) (c : After-take_in-2 g t) → IsNext c.self.inside c.heaviest-index.result c.bytes_for-bytes.result c.in-Node.node → MadeRoom c.self.inside c.heaviest-index.result c.in-Node.node c.makes_room.new.self → MergesDown (pins_in c.args.pins.now) (set c.self.inside.children.items c.heaviest-index.result (in_child.Node c.makes_room.new.self)) c.heaviest-index.result c.self.inside.buffer c.as_slice-above.result.now c.in-Some.room c.take_down.new.children c.take_down.new.buffer c.args.cache.now c.take_down.new.cache
-    → IsUnladen c.self.inside c.take_in-2.new.children c.take_down.new.buffer c.heaviest-index.result c.bytes_for-bytes.result c.in-Node.node c.makes_room.new.self c.in-Some.room.came.items (pins_in c.args.pins.now) c.args.cache.now c.take_down.new.cache
-is_unladen g t c n m d = unladen c.self.inside c.take_in-2.new.children c.take_down.new.buffer c.heaviest-index.result c.bytes_for-bytes.result c.in-Node.node c.makes_room.new.self c.as_slice-above.result.now c.in-Some.room c.take_down.new.children (pins_in c.args.pins.now) c.args.cache.now c.take_down.new.cache c.self.invariant c.len-known.ensures.rising n c.makes_room.ensures.same m d c.take_in-2.ensures.children
+is_unladen : (g : given.Over) (t : ℕ) (c : After-take_in-2 g t) → IsNext c.self.inside c.heaviest-index.result c.bytes_for-bytes.result c.in-Node.node → MadeRoom c.self.inside c.heaviest-index.result c.in-Node.node c.gets_room.new.self → MergesDown (pins_in c.args.pins.now) (set c.self.inside.children.items c.heaviest-index.result (in_child.Node c.gets_room.new.self)) c.heaviest-index.result c.self.inside.buffer c.as_slice-above.result.now c.in-Some.room c.take_down.new.children c.take_down.new.buffer c.args.cache.now c.take_down.new.cache
+    → IsUnladen c.self.inside c.take_in-2.new.children c.take_down.new.buffer c.heaviest-index.result c.bytes_for-bytes.result c.in-Node.node c.gets_room.new.self c.in-Some.room.came.items (pins_in c.args.pins.now) c.args.cache.now c.take_down.new.cache
+is_unladen g t c n m d = unladen c.self.inside c.take_in-2.new.children c.take_down.new.buffer c.heaviest-index.result c.bytes_for-bytes.result c.in-Node.node c.gets_room.new.self c.as_slice-above.result.now c.in-Some.room c.take_down.new.children (pins_in c.args.pins.now) c.args.cache.now c.take_down.new.cache c.self.invariant c.len-known.ensures.rising n c.gets_room.ensures.same m d c.take_in-2.ensures.children
 
 pub take_down-requires-clause-can : goal.take_down-requires-clause-can
 take_down-requires-clause-can g t c =
     let next = is_next g t (goal.at.take_down-requires-clause-can g t c).In-Node in
     let made = is_made g t (goal.at.take_down-requires-clause-can g t c).After-deref_mut next in
     let below : IsBelow c.self.inside.height c.self.inside.shape (in_child.Node c.in-Node.node) = level_at c.self.inside.height c.self.inside.shape c.self.inside.children.items c.heaviest-index.result (in_child.Node c.in-Node.node) c.self.invariant.level next.at in
-    let own : c.makes_room.new.self.shape ≡ c.self.inside.shape = (squeezed_same c.in-Node.node c.makes_room.new.self c.makes_room.ensures.same).0.shape ∙ below.same.0 in
+    let own : c.gets_room.new.self.shape ≡ c.self.inside.shape = (reallocated_same c.in-Node.node c.gets_room.new.self c.gets_room.ensures.same).0.shape ∙ below.same.0 in
     rw c.deref_mut.ensures.value
-    (can_take_down c.self.inside c.heaviest-index.result c.bytes_for-bytes.result c.in-Node.node c.makes_room.new.self c.self.invariant c.len-known.ensures.rising next made
+    (can_take_down c.self.inside c.heaviest-index.result c.bytes_for-bytes.result c.in-Node.node c.gets_room.new.self c.self.invariant c.len-known.ensures.rising next made
     (let some = are_some g t (goal.at.take_down-requires-clause-can g t c).In-Node in let e = ap (λ (s : Shape). s.fan_out) own in omega (arith, some, e))
     (subst (λ (s : Subtree). AreShort (messages_of s)) (sym c.self.view_is) c.requires.short))
 
@@ -319,11 +333,11 @@ pub take_down-requires-clause-bytes : goal.take_down-requires-clause-bytes
 take_down-requires-clause-bytes g t c d =
     let next = is_next g t (goal.at.take_down-requires-clause-bytes g t c).In-Node in
     let made = is_made g t (goal.at.take_down-requires-clause-bytes g t c).After-deref_mut next in
-    rw c.deref_mut.ensures.value (bytes_down c.self.inside c.heaviest-index.result c.bytes_for-bytes.result c.in-Node.node c.makes_room.new.self d next made)
+    rw c.deref_mut.ensures.value (bytes_down c.self.inside c.heaviest-index.result c.bytes_for-bytes.result c.in-Node.node c.gets_room.new.self d next made)
 
-gave_back : (g : given.Over) (t : ℕ) (c : In_err-taken g t) → IsNext c.self.inside c.heaviest-index.result c.bytes_for-bytes.result c.in-Node.node → MadeRoom c.self.inside c.heaviest-index.result c.in-Node.node c.makes_room.new.self → Refused c.self.inside (with_items (with_item c.self.inside.children c.heaviest-index.result (in_child.Node c.makes_room.new.self)) c.take_down.new.children) c.take_down.new.buffer
+gave_back : (g : given.Over) (t : ℕ) (c : In_err-taken g t) → IsNext c.self.inside c.heaviest-index.result c.bytes_for-bytes.result c.in-Node.node → MadeRoom c.self.inside c.heaviest-index.result c.in-Node.node c.gets_room.new.self → Refused c.self.inside (with_items (with_item c.self.inside.children c.heaviest-index.result (in_child.Node c.gets_room.new.self)) c.take_down.new.children) c.take_down.new.buffer
 gave_back g t c n m =
-    refused c.self.inside c.heaviest-index.result c.bytes_for-bytes.result c.in-Node.node c.makes_room.new.self c.take_down.new.children c.take_down.new.buffer c.self.invariant c.len-known.ensures.rising n c.makes_room.ensures.same m
+    refused c.self.inside c.heaviest-index.result c.bytes_for-bytes.result c.in-Node.node c.gets_room.new.self c.take_down.new.children c.take_down.new.buffer c.self.invariant c.len-known.ensures.rising n c.gets_room.ensures.same m
     (rw (← c.deref_mut.ensures.value) c.in_err-taken.ensures.err)
 
 pub invariant_of-self-in_err-taken : goal.invariant_of-self-in_err-taken
@@ -352,9 +366,9 @@ returns-in_default-clause-goes g t c =
     let made = is_made g t (goal.at.returns-in_default-clause-goes g t c).After-deref_mut next in
     let light = is_light g t (goal.at.returns-in_default-clause-goes g t c).In_default (takes g t (goal.at.returns-in_default-clause-goes g t c).In_ok-taken) in
     let went = is_went g t (goal.at.returns-in_default-clause-goes g t c).In_default next made light in
-    rw light.same (subst (λ (s : Subtree). Goes s.height (pins_in c.args.pins.now) s (subtree_of (record c.self.inside { children = (with_items (with_item c.self.inside.children c.heaviest-index.result (in_child.Node c.makes_room.new.self)) c.take_down.new.children); buffer = c.take_down.new.buffer })) c.none.result.came.items c.args.cache.now c.args.cache.now) c.self.view_is
-    (goes_into c.self.inside (with_items (with_item c.self.inside.children c.heaviest-index.result (in_child.Node c.makes_room.new.self)) c.take_down.new.children) c.take_down.new.buffer c.heaviest-index.result c.bytes_for-bytes.result c.in-Node.node c.makes_room.new.self c.none.result.came.items (pins_in c.args.pins.now) c.args.cache.now
-    c.self.invariant went.is_node (is_heavy g t (goal.at.returns-in_default-clause-goes g t c).In-Node) next c.makes_room.ensures.same light.down light.filled light.taken light.light c.none.ensures.came))
+    rw light.same (subst (λ (s : Subtree). Goes s.height (pins_in c.args.pins.now) s (subtree_of (record c.self.inside { children = (with_items (with_item c.self.inside.children c.heaviest-index.result (in_child.Node c.gets_room.new.self)) c.take_down.new.children); buffer = c.take_down.new.buffer })) c.none.result.came.items c.args.cache.now c.args.cache.now) c.self.view_is
+    (goes_into c.self.inside (with_items (with_item c.self.inside.children c.heaviest-index.result (in_child.Node c.gets_room.new.self)) c.take_down.new.children) c.take_down.new.buffer c.heaviest-index.result c.bytes_for-bytes.result c.in-Node.node c.gets_room.new.self c.none.result.came.items (pins_in c.args.pins.now) c.args.cache.now
+    c.self.invariant went.is_node (is_heavy g t (goal.at.returns-in_default-clause-goes g t c).In-Node) next c.gets_room.ensures.same light.down light.filled light.taken light.light c.none.ensures.came))
 
 pub returns-in_default-clause-ok : goal.returns-in_default-clause-ok
 returns-in_default-clause-ok g t c =
@@ -362,8 +376,8 @@ returns-in_default-clause-ok g t c =
     let made = is_made g t (goal.at.returns-in_default-clause-ok g t c).After-deref_mut next in
     let light = is_light g t (goal.at.returns-in_default-clause-ok g t c).In_default (takes g t (goal.at.returns-in_default-clause-ok g t c).In_ok-taken) in
     let went = is_went g t (goal.at.returns-in_default-clause-ok g t c).In_default next made light in
-    subst (λ (s : Subtree). StepsAsOne (pins_in c.args.pins.now) s (subtree_of (record c.self.inside { children = (with_items (with_item c.self.inside.children c.heaviest-index.result (in_child.Node c.makes_room.new.self)) c.take_down.new.children); buffer = c.take_down.new.buffer })) c.none.result.came.items) c.self.view_is
-    (steps_alone (pins_in c.args.pins.now) (subtree_of c.self.inside) (subtree_of (record c.self.inside { children = (with_items (with_item c.self.inside.children c.heaviest-index.result (in_child.Node c.makes_room.new.self)) c.take_down.new.children); buffer = c.take_down.new.buffer })) c.none.result.came.items went.stays went.is_node.sizes went.weight
+    subst (λ (s : Subtree). StepsAsOne (pins_in c.args.pins.now) s (subtree_of (record c.self.inside { children = (with_items (with_item c.self.inside.children c.heaviest-index.result (in_child.Node c.gets_room.new.self)) c.take_down.new.children); buffer = c.take_down.new.buffer })) c.none.result.came.items) c.self.view_is
+    (steps_alone (pins_in c.args.pins.now) (subtree_of c.self.inside) (subtree_of (record c.self.inside { children = (with_items (with_item c.self.inside.children c.heaviest-index.result (in_child.Node c.gets_room.new.self)) c.take_down.new.children); buffer = c.take_down.new.buffer })) c.none.result.came.items went.stays went.is_node.sizes went.weight
     (subst (λ (s : Subtree). s.width ≤ s.shape.fan_out) (sym c.self.view_is) c.requires.few) c.none.ensures.came)
 
 pub returns-in_default-clause-room : goal.returns-in_default-clause-room
@@ -376,7 +390,7 @@ returns-in_default-clause-cache g t c =
     let light = is_light g t (goal.at.returns-in_default-clause-cache g t c).In_default (takes g t (goal.at.returns-in_default-clause-cache g t c).In_ok-taken) in
     let went = is_went g t (goal.at.returns-in_default-clause-cache g t c).In_default next made light in
     rw light.same (forgets_nothing c.args.self.now.leaves _ c.args.cache.now
-    ((λ i. leaves_in (parts_of (with_items (with_item c.self.inside.children c.heaviest-index.result (in_child.Node c.makes_room.new.self)) c.take_down.new.children).items) ++ leaves_of (c.none.ensures.came i)) ∙ append-nil (leaves_in (parts_of (with_items (with_item c.self.inside.children c.heaviest-index.result (in_child.Node c.makes_room.new.self)) c.take_down.new.children).items)) ∙ went.stays.leaves ∙ ap (λ (s : Subtree). s.leaves) c.self.view_is))
+    ((λ i. leaves_in (parts_of (with_items (with_item c.self.inside.children c.heaviest-index.result (in_child.Node c.gets_room.new.self)) c.take_down.new.children).items) ++ leaves_of (c.none.ensures.came i)) ∙ append-nil (leaves_in (parts_of (with_items (with_item c.self.inside.children c.heaviest-index.result (in_child.Node c.gets_room.new.self)) c.take_down.new.children).items)) ∙ went.stays.leaves ∙ ap (λ (s : Subtree). s.leaves) c.self.view_is))
 
 pub take_in-requires-2-clause-inside : goal.take_in-requires-2-clause-inside
 take_in-requires-2-clause-inside g t c =

@@ -8,6 +8,7 @@ use Rattle.stow_node.specs.declared.shape.Shape.{Shape}
 use Rattle.stow_node.specs.Subtree.{Subtree}
 use Rattle.stow_node.proofs.Cut.{Cut, cut_at}
 use Rattle.stow_node.proofs.Filled.{some_bytes}
+use Rattle.stow_node.proofs.Reallocated.{block_most}
 use Rattle.stow_node.proofs.node.Node.cut_off.Goals as goal
 
 pub index-requires : goal.index-requires
@@ -40,7 +41,7 @@ move_range-requires-clause-room g c =
     rw c.into_parts-list.ensures.buffer (let s = some_bytes (is_between c.as_key.result.bytes.now c.top_key.result.bytes.now) c.self.inside.buffer.messages in
     let l = c.used-known.ensures.live in
     let w = c.used-known.ensures.within in
-    let f = c.self.invariant.fits in
+    let f = block_most c.self.inside.shape.buffer c.self.inside.buffer c.self.invariant.block in
     omega (arith, s, l, w, f, own))
 
 pub move_range-requires-clause-new : goal.move_range-requires-clause-new

@@ -1,5 +1,6 @@
-use Rattle.std.proofs.Common.{arith}
+use Rattle.std.proofs.Common.{ap, arith}
 use Rattle.stow_merge.specs.Pins.{pins_in}
+use Rattle.stow_node.specs.declared.shape.Shape.{Shape}
 use Rattle.stow_node.proofs.Eased.{root_eased}
 use Rattle.stow_node.proofs.Raising.{root_stays}
 use Rattle.stow_node.proofs.node.Node.install.Goals as goal
@@ -13,9 +14,10 @@ returns-in-Err-clause-root g c = root_stays (pins_in c.args.pins.now) c.args.sel
 
 pub ease-requires : goal.ease-requires
 ease-requires g c =
-    let kept = (c.in-Ok.ensures.ok (pins_in c.args.pins.now) (c.can_install.ensures.0 c.if-not-can_install.false).covered).capacity in
+    let kept = (c.in-Ok.ensures.ok (pins_in c.args.pins.now) (c.can_install.ensures.0 c.if-not-can_install.false).covered).shape in
     let spare = c.requires.spare in
-    record { spare = omega (arith, kept, spare) }
+    let size = ap (λ (h : Shape). h.buffer) kept in
+    record { spare = omega (arith, size, spare) }
 
 pub returns-in-Ok-clause-done : goal.returns-in-Ok-clause-done
 returns-in-Ok-clause-done g c = λ e key n s. c.ease.ensures.eases.apart key n s (c.in-Ok.ensures.gone key n s)

@@ -4,6 +4,7 @@ use Rattle.stow_node.specs.Nodes.{leaves_of}
 use Rattle.stow_node.specs.Subtree.{Subtree}
 use Rattle.stow_node.specs.declared.shape.Shape.{Shape}
 use Rattle.stow_node.proofs.Leaves.{children_are_leaves}
+use Rattle.stow_node.proofs.Reallocated.{block_most}
 use Rattle.stow_node.proofs.node.Node.is_laden.Given as given
 use Rattle.stow_node.proofs.node.Node.is_laden.Goals as goal
 use Rattle.stow_node.proofs.node.Node.is_laden.Goals.{After-used}
@@ -12,7 +13,7 @@ use Rattle.stow_node.proofs.node.Node.is_laden.Goals.{After-used}
 small : (g : given.Over) (c : After-used g) → c.used.result + c.args.bytes < 4294967296
 small g c =
     let fits = c.requires in
-    let block = c.shape-known.ensures.block in
+    let block = block_most c.args.self.now.shape.buffer c.args.self.now.buffer c.shape-known.ensures.block in
     let most : c.shape-known.result.buffer < 4294967296 = c.shape-known.type_inv.1.1.0.1 in
     let same : c.shape-known.result.buffer ≡ c.args.self.now.shape.buffer = ap (λ (s : Shape). s.buffer) c.shape-known.ensures.shape in
     let used : c.used.result ≡ c.args.self.now.buffer.used = c.used.ensures.used ∙ ap (λ (s : Subtree). s.buffer.used) c.self.view_is in

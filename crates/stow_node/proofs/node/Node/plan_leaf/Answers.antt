@@ -50,6 +50,12 @@ can g c =
     (subst (λ (s : Subtree). AreShort (messages_of s)) (sym c.self.view_is) c.requires.short))
     (leaf_there c.self.inside.children.items c.heaviest-index.result c.in-Leaf.leaf (children_are_leaves c.self.inside c.self.invariant (is_lowest g c)) (is_there g c)))
 
+pub offset_bounds-children-index : goal.offset_bounds-children-index
+offset_bounds-children-index g c = let i = c.heaviest-index.ensures.inside in let m = length-map c.as_slice-children.result.now part_of in omega (arith, i, m)
+
+pub bounds-children-index : goal.bounds-children-index
+bounds-children-index g c = let i = c.heaviest-index.ensures.inside in let m = length-map c.as_slice-children.result.now part_of in omega (arith, i, m)
+
 pub job_for-requires-clause-can : goal.job_for-requires-clause-can
 job_for-requires-clause-can g c = can g (goal.at.job_for-requires-clause-can g c).In-Leaf
 
@@ -59,7 +65,7 @@ job_for-requires-clause-newer g c =
     newer_than_rows c.self.inside c.heaviest-index.result c.in-Leaf.leaf c.self.invariant (is_lowest g n) (is_there g n)
 
 pub job_for-requires-clause-block : goal.job_for-requires-clause-block
-job_for-requires-clause-block g c = c.self.invariant.fits
+job_for-requires-clause-block g c = subst (λ (s : Subtree). s.buffer.capacity ≡ s.shape.buffer) (sym c.self.view_is) c.requires.block
 
 pub unreachable-requires : goal.unreachable-requires
 unreachable-requires g c =

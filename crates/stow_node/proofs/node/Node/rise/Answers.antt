@@ -33,7 +33,9 @@ items_are g c =
     c.take_in.ensures.children ∙ (λ j. take 1 (pushed j) ++ ((c.shell-shell.ensures.came j).items ++ drop 1 (pushed j))) ∙ ap (λ (l : List (Child g.row.A.Denot)). in_child.Node (subtree_of c.self.inside) ∷ l) (append-nil c.args.room.now.came.items)
 
 is_rooted : (g : given.Over) (c : After-take_in g) → Rooted c.self.inside c.take_in.new.children c.args.room.now.came.items
-is_rooted g c = rooted c.self.inside c.take_in.new.children c.args.room.now.came.items c.self.invariant (subst (λ (s : Subtree). AreBehind s c.args.room.now.came.items) (sym c.self.view_is) c.requires.are) (items_are g c)
+is_rooted g c = rooted c.self.inside c.take_in.new.children c.args.room.now.came.items c.self.invariant
+    (subst (λ (s : Subtree). s.buffer.capacity ≡ s.shape.buffer) (sym c.self.view_is) c.requires.block)
+    (subst (λ (s : Subtree). AreBehind s c.args.room.now.came.items) (sym c.self.view_is) c.requires.are) (items_are g c)
 
 same_low : (g : given.Over) (c : After-take_in g) → c.replace.new.dest ≡ c.self.inside.low
 same_low g c = c.replace.ensures.after ∙ c.copied-low.ensures ∙ c.as_key.ensures

@@ -3,8 +3,8 @@ use Rattle.stow_merge.specs.Pins.{pins_in}
 use Rattle.stow_node.proofs.Rising.{IsRising}
 use Rattle.stow_node.proofs.node.Node.step.Given as goal
 
-abbrev pub invariant-loop-self : goal.invariant-loop-self
-invariant-loop-self g l = IsRising (pins_in l.pins) l.fn.self l.self l.room l.fn.cache l.cache
+abbrev pub invariant-loop-alloc : goal.invariant-loop-alloc
+invariant-loop-alloc g l = IsRising (pins_in l.pins) l.fn.self l.self l.room l.fn.cache l.cache
 
-abbrev pub decreases-loop-self : goal.decreases-loop-self
-decreases-loop-self g l = length l.room.came.items
+abbrev pub decreases-loop-alloc : goal.decreases-loop-alloc
+decreases-loop-alloc g l = length l.room.came.items

@@ -1,4 +1,4 @@
-use Rattle.std.proofs.Common.{◌≡◌, refl, ap, subst, ◌∙◌}
+use Rattle.std.proofs.Common.{◌≡◌, ◌≤◌, refl, ap, subst, ◌∙◌, arith}
 use Rattle.std.specs.Prelude.{IfOk}
 use Rattle.stow_leaf.proofs.Steps.{if_ok}
 use Rattle.stow_merge.specs.Pins.{pins_in}
@@ -16,7 +16,10 @@ pub install-requires-clause-fan_out : goal.install-requires-clause-fan_out
 install-requires-clause-fan_out g c = c.self.invariant.sizes.fan_out.0
 
 pub install-requires-clause-spare : goal.install-requires-clause-spare
-install-requires-clause-spare g c = c.self.invariant.block
+install-requires-clause-spare g c = let b = c.self.invariant.block in let w = c.self.invariant.root_block in omega (arith, b, w)
+
+pub install-requires-clause-block : goal.install-requires-clause-block
+install-requires-clause-block g c = c.self.invariant.root_block
 
 pub invariant_of-self : goal.invariant_of-self
 invariant_of-self g c = room_kept c.self.inside (record { root = c.install.new.self; spare = c.install.new.spare; cache = c.install.new.cache }) (pins_in c.args.pins.now) c.self.invariant

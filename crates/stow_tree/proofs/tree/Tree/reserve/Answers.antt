@@ -18,6 +18,9 @@ make_room-requires-clause-shape g c = c.self.invariant.sizes.fan_out.0
 pub make_room-requires-clause-spare : goal.make_room-requires-clause-spare
 make_room-requires-clause-spare g c = c.self.invariant.block
 
+pub make_room-requires-clause-block : goal.make_room-requires-clause-block
+make_room-requires-clause-block g c = c.self.invariant.root_block
+
 pub invariant_of-self : goal.invariant_of-self
 invariant_of-self g c = room_kept c.self.inside (record { root = c.make_room.new.root; spare = c.make_room.new.spare; cache = c.make_room.new.cache }) (pins_in c.args.pins.now) c.self.invariant c.make_room.ensures.stands c.make_room.ensures.cache c.make_room.ensures.spare c.make_room.ensures.few
 
