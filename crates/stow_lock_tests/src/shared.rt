@@ -419,6 +419,51 @@ fn flushes_withstand_each_refusal(rt: HostRuntime) {
     assert!(rt; refusals >= 8, "{refusals} refusals");
 }
 
+/// Whether this request for memory is refused to a change of a quota. It then has no entry and no receipt, and made again it is
+/// carried out.
+fn quota_withstands<R: Wait + Abort, B: Allocator>(
+    rt: &R,
+    heap: &Refusing<B>,
+    global: Global,
+    at: u64,
+) -> bool {
+    let (shared, mut seat) = opened_for_one::<_, Kept, _>(rt, heap, global);
+    heap.set(Plan::RefuseAt(at));
+    let given = shared.set_quota(rt, &mut seat, 1, 0).is_ok();
+    let asked = heap.asked();
+    heap.set(Plan::Grant);
+    if asked <= at {
+        return false;
+    }
+    assert!(rt; !given && seat.receipts().is_empty(), "request {at}");
+    assert!(rt;
+        shared.set_quota(rt, &mut seat, 1, 0).is_ok(),
+        "request {at}"
+    );
+    let reply = told(rt, heap, &shared, &mut seat, 1, "SET a x");
+    assert!(rt; is_refusal(&reply, Refusal::QuotaExceeded), "request {at}");
+    let closed = closed_by_one(rt, heap, shared, seat);
+    assert_eq!(rt; closed.entries().len(), 2);
+    assert!(rt;
+        matches!(&closed.entries()[0].step, Step::Quota(1, 0)),
+        "request {at}"
+    );
+    true
+}
+
+#[test]
+fn quotas_withstand_each_refusal(rt: HostRuntime) {
+    let heap = Refusing::new(rt.alloc());
+    let mut refusals: u64 = 0;
+    for at in 0..100u64 {
+        if !quota_withstands(&rt, &heap, rt.alloc(), at) {
+            break;
+        }
+        refusals = at + 1;
+    }
+    assert!(rt; refusals >= 2, "{refusals} refusals");
+}
+
 /// Whether a call under the lock is told what the core alone tells, and asks for as much memory.
 fn asks_as_alone<A: Allocator + Copy, B: Allocator, R: Wait + Abort>(
     rt: &R,

@@ -85,9 +85,9 @@ impl<R: Net<Stream = TcpStream>> Write for Clients<'_, R> {
 
     fn flush(&mut self) -> io::Result<()> {
         if let Some(address) = address_in(self.told.as_slice()) {
-            for i in 0..self.visits.len() {
-                let visit = self.visits[i];
-                self.visit(address, visit)?;
+            let visits = self.visits;
+            for i in 0..visits.len() {
+                self.visit(address, visits[i])?;
             }
         }
         Ok(())
