@@ -443,9 +443,10 @@ fn quota_withstands<R: Wait + Abort, B: Allocator>(
     let reply = told(rt, heap, &shared, &mut seat, 1, "SET a x");
     assert!(rt; is_refusal(&reply, Refusal::QuotaExceeded), "request {at}");
     let closed = closed_by_one(rt, heap, shared, seat);
-    assert_eq!(rt; closed.entries().len(), 2);
+    let entries = closed.entries();
+    assert_eq!(rt; entries.len(), 2);
     assert!(rt;
-        matches!(&closed.entries()[0].step, Step::Quota(1, 0)),
+        matches!(&entries[0].step, Step::Quota(1, 0)),
         "request {at}"
     );
     true
