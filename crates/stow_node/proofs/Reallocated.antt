@@ -16,7 +16,7 @@ use Rattle.stow_node.specs.declared.child.Child.{Child}
 use Rattle.stow_node.specs.declared.child.Child.TheVariants as in_child
 use Rattle.stow_node.specs.declared.node.Node.TheInside.{Inside}
 use Rattle.stow_node.specs.declared.shape.Shape.{Shape}
-use Rattle.stow_node.specs.Moves.{IsSqueezed, IsReallocated, IsReallocatedChild, AreReallocated, StaysInMeaning}
+use Rattle.stow_node.specs.Moves.{IsReallocated, IsReallocatedChild, AreReallocated, StaysInMeaning}
 use Rattle.stow_node.specs.Nodes.{HasBlock, HasNodeBlock, IsBelow, IsNode, AreLeafSizes, AreNewer, deepest_in, deepest_of, nearest_in, nearest_of, node_part, part_of, parts_of, subtree_of}
 use Rattle.stow_node.specs.Parts.{TiledTo, low_or, messages_in, leaves_in, weight_in}
 use Rattle.stow_node.specs.Subtree.{Subtree, buffered, deepest_buffer, lower_height, right_above_leaves}
@@ -113,16 +113,6 @@ reallocated_then x y z p q = record {
   is = q.is ∙ ap (λ (t : Subtree). record t { buffer = message_list t.buffer.messages q.used q.capacity }) p.is;
   fewer = let a = p.fewer in let b = q.fewer in let e = ap (λ (t : Subtree). t.buffer.used) p.is in omega (arith, a, b, e);
   block = λ h. q.block (p.block h);
-}
-
--- where dead bytes alone went, the block is the same
-pub squeezed_reallocated : (x y : Subtree) → IsSqueezed x y → IsReallocated x y
-squeezed_reallocated x y s = record {
-  used = s.used;
-  capacity = x.buffer.capacity;
-  is = s.is;
-  fewer = s.fewer;
-  block = block_kept x y (ap (λ (t : Subtree). t.shape) s.is) (ap (λ (t : Subtree). t.buffer.capacity) s.is);
 }
 
 -- a node with another buffer of the same messages
