@@ -319,13 +319,37 @@ impl<A: Allocator> KeyWords<A> {
         low
     }
 
-    /// Where those words end that are this one and begin at a place, if they do.
+    /// Where those words end that are this one and begin at a place, if they do: in steps that double, then by halves.
     fn end_of(&self, from: usize, word: u64) -> usize {
-        if from < self.words.len() && self.words[from] == word {
-            self.count_below(word.saturating_add(1))
-        } else {
-            from
+        let reached = self.last_step(from, word);
+        let (mut low, mut high) = (from.min(reached), reached);
+        while low < high {
+            let middle = low + (high - low) / 2;
+            if self.is_at(middle, word) {
+                low = middle + 1;
+            } else {
+                high = middle;
+            }
         }
+        low
+    }
+
+    /// The first place reached from another by steps that double whose word isn't this one, or their end.
+    fn last_step(&self, from: usize, word: u64) -> usize {
+        let (mut at, mut step) = (from, 1usize);
+        for _ in 0..self.words.len() {
+            if !self.is_at(at, word) {
+                break;
+            }
+            at = at.saturating_add(step);
+            step = step.saturating_add(step);
+        }
+        at.min(self.words.len())
+    }
+
+    /// Whether the word at a place is this one.
+    fn is_at(&self, at: usize, word: u64) -> bool {
+        at < self.words.len() && self.words[at] == word
     }
 
     /// Whether the key shares with the others what they share.

@@ -315,7 +315,9 @@ impl<A: Allocator> MessageBuf<A> {
         ensures rising { MessagesRise self.now.messages }
         ensures valid { All IsMessage self.now.messages }
     {
-        let _known = self.len();
+        if guess > self.len() {
+            return self.search(key.bytes, number);
+        }
         if is_place(&self.raw, guess, key.bytes, number) {
             return guess;
         }
