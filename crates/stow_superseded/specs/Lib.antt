@@ -1,0 +1,2 @@
+pub mod Superseded
+pub mod Passes
