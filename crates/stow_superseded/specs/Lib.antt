@@ -1,2 +1,3 @@
 pub mod Superseded
 pub mod Passes
+pub mod Laws

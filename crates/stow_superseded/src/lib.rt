@@ -8,5 +8,6 @@
 //! A body that always answers `None` meets the contract: tests call it with ample memory, and with its request refused.
 #![tactic(auto)]
 
+pub mod laws;
 mod sampling;
 pub mod superseding;

@@ -1,4 +1,4 @@
-use Rattle.std.proofs.Common.{◌≡◌, ◌∷◌, ◌+◌, ap, ◌∙◌, arith}
+use Rattle.std.proofs.Common.{◌+◌, ap, ◌∙◌, arith}
 use Rattle.stow_message.specs.MessageBuf.{message_list}
 use Rattle.stow_message.specs.Packed.{message_size}
 use Rattle.stow_tree_model.specs.TreeMessage.{message_of}
