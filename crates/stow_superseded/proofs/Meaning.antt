@@ -1,6 +1,6 @@
 -- A list without what is superseded means the same.
-use Rattle.std.proofs.Common.{◌≡◌, ◌≢◌, ℕ, ◌<◌, ◌≤◌, true, false, List, [], ◌∷◌, Option, Some, None, refl, sym, ap, subst, ◌∙◌, arith, ⊎_elim}
-use Rattle.std.specs.Prelude.{Contains, IsSome, not, ◌&&◌, ◌||◌, is_some, nat_le, nat_lt}
+use Rattle.std.proofs.Common.{◌≡◌, ◌≢◌, ℕ, ◌<◌, ◌≤◌, Bool, true, false, List, [], ◌∷◌, Option, Some, None, refl, sym, ap, subst, ◌∙◌, arith, ⊎_elim}
+use Rattle.std.specs.Prelude.{Contains, IsSome, if◌then◌else◌, not, ◌&&◌, ◌||◌, is_some, nat_le, nat_lt}
 use Rattle.std.specs.List.Sorted.{IsStrictlySortedBy}
 use Rattle.std.specs.Ordering.{eq_by_cmp}
 use Rattle.std.specs.declared.cmp.Ordering.TheVariants.{Less}
@@ -173,3 +173,15 @@ superseded_same pins key older (m ∷ ms) rise new =
         (λ (s : (key ≢ m.key) × (same_key key m.key ≡ false)). same_pointwise (pins (tenant_of key)) (over (ops_in stay key) below) (over (ops_in stay key) older)
         (λ n. ap (or_else (ops_in stay key n)) (sym (none_or (ops_in (m ∷ []) key n) (older n) (ops_in-skip m [] key n (λ q. s.0 (ap (λ (x : VersionPlace). x.0) q)))))))
         (key_cases key m.key)
+
+-- no message comes
+pub part_there : (pins : TenantPins) (ms : List TreeMessage) (key : List ℕ) (n : ℕ) → IsSome (ops_in (without_superseded pins ms) key n) → IsSome (ops_in ms key n)
+part_there pins [] key n s = s
+part_there pins (m ∷ ms) key n s = step (is_superseded pins m ms) (part_there pins ms key n) s where
+  here : (b : Bool) → (IsSome (ops_in (without_superseded pins ms) key n) → IsSome (ops_in ms key n)) → IsSome (if b then Some m.op else ops_in (without_superseded pins ms) key n) → IsSome (if b then Some m.op else ops_in ms key n)
+  here true on s = s
+  here false on s = on s
+
+  step : (b : Bool) → (IsSome (ops_in (without_superseded pins ms) key n) → IsSome (ops_in ms key n)) → IsSome (ops_in (if b then without_superseded pins ms else m ∷ without_superseded pins ms) key n) → IsSome (ops_in (m ∷ ms) key n)
+  step true on s = first_stays m ms key n (on s)
+  step false on s = here (eq_by_cmp place_cmp (key, n) (place_of m)) on s

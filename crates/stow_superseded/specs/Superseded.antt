@@ -1,5 +1,8 @@
 -- Messages that a newer put or removal of their key makes unreadable.
 use Rattle.std.specs.Prelude.{ℕ, Bool, true, false, not, List, [], ◌∷◌, Option, Some, None, if◌then◌else◌}
+use Rattle.std.specs.List.{sum_by}
+use Rattle.stow_message.specs.MessageBuf.{MessageList, message_list}
+use Rattle.stow_message.specs.Packed.{message_size}
 use Rattle.stow_tree_model.specs.Agreement.{TenantPins}
 use Rattle.stow_tree_model.specs.Keys.{tenant_of}
 use Rattle.stow_tree_model.specs.Merged.{same_key, is_pin_within}
@@ -34,3 +37,9 @@ without_superseded pins [] = []
 without_superseded pins (m ∷ ms) =
     if is_superseded pins m ms then without_superseded pins ms
     else m ∷ without_superseded pins ms
+
+-- a buffer without them, and without dead bytes
+abbrev pub buffer_without_superseded : TenantPins → MessageList → MessageList
+buffer_without_superseded pins b =
+    message_list (without_superseded pins b.messages)
+    (sum_by message_size (without_superseded pins b.messages)) b.capacity

@@ -1,11 +1,10 @@
 //! A buffer without the messages that newer ones supersede.
 ghost use Rattle.std.specs.Prelude.{◌≡◌, ◌+◌, ◌/◌, ◌<◌, ◌≤◌, ◌^◌, ◌∷◌, IfSome, IsTrue, Some, None, if◌then◌else◌};
-ghost use Rattle.std.specs.List.{sum_by};
 ghost use Rattle.std.specs.Option.{option_map};
 ghost use Rattle.stow_merge.specs.Pins.{pins_in};
 ghost use Rattle.stow_message.specs.MessageBuf.{message_list};
 ghost use Rattle.stow_message.specs.Packed.{message_size};
-ghost use Rattle.stow_superseded.specs.Superseded.{is_whole, is_hidden, without_superseded};
+ghost use Rattle.stow_superseded.specs.Superseded.{is_whole, is_hidden, buffer_without_superseded};
 ghost use Rattle.stow_tree_model.specs.Merged.{same_key, is_pin_within};
 ghost use Rattle.stow_tree_model.specs.Op.{op_of};
 ghost use Rattle.stow_tree_model.specs.Order.{MessagesRise};
@@ -92,9 +91,8 @@ pub fn without_superseded<A: Allocator + Copy>(
     pins: &Pins<A>,
 ) -> Option<MessageBuf<A>>
     requires small { buffer.now.capacity < 2 ^ 32 }
-    ensures fewer { let stay = without_superseded (pins_in pins.now) buffer.now.messages in
-        IfSome result (λ fewer. fewer
-        ≡ message_list stay (sum_by message_size stay) buffer.now.capacity) }
+    ensures fewer { IfSome result (λ fewer. fewer
+        ≡ buffer_without_superseded (pins_in pins.now) buffer.now) }
     ensures ample { IfSome result (λ fewer.
         fewer.used + buffer.now.capacity / 4 ≤ buffer.now.capacity) }
 {
