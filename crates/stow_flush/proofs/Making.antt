@@ -1,5 +1,5 @@
 -- A root as room is made in it.
-use Rattle.std.proofs.Common.{zero, suc, ◌≡◌, ◌⊎◌, ℕ, ◌+◌, ◌*◌, ◌/◌, ◌<◌, ◌≤◌, length, max, arith, refl, sym, ap, ◌∙◌, subst, ⊎_elim, inl, inr, List}
+use Rattle.std.proofs.Common.{zero, suc, ◌≡◌, ℕ, ◌+◌, ◌*◌, ◌/◌, ◌<◌, ◌≤◌, length, max, arith, refl, sym, ap, ◌∙◌, subst, ⊎_elim, inl, inr, List}
 use Rattle.std.specs.List.{sum_by}
 use Rattle.stow_leaf.specs.LeafRows.{LeafRows, row_messages}
 use Rattle.stow_leaf_cache.specs.Cache.{Cache}
@@ -19,7 +19,7 @@ use Rattle.stow_leaf.proofs.Over.{same_itself, same_pointwise, same_then}
 use Rattle.stow_node.proofs.Standing.{parts_ops}
 use Rattle.stow_superseded.specs.Superseded.{buffer_without_superseded}
 use Rattle.stow_node.specs.Superseded.{DropsSuperseded, EachMeansTheSame, MayDropSuperseded}
-use Rattle.stow_flush.specs.Rooms.{RootStands, FitsSqueezed, FlushesTimes, FlushesForRoom, DropsForRoom, MakesRoom}
+use Rattle.stow_flush.specs.Rooms.{RootStands, FitsSqueezed, FlushesTimes, FlushesForRoom, MakesRoom}
 
 pub stands_itself : (pins : TenantPins) (t : Subtree) → RootStands pins t t
 stands_itself pins t = record { low = refl; shape = refl; capacity = refl; means = λ key. same_itself (pins (tenant_of key)) (ops_in (messages_of t) key) }

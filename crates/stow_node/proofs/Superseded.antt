@@ -1,5 +1,5 @@
 -- A node without the messages that newer ones of its buffer supersede.
-use Rattle.std.proofs.Common.{◌≡◌, ℕ, ◌+◌, ◌*◌, ◌/◌, ◌≤◌, List, length, refl, sym, subst, arith}
+use Rattle.std.proofs.Common.{◌≡◌, ◌+◌, ◌/◌, ◌≤◌, refl, sym, subst, arith}
 use Rattle.stow_leaf.proofs.Found.{none_some, none_unless}
 use Rattle.stow_leaf.proofs.Over.{same_itself, same_pointwise, same_then}
 use Rattle.stow_message.specs.MessageBuf.{MessageList}

@@ -1,8 +1,8 @@
 use Rattle.stow_merge.specs.Pins.{pins_in}
 use Rattle.stow_node.specs.Subtree.{Subtree}
-use Rattle.std.proofs.Common.{◌≡◌, ◌≤◌, sym, ap, ◌∙◌, subst, arith}
+use Rattle.std.proofs.Common.{◌≡◌, ◌≤◌, sym, subst}
 use Rattle.stow_flush.specs.Rooms.{RootStands}
-use Rattle.stow_flush.proofs.Making.{squeezed_stands, stands_then, dropped_stands, dropped_leaves, dropped_few, dropped_block, room_made}
+use Rattle.stow_flush.proofs.Making.{squeezed_stands, stands_then, dropped_stands, dropped_few, dropped_block, room_made}
 use Rattle.stow_node.proofs.Stepping.{ok_then}
 use Rattle.stow_flush.proofs.room.make_room.Given as given
 use Rattle.stow_flush.proofs.room.make_room.Goals as goal

@@ -1,8 +1,6 @@
-use Rattle.std.proofs.Common.{◌≡◌, ⊎_elim, arith, inl, inr, refl, subst}
+use Rattle.std.proofs.Common.{◌≡◌, ⊎_elim, arith, inr}
 use Rattle.stow_merge.specs.Pins.{pins_in}
-use Rattle.stow_node.specs.Subtree.{Subtree}
-use Rattle.stow_node.specs.Superseded.{DropsSuperseded, EachMeansTheSame}
-use Rattle.stow_node.proofs.Superseded.{Dropped, dropped, means_itself}
+use Rattle.stow_node.proofs.Superseded.{Dropped, dropped}
 use Rattle.stow_node.proofs.node.Node.drop_superseded.Given as given
 use Rattle.stow_node.proofs.node.Node.drop_superseded.Goals as goal
 use Rattle.stow_node.proofs.node.Node.drop_superseded.Goals.{In-Some}
