@@ -1,5 +1,5 @@
 -- A root as room is made in it.
-use Rattle.std.proofs.Common.{zero, suc, ◌≡◌, ℕ, ◌+◌, ◌/◌, ◌<◌, ◌≤◌, max, arith, refl, sym, ap, ◌∙◌, subst, List}
+use Rattle.std.proofs.Common.{zero, suc, ◌≡◌, ℕ, ◌+◌, ◌*◌, ◌/◌, ◌<◌, ◌≤◌, length, max, arith, refl, sym, ap, ◌∙◌, subst, ⊎_elim, inl, inr, List}
 use Rattle.std.specs.List.{sum_by}
 use Rattle.stow_leaf.specs.LeafRows.{LeafRows, row_messages}
 use Rattle.stow_leaf_cache.specs.Cache.{Cache}
@@ -17,7 +17,9 @@ use Rattle.stow_node.specs.Ways.{StepsDown}
 use Rattle.stow_node.specs.declared.shape.Shape.{Shape}
 use Rattle.stow_leaf.proofs.Over.{same_itself, same_pointwise, same_then}
 use Rattle.stow_node.proofs.Standing.{parts_ops}
-use Rattle.stow_flush.specs.Rooms.{RootStands, FlushesTimes, MakesRoom}
+use Rattle.stow_superseded.specs.Superseded.{buffer_without_superseded}
+use Rattle.stow_node.specs.Superseded.{DropsSuperseded, EachMeansTheSame, MayDropSuperseded}
+use Rattle.stow_flush.specs.Rooms.{RootStands, FitsSqueezed, FlushesTimes, FlushesForRoom, MakesRoom}
 
 pub stands_itself : (pins : TenantPins) (t : Subtree) → RootStands pins t t
 stands_itself pins t = record { low = refl; shape = refl; capacity = refl; means = λ key. same_itself (pins (tenant_of key)) (ops_in (messages_of t) key) }
@@ -102,22 +104,22 @@ squeezed_twice s t u p q = record {
   fewer = let a = p.fewer in let b = q.fewer in let e = ap (λ (x : Subtree). x.buffer.used) p.is in omega (arith, a, b, e);
 }
 
-pub makes_none : (A : Type 0) (bytes : ℕ) (pins : TenantPins) (t : Subtree) (cache : Cache) → MakesRoom A bytes pins t t cache cache
+pub makes_none : (A : Type 0) (bytes : ℕ) (pins : TenantPins) (t : Subtree) (cache : Cache) → FlushesForRoom A bytes pins t t cache cache
 makes_none A bytes pins t cache = (0, (squeezed_itself t, refl))
 
-pub makes_squeezed : (A : Type 0) (bytes : ℕ) (pins : TenantPins) (s t u : Subtree) (cache cache' : Cache) → MakesRoom A bytes pins s t cache cache' → IsSqueezed t u → MakesRoom A bytes pins s u cache cache'
+pub makes_squeezed : (A : Type 0) (bytes : ℕ) (pins : TenantPins) (s t u : Subtree) (cache cache' : Cache) → FlushesForRoom A bytes pins s t cache cache' → IsSqueezed t u → FlushesForRoom A bytes pins s u cache cache'
 makes_squeezed A bytes pins s t u cache cache' m q = (m.0, by_count m.0 m.1) where
   by_count : (n : ℕ) → FlushesTimes A n bytes pins s t cache cache' → FlushesTimes A n bytes pins s u cache cache'
   by_count zero h = (squeezed_twice s t u h.0 q, h.1)
   by_count (suc n) h = (h.0, h.1, h.2, record { lacks = h.3.lacks; stepped = h.3.stepped; down = h.3.down; squeezed = squeezed_twice h.3.stepped t u h.3.squeezed q })
 
-pub squeezed_makes : (A : Type 0) (bytes : ℕ) (pins : TenantPins) (s t u : Subtree) (cache cache' : Cache) → IsSqueezed s t → MakesRoom A bytes pins t u cache cache' → MakesRoom A bytes pins s u cache cache'
+pub squeezed_makes : (A : Type 0) (bytes : ℕ) (pins : TenantPins) (s t u : Subtree) (cache cache' : Cache) → IsSqueezed s t → FlushesForRoom A bytes pins t u cache cache' → FlushesForRoom A bytes pins s u cache cache'
 squeezed_makes A bytes pins s t u cache cache' q m = (m.0, by_count m.0 u cache' m.1) where
   by_count : (n : ℕ) (u : Subtree) (cache' : Cache) → FlushesTimes A n bytes pins t u cache cache' → FlushesTimes A n bytes pins s u cache cache'
   by_count zero u cache' h = (squeezed_twice s t u q h.0, h.1)
   by_count (suc n) u cache' h = (h.0, h.1, by_count n h.0 h.1 h.2, h.3)
 
-pub makes_more : (A : Type 0) (bytes ample : ℕ) (pins : TenantPins) (s t u v : Subtree) (a b c : Cache) → MakesRoom A bytes pins s t a b → IsSqueezed t u → ample ≡ max bytes (t.shape.buffer / 4) → u.buffer.capacity < sum_by message_size u.buffer.messages + ample → StepsDown A pins u v b c → MakesRoom A bytes pins s v a c
+pub makes_more : (A : Type 0) (bytes ample : ℕ) (pins : TenantPins) (s t u v : Subtree) (a b c : Cache) → FlushesForRoom A bytes pins s t a b → IsSqueezed t u → ample ≡ max bytes (t.shape.buffer / 4) → u.buffer.capacity < sum_by message_size u.buffer.messages + ample → StepsDown A pins u v b c → FlushesForRoom A bytes pins s v a c
 makes_more A bytes ample pins s t u v a b c m q e full down =
     let ready = makes_squeezed A bytes pins s t u a b m q in
     (suc ready.0, (u, b, ready.1, record { lacks = lacks; stepped = v; down = down; squeezed = squeezed_itself v }))
@@ -127,3 +129,65 @@ makes_more A bytes ample pins s t u v a b c m q e full down =
 
     lacks : LacksRoom bytes u
     lacks = subst (λ n. u.buffer.capacity < sum_by message_size u.buffer.messages + n) (e ∙ ap (λ (h : Shape). max bytes (h.buffer / 4)) (sym shape)) full
+
+-- ---- superseded messages are dropped before
+
+-- what is the same but for messages and weight
+record SamePlace (s t : Subtree) : Type 0 where
+  low : t.low ≡ s.low
+  shape : t.shape ≡ s.shape
+  capacity : t.buffer.capacity ≡ s.buffer.capacity
+  leaves : t.leaves ≡ s.leaves
+  width : t.width ≡ s.width
+
+same_place : (pins : TenantPins) (s t : Subtree) → MayDropSuperseded pins s t → SamePlace s t
+same_place pins s t d = ⊎_elim
+    (λ (e : t ≡ s). record {
+      low = ap (λ (x : Subtree). x.low) e;
+      shape = ap (λ (x : Subtree). x.shape) e;
+      capacity = ap (λ (x : Subtree). x.buffer.capacity) e;
+      leaves = ap (λ (x : Subtree). x.leaves) e;
+      width = ap (λ (x : Subtree). x.width) e;
+    })
+    (λ (h : DropsSuperseded pins s t). record {
+      low = ap (λ (x : Subtree). x.low) h.is;
+      shape = ap (λ (x : Subtree). x.shape) h.is;
+      capacity = ap (λ (x : Subtree). x.buffer.capacity) h.is;
+      leaves = ap (λ (x : Subtree). x.leaves) h.is;
+      width = ap (λ (x : Subtree). x.width) h.is;
+    })
+    d
+
+pub dropped_stands : (pins : TenantPins) (s t : Subtree) → MayDropSuperseded pins s t → EachMeansTheSame pins s t → RootStands pins s t
+dropped_stands pins s t d m = let p = same_place pins s t d in record { low = p.low; shape = p.shape; capacity = p.capacity; means = m }
+
+pub dropped_leaves : (pins : TenantPins) (s t : Subtree) → MayDropSuperseded pins s t → t.leaves ≡ s.leaves
+dropped_leaves pins s t d = (same_place pins s t d).leaves
+
+pub dropped_few : (pins : TenantPins) (s t : Subtree) → MayDropSuperseded pins s t → s.width ≤ s.shape.fan_out → t.width ≤ t.shape.fan_out
+dropped_few pins s t d few = let p = same_place pins s t d in let w = p.width in let f = ap (λ (h : Shape). h.fan_out) p.shape in omega (arith, few, w, f)
+
+pub dropped_block : (pins : TenantPins) (s t : Subtree) → MayDropSuperseded pins s t → s.buffer.capacity ≡ s.shape.buffer → t.buffer.capacity ≡ t.shape.buffer
+dropped_block pins s t d e = let p = same_place pins s t d in p.capacity ∙ e ∙ sym (ap (λ (h : Shape). h.buffer) p.shape)
+
+-- dead bytes are dropped, superseded messages may be, and then messages move
+pub room_made : (A : Type 0) (bytes : ℕ) (pins : TenantPins) (s t u v : Subtree) (cache cache' : Cache) → IsSqueezed s t → t.buffer.capacity < sum_by message_size t.buffer.messages + bytes
+    → MayDropSuperseded pins t u → FlushesForRoom A bytes pins u v cache cache' → MakesRoom A bytes pins s v cache cache'
+room_made A bytes pins s t u v cache cache' q full d m = ⊎_elim
+    (λ (e : u ≡ t). inl (squeezed_makes A bytes pins s t v cache cache' q (subst (λ (x : Subtree). FlushesForRoom A bytes pins x v cache cache') e m)))
+    (λ (h : DropsSuperseded pins t u). inr (u, record { full = λ fits. lacks fits; drops = from_squeezed h }, m))
+    d
+  where
+    lacks : FitsSqueezed bytes s → ⊥
+    lacks fits =
+        let capacity = ap (λ (x : Subtree). x.buffer.capacity) q.is in
+        let live = ap (λ (x : Subtree). sum_by message_size x.buffer.messages) q.is in
+        omega (arith, fits, full, capacity, live)
+
+    from_squeezed : DropsSuperseded pins t u → DropsSuperseded pins s u
+    from_squeezed h = record {
+      weight = h.weight;
+      is = h.is ∙ ap (λ (x : Subtree). record x { buffer = buffer_without_superseded pins x.buffer; weight = h.weight }) q.is;
+      lighter = subst (λ (x : Subtree). h.weight + x.height * length x.buffer.messages ≡ x.weight + x.height * length u.buffer.messages) q.is h.lighter;
+      ample = subst (λ (x : Subtree). u.buffer.used + x.buffer.capacity / 4 ≤ x.buffer.capacity) q.is h.ample;
+    }

@@ -1,11 +1,12 @@
 -- Room at the root.
-use Rattle.std.specs.Prelude.{◌≡◌, ℕ, zero, suc, ◌+◌, ◌≤◌, List}
+use Rattle.std.specs.Prelude.{◌≡◌, ◌⊎◌, ℕ, zero, suc, ◌+◌, ◌≤◌, List}
 use Rattle.std.specs.List.{sum_by}
 use Rattle.stow_leaf_cache.specs.Cache.{Cache}
 use Rattle.stow_message.specs.Packed.{message_size}
 use Rattle.stow_leaf.specs.Replacements.{MeanTheSame}
 use Rattle.stow_node.specs.Moves.{IsSqueezed, LacksRoom}
 use Rattle.stow_node.specs.Subtree.{Subtree, messages_of}
+use Rattle.stow_node.specs.Superseded.{DropsSuperseded}
 use Rattle.stow_node.specs.Ways.{StepsDown}
 use Rattle.stow_tree_model.specs.Agreement.{TenantPins}
 use Rattle.stow_tree_model.specs.Keys.{tenant_of}
@@ -35,11 +36,25 @@ FlushesTimes A (suc n) bytes pins old new cache cache' = (full : Subtree) × (be
     × FlushesTimes A n bytes pins old full cache between
     × MakesStep A bytes pins full new between cache'
 
--- room for so many bytes is made by steps down and by nothing else
+-- by steps down and by nothing else
+abbrev pub FlushesForRoom : (A : Type 0) → ℕ → TenantPins → Subtree → Subtree
+    → Cache → Cache → Type 0
+FlushesForRoom A bytes pins old new cache cache' =
+    (n : ℕ) × FlushesTimes A n bytes pins old new cache cache'
+
+-- messages that newer ones supersede are dropped, where dropping dead bytes makes no room
+pub record DropsForRoom (bytes : ℕ) (pins : TenantPins) (old new : Subtree) : Type 0 where
+  pub full : FitsSqueezed bytes old → ⊥
+  pub drops : DropsSuperseded pins old new
+
+-- room for so many bytes is made by dropping superseded messages at most once, by steps down then,
+-- and by nothing else
 abbrev pub MakesRoom : (A : Type 0) → ℕ → TenantPins → Subtree → Subtree
     → Cache → Cache → Type 0
 MakesRoom A bytes pins old new cache cache' =
-    (n : ℕ) × FlushesTimes A n bytes pins old new cache cache'
+    FlushesForRoom A bytes pins old new cache cache'
+    ⊎ ((dropped : Subtree) × DropsForRoom bytes pins old dropped
+    × FlushesForRoom A bytes pins dropped new cache cache')
 
 -- the root means the same under the pins, whatever height it has
 pub record RootStands (pins : TenantPins) (old new : Subtree) : Type 0 where

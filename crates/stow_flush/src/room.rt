@@ -5,7 +5,7 @@ ghost use Rattle.stow_node.specs.Flushes.{AreShort};
 ghost use Rattle.stow_leaves.specs.Forgets.{Forgets};
 ghost use Rattle.stow_node.specs.Moves.{IsSqueezed};
 ghost use Rattle.stow_node.specs.Subtree.{messages_of};
-ghost use Rattle.stow_flush.specs.Rooms.{RootStands, BytesFit, FitsSqueezed, MakesRoom};
+ghost use Rattle.stow_flush.specs.Rooms.{RootStands, BytesFit, FitsSqueezed, FlushesForRoom, MakesRoom};
 
 use std::alloc::{AllocError, Allocator};
 use stow_leaf_cache::leaf_cache::LeafCache;
@@ -31,7 +31,7 @@ fn flush<A: Allocator + Copy>(
     ensures room { OnOk result (BytesFit bytes root.new) }
     ensures few { root.new.width ≤ root.new.shape.fan_out }
     ensures stands { RootStands (pins_in pins.now) root.old root.new }
-    ensures made { OnOk result (MakesRoom A bytes (pins_in pins.now) root.old root.new
+    ensures made { OnOk result (FlushesForRoom A bytes (pins_in pins.now) root.old root.new
         cache.old cache.new) }
     ensures cache { Forgets root.old.leaves root.new.leaves cache.old cache.new }
     ensures spare { spare.new.capacity ≡ spare.old.capacity }
@@ -42,8 +42,8 @@ fn flush<A: Allocator + Copy>(
     Ok(())
 }
 
-/// Makes room for so many bytes in the root's own buffer. Where they fit once dead bytes are dropped, no message moves.
-/// Where memory is refused, the root means what it did.
+/// Makes room for so many bytes in the root's own buffer. Where they fit once dead bytes are dropped, no message moves. Where they don't,
+/// messages that newer ones supersede are dropped before any moves. Where memory is refused, the root means what it did.
 pub fn make_room<A: Allocator + Copy>(
     alloc: A,
     root: &mut Node<A>,
@@ -70,5 +70,6 @@ pub fn make_room<A: Allocator + Copy>(
     if root.makes_room(bytes, bytes, spare) {
         return Ok(());
     }
+    root.drop_superseded(alloc, pins);
     flush(alloc, root, bytes, pins, spare, cache)
 }

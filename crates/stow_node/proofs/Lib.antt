@@ -39,3 +39,4 @@ pub mod Emptied
 pub mod Taken
 pub mod Split
 pub mod Straight
+pub mod Superseded

@@ -13,3 +13,4 @@ pub mod Jobs
 pub mod Installs
 pub mod Eases
 pub mod Plans
+pub mod Superseded

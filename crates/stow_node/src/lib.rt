@@ -56,3 +56,4 @@ mod planning;
 mod room;
 pub mod shape;
 mod shell;
+mod superseding;

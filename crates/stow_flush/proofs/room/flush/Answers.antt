@@ -1,4 +1,4 @@
-use Rattle.std.proofs.Common.{◌≤◌, ◌∙◌, ◌/◌, max, sym, ap, arith}
+use Rattle.std.proofs.Common.{◌∙◌, ◌/◌, max, sym, ap, arith}
 use Rattle.stow_merge.specs.Pins.{pins_in}
 use Rattle.stow_node.specs.declared.shape.Shape.{Shape}
 use Rattle.stow_node.proofs.Down.{full_has_messages}

@@ -1,0 +1,28 @@
+-- A node of whose own messages newer ones supersede some.
+use Rattle.std.specs.Prelude.{◌≡◌, ◌⊎◌, ℕ, ◌+◌, ◌*◌, ◌/◌, ◌≤◌, List, length}
+use Rattle.stow_leaf.specs.Replacements.{MeanTheSame}
+use Rattle.stow_superseded.specs.Superseded.{buffer_without_superseded}
+use Rattle.stow_tree_model.specs.Agreement.{TenantPins}
+use Rattle.stow_tree_model.specs.Keys.{tenant_of}
+use Rattle.stow_tree_model.specs.Messages.{ops_in}
+use Rattle.stow_node.specs.Subtree.{Subtree, messages_of}
+
+-- these are gone, and dead bytes too; a quarter of the block is free
+pub record DropsSuperseded (pins : TenantPins) (old new : Subtree) : Type 0 where
+  pub weight : ℕ
+  pub is : new ≡ record old {
+    buffer = buffer_without_superseded pins old.buffer;
+    weight = weight;
+  }
+  pub lighter : weight + old.height * length old.buffer.messages
+      ≡ old.weight + old.height * length new.buffer.messages
+  pub ample : new.buffer.used + old.buffer.capacity / 4 ≤ old.buffer.capacity
+
+-- .. or nothing changed
+abbrev pub MayDropSuperseded : TenantPins → Subtree → Subtree → Type 0
+MayDropSuperseded pins old new = (new ≡ old) ⊎ DropsSuperseded pins old new
+
+-- each key means the same under the pins
+abbrev pub EachMeansTheSame : TenantPins → Subtree → Subtree → Type 0
+EachMeansTheSame pins old new = (key : List ℕ) → MeanTheSame (pins (tenant_of key))
+    (ops_in (messages_of old) key) (ops_in (messages_of new) key)

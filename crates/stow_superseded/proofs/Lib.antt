@@ -1,0 +1,4 @@
+pub mod Fewer
+pub mod Passing
+pub mod Hiding
+pub mod Meaning

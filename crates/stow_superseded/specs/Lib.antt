@@ -1,0 +1,3 @@
+pub mod Superseded
+pub mod Passes
+pub mod Laws

@@ -1,0 +1,13 @@
+//! A buffer of the tree without the messages that newer ones of their key supersede.
+//!
+//! A message is superseded where a newer put or removal of its key stands behind it and no pin of its tenant stands from its
+//! number on and below that one's (`specs/Superseded.antt`): nobody can read what it did. `without_superseded` gives the other
+//! messages in a block of the same size, with no dead bytes, where a quarter of that block is free then. Some of the messages are
+//! looked at first, so that a buffer of many different keys costs little (`sampling`): a hint, of which no contract speaks.
+//!
+//! A body that always answers `None` meets the contract: tests call it with ample memory, and with its request refused.
+#![tactic(auto)]
+
+pub mod laws;
+mod sampling;
+pub mod superseding;
