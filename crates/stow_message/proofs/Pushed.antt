@@ -1,6 +1,7 @@
 -- A block after one more message.
-use Rattle.std.proofs.Common.{◌≡◌, ℕ, zero, suc, ◌+◌, ◌<◌, ◌≤◌, List, [], ◌∷◌, ◌++◌, map, length, drop, refl, sym, ap, subst, ◌∙◌, arith, length-append, append_assoc, append-nil}
+use Rattle.std.proofs.Common.{◌≡◌, ℕ, zero, suc, slice_set, ◌+◌, ◌<◌, ◌≤◌, List, [], ◌∷◌, ◌++◌, map, length, drop, refl, sym, ap, subst, ◌∙◌, arith, length-append, append_assoc, append-nil}
 use Rattle.std.proofs.lemmas.List.{length-map, drop-append-le, drop_at}
+use Rattle.std.specs.Prelude.{replicate}
 use Rattle.std.specs.List.{AllByRecursion, sum_by, insert}
 use Rattle.std.specs.List.Sorted.{IsStrictlySortedBy}
 use Rattle.stow_tree_model.specs.Op.{bytes_in}
@@ -132,6 +133,11 @@ module _ (raw : RawLists) (h : IsPackedBuffer raw) (v : MessageList) (view : mes
           ∙ (λ j. message_list (pushed_messages raw h lent is_valid j) (pushed_used raw h lent is_valid j) raw.capacity)
           ∙ ap (with_message lent) view;
     }
+
+-- one slot more before the others, then written over
+pub set_first : (r s last : RawLists) (at : ℕ) → s ≡ raw_lists r.front (replicate 1 0 ++ r.slots) r.capacity → last ≡ raw_lists s.front (slice_set s.slots 0 at) s.capacity
+    → last ≡ raw_lists r.front (insert r.slots 0 at) r.capacity
+set_first r s last at e f = f ∙ ap (λ (b : RawLists). raw_lists b.front (slice_set b.slots 0 at) b.capacity) e
 
 -- a message is packed in three parts
 module _ (raw r₁ r₂ r₃ : RawLists) (m : TreeMessage) (hs vs : List ℕ) (e₁ : r₁ ≡ raw_lists (raw.front ++ hs) raw.slots raw.capacity) (e₂ : r₂ ≡ raw_lists (r₁.front ++ m.key) r₁.slots r₁.capacity)

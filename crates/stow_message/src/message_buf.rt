@@ -384,6 +384,23 @@ impl<A: Allocator> MessageBuf<A> {
         self.live += size(message);
     }
 
+    /// Puts a message below which none stands before the others. No slot is moved.
+    pub fn push_first(&mut self, message: Message<'_>)
+        requires new { Fits self.old (message_of message)
+            × IsNew (message_of message) self.old.messages }
+        requires first { below (place_of (message_of message)) self.old.messages ≡ 0 }
+        ensures { self.new ≡ with_message (message_of message.entry) self.old }
+    {
+        let _known = self.len();
+        let at = self.raw.front_len() as u32;
+        append(&mut self.raw, message);
+        self.raw.add_slots(1);
+        self.raw.set_slot(0, at);
+        self.filter.add(message.key.bytes);
+        self.words.clear();
+        self.live += size(message);
+    }
+
     /// Whether messages of the key may be held. The answer takes no search.
     pub fn may_have(&self, key: TenantKey<'_>) -> bool
         ensures { result ≡ false → of_key key.entry.bytes.now self.now.messages ≡ [] }

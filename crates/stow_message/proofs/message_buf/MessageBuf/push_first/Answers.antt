@@ -1,0 +1,34 @@
+use Rattle.std.proofs.Common.{ap, sym, subst, arith}
+use Rattle.std.specs.List.{sum_by}
+use Rattle.stow_tree_model.specs.TreeMessage.{message_of}
+use Rattle.stow_message.specs.Filter.{Covers}
+use Rattle.stow_message.specs.MessageBuf.{MessageList}
+use Rattle.stow_message.specs.Packed.{message_size}
+use Rattle.stow_message.proofs.RisingLists.{sum-placed}
+use Rattle.stow_message.proofs.Counted.{is_counted}
+use Rattle.stow_message.proofs.Covered.{covered, covers_more, covers_placed}
+use Rattle.stow_message.proofs.Pushed.{bytes_fit, push, set_first}
+use Rattle.stow_message.proofs.message_buf.MessageBuf.push_first.Goals as goal
+
+pub append-requires : goal.append-requires
+append-requires g c = bytes_fit c.self.inside.raw c.self.invariant.filled c.args.self.now c.self.view_is c.args.message c.requires.new
+
+pub add_slots-requires : goal.add_slots-requires
+add_slots-requires g c = (push c.self.inside.raw c.self.invariant.filled c.args.self.now c.self.view_is c.args.message c.requires.new c.append.new.raw c.append.ensures 0 (sym c.requires.first)).room.1
+
+pub invariant_of-self : goal.invariant_of-self
+invariant_of-self g c =
+    let put = push c.self.inside.raw c.self.invariant.filled c.args.self.now c.self.view_is c.args.message c.requires.new c.append.new.raw c.append.ensures 0 (sym c.requires.first) in
+    let last = set_first c.append.new.raw _ _ _ c.add_slots.ensures c.set_slot.ensures in
+    let marks = c.add.new.self in
+    record {
+      filled = put.filled _ _ c.front_len-at.ensures last;
+      covers = subst (Covers marks) (sym (ap (λ (w : MessageList). w.messages) (put.is _ _ c.front_len-at.ensures last)))
+          (covers_placed marks (message_of c.args.message) c.args.self.now.messages c.add.ensures.added
+          (covers_more c.self.inside.filter marks c.args.self.now.messages c.add.ensures.stay
+          (covered c.self.inside.raw c.self.inside.filter c.args.self.now c.self.view_is c.self.invariant.covers)));
+      counted = omega (arith, c.size.ensures, is_counted c.self.inside.raw c.self.inside.live c.args.self.now c.self.view_is c.self.invariant.counted, sum-placed (message_of c.args.message) c.args.self.now.messages, ap (λ (w : MessageList). sum_by message_size w.messages) (put.is _ _ c.front_len-at.ensures last));
+    }
+
+pub returns : goal.returns
+returns g c = (push c.self.inside.raw c.self.invariant.filled c.args.self.now c.self.view_is c.args.message c.requires.new c.append.new.raw c.append.ensures 0 (sym c.requires.first)).is _ _ c.front_len-at.ensures (set_first c.append.new.raw _ _ _ c.add_slots.ensures c.set_slot.ensures)
