@@ -23,4 +23,6 @@ mod refusals;
 #[cfg(test)]
 mod slots;
 #[cfg(test)]
+mod superseded;
+#[cfg(test)]
 mod tree;

@@ -31,7 +31,14 @@ const HOLDING: Course = Course {
 
 const ROOT: [Call; 2] = [Call::PutAll(2_100), Call::Want(Want::Sizes(1, 1, 102))];
 
-const HIGH: [Call; 2] = [Call::Random(900), Call::Want(Want::Grown(3, 12))];
+/// Most messages of the root are such that no newer one supersedes them, so that none is dropped and all have to move.
+const HIGH: [Call; 5] = [
+    Call::Random(900),
+    Call::Want(Want::Grown(3, 12)),
+    Call::Append(5, 80),
+    Call::Append(50, 80),
+    Call::Append(100, 80),
+];
 
 /// Messages of which few are above the leaves.
 const APPENDED: [Call; 4] = [
@@ -50,7 +57,7 @@ const EMPTIED: [Call; 4] = [
 ];
 
 /// What fills buffers is removed at once, since the list doesn't have it.
-const FILLS: [Call; 18] = [
+const FILLS: [Call; 17] = [
     Call::Fill(0, 480_000),
     Call::Fill(0, 0),
     Call::Random(1),
@@ -68,7 +75,6 @@ const FILLS: [Call; 18] = [
     Call::GoneBoth(7),
     Call::Fill(20, 480_000),
     Call::Fill(20, 0),
-    Call::Random(1),
 ];
 
 const READS: [Call; 4] = [

@@ -249,6 +249,14 @@ impl<A: Allocator + Copy> Run<A> {
             .put(alloc, self.keys.behind(place), op, &self.pins)
     }
 
+    /// Appends a few bytes to the key at a place, one after another.
+    fn append_few(&mut self, alloc: A, place: usize) -> Result<(), AllocError> {
+        for _ in 0..12u32 {
+            self.change(alloc, (Kind::Append, place, 1))?;
+        }
+        Ok(())
+    }
+
     /// The place of a random key.
     fn place(&mut self) -> usize {
         let count = self.keys.len();
@@ -339,13 +347,16 @@ impl<A: Allocator + Copy> Run<A> {
         Ok(())
     }
 
-    /// Removes each key but every twentieth, and fills buffers.
-    pub(crate) fn remove_most(&mut self, alloc: A) -> Result<(), AllocError> {
+    /// Removes each key but every twentieth, and fills buffers, if it is to be with messages most of which no newer one supersedes.
+    pub(crate) fn remove_most(&mut self, alloc: A, appends: bool) -> Result<(), AllocError> {
         for place in 0..self.keys.len() {
             if place % 20 != 0 {
                 self.fill(alloc, place, 16_000)?;
                 self.fill(alloc, place, 0)?;
                 self.change(alloc, (Kind::Gone, place, 0))?;
+                if appends {
+                    self.append_few(alloc, place - place % 20)?;
+                }
             }
         }
         Ok(())

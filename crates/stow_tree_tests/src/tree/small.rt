@@ -42,6 +42,23 @@ const APPENDED: [Call; 4] = [
     Call::Want(Want::Agrees),
 ];
 
+/// The messages of one key, which would fill the root twice, are dropped but for the last and what a pin shows: none goes to the leaf.
+const OFTEN: [Call; 13] = [
+    Call::Put(0, 10),
+    Call::Pin(1),
+    Call::Put(0, 500_000),
+    Call::Put(0, 500_001),
+    Call::Put(0, 500_002),
+    Call::Put(0, 500_003),
+    Call::Put(0, 500_004),
+    Call::Put(0, 500_005),
+    Call::Put(0, 500_006),
+    Call::Put(0, 500_007),
+    Call::Put(0, 500_008),
+    Call::Want(Want::Sizes(1, 1, 4)),
+    Call::Want(Want::Agrees),
+];
+
 /// Two keys are removed together.
 const TOGETHER: [Call; 6] = [
     Call::Put(0, 1),
@@ -205,12 +222,13 @@ const SIXTEEN: TreeShape = TreeShape {
     ..TreeShape::SMALLEST
 };
 
-const SCRIPTS: [(Course, TreeShape, &[Call]); 11] = [
+const SCRIPTS: [(Course, TreeShape, &[Call]); 12] = [
     (OF_TWELVE, SIXTEEN, &WIDTHS),
     (COURSE, SMALLEST, &APART),
     (COURSE, LARGE_LEAF, &JOINED),
     (COURSE, SMALLEST, &AGAIN),
     (COURSE, SMALLEST, &APPENDED),
+    (COURSE, SMALLEST, &OFTEN),
     (COURSE, SMALLEST, &TOGETHER),
     (COURSE, LARGE_LEAF, &FORMATS),
     (COURSE, SMALLEST, &TWICE),

@@ -182,7 +182,7 @@ impl<A: Allocator + Copy> Trees<A> {
 
     fn shrink(&mut self, alloc: A, rounds: u32, drains: bool) -> Result<bool, AllocError> {
         for _ in 0..rounds {
-            self.called().remove_most(alloc)?;
+            self.called().remove_most(alloc, !drains)?;
             if drains && !self.drain(alloc)? {
                 return Ok(false);
             }
