@@ -11,4 +11,5 @@ pub mod check;
 pub mod network;
 pub mod program;
 pub mod serve;
+pub mod service;
 mod tenant_file;
