@@ -1,5 +1,5 @@
 //! Connections over TCP, served by threads, beside threads that flush.
-ghost use Rattle.std.specs.Prelude.{◌≡◌, ◌+◌, ◌<◌, IfErr, IfOk, false, min, vec_len};
+ghost use Rattle.std.specs.Prelude.{◌≡◌, ◌+◌, ◌-◌, ◌<◌, IfErr, IfOk, false, min, vec_len};
 ghost use Rattle.stow_program.specs.Outcomes.{EndsServing};
 ghost use Rattle.stow_program.specs.Services.{IsMemory, IsOfNetwork, IsOpened, IsServed, workers_of};
 ghost use Rattle.stow_workers.specs.Pools.{ComeBack, total_of};

@@ -132,8 +132,8 @@ fn serve<
                 × IsSend J.row × IsSend A.row × Frees A.Allocator A.dealloc_token
                 × (workers.items ≡ []) × (vec_len seats ≤ vec_capacity workers)
                 × (returned.items ≡ []) × (vec_len seats ≤ vec_capacity returned) }
-            ensures { ComeBack J.keeps count seats.items result.0.items
-                × IfOk result.1 (λ accepted. accepted ≡ total_of connections) }
+            ensures back { ComeBack J.keeps count seats.items result.0.items }
+            ensures accepted { IfOk result.1 (λ accepted. accepted ≡ total_of connections) }
         {
             let mut senders = senders;
             let workers = start_all(scope, place, count, seats, &mut senders, workers);
