@@ -5,15 +5,18 @@ use std::alloc::Global;
 use std::io;
 use std::io::{Read, Write};
 use std::net::{Net, Shutdown, SocketAddr, TcpListener, TcpStream};
+use std::os::fd::{AsRawFd, RawFd};
 use std::process::Abort;
 use std::sync::Wait;
 use std::test::Fail;
 use std::thread::Threads;
 
-/// A client: what it asks before it closes its half, whether it then waits for replies, and what it is told.
+/// A client: what it asks, in three parts, before it closes its half, whether it then waits for replies, and what it is told.
 #[derive(Clone, Copy)]
 struct Visit {
     asks: &'static [u8],
+    fill: &'static [u8],
+    then: &'static [u8],
     waits: bool,
     told: &'static [u8],
 }
@@ -21,6 +24,8 @@ struct Visit {
 /// One that is served and quits.
 const ONE: [Visit; 1] = [Visit {
     asks: b"AUTH ann bc\nSET k v\nGET k\nQUIT\n",
+    fill: b"",
+    then: b"",
     waits: true,
     told: b"+OK\r\n+OK\r\n$1\r\nv\r\n+OK\r\n",
 }];
@@ -29,25 +34,54 @@ const ONE: [Visit; 1] = [Visit {
 const SEVERAL: [Visit; 4] = [
     Visit {
         asks: b"AUTH ann bc\nSET k v\nGET k\nQUIT\n",
+        fill: b"",
+        then: b"",
         waits: true,
         told: b"+OK\r\n+OK\r\n$1\r\nv\r\n+OK\r\n",
     },
     Visit {
         asks: b"AUTH ann bc\nSET gone x\n*2\r\n$3\r\nGE",
+        fill: b"",
+        then: b"",
         waits: false,
         told: b"",
     },
     Visit {
         asks: b"PING\n*1\r\n:4\r\nPING\n",
+        fill: b"",
+        then: b"",
         waits: true,
         told: b"-NOAUTH Authentication required.\r\n-ERR Protocol error: expected '$'\r\n",
     },
     Visit {
         asks: b"AUTH ann bc\nSTRLEN none\n*2\r\n$3\r\nGE",
+        fill: b"",
+        then: b"",
         waits: true,
         told: b"+OK\r\n:0\r\n",
     },
 ];
+
+/// One whose long value takes many turns, and one that asks for that value's length.
+const IN_TURN: [Visit; 2] = [
+    Visit {
+        asks: b"AUTH ann bc\nSET k ",
+        fill: &[b'v'; 60_000],
+        then: b"\nSET k last\nQUIT\n",
+        waits: true,
+        told: b"+OK\r\n+OK\r\n+OK\r\n+OK\r\n",
+    },
+    Visit {
+        asks: b"AUTH ann bc\nSTRLEN k\nQUIT\n",
+        fill: b"",
+        then: b"",
+        waits: true,
+        told: b"+OK\r\n:4\r\n+OK\r\n",
+    },
+];
+
+/// How many new descriptors are looked at: more than a serving has at once.
+const DESCRIPTORS: u32 = 64;
 
 /// An output that, once it tells an address, makes the clients' requests there.
 #[derive(Drop)]
@@ -70,6 +104,8 @@ impl<R: Net<Stream = TcpStream>> Clients<'_, R> {
     fn visit(&mut self, address: SocketAddr, visit: Visit) -> io::Result<()> {
         let mut stream = TcpStream::connect(self.rt, address)?;
         stream.write_all(visit.asks)?;
+        stream.write_all(visit.fill)?;
+        stream.write_all(visit.then)?;
         stream.shutdown(Shutdown::Write)?;
         self.streams
             .push(if visit.waits { Some(stream) } else { None })?;
@@ -144,6 +180,22 @@ where
     Ok((status, are_told, errors))
 }
 
+/// The number of the last of many new descriptors, of which each has the least number that is free.
+fn last_descriptor<R>(rt: &R, alloc: Global) -> io::Result<RawFd>
+where
+    R: Net<Listener = TcpListener, Stream = TcpStream>,
+{
+    let first = TcpListener::bind(rt, "127.0.0.1:0")?;
+    let mut last = first.as_raw_fd();
+    let mut held = Vec::new(alloc);
+    for _ in 0..DESCRIPTORS {
+        let next = first.try_clone()?;
+        last = next.as_raw_fd();
+        held.push(next)?;
+    }
+    Ok(last)
+}
+
 /// Whether two notices are told, of the start and of the end.
 fn are_notices(text: &str) -> bool {
     match text.split_once("\n") {
@@ -168,11 +220,17 @@ fn a_client_is_served(rt: HostRuntime) -> Result<(), Fail> {
     Ok(())
 }
 
-// More clients than workers: one after another ends, and none keeps another from its replies.
+// More clients than workers: one after another ends, none keeps another from its replies, and no descriptor is left. Where there
+// may be one at once, the second is served behind the first one's end.
 #[test]
 fn clients_come_and_go(rt: HostRuntime) -> Result<(), Fail> {
+    let before = last_descriptor(&rt, rt.alloc())?;
     let (status, are_told, _) = served(&rt, &SEVERAL, "--connections 4 --workers 1")?;
     assert!(rt; status == 0 && are_told);
+    let options = "--connections 2 --workers 1 --clients 1";
+    let (status, are_told, _) = served(&rt, &IN_TURN, options)?;
+    assert!(rt; status == 0 && are_told);
+    assert_eq!(rt; last_descriptor(&rt, rt.alloc())?, before);
     Ok(())
 }
 
