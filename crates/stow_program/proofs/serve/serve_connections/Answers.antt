@@ -11,4 +11,3 @@ returns-in_err-address-clause-err g c =
 pub returns-in_err-tell_address-clause-err : goal.returns-in_err-tell_address-clause-err
 returns-in_err-tell_address-clause-err g c =
     handed_on (EndsServing _ _) c.from_residual-in_err-tell_address.result c.in_err-tell_address.field-0.0 c.from_residual-in_err-tell_address.ensures.1 c.in_err-tell_address.ensures.err
-
