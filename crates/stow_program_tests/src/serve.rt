@@ -92,11 +92,12 @@ struct Clients<'a, R> {
     streams: Vec<Option<TcpStream>>,
 }
 
-/// The address that is told, if one is.
+/// The address that is told, if it is one of this machine alone.
 fn address_in(told: &[u8]) -> Option<SocketAddr> {
     let text = std::str::from_utf8(told).unwrap_or("");
     let address = text.strip_prefix("listening ")?;
-    address.trim_end().parse::<SocketAddr>().ok()
+    let address = address.trim_end().parse::<SocketAddr>().ok()?;
+    address.ip().is_loopback().then_some(address)
 }
 
 impl<R: Net<Stream = TcpStream>> Clients<'_, R> {
@@ -220,16 +221,22 @@ fn a_client_is_served(rt: HostRuntime) -> Result<(), Fail> {
     Ok(())
 }
 
-// More clients than workers: one after another ends, none keeps another from its replies, and no descriptor is left. Where there
-// may be one at once, the second is served behind the first one's end.
+// More clients than workers, or one for each: one after another ends, none keeps another from its replies, and no descriptor is
+// left. Where there may be one at once, the second is served behind the first one's end.
 #[test]
 fn clients_come_and_go(rt: HostRuntime) -> Result<(), Fail> {
     let before = last_descriptor(&rt, rt.alloc())?;
-    let (status, are_told, _) = served(&rt, &SEVERAL, "--connections 4 --workers 1")?;
-    assert!(rt; status == 0 && are_told);
-    let options = "--connections 2 --workers 1 --clients 1";
-    let (status, are_told, _) = served(&rt, &IN_TURN, options)?;
-    assert!(rt; status == 0 && are_told);
+    for (visits, options) in [
+        (SEVERAL.as_slice(), "--connections 4 --workers 1"),
+        (SEVERAL.as_slice(), "--connections 4"),
+        (
+            IN_TURN.as_slice(),
+            "--connections 2 --workers 1 --clients 1",
+        ),
+    ] {
+        let (status, are_told, _) = served(&rt, visits, options)?;
+        assert!(rt; status == 0 && are_told, "{options}");
+    }
     assert_eq!(rt; last_descriptor(&rt, rt.alloc())?, before);
     Ok(())
 }
