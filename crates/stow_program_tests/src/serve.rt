@@ -1,6 +1,6 @@
 //! `stow serve` over loopback: clients that come and go, and an address that is taken.
 use crate::given::Given;
-use crate::running::{Shelf, run_over, wants};
+use crate::running::{Shelf, joined, run_over, wants};
 use std::alloc::Global;
 use std::io;
 use std::io::{Read, Write};
@@ -13,16 +13,16 @@ use std::thread::Threads;
 
 /// A client: what it asks, in three parts, before it closes its half, whether it then waits for replies, and what it is told.
 #[derive(Clone, Copy)]
-struct Visit {
-    asks: &'static [u8],
-    fill: &'static [u8],
-    then: &'static [u8],
+struct Visit<'a> {
+    asks: &'a [u8],
+    fill: &'a [u8],
+    then: &'a [u8],
     waits: bool,
-    told: &'static [u8],
+    told: &'a [u8],
 }
 
 /// One that is served and quits.
-const ONE: [Visit; 1] = [Visit {
+const ONE: [Visit<'_>; 1] = [Visit {
     asks: b"AUTH ann bc\nSET k v\nGET k\nQUIT\n",
     fill: b"",
     then: b"",
@@ -31,7 +31,7 @@ const ONE: [Visit; 1] = [Visit {
 }];
 
 /// One that is served, one that goes away in the middle of a message, one that breaks the protocol, and one that closes its half.
-const SEVERAL: [Visit; 4] = [
+const SEVERAL: [Visit<'_>; 4] = [
     Visit {
         asks: b"AUTH ann bc\nSET k v\nGET k\nQUIT\n",
         fill: b"",
@@ -63,7 +63,7 @@ const SEVERAL: [Visit; 4] = [
 ];
 
 /// One whose long value takes many turns, and one that asks for that value's length.
-const IN_TURN: [Visit; 2] = [
+const IN_TURN: [Visit<'_>; 2] = [
     Visit {
         asks: b"AUTH ann bc\nSET k ",
         fill: &[b'v'; 60_000],
@@ -88,7 +88,7 @@ const DESCRIPTORS: u32 = 64;
 struct Clients<'a, R> {
     rt: &'a R,
     told: Vec<u8>,
-    visits: &'a [Visit],
+    visits: &'a [Visit<'a>],
     streams: Vec<Option<TcpStream>>,
 }
 
@@ -102,7 +102,7 @@ fn address_in(told: &[u8]) -> Option<SocketAddr> {
 
 impl<R: Net<Stream = TcpStream>> Clients<'_, R> {
     /// A client comes.
-    fn visit(&mut self, address: SocketAddr, visit: Visit) -> io::Result<()> {
+    fn visit(&mut self, address: SocketAddr, visit: Visit<'_>) -> io::Result<()> {
         let mut stream = TcpStream::connect(self.rt, address)?;
         stream.write_all(visit.asks)?;
         stream.write_all(visit.fill)?;
@@ -133,7 +133,7 @@ impl<R: Net<Stream = TcpStream>> Write for Clients<'_, R> {
 
 /// Whether each client that waited is told what it is to be told, and nothing more.
 fn are_told(
-    visits: &[Visit],
+    visits: &[Visit<'_>],
     streams: &mut [Option<TcpStream>],
     alloc: Global,
 ) -> io::Result<bool> {
@@ -150,7 +150,7 @@ fn are_told(
 }
 
 /// The status of a serving with these options, whether its clients are told what they are to be told, and its notices.
-fn served<H>(rt: &H, visits: &[Visit], options: &str) -> Result<(u8, bool, Vec<u8>), Fail>
+fn served<H>(rt: &H, visits: &[Visit<'_>], options: &str) -> Result<(u8, bool, Vec<u8>), Fail>
 where
     H: Abort
         + Alloc<A = Global>
@@ -179,6 +179,29 @@ where
     )?;
     let are_told = are_told(visits, &mut output.streams, alloc)?;
     Ok((status, are_told, errors))
+}
+
+/// Wants the rows of a table to be answered so by a server, as one connection, behind ann's login.
+pub fn answers_served<H>(rt: &H, table: &str) -> Result<(), Fail>
+where
+    H: Abort
+        + Alloc<A = Global>
+        + Net<Listener = TcpListener, Stream = TcpStream>
+        + Threads
+        + Wait
+        + Sync,
+{
+    let (asked, told) = joined(rt.alloc(), table)?;
+    let visit = Visit {
+        asks: asked.as_slice(),
+        fill: b"",
+        then: b"",
+        waits: true,
+        told: told.as_bytes(),
+    };
+    let (status, are_told, _) = served(rt, &[visit], "--connections 1")?;
+    assert!(rt; status == 0 && are_told, "{table}");
+    Ok(())
 }
 
 /// The number of the last of many new descriptors, of which each has the least number that is free.
