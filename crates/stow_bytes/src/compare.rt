@@ -14,6 +14,7 @@ pub struct Standing {
 }
 
 /// How bytes stand to others: byte by byte, a front before its continuation.
+#[inline(always)]
 pub fn compare(one: &[u8], other: &[u8]) -> Ordering
     ensures { result ≡ bytes_cmp one.now other.now }
 {
@@ -22,6 +23,7 @@ pub fn compare(one: &[u8], other: &[u8]) -> Ordering
 
 /// The same of bytes of which so many at the front are known to be the same: these aren't looked at again. Fewer than eight at
 /// the end are read with some before them, as one word.
+#[inline(always)]
 pub fn compare_past(one: &[u8], other: &[u8], shared: usize) -> Standing
     requires { AreAlike shared one.now other.now }
     ensures order { result.order ≡ bytes_cmp one.now other.now }

@@ -34,6 +34,7 @@ use stow_read::found::Found;
 
 impl<A: Allocator + Copy> Core<A> {
     /// Finds what a change of a key's row says, by the value that the row has.
+    #[inline(always)]
     pub(crate) fn prepare_change<'a>(
         &mut self,
         buffer: &mut Vec<u8, A>,
@@ -61,6 +62,7 @@ impl<A: Allocator + Copy> Core<A> {
     /// What a change of a key's row leads to. Only an addition asks for the value that the row has; a SET and an APPEND ask for
     /// its length. The buffer then has the key among the keys of all.
     #[tactic(auto, unfolding(stow_model::specs::Store::outcome))]
+    #[inline(always)]
     fn find_change<'a>(
         &self,
         buffer: &mut Vec<u8, A>,
@@ -103,6 +105,7 @@ impl<A: Allocator + Copy> Core<A> {
     }
 
     /// Makes room for what a key, among the keys of all, is given.
+    #[inline(always)]
     fn prepare_row<'a>(
         &mut self,
         key: &[u8],

@@ -32,6 +32,7 @@ impl<A: Allocator + Copy> Core<A> {
     }
 
     /// Finds what a command says in the tenant's own rows. Its keys are packed in the core's buffer; a PING has none.
+    #[inline(always)]
     pub(crate) fn prepare_command<'a>(
         &mut self,
         alloc: A,
@@ -53,6 +54,7 @@ impl<A: Allocator + Copy> Core<A> {
     }
 
     /// The same with keys packed in a buffer.
+    #[inline(always)]
     pub(crate) fn prepare_in<'a>(
         &mut self,
         buffer: &mut Vec<u8, A>,

@@ -79,6 +79,7 @@ impl<A: Allocator + Copy> Core<A> {
 
     /// What `row` answers. The place is then where the key's next message may come to stand: a guess, beyond all where none was
     /// made.
+    #[inline(always)]
     pub(crate) fn row_with_place(
         &self,
         buffer: &mut Vec<u8, A>,
@@ -102,6 +103,7 @@ impl<A: Allocator + Copy> Core<A> {
 
     /// What the newest message of a key, or its row in a leaf, tells of the row that the key has. The buffer then has the key among
     /// the keys of all.
+    #[inline(always)]
     fn glance(
         &self,
         buffer: &mut Vec<u8, A>,
@@ -123,6 +125,7 @@ impl<A: Allocator + Copy> Core<A> {
 
     /// The row that a tenant's key has now, without its bytes. Its value is read only where appends make it and its length
     /// isn't held. The buffer then has the key among the keys of all.
+    #[inline(always)]
     pub(crate) fn sized_row(
         &self,
         buffer: &mut Vec<u8, A>,
@@ -182,6 +185,7 @@ impl<A: Allocator + Copy> Core<A> {
     }
 
     /// The value of a key, or null.
+    #[inline(always)]
     pub(crate) fn value(
         &self,
         buffer: &mut Vec<u8, A>,

@@ -97,6 +97,7 @@ impl<A: Allocator + Copy> Core<A> {
     }
 
     /// Finds what a write says that is no removal, once nothing is missing of the memory that is held back.
+    #[inline(always)]
     fn prepare_held<'a>(
         &mut self,
         buffer: &mut Vec<u8, A>,
@@ -135,6 +136,7 @@ impl<A: Allocator + Copy> Core<A> {
     }
 
     /// Finds what a write says that is no removal. Where memory is refused it is tried again with drained leaves.
+    #[inline(always)]
     pub(crate) fn prepare_growth<'a>(
         &mut self,
         buffer: &mut Vec<u8, A>,
@@ -193,6 +195,7 @@ impl<A: Allocator + Copy> Core<A> {
 
     /// Finds what a command says: a removal has the memory that is held back, other writes get what is missing of it first, and
     /// what only reads does neither.
+    #[inline(always)]
     pub(crate) fn prepare_by_kind<'a>(
         &mut self,
         buffer: &mut Vec<u8, A>,

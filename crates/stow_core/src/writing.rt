@@ -24,6 +24,7 @@ use stow_model::words::Words;
 
 impl<A: Allocator + Copy> Core<A> {
     /// Makes room for a write, unless no number is left for it, or it exceeds the tenant's quota.
+    #[inline(always)]
     pub(crate) fn prepare_write<'a>(
         &mut self,
         alloc: A,

@@ -8,6 +8,7 @@ use std::alloc::Allocator;
 use stow_slots::slot_buf::SlotBuf;
 
 /// Whether so many messages stand below the key and number: only those right before that place and at it are looked at.
+#[inline(always)]
 pub(crate) fn is_place<A: Allocator>(
     raw: &SlotBuf<A>,
     count: usize,
@@ -22,6 +23,7 @@ pub(crate) fn is_place<A: Allocator>(
 }
 
 /// Whether so many messages at least stand below the key and number, by the slot of the last one of them.
+#[inline(always)]
 fn reaches<A: Allocator>(
     raw: &SlotBuf<A>,
     count: usize,
@@ -43,6 +45,7 @@ fn reaches<A: Allocator>(
 }
 
 /// Whether no more messages than so many stand below the key and number, by the slot of the next one.
+#[inline(always)]
 fn ends<A: Allocator>(
     raw: &SlotBuf<A>,
     count: usize,

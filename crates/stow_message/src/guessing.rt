@@ -9,6 +9,7 @@ use stow_slots::slot_buf::SlotBuf;
 
 /// How many messages may stand below the key and number: as many as do of those whose slots aren't young, and of the others
 /// as many as stand before those and, side by side, behind them.
+#[inline(always)]
 pub(crate) fn guess<A: Allocator>(
     raw: &SlotBuf<A>,
     words: &KeyWords<A>,
@@ -23,6 +24,7 @@ pub(crate) fn guess<A: Allocator>(
 
 /// How many young messages stand below the key and number, of which so many others do: those that stand behind fewer, and some of
 /// those behind as many, of which the last is looked at first.
+#[inline(always)]
 fn young_below<A: Allocator>(raw: &SlotBuf<A>, older: usize, key: &[u8], number: u64) -> usize
     requires { IsPackedBuffer raw.now }
 {
@@ -45,6 +47,7 @@ fn young_below<A: Allocator>(raw: &SlotBuf<A>, older: usize, key: &[u8], number:
 
 /// How many messages whose slots aren't young stand below the key and number, where that is between both ends of the span. It is
 /// looked for at its end first: most searches are for the newest message of a key.
+#[inline(always)]
 fn older_below<A: Allocator>(
     raw: &SlotBuf<A>,
     span: (usize, usize),
@@ -70,6 +73,7 @@ fn older_below<A: Allocator>(
 }
 
 /// Whether the message of a slot stands below the key and number, if there is one.
+#[inline(always)]
 fn is_below<A: Allocator>(raw: &SlotBuf<A>, slot: Option<u32>, key: &[u8], number: u64) -> bool
     requires filled { IsPackedBuffer raw.now }
     requires there { IfSome slot (Contains raw.now.slots) }

@@ -305,6 +305,7 @@ impl<A: Allocator> KeyWords<A> {
     }
 
     /// How many words are below one.
+    #[inline(always)]
     fn count_below(&self, word: u64) -> usize {
         let words = self.words.as_slice();
         let (mut low, mut high) = (0, words.len());
@@ -320,6 +321,7 @@ impl<A: Allocator> KeyWords<A> {
     }
 
     /// Where those words end that are this one and begin at a place, if they do: in steps that double, then by halves.
+    #[inline(always)]
     fn end_of(&self, from: usize, word: u64) -> usize {
         let reached = self.last_step(from, word);
         let (mut low, mut high) = (from.min(reached), reached);
@@ -335,6 +337,7 @@ impl<A: Allocator> KeyWords<A> {
     }
 
     /// The first place reached from another by steps that double whose word isn't this one, or their end.
+    #[inline(always)]
     fn last_step(&self, from: usize, word: u64) -> usize {
         let (mut at, mut step) = (from, 1usize);
         for _ in 0..self.words.len() {
@@ -353,6 +356,7 @@ impl<A: Allocator> KeyWords<A> {
     }
 
     /// Whether the key shares with the others what they share.
+    #[inline(always)]
     fn is_alike<B: Allocator>(&self, raw: &SlotBuf<B>, key: &[u8]) -> bool
         requires { IsPackedBuffer raw.now }
     {
@@ -364,6 +368,7 @@ impl<A: Allocator> KeyWords<A> {
     }
 
     /// Between which of the slots that aren't young those of messages of the key stand, by words, or else by nothing.
+    #[inline(always)]
     pub(crate) fn span<B: Allocator>(&self, raw: &SlotBuf<B>, key: &[u8]) -> (usize, usize)
         requires { IsPackedBuffer raw.now }
     {

@@ -245,6 +245,7 @@ impl<A: Allocator> MessageBuf<A> {
     }
 
     /// The message at `index`, lent out of the block.
+    #[inline(always)]
     pub fn message(&self, index: usize) -> Message<'_>
         requires { index < length self.now.messages }
         ensures { message_of result ≡ slice_index_or self.now.messages index (message_of result) }
@@ -262,6 +263,7 @@ impl<A: Allocator> MessageBuf<A> {
     }
 
     /// How many messages stand below the key and number.
+    #[inline(always)]
     fn search(&self, key: &[u8], number: u64) -> usize
         ensures count { result ≡ below (key.now, number) self.now.messages }
         ensures rising { MessagesRise self.now.messages }
@@ -310,6 +312,7 @@ impl<A: Allocator> MessageBuf<A> {
     }
 
     /// How many messages stand below the key and number. The search is the shorter the nearer the guess is.
+    #[inline(always)]
     pub fn count_below(&self, key: TenantKey<'_>, number: u64, guess: usize) -> usize
         ensures count { result ≡ below (key.entry.bytes.now, number) self.now.messages }
         ensures rising { MessagesRise self.now.messages }
@@ -402,6 +405,7 @@ impl<A: Allocator> MessageBuf<A> {
     }
 
     /// Whether messages of the key may be held. The answer takes no search.
+    #[inline(always)]
     pub fn may_have(&self, key: TenantKey<'_>) -> bool
         ensures { result ≡ false → of_key key.entry.bytes.now self.now.messages ≡ [] }
     {

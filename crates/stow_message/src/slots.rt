@@ -12,6 +12,7 @@ use stow_bytes::compare::{compare, compare_past};
 use stow_slots::slot_buf::SlotBuf;
 
 /// The key of the message that begins `at` bytes into the front.
+#[inline(always)]
 pub(crate) fn key_at<A: Allocator>(raw: &SlotBuf<A>, at: usize) -> &[u8]
     requires begins { BeginsWith (drop at raw.now.front) }
     requires small { length raw.now.front < 2 ^ 32 }
@@ -31,6 +32,7 @@ pub(crate) fn number_in<A: Allocator>(raw: &SlotBuf<A>, at: usize) -> u64
 }
 
 /// Whether the message that begins `at` bytes into the front stands below the key and number.
+#[inline(always)]
 pub(crate) fn names_below<A: Allocator>(
     raw: &SlotBuf<A>,
     at: usize,

@@ -19,6 +19,7 @@ pub enum BulkAt<'a> {
 }
 
 /// The element at the front of the bytes.
+#[inline(always)]
 pub fn bulk(bytes: &[u8]) -> BulkAt<'_>
     ensures { IsBulkAt bytes.now result }
 {
@@ -36,6 +37,7 @@ pub fn bulk(bytes: &[u8]) -> BulkAt<'_>
 }
 
 /// The element after its line, which says how many bytes it has.
+#[inline(always)]
 fn body(rest: &[u8], len: u32) -> BulkAt<'_>
     requires { len ≤ value_limit }
     ensures { IsBulkAt (bulk_line len ++ rest.now) result }

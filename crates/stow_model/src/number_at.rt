@@ -14,6 +14,7 @@ pub enum NumberAt<'a> {
 
 /// The number up to the limit at the front of the bytes, in decimal with no sign and no leading zero, with
 /// CR and LF after it.
+#[inline(always)]
 pub fn number(bytes: &[u8], limit: u32) -> NumberAt<'_>
     requires { limit < 10000000 }
     ensures { IsNumberAt limit bytes.now result }
@@ -37,6 +38,7 @@ pub fn number(bytes: &[u8], limit: u32) -> NumberAt<'_>
 }
 
 /// What is found at the byte after the digits of a number, if there were some.
+#[inline(always)]
 fn end_of_line(byte: u8, after: &[u8], value: u32, some: bool) -> NumberAt<'_>
     requires { 48 ≤ byte → byte ≤ 57 → ⊥ }
     ensures { (front : List ℕ) (limit : ℕ) → limit < 10000000 → IsSoFar limit front value

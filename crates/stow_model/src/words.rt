@@ -92,6 +92,7 @@ impl<A: Allocator> Words<A> {
     }
 
     /// Adds a copy of a word. An `Err` changes nothing.
+    #[inline(always)]
     pub fn push(&mut self, word: &[u8]) -> Result<(), AllocError>
         ensures ok { OnOk result (self.new ≡ self.old ++ word.now ∷ []) }
         ensures err { OnErr result (self.new ≡ self.old) }

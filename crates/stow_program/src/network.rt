@@ -1,8 +1,10 @@
 //! Where connections come from.
-ghost use Rattle.std.specs.Prelude.{◌≡◌, IfErr};
+ghost use Rattle.std.specs.Prelude.{◌≡◌, IfErr, IfOk};
 ghost use Rattle.stow_program.specs.Outcomes.{EndsServing};
+ghost use Rattle.stow_program.specs.Services.{IsServed};
 
 use crate::serve::serve_connections;
+use crate::service::Service;
 use std::alloc::Global;
 use std::io::Write;
 use std::net::{Net, TcpListener, TcpStream};
@@ -24,9 +26,10 @@ pub fn listen<H, W: Sink, E: Write>(
     serving: Serving,
     output: &mut W,
     errors: &mut E,
-) -> Result<(), Failure<'static>>
+) -> Result<Service<Global>, Failure<'static>>
 where
     H: Net<Listener = TcpListener, Stream = TcpStream> + Threads + Wait + Sync,
+    ensures ok { IfOk result (λ s. IsServed tenants shape serving s.shared s.seats.items s.accepted) }
     ensures err { IfErr result (EndsServing (W.failures output.old) (W.failures output.new)) }
     ensures same_output { W.borrow output.new ≡ W.borrow output.old }
 {

@@ -87,6 +87,9 @@ where
     let shape = arguments.shape;
     match arguments.job {
         Job::Input(task) => serve(alloc, tenants, shape, task, input, output),
-        Job::Serve(serving) => listen(rt, alloc, tenants, shape, serving, output, errors),
+        Job::Serve(serving) => {
+            listen(rt, alloc, tenants, shape, serving, output, errors)?;
+            Ok(())
+        }
     }
 }

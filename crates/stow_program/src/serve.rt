@@ -1,7 +1,10 @@
 //! Connections over TCP, served by threads, beside threads that flush.
-ghost use Rattle.std.specs.Prelude.{◌≡◌, ◌<◌, IfErr};
+ghost use Rattle.std.specs.Prelude.{◌≡◌, ◌+◌, ◌-◌, ◌<◌, IfErr, IfOk, false, min, vec_len};
 ghost use Rattle.stow_program.specs.Outcomes.{EndsServing};
+ghost use Rattle.stow_program.specs.Services.{IsMemory, IsOfNetwork, IsOpened, IsServed, workers_of};
+ghost use Rattle.stow_workers.specs.Pools.{ComeBack, total_of};
 
+use crate::service::Service;
 use log::info;
 use log::sink::Writer;
 use std::alloc::{AllocError, Allocator};
@@ -12,7 +15,6 @@ use std::thread::Threads;
 use stow_login::tenants::Tenants;
 use stow_run::failure::{Endpoint, Failure};
 use stow_run::serving::Serving;
-use stow_shared::open_fault::OpenFault;
 use stow_shared::seat::Seat;
 use stow_shared::shared::Shared;
 use stow_shared::unkept::Unkept;
@@ -35,46 +37,92 @@ pub fn serve_connections<R, A, W: Sink, E: Write>(
     serving: Serving,
     output: &mut W,
     errors: &mut E,
-) -> Result<(), Failure<'static>>
+) -> Result<Service<A>, Failure<'static>>
 where
     R: Threads + Wait + Net + Sync,
     A: Allocator + Copy + Send + Sync,
+    ensures ok { IfOk result (λ s. IsServed tenants shape serving s.shared s.seats.items s.accepted) }
     ensures err { IfErr result (EndsServing (W.failures output.old) (W.failures output.new)) }
     ensures same_output { W.borrow output.new ≡ W.borrow output.old }
+{
+    let (shared, seats) = opened(alloc, tenants, shape, serving)?;
+    let address = Endpoint::Network.check(listener.local_addr())?;
+    tell_address(alloc, address, output)?;
+    notice(serving, "start", errors);
+    let (seats, accepted) = serve_from(rt, alloc, listener, &shared, seats, serving);
+    let accepted = accepted?;
+    notice(serving, "end", errors);
+    Ok(Service {
+        shared,
+        seats,
+        accepted,
+    })
+}
+
+/// A lock that keeps no journal over a new core of the tenants and a tree of this shape, and a seat for each worker and
+/// each flusher.
+fn opened<A: Allocator + Copy>(
+    alloc: A,
+    tenants: Tenants<A>,
+    shape: TreeShape,
+    serving: Serving,
+) -> Result<(Shared<Unkept, A>, Vec<Seat<Unkept, A>, A>), Failure<'static>>
+    ensures ok { IfOk result (λ r. IsOpened tenants shape serving r.0 r.1.items) }
+    ensures err { IfErr result IsMemory }
 {
     let tenants = Arc::new(alloc, tenants).map_err(AllocError::from)?;
     let core = new_core(alloc, tenants, shape)?;
     let count = serving.workers.saturating_add(serving.flushers);
-    let Ok((shared, seats)) = Shared::<Unkept, A>::open(alloc, core, count) else {
-        return Err(Failure::Memory);
-    };
-    let address = Endpoint::Network.check(listener.local_addr())?;
-    tell_address(alloc, address, output)?;
-    notice(serving, "start", errors);
+    match Shared::open(alloc, core, count) {
+        Ok(opened) => Ok(opened),
+        Err(_) => Err(Failure::Memory),
+    }
+}
+
+/// Serves the listener's connections from these seats, and tells how many it accepted.
+fn serve_from<R, A>(
+    rt: &R,
+    alloc: A,
+    listener: &TcpListener,
+    shared: &Shared<Unkept, A>,
+    seats: Vec<Seat<Unkept, A>, A>,
+    serving: Serving,
+) -> (Vec<Seat<Unkept, A>, A>, Result<u64, Failure<'static>>)
+where
+    R: Threads + Wait + Net + Sync,
+    A: Allocator + Copy + Send + Sync,
+    requires each { vec_len seats ≡ serving.workers + serving.flushers }
+    requires some { 0 < vec_len seats }
+    ensures back { ComeBack false (workers_of serving) seats.items result.0.items }
+    ensures accepted { IfOk result.1 (λ accepted. accepted ≡ total_of serving.connections) }
+    ensures err { IfErr result.1 IsOfNetwork }
+{
     let flushers = flushers_among(seats.len(), serving.flushers);
-    let (_, fault) = Pool::run(
+    let (seats, accepted) = Pool::run(
         rt,
         alloc,
         listener,
-        &shared,
+        shared,
         seats,
         flushers,
         serving.clients,
         serving.connections,
         &OpenGate,
     );
-    match fault {
-        Some(PoolFault::AcceptFailed(error)) => return Err(Failure::at(Endpoint::Network, error)),
-        Some(PoolFault::Refused) => return Err(Failure::Memory),
-        None => notice(serving, "end", errors),
+    match accepted {
+        Ok(accepted) => (seats, Ok(accepted)),
+        Err(PoolFault::AcceptFailed(error)) => {
+            (seats, Err(Failure::at(Endpoint::Network, error)))
+        }
+        Err(PoolFault::Refused) => (seats, Err(Failure::Memory)),
     }
-    Ok(())
 }
 
 /// How many of the seats are flushers', where so many are wanted: one at least is a worker's.
 fn flushers_among(seats: usize, wanted: u32) -> usize
     requires { 0 < seats }
-    ensures { result < seats }
+    ensures few { result < seats }
+    ensures wanted { result ≡ min wanted (seats - 1) }
 {
     (wanted as usize).min(seats - 1)
 }

@@ -4,6 +4,7 @@ use crate::given::Given;
 use crate::running::{
     AMPLE_PIPE, SCRIPT, Shelf, answers_all, answers_by, answers_each, answers_scripts, run_over,
 };
+use crate::serve::answers_served;
 use crate::table::spread;
 use std::alloc::{AllocError, Global};
 use std::net::{Net, TcpListener, TcpStream};
@@ -61,7 +62,8 @@ const WORDS: &str = r"
 
 #[test]
 fn requests_have_a_most_of_words(rt: HostRuntime) -> Result<(), Fail> {
-    answers_all(&rt, WORDS)
+    answers_all(&rt, WORDS)?;
+    answers_served(&rt, WORDS)
 }
 
 /// 1,024 rows of long values, in one reply of 64 MiB.
@@ -197,8 +199,8 @@ fn a_store_may_be_large(rt: HostRuntime) -> Result<(), Fail> {
     )
 }
 
-/// 10,000 connections and 100,000 events: more than 64 KiB of answers.
-const LONG: &str = "{1..10001|open %
+/// As many connections as there may be, and 90,000 events of some of them: more than 64 KiB of answers.
+const LONG: &str = "{1..65536|open %
 }{1..10001|serve %
 }{1..10001|serve %
 }{1..10001|serve %
@@ -209,7 +211,7 @@ const LONG: &str = "{1..10001|open %
 }{1..10001|serve %
 }{1..10001|serve %
 }----
-{0..10000|open
+{0..65535|open
 }{0..90000|more
 }";
 

@@ -242,7 +242,7 @@ where
 }
 
 /// What ann's login asks and is told, and then all rows of a table; `~` stands for the byte 255 in what is asked.
-fn joined<A: Allocator + Copy>(
+pub fn joined<A: Allocator + Copy>(
     alloc: A,
     table: &str,
 ) -> Result<(Vec<u8, A>, String<A>), AllocError> {

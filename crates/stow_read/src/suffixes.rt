@@ -73,6 +73,7 @@ impl<'a, A: Allocator + Copy> Suffixes<'a, A> {
 
     /// Goes over the key's messages numbered at most `at`, from the newest on, up to the first one that is no append.
     /// They are found the faster the nearer the guess is.
+    #[inline(always)]
     pub(crate) fn look(
         &mut self,
         buffer: &'a MessageBuf<A>,
@@ -128,6 +129,7 @@ impl<'a, A: Allocator + Copy> Suffixes<'a, A> {
     }
 
     /// What the key has, given what it has below the suffixes.
+    #[inline(always)]
     pub(crate) fn on(
         &self,
         alloc: A,

@@ -10,6 +10,7 @@ use stow_tree_model::tenant_key::TenantKey;
 
 /// How many messages at the front of a buffer end in the newest one of a key up to a number, if it has one: by one search,
 /// which is the shorter the nearer the guess is; for a guess beyond all messages the buffer's filter is asked before.
+#[inline(always)]
 pub(crate) fn count_up_to<A: Allocator>(
     buffer: &MessageBuf<A>,
     key: TenantKey<'_>,
@@ -25,6 +26,7 @@ pub(crate) fn count_up_to<A: Allocator>(
 }
 
 /// The newest message of a key up to a number, and behind how many messages the key's next one may come to stand.
+#[inline(always)]
 pub(crate) fn newest_up_to<'a, A: Allocator>(
     buffer: &'a MessageBuf<A>,
     key: TenantKey<'_>,

@@ -86,6 +86,7 @@ impl<A: Allocator + Copy> Input<A> {
     }
 
     /// Takes the next message off, if it is whole.
+    #[inline(always)]
     pub fn next(&mut self, alloc: A) -> Next<A>
         ensures { IsNext result self.old self.new }
     {
@@ -101,6 +102,7 @@ impl<A: Allocator + Copy> Input<A> {
     }
 
     /// Looks how a message begins.
+    #[inline(always)]
     fn start(&mut self, alloc: A) -> Next<A>
         ensures { IsNext result self.old self.new }
     {
@@ -125,6 +127,7 @@ impl<A: Allocator + Copy> Input<A> {
 
     /// Looks for the elements that were not found yet.
     #[inline(never)]
+    #[inline(always)]
     fn go_on(&mut self, alloc: A, mut progress: Progress<A>) -> Next<A>
         requires { IsProgress progress self.old }
         ensures { IsNext result self.old self.new }
@@ -143,6 +146,7 @@ impl<A: Allocator + Copy> Input<A> {
     }
 
     /// Takes a whole array off.
+    #[inline(always)]
     fn take(&mut self, alloc: A, mut progress: Progress<A>) -> Next<A>
         requires progress { IsProgress progress self.old }
         requires whole { progress.found ≡ progress.count }

@@ -1,15 +1,17 @@
 -- A core that is opened for threads.
 use Rattle.std.specs.Prelude.{◌≡◌, ℕ, ◌+◌, ◌≤◌, ◌<◌, List, length, Some, slice_get}
+use Rattle.stow_core.specs.State.{CoreState}
 use Rattle.stow_model.specs.Login as login
 use Rattle.stow_shared.specs.declared.open_fault.OpenFault.{OpenFault}
 use Rattle.stow_shared.specs.declared.open_fault.OpenFault.TheVariants as fault
 use Rattle.stow_shared.specs.Seats.{SeatState, new_seat}
 
--- what threads share, beside what stands under the lock: who the tenants are, and how many seats
--- there are
+-- what threads share, beside what stands under the lock: who the tenants are, how many seats there
+-- are, and the core as it was opened
 pub record SharedState : Type 0 where
   pub tenants : List login.Entry
   pub seats : ℕ
+  pub opened : CoreState
 
 -- so many seats there may be
 abbrev pub IsSeatCount : ℕ → Type 0
@@ -29,9 +31,9 @@ abbrev pub IsFaultOf : ℕ → OpenFault → Type 0
 IsFaultOf count fault.SeatCount = ¬ (IsSeatCount count)
 IsFaultOf count fault.OutOfMemory = IsSeatCount count
 
--- a core of these tenants is shared by a new seat of each number
-pub record Opens (entries : List login.Entry) (count : ℕ) (shared : SharedState)
-    (seats : List SeatState) : Type 0 where
+-- this core, with its tenants, is shared by a new seat of each number
+pub record Opens (core : CoreState) (count : ℕ) (shared : SharedState) (seats : List SeatState)
+    : Type 0 where
   pub counted : IsSeatCount count
-  pub shares : shared ≡ record { tenants = entries; seats = count }
+  pub shares : shared ≡ record { tenants = core.entries; seats = count; opened = core }
   pub each : AreNewSeats count seats

@@ -20,6 +20,7 @@ use crate::seat::Seat;
 use crate::turns::{Turns, asks_for_many, bytes_of};
 use std::alloc::{AllocError, Allocator, Global};
 use std::marker::Model;
+use std::snapshot::Snapshot;
 use std::sync::{Arc, Mutex, Wait};
 use stow_core::Core;
 use stow_house::request::Request;
@@ -39,6 +40,8 @@ pub struct Shared<J: Journal, A: Allocator + Copy = Global> {
     tenants: Arc<Tenants<A>, A>,
     seats: u32,
     turns: Turns,
+    /// The core as it was opened, of which contracts alone speak.
+    opened: Snapshot<Core<A>>,
     book: Mutex<Book<J, A>>,
 }
 
@@ -48,7 +51,11 @@ impl<J: Journal, A: Allocator + Copy> Model for Shared<J, A> {
 
     ghost Value = { SharedState };
 
-    ghost view = { λ s. record { tenants = arc_value s.tenants; seats = s.seats } };
+    ghost view = { λ s. record {
+      tenants = arc_value s.tenants;
+      seats = s.seats;
+      opened = s.opened.value;
+    } };
 }
 
 impl<J: Journal, A: Allocator + Copy> Shared<J, A> {
@@ -60,7 +67,7 @@ impl<J: Journal, A: Allocator + Copy> Shared<J, A> {
         seats: u32,
     ) -> Result<(Shared<J, A>, Vec<Seat<J, A>, A>), (Core<A>, OpenFault)>
         requires { IsNewCore core }
-        ensures opened { IfOk result (λ r. Opens core.entries seats r.0 r.1.items) }
+        ensures opened { IfOk result (λ r. Opens core seats r.0 r.1.items) }
         ensures core { IfErr result (λ r. r.0 ≡ core) }
         ensures fault { IfErr result (λ r. IsFaultOf seats r.1) }
     {
@@ -72,16 +79,14 @@ impl<J: Journal, A: Allocator + Copy> Shared<J, A> {
         };
         match Arc::try_clone(core.tenants()) {
             Ok(tenants) => {
-                let book = Mutex::new(Book::new(alloc, core));
-                Ok((
-                    Shared {
-                        tenants,
-                        seats,
-                        turns: Turns::new(),
-                        book,
-                    },
-                    handed,
-                ))
+                let shared = Shared {
+                    tenants,
+                    seats,
+                    turns: Turns::new(),
+                    opened: Snapshot::of(&core),
+                    book: Mutex::new(Book::new(alloc, core)),
+                };
+                Ok((shared, handed))
             }
             Err(_) => Err((core, OpenFault::OutOfMemory)),
         }
@@ -255,6 +260,7 @@ impl<J: Journal, A: Allocator + Copy> Shared<J, A> {
             tenants,
             seats: count,
             turns,
+            opened,
             book,
         } = self;
         let book = book.into_inner();
@@ -265,6 +271,7 @@ impl<J: Journal, A: Allocator + Copy> Shared<J, A> {
             tenants,
             seats: count,
             turns,
+            opened,
             book: Mutex::new(book),
         };
         Err((shared, seats))

@@ -1,5 +1,5 @@
 -- What the workers and flushers of a pool did with their seats.
-use Rattle.std.specs.Prelude.{◌≡◌, ℕ, Bool, List, [], ◌∷◌, take, drop}
+use Rattle.std.specs.Prelude.{◌≡◌, ℕ, zero, suc, Bool, List, [], ◌∷◌, take, drop}
 use Rattle.stow_shared.specs.Seats.{SeatState, SeatCalls, SeatFlushes}
 use Rattle.stow_workers.specs.Exchanges.{Call, LeadTo}
 use Rattle.stow_workers.specs.Flushes.{HasFlushed}
@@ -50,3 +50,8 @@ pub record AreEachUpTo {X Y : Type 0} (count : ℕ) (R S : X → Y → Type 0) (
 -- plans and installs alone
 abbrev pub ComeBack : Bool → ℕ → List SeatState → List SeatState → Type 0
 ComeBack keeps count = AreEachUpTo count (HasCalled keeps) (HasFlushed (SeatFlushes keeps))
+
+-- how many connections a pool accepts that is to accept so many: at 0 there is no end
+abbrev pub total_of : ℕ → ℕ
+total_of zero = 18446744073709551615
+total_of (suc before) = suc before

@@ -1,4 +1,7 @@
 //! Connections on their way from a listener to the workers.
+ghost use Rattle.std.specs.Prelude.{◌≡◌, IfOk};
+ghost use Rattle.stow_workers.specs.Pools.{total_of};
+
 use crate::pool_fault::PoolFault;
 use crate::senders::Senders;
 use std::alloc::Allocator;
@@ -11,26 +14,30 @@ use std::sync::Wait;
 const NO_DESCRIPTOR: [i32; 2] = [23, 24];
 
 /// Accepts so many connections, each once there is room for it, and hands them over; at 0 there is no end. Where one
-/// can't be handed over it is closed.
+/// can't be handed over it is closed. It tells how many it accepted.
 pub(crate) fn accept<R: Wait, A: Allocator + Copy>(
     rt: &R,
     listener: &TcpListener,
     senders: &mut Senders<A>,
     connections: u64,
-) -> Option<PoolFault> {
+) -> Result<u64, PoolFault>
+    ensures { IfOk result (λ accepted. accepted ≡ total_of connections) }
+{
     let count = if connections == 0 {
         u64::MAX
     } else {
         connections
     };
+    let mut accepted = 0;
     for _ in 0..count {
         senders.wait_for_room(rt);
         match next_stream(rt, listener, senders) {
             Ok(stream) => senders.hand_over(rt, stream),
-            Err(error) => return Some(PoolFault::AcceptFailed(error)),
+            Err(error) => return Err(PoolFault::AcceptFailed(error)),
         }
+        accepted += 1;
     }
-    None
+    Ok(accepted)
 }
 
 /// The next connection. One that went away before it was accepted is passed over. Where no descriptor is free it waits until a

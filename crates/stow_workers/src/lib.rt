@@ -38,14 +38,15 @@
 //! - A pool (`pool::Pool`) gives each seat back in its place, at a fault too. From a worker's nothing but calls was done:
 //!   it gained the receipt of each, where receipts are kept, or counted that memory was refused to it. From a flusher's
 //!   nothing but plans and installs was, with their receipts (`specs/Pools.antt`). Whoever then closes the lock
-//!   learns from it that these receipts are one legal journal.
+//!   learns from it that these receipts are one legal journal. Where there is no fault it tells how many connections it
+//!   accepted, as many as it was asked to.
 //!
 //! Only tested of the pool, over loopback: that it serves at all, that its workers do so side by side and while a flusher
 //! merges, that flushers are woken at all, that a client which is silent, breaks off, faults or reads nothing holds up
 //! nobody, that no more are served than there is room for, which fault it tells, and that it ends. Which connection a
 //! worker serves next, and that a turn has the connection's own socket, no clause says. Nothing is said of a socket's
-//! bytes, of the channels that hand connections and wakes over, or of when a thread runs; a pool that serves nobody meets
-//! its contract. That a refused thread, or refused memory, gives the seats back is proved; that refused memory is told, and
+//! bytes, of the channels that hand connections and wakes over, or of when a thread runs; a pool that accepts and
+//! serves nobody meets its contract. That a refused thread, or refused memory, gives the seats back is proved; that refused memory is told, and
 //! only then, is tested of each request that the pool makes itself. No test refuses it a thread.
 //!
 //! Only tested of a connection: that want of memory is told only where it was refused, so a body that gives up with it is right by

@@ -1,7 +1,7 @@
 //! Threads that serve the connections of a listener, and flush.
 ghost use denote.Param.Send.{Frees, IsSend, IsSync};
-ghost use Rattle.std.specs.Prelude.{◌≡◌, ◌-◌, ◌<◌, ◌≤◌, vec_len, vec_capacity, []};
-ghost use Rattle.stow_workers.specs.Pools.{AreEach, AreEachUpTo, ComeBack, GivesBack, IsFlusherOf, IsWorkerOf};
+ghost use Rattle.std.specs.Prelude.{◌≡◌, ◌-◌, ◌<◌, ◌≤◌, vec_len, vec_capacity, [], IfOk};
+ghost use Rattle.stow_workers.specs.Pools.{AreEach, AreEachUpTo, ComeBack, GivesBack, IsFlusherOf, IsWorkerOf, total_of};
 
 use crate::accepting::accept;
 use crate::gate::Gate;
@@ -31,9 +31,9 @@ impl Pool {
     /// Serves the listener's connections, up to `clients` at once, or one at 0, each by one worker from its first request to its
     /// end, with a worker for each seat but the last `flushers`. A connection goes to a worker that has fewest, and those of a
     /// worker take turns. From each of the last seats a flusher flushes, woken by every 64th call of a worker. Returns once so many
-    /// connections were served, or never at 0, and all its threads have ended; so does a fault, once the connections that were
-    /// accepted are served. Each seat comes back in its place. Nothing but calls was done from a worker's, and nothing but plans and
-    /// installs from a flusher's.
+    /// connections were served, which it then tells, or never at 0, and all its threads have ended; so does a fault, once the
+    /// connections that were accepted are served. Each seat comes back in its place. Nothing but calls was done from a worker's, and
+    /// nothing but plans and installs from a flusher's.
     pub fn run<
         'a,
         R: Threads + Wait + Net + Sync,
@@ -50,13 +50,14 @@ impl Pool {
         clients: u32,
         connections: u64,
         gate: &'a G,
-    ) -> (Vec<Seat<J, A>, A>, Option<PoolFault>)
+    ) -> (Vec<Seat<J, A>, A>, Result<u64, PoolFault>)
         requires { flushers < vec_len seats }
-        ensures { ComeBack J.keeps (vec_len seats - flushers) seats.items result.0.items }
+        ensures back { ComeBack J.keeps (vec_len seats - flushers) seats.items result.0.items }
+        ensures accepted { IfOk result.1 (λ accepted. accepted ≡ total_of connections) }
     {
         let count = seats.len() - flushers;
         let Some((senders, wakes)) = set_up(rt, alloc, count, flushers, clients) else {
-            return (seats, Some(PoolFault::Refused));
+            return (seats, Err(PoolFault::Refused));
         };
         let place = Workplace {
             rt,
@@ -111,35 +112,37 @@ fn serve<
     count: usize,
     connections: u64,
     senders: Option<Senders<A>>,
-) -> (Vec<Seat<J, A>, A>, Option<PoolFault>)
+) -> (Vec<Seat<J, A>, A>, Result<u64, PoolFault>)
     requires { count ≤ vec_len seats }
-    ensures { ComeBack J.keeps count seats.items result.0.items }
+    ensures back { ComeBack J.keeps count seats.items result.0.items }
+    ensures accepted { IfOk result.1 (λ accepted. accepted ≡ total_of connections) }
 {
     let (rt, alloc) = (place.rt, place.alloc);
     let Ok(workers) = Vec::with_capacity(alloc, seats.len()) else {
-        return (seats, Some(PoolFault::Refused));
+        return (seats, Err(PoolFault::Refused));
     };
     let Ok(returned) = Vec::with_capacity(alloc, seats.len()) else {
-        return (seats, Some(PoolFault::Refused));
+        return (seats, Err(PoolFault::Refused));
     };
     thread::scope(
         thread::scope_env(),
         rt,
-        move |scope| -> (Vec<Seat<J, A>, A>, Option<PoolFault>)
+        move |scope| -> (Vec<Seat<J, A>, A>, Result<u64, PoolFault>)
             requires { IsSync R.row × IsSync J.row × IsSync G.row × IsSync A.row
                 × IsSend J.row × IsSend A.row × Frees A.Allocator A.dealloc_token
                 × (workers.items ≡ []) × (vec_len seats ≤ vec_capacity workers)
                 × (returned.items ≡ []) × (vec_len seats ≤ vec_capacity returned) }
-            ensures { ComeBack J.keeps count seats.items result.0.items }
+            ensures back { ComeBack J.keeps count seats.items result.0.items }
+            ensures accepted { IfOk result.1 (λ accepted. accepted ≡ total_of connections) }
         {
             let mut senders = senders;
             let workers = start_all(scope, place, count, seats, &mut senders, workers);
-            let fault = match &mut senders {
+            let accepted = match &mut senders {
                 Some(senders) => accept(rt, listener, senders, connections),
-                None => Some(PoolFault::Refused),
+                None => Err(PoolFault::Refused),
             };
             drop(senders);
-            (join_all(rt, workers, returned), fault)
+            (join_all(rt, workers, returned), accepted)
         },
     )
 }

@@ -108,7 +108,7 @@ fn one_thread_serves_all(rt: HostRuntime) -> Result<(), Fail> {
     let listener = TcpListener::bind(&rt, "127.0.0.1:0")?;
     let address = listener.local_addr()?;
     let hold = Hold::new(&rt, false);
-    let ((one, other), (_, fault)) = join(
+    let ((one, other), (_, ended)) = join(
         &rt,
         || {
             join(
@@ -119,7 +119,7 @@ fn one_thread_serves_all(rt: HostRuntime) -> Result<(), Fail> {
         },
         || Pool::run(&rt, alloc, &listener, &shared, seats, 0, 100, 2, &hold),
     );
-    assert!(rt; fault.is_none() && one? && other?);
+    assert!(rt; ended.is_ok() && one? && other?);
     assert!(rt; hold.were_answered());
     Ok(())
 }
@@ -132,7 +132,7 @@ fn lock_held_while_reading_or_merging(rt: HostRuntime) -> Result<(), Fail> {
     let listener = TcpListener::bind(&rt, "127.0.0.1:0")?;
     let address = listener.local_addr()?;
     let hold = Hold::new(&rt, true);
-    let ((one, other), (_, fault)) = join(
+    let ((one, other), (_, ended)) = join(
         &rt,
         || {
             join(
@@ -143,7 +143,7 @@ fn lock_held_while_reading_or_merging(rt: HostRuntime) -> Result<(), Fail> {
         },
         || Pool::run(&rt, alloc, &listener, &shared, seats, 1, 100, 2, &hold),
     );
-    assert!(rt; fault.is_none() && one? && other?);
+    assert!(rt; ended.is_ok() && one? && other?);
     assert!(rt; hold.were_answered());
     Ok(())
 }
@@ -304,7 +304,7 @@ fn two_workers_leave_a_legal_journal(rt: HostRuntime) -> Result<(), Fail> {
     let (shared, seats) = opened::<Kept, Global>(alloc, alloc, 2)?;
     let listener = TcpListener::bind(&rt, "127.0.0.1:0")?;
     let address = listener.local_addr()?;
-    let (are_right, (seats, fault)) = join(
+    let (are_right, (seats, ended)) = join(
         &rt,
         || {
             let filled = map_indices(&rt, alloc, 4, &|at| fill(&rt, address, alloc, at))?;
@@ -312,7 +312,7 @@ fn two_workers_leave_a_legal_journal(rt: HostRuntime) -> Result<(), Fail> {
         },
         || Pool::run(&rt, alloc, &listener, &shared, seats, 0, 100, 6, &OpenGate),
     );
-    assert!(rt; fault.is_none() && are_right?);
+    assert!(rt; ended.is_ok() && are_right?);
     let Ok(closed) = shared.close(seats) else {
         panic!(rt; "the seats' receipts aren't the journal");
     };
@@ -377,12 +377,12 @@ fn a_worker_outlives_its_clients(rt: HostRuntime) -> Result<(), Fail> {
     let (shared, seats) = opened::<Unkept, Global>(alloc, alloc, 1)?;
     let listener = TcpListener::bind(&rt, "127.0.0.1:0")?;
     let address = listener.local_addr()?;
-    let (are_right, (_, fault)) = join(
+    let (are_right, (_, ended)) = join(
         &rt,
         || broken_clients(&rt, address, alloc),
         || Pool::run(&rt, alloc, &listener, &shared, seats, 0, 100, 5, &OpenGate),
     );
-    assert!(rt; fault.is_none() && are_right?);
+    assert!(rt; ended.is_ok() && are_right?);
     Ok(())
 }
 
@@ -425,12 +425,12 @@ fn silent_clients_keep_nobody_waiting(rt: HostRuntime) -> Result<(), Fail> {
     let (shared, seats) = opened::<Unkept, Global>(alloc, alloc, 2)?;
     let listener = TcpListener::bind(&rt, "127.0.0.1:0")?;
     let address = listener.local_addr()?;
-    let (are_right, (_, fault)) = join(
+    let (are_right, (_, ended)) = join(
         &rt,
         || silent_clients(&rt, address, alloc),
         || Pool::run(&rt, alloc, &listener, &shared, seats, 0, 100, 6, &OpenGate),
     );
-    assert!(rt; fault.is_none() && are_right?);
+    assert!(rt; ended.is_ok() && are_right?);
     Ok(())
 }
 
@@ -474,12 +474,12 @@ fn a_client_that_reads_nothing_keeps_nobody_waiting(rt: HostRuntime) -> Result<(
     let (shared, seats) = opened::<Unkept, Global>(alloc, alloc, 1)?;
     let listener = TcpListener::bind(&rt, "127.0.0.1:0")?;
     let address = listener.local_addr()?;
-    let (are_right, (_, fault)) = join(
+    let (are_right, (_, ended)) = join(
         &rt,
         || slow_client(&rt, address, alloc),
         || Pool::run(&rt, alloc, &listener, &shared, seats, 0, 100, 2, &OpenGate),
     );
-    assert!(rt; fault.is_none() && are_right?);
+    assert!(rt; ended.is_ok() && are_right?);
     Ok(())
 }
 
@@ -509,12 +509,12 @@ fn a_client_waits_for_room(rt: HostRuntime) -> Result<(), Fail> {
     let (shared, seats) = opened::<Unkept, Global>(alloc, alloc, 2)?;
     let listener = TcpListener::bind(&rt, "127.0.0.1:0")?;
     let address = listener.local_addr()?;
-    let (are_right, (_, fault)) = join(
+    let (are_right, (_, ended)) = join(
         &rt,
         || one_by_one(&rt, address, alloc),
         || Pool::run(&rt, alloc, &listener, &shared, seats, 0, 1, 2, &OpenGate),
     );
-    assert!(rt; fault.is_none() && are_right?);
+    assert!(rt; ended.is_ok() && are_right?);
     Ok(())
 }
 
@@ -536,8 +536,8 @@ fn seats_come_back_at_a_fault(rt: HostRuntime) -> Result<(), Fail> {
     let alloc = rt.alloc();
     let listener = at_once(&rt)?;
     let (shared, seats) = opened::<Unkept, Global>(alloc, alloc, 3)?;
-    let (seats, fault) = Pool::run(&rt, alloc, &listener, &shared, seats, 1, 100, 0, &OpenGate);
-    let Some(PoolFault::AcceptFailed(error)) = fault else {
+    let (seats, ended) = Pool::run(&rt, alloc, &listener, &shared, seats, 1, 100, 0, &OpenGate);
+    let Err(PoolFault::AcceptFailed(error)) = ended else {
         panic!(rt; "another fault, or none");
     };
     assert!(rt; error.kind() == ErrorKind::WouldBlock);
@@ -557,10 +557,10 @@ fn withstands<R: Threads + Wait + Net + Sync, A: Allocator + Copy + Send + Sync,
     heap.set(Plan::Grant);
     let (shared, seats) = opened::<Unkept, A>(alloc, global, 3)?;
     heap.set(Plan::RefuseAt(at));
-    let (seats, fault) = Pool::run(rt, alloc, listener, &shared, seats, 1, 100, 0, &OpenGate);
+    let (seats, ended) = Pool::run(rt, alloc, listener, &shared, seats, 1, 100, 0, &OpenGate);
     let asked = heap.asked();
     heap.set(Plan::Grant);
-    let is_told = matches!(fault, Some(PoolFault::Refused)) && are_three(seats.as_slice());
+    let is_told = matches!(ended, Err(PoolFault::Refused)) && are_three(seats.as_slice());
     Ok(if asked > at { Some(is_told) } else { None })
 }
 

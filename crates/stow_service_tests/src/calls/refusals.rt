@@ -24,7 +24,7 @@ pub(crate) struct Case<'a> {
 }
 
 /// Cases, with how many requests for memory each makes. No prepare asks for more than it takes: a sum's digits, what a reply
-/// copies, and the way that a range goes down. A write's value is lent, and its keys stand where those of the last write stood.
+/// copies, the way that a range goes down, and the place of a snapshot. A write's value is lent, and its keys stand where those of the last write stood.
 pub(crate) const CASES: &str = "SET a new|OK|$new|nil|0
 SET b new|OK|$old|$new|0
 SET b new NX|OK|$old|$new|0
@@ -43,7 +43,10 @@ INCR b|:1|$old|$1|1
 DECR b|:-1|$old|$-1|1
 INCRBY b 12|:12|$old|$12|1
 INCR a|ERR value is not an integer or out of range|$old|nil|0
-DEL b a|:1|nil|nil|0";
+DEL b a|:1|nil|nil|0
+SNAPSHOT TAKE|:1|$old|nil|5
+SNAPSHOT LIST|[]|$old|nil|0
+USAGE|[$rows :1 $charge :20 $quota :100000000 $writes :1 $commands :6 $refusals :0 $snapshots :0 ]|$old|nil|2";
 
 /// The case of a row.
 pub(crate) fn case_of(row: &'static str) -> Option<Case<'static>> {

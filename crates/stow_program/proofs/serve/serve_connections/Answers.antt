@@ -1,4 +1,3 @@
-use Rattle.std.proofs.Common.{subst, sym}
 use Rattle.stow_run.specs.declared.failure.Endpoint.TheVariants as endpoint
 use Rattle.stow_program.specs.Outcomes.{EndsServing}
 use Rattle.stow_program.proofs.Outcomes.{ends_at_network, failed_there, handed_on}
@@ -12,6 +11,3 @@ returns-in_err-address-clause-err g c =
 pub returns-in_err-tell_address-clause-err : goal.returns-in_err-tell_address-clause-err
 returns-in_err-tell_address-clause-err g c =
     handed_on (EndsServing _ _) c.from_residual-in_err-tell_address.result c.in_err-tell_address.field-0.0 c.from_residual-in_err-tell_address.ensures.1 c.in_err-tell_address.ensures.err
-
-pub returns-in-Some-AcceptFailed-clause-err : goal.returns-in-Some-AcceptFailed-clause-err
-returns-in-Some-AcceptFailed-clause-err g c = subst (EndsServing _ _) (sym c.at.ensures) (ends_at_network _ _ c.in-Some-AcceptFailed.error)
