@@ -17,6 +17,9 @@
 //! most. The root means the same under the pins, its messages are fewer or nearer to the leaves (`Flushes`), and no node is
 //! too wide. `buffer` and `children` lend what reads go by.
 //!
+//! `drop_superseded` drops those of a node's own messages that newer ones of its own supersede under the pins, where a quarter of its
+//! block is free then (`stow_superseded`): the node means the same under the pins. A body that does nothing meets its contract.
+//!
 //! `plan` gives a job for a flush outside the lock, or none exactly where no buffer holds a message: of the deepest buffer
 //! that holds one, of equals the fullest or the emptiest (`Pick`), from which the messages for the heaviest child move down first, into empty buffers, where it stands above
 //! nodes; all messages for one leaf are copied (`specs/Plans.antt`). `CanInstall` (`specs/Installs.antt`) is that none of the

@@ -245,16 +245,17 @@ pub(crate) fn withstands<A: Allocator + Copy, B: Allocator>(
     )
 }
 
-/// Whether what a refused case left stands, and a small write is carried out.
+/// Whether what a refused case left stands, and a small write is carried out, of a key of its own, so that it supersedes no other.
 fn goes_on<A: Allocator + Copy>(
     core: &mut Core<A>,
     alloc: A,
-    case: Case<'_>,
+    (case, at): (Case<'_>, u64),
 ) -> Result<bool, AllocError> {
+    let line = format!(in alloc; "SET small{at} x")?;
     Ok(
         stands(core, alloc, ("$old", "nil"))?
             && are_long(core, alloc, case, false)?
-            && is_told(core, alloc, 1, "SET a old", "OK")?,
+            && is_told(core, alloc, 1, line.as_str(), "OK")?,
     )
 }
 
@@ -269,7 +270,7 @@ fn asked_in_turn<A: Allocator + Copy, B: Allocator>(
         if !is_refused(heap, alloc, core, (words, at)) {
             return Ok(Some(at));
         }
-        if !goes_on(core, alloc, case)? {
+        if !goes_on(core, alloc, (case, at))? {
             return Ok(None);
         }
     }
