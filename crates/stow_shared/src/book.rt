@@ -78,7 +78,7 @@ impl<J: Journal, A: Allocator + Copy> Book<J, A> {
     /// Whether what is handed back belongs to the book, of which the type keeps that its journal leads to its core.
     pub fn is_whole(&self, tenants: &Tenants<A>, count: u32, seats: &[Seat<J, A>]) -> bool
         ensures whole { IsTrue result
-            ↔ IsWhole J.keeps (record { tenants = tenants.now; seats = count }) seats.now self.now }
+            ↔ IsWhole J.keeps tenants.now count seats.now self.now }
         ensures kept { IsJournalKept J.keeps self.now.entries self.now.core }
     {
         if !are_one_each(seats, count) || !self.core.tenants().is_same(tenants) {

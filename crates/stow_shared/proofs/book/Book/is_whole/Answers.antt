@@ -7,7 +7,7 @@ returns-then-have_receipts-clause-whole g c =
     rw (← c.self.view_is) (
       λ t. record {
         each = c.are_one_each.ensures.0 c.if-not-are_one_each.false;
-        tenants = sym (c.deref.ensures ∙ c.tenants.ensures) ∙ c.is_same.ensures.0 c.if-not-is_same.false;
+        same = sym (c.deref.ensures ∙ c.tenants.ensures) ∙ c.is_same.ensures.0 c.if-not-is_same.false;
         receipts = λ k. rw (← c.as_slice.ensures.value) (c.have_receipts.ensures.0 c.if-have_receipts.true);
         numbers = λ k. rw (← c.as_slice-then-have_receipts.ensures.value) (c.are_of_seats.ensures.0 t);
       },

@@ -7,7 +7,7 @@ pub returns-then-is_whole-clause-closed : goal.returns-then-is_whole-clause-clos
 returns-then-is_whole-clause-closed g c =
     let book = c.into_inner-book.result in
     let seats = c.args.seats.items in
-    let whole : IsWhole g.J.Journal.keeps (record { tenants = arc_value c.self.inside.tenants; seats = c.self.inside.seats; opened = c.self.inside.opened.value }) seats book =
+    let whole : IsWhole g.J.Journal.keeps (arc_value c.self.inside.tenants) c.self.inside.seats seats book =
     rw (← c.deref.ensures, ← c.as_slice.ensures.value) (c.is_whole.ensures.whole.0 c.if-is_whole.true) in
     rw (c.new.ensures, ← c.self.view_is)
     (record {
