@@ -364,6 +364,7 @@ impl<A: Allocator> MessageBuf<A> {
     }
 
     /// The same; the search is the shorter the nearer the guess is to that place.
+    #[inline(never)]
     pub fn push_near(&mut self, message: Message<'_>, guess: usize)
         requires { Fits self.old (message_of message)
             × IsNew (message_of message) self.old.messages }
@@ -395,11 +396,12 @@ impl<A: Allocator> MessageBuf<A> {
         ensures { self.new ≡ with_message (message_of message.entry) self.old }
     {
         let _known = self.len();
+        let key = message.key.bytes;
         let at = self.raw.front_len() as u32;
         append(&mut self.raw, message);
         self.raw.add_slots(1);
         self.raw.set_slot(0, at);
-        self.filter.add(message.key.bytes);
+        self.filter.add(key);
         self.words.clear();
         self.live += size(message);
     }

@@ -127,7 +127,6 @@ impl<A: Allocator + Copy> Input<A> {
 
     /// Looks for the elements that were not found yet.
     #[inline(never)]
-    #[inline(always)]
     fn go_on(&mut self, alloc: A, mut progress: Progress<A>) -> Next<A>
         requires { IsProgress progress self.old }
         ensures { IsNext result self.old self.new }

@@ -1,12 +1,12 @@
 -- A rising list without what is superseded.
-use Rattle.std.proofs.Common.{◌≡◌, Bool, true, false, List, [], ◌∷◌, refl, ap, ◌∙◌}
+use Rattle.std.proofs.Common.{◌≡◌, suc, Bool, true, false, List, [], ◌∷◌, refl, ap, ◌∙◌}
 use Rattle.std.specs.Prelude.{if◌then◌else◌}
 use Rattle.std.specs.List.{AllByRecursion}
 use Rattle.std.specs.List.Sorted.{IsStrictlySortedBy}
 use Rattle.std.specs.Ordering.{is_lt, is_eq, ordering_reverse}
 use Rattle.std.specs.declared.cmp.Ordering.TheVariants.{Less, Greater}
 use Rattle.std.proofs.lemmas.List.Elements.{All-from_recursion}
-use Rattle.stow_message.specs.Rising.{placed, IsNew}
+use Rattle.stow_message.specs.Rising.{below, placed, IsNew}
 use Rattle.stow_message.proofs.RisingLists.{AllAbove, place_total}
 use Rattle.stow_superseded.specs.Superseded.{is_superseded, without_superseded}
 use Rattle.stow_tree_model.specs.Agreement.{TenantPins}
@@ -42,6 +42,11 @@ pub placed_first : (m : TreeMessage) (ms : List TreeMessage) → MessagesRise (m
 unfolding IsStrictlySortedBy
 placed_first m [] up = refl
 placed_first m (n ∷ ns) up = ap (λ o. if is_lt o then n ∷ placed m ns else m ∷ n ∷ ns) (greater m n up.0.0)
+
+pub first_below : (m : TreeMessage) (ms : List TreeMessage) → MessagesRise (m ∷ ms) → below (place_of m) ms ≡ 0
+unfolding IsStrictlySortedBy
+first_below m [] up = refl
+first_below m (n ∷ ns) up = ap (λ o. if is_lt o then suc (below (place_of m) ns) else 0) (greater m n up.0.0)
 
 pub first_new : (m : TreeMessage) (ms : List TreeMessage) → MessagesRise (m ∷ ms) → IsNew m ms
 unfolding IsStrictlySortedBy

@@ -79,7 +79,7 @@ fn put_first<A: Allocator>(buffer: &mut MessageBuf<A>, message: Message<'_>, mos
     if size(message) > most - buffer.used() {
         return false;
     }
-    buffer.push_near(message, 0);
+    buffer.push_first(message);
     true
 }
 
