@@ -31,7 +31,7 @@ module _ (K A : RattleType) (k : journal.Ghosts K.Denot) (g : Ghosts A.Denot) wh
       let b = book_sends own sent synced free in
       struct_sync (shape (in_shared.the_type K A k g)) (
         search (tenants.the_send, tenants.the_sync, crosses, sendable) depth 8,
-        (search sendable, (search (turns.the_field_sync, sendable), (search sendable, (search (at_heap.crosses, sendable) depth 8, tt)))),
+        (search sendable, (search (turns.the_field_sync, sendable), (search (at_heap.crosses, sendable) depth 8, (search (at_heap.crosses, sendable) depth 8, tt)))),
       )
 
   pub shared_syncs : IsSend K → IsSend A → IsSync A → Frees g g.dealloc_token → IsSync (shared.the_field K A k g).row
