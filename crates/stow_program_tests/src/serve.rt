@@ -2,8 +2,6 @@
 use crate::given::Given;
 use crate::running::{Shelf, joined, run_over, wants};
 use std::alloc::{AllocError, Global};
-use std::fs;
-use std::io;
 use std::io::{Read, Write};
 use std::net::{Net, Shutdown, SocketAddr, TcpListener, TcpStream};
 use std::os::fd::{AsRawFd, RawFd};
@@ -12,6 +10,7 @@ use std::rt::Files;
 use std::sync::{OnceLock, Wait};
 use std::test::Fail;
 use std::thread::{Threads, join};
+use std::{fs, io};
 
 /// A client: what it asks, in three parts, before it closes its half, whether it then waits for replies, and what it is told.
 #[derive(Clone, Copy)]
@@ -392,7 +391,8 @@ where
     let alloc = rt.alloc();
     let connections = 4 * (FIRST_ROUNDS + ROUNDS);
     let line = format!(in alloc;
-        "serve --tenants ample.toml --listen 127.0.0.1:0 --connections {connections}")?;
+        "serve --tenants ample.toml --listen 127.0.0.1:0 --connections {connections}"
+    )?;
     let (mut input, mut errors) = (Given::all(b""), Vec::new(alloc));
     let mut output = Telling {
         told: Vec::new(alloc),
