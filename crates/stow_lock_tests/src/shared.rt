@@ -114,6 +114,24 @@ fn closed_by_one<R: Abort, J: Journal, A: Allocator + Copy>(
     }
 }
 
+/// The same, with every request for memory refused once the seat is handed back.
+fn closed_unaided<'h, R: Abort, J: Journal, B: Allocator>(
+    rt: &R,
+    heap: &'h Refusing<B>,
+    shared: Shared<J, &'h Refusing<B>>,
+    seat: Seat<J, &'h Refusing<B>>,
+) -> Closed<J, &'h Refusing<B>> {
+    let mut seats = Vec::new(heap);
+    if seats.push(seat).is_err() {
+        panic!(rt; "memory");
+    }
+    heap.set(Plan::RefuseAll);
+    let closed = closed(rt, shared, seats);
+    assert_eq!(rt; heap.asked(), 0);
+    heap.set(Plan::Grant);
+    closed
+}
+
 /// What is left, if all that is handed back belongs together.
 fn closed<R: Abort, J: Journal, A: Allocator + Copy>(
     rt: &R,
@@ -228,6 +246,24 @@ fn one_seat_has_its_entries(rt: HostRuntime) {
     assert!(rt; entries[2].seat == 1 && matches!(&entries[2].step, Step::Install(Installed::Done)));
     assert!(rt; entries[3].seat == 1 && matches!(&entries[3].step, Step::Resize(5)));
     assert!(rt; is_call(&entries[4], 4, "GET a", &STRANGER));
+}
+
+// As many words as there may be: a request of 1,024 has one entry and one receipt.
+#[test]
+fn a_call_may_have_many_words(rt: HostRuntime) -> Result<(), Fail> {
+    let alloc: Global = rt.alloc();
+    let (shared, mut seat) = opened_for_one::<_, Kept, Global>(&rt, alloc, alloc);
+    let mut line = String::from_str(alloc, "EXISTS")?;
+    line.push_str(" a".repeat(alloc, 1_023)?.as_str())?;
+    let (line, want) = (line.as_str(), Reply::Integer(1_023));
+    told(&rt, alloc, &shared, &mut seat, 1, "SET a x");
+    let count = told(&rt, alloc, &shared, &mut seat, 1, line);
+    assert!(rt; same_reply(&count, &want) && seat.receipts().len() == 2);
+    assert!(rt; is_call(&seat.receipts()[1], 1, line, &want));
+    let closed = closed_by_one(&rt, alloc, shared, seat);
+    assert_eq!(rt; closed.entries().len(), 2);
+    assert!(rt; is_call(&closed.entries()[1], 1, line, &want));
+    Ok(())
 }
 
 const LINES: [&str; 6] = [
@@ -359,7 +395,7 @@ fn withstands<R: Wait + Abort, B: Allocator>(
     );
     let missing = told(rt, heap, &shared, &mut seat, 1, "GET b");
     assert!(rt; matches!(missing, Reply::Null), "request {at}");
-    assert_eq!(rt; closed_by_one(rt, heap, shared, seat).entries().len(), 2);
+    assert_eq!(rt; closed_unaided(rt, heap, shared, seat).entries().len(), 2);
     true
 }
 
@@ -400,7 +436,7 @@ fn flush_withstands<R: Wait + Abort, B: Allocator>(
     let found = told(rt, heap, &shared, &mut seat, 1, "STRLEN a");
     assert!(rt; matches!(found, Reply::Integer(1)), "request {at}");
     assert_eq!(rt;
-        closed_by_one(rt, heap, shared, seat).entries().len(),
+        closed_unaided(rt, heap, shared, seat).entries().len(),
         told_of.saturating_add(3)
     );
     true
@@ -419,50 +455,95 @@ fn flushes_withstand_each_refusal(rt: HostRuntime) {
     assert!(rt; refusals >= 8, "{refusals} refusals");
 }
 
-/// Whether this request for memory is refused to a change of a quota. It then has no entry and no receipt, and made again it is
-/// carried out.
-fn quota_withstands<R: Wait + Abort, B: Allocator>(
+/// A step that is no tenant's call and no flush.
+#[derive(Clone, Copy)]
+enum Order {
+    /// A quota of 0 for the first tenant.
+    Quota,
+    /// A cache of 5 leaves.
+    Resize,
+}
+
+impl Order {
+    /// Whether the order is carried out: it fails for want of memory alone.
+    fn is_done<R: Wait, J: Journal, A: Allocator + Copy>(
+        self,
+        rt: &R,
+        shared: &Shared<J, A>,
+        seat: &mut Seat<J, A>,
+    ) -> bool {
+        match self {
+            Order::Quota => shared.set_quota(rt, seat, 1, 0).is_ok(),
+            Order::Resize => shared.resize(rt, seat, 5).is_ok(),
+        }
+    }
+
+    /// Whether the step is of this order.
+    fn is_of<A: Allocator>(self, step: &Step<A>) -> bool {
+        match self {
+            Order::Quota => matches!(step, Step::Quota(1, 0)),
+            Order::Resize => matches!(step, Step::Resize(5)),
+        }
+    }
+
+    /// Whether a SET that follows the order is told this.
+    fn is_followed_by<A: Allocator>(self, reply: &Reply<A>) -> bool {
+        match self {
+            Order::Quota => is_refusal(reply, Refusal::QuotaExceeded),
+            Order::Resize => matches!(reply, Reply::Simple(SimpleString::Ok)),
+        }
+    }
+}
+
+/// Whether this request for memory is refused to an order. It then has no entry and no receipt, and made again it is carried out.
+fn order_withstands<R: Wait + Abort, B: Allocator>(
     rt: &R,
     heap: &Refusing<B>,
     global: Global,
+    order: Order,
     at: u64,
 ) -> bool {
     let (shared, mut seat) = opened_for_one::<_, Kept, _>(rt, heap, global);
     heap.set(Plan::RefuseAt(at));
-    let given = shared.set_quota(rt, &mut seat, 1, 0).is_ok();
+    let is_done = order.is_done(rt, &shared, &mut seat);
     let asked = heap.asked();
     heap.set(Plan::Grant);
     if asked <= at {
         return false;
     }
-    assert!(rt; !given && seat.receipts().is_empty(), "request {at}");
-    assert!(rt;
-        shared.set_quota(rt, &mut seat, 1, 0).is_ok(),
-        "request {at}"
-    );
+    assert!(rt; !is_done && seat.receipts().is_empty(), "request {at}");
+    assert!(rt; order.is_done(rt, &shared, &mut seat), "request {at}");
     let reply = told(rt, heap, &shared, &mut seat, 1, "SET a x");
-    assert!(rt; is_refusal(&reply, Refusal::QuotaExceeded), "request {at}");
-    let closed = closed_by_one(rt, heap, shared, seat);
+    assert!(rt; order.is_followed_by(&reply), "request {at}");
+    let closed = closed_unaided(rt, heap, shared, seat);
     let entries = closed.entries();
     assert_eq!(rt; entries.len(), 2);
-    assert!(rt;
-        matches!(&entries[0].step, Step::Quota(1, 0)),
-        "request {at}"
-    );
+    assert!(rt; order.is_of(&entries[0].step), "request {at}");
     true
 }
 
-#[test]
-fn quotas_withstand_each_refusal(rt: HostRuntime) {
-    let heap = Refusing::new(rt.alloc());
-    let mut refusals: u64 = 0;
+/// How many requests for memory an order makes, each of which is refused.
+fn refusals_of<R: Wait + Abort, B: Allocator>(
+    rt: &R,
+    heap: &Refusing<B>,
+    global: Global,
+    order: Order,
+) -> u64 {
     for at in 0..100u64 {
-        if !quota_withstands(&rt, &heap, rt.alloc(), at) {
-            break;
+        if !order_withstands(rt, heap, global, order, at) {
+            return at;
         }
-        refusals = at + 1;
     }
-    assert!(rt; refusals >= 2, "{refusals} refusals");
+    0
+}
+
+#[test]
+fn orders_withstand_each_refusal(rt: HostRuntime) {
+    let heap = Refusing::new(rt.alloc());
+    for order in [Order::Quota, Order::Resize] {
+        let refusals = refusals_of(&rt, &heap, rt.alloc(), order);
+        assert!(rt; refusals >= 2, "{refusals} refusals");
+    }
 }
 
 /// Whether a call under the lock is told what the core alone tells, and asks for as much memory.

@@ -178,25 +178,41 @@ fn the_last_tenant_logs_in(rt: HostRuntime) -> Result<(), Fail> {
     Ok(())
 }
 
-/// 100,000 rows and 5,000 appends to one key, of which the rows go again: more than any merge of the other tests has.
+/// Over 100,000 rows, of three tenants in turn under the same keys, and 5,000 appends to one key, of which the rows go again: more
+/// than any merge of the other tests has.
 const MANY: &str = r"
-{100000..200000|*3\r\n$3\r\nSET\r\n$6\r\n%\r\n$1\r\nv\r\n} => {100000..200000|+OK\r\n}
+{100000..116667|*3\r\n$3\r\nSET\r\n$6\r\n%\r\n$1\r\nv\r\n} => {100000..116667|+OK\r\n}
+AUTH ben c\n => +OK\r\n
+{100000..116667|*3\r\n$3\r\nSET\r\n$6\r\n%\r\n$1\r\nw\r\n} => {100000..116667|+OK\r\n}
+AUTH cap abc\n => +OK\r\n
+{100000..116667|*3\r\n$3\r\nSET\r\n$6\r\n%\r\n$2\r\nxx\r\n} => {100000..116667|+OK\r\n}
+AUTH ann bc\n => +OK\r\n
+{116667..133334|*3\r\n$3\r\nSET\r\n$6\r\n%\r\n$1\r\nv\r\n} => {116667..133334|+OK\r\n}
+AUTH ben c\n => +OK\r\n
+{116667..133334|*3\r\n$3\r\nSET\r\n$6\r\n%\r\n$1\r\nw\r\n} => {116667..133334|+OK\r\n}
+AUTH cap abc\n => +OK\r\n
+{116667..133334|*3\r\n$3\r\nSET\r\n$6\r\n%\r\n$2\r\nxx\r\n} => {116667..133334|+OK\r\n}
+AUTH ben c\n => +OK\r\n
 {0..5000|*3\r\n$6\r\nAPPEND\r\n$1\r\na\r\n$1\r\nx\r\n} => {1..5001|:%\r\n}
 *2\r\n$3\r\nGET\r\n$1\r\na\r\n => $5000\r\n{0..5000|x}\r\n
-*4\r\n$5\r\nRANGE\r\n$6\r\n199990\r\n$0\r\n\r\n$2\r\n99\r\n => *22\r\n{199990..200000|$6\r\n%\r\n$1\r\nv\r\n}$1\r\na\r\n$5000\r\n{0..5000|x}\r\n
-{100000..200000|*2\r\n$3\r\nDEL\r\n$6\r\n%\r\n} => {100000..200000|:1\r\n}
-*2\r\n$6\r\nEXISTS\r\n$6\r\n150000\r\n => :0\r\n
+*4\r\n$5\r\nRANGE\r\n$6\r\n133324\r\n$0\r\n\r\n$2\r\n99\r\n => *22\r\n{133324..133334|$6\r\n%\r\n$1\r\nw\r\n}$1\r\na\r\n$5000\r\n{0..5000|x}\r\n
+{100000..133334|*2\r\n$3\r\nDEL\r\n$6\r\n%\r\n} => {100000..133334|:1\r\n}
+*2\r\n$6\r\nEXISTS\r\n$6\r\n116667\r\n => :0\r\n
+AUTH ann bc\n => +OK\r\n
+*4\r\n$5\r\nRANGE\r\n$6\r\n133324\r\n$0\r\n\r\n$2\r\n99\r\n => *20\r\n{133324..133334|$6\r\n%\r\n$1\r\nv\r\n}
+{100000..133334|*2\r\n$3\r\nDEL\r\n$6\r\n%\r\n} => {100000..133334|:1\r\n}
+*2\r\n$6\r\nEXISTS\r\n$6\r\n116667\r\n => :0\r\n
+AUTH cap abc\n => +OK\r\n
+*4\r\n$5\r\nRANGE\r\n$6\r\n133324\r\n$0\r\n\r\n$2\r\n99\r\n => *20\r\n{133324..133334|$6\r\n%\r\n$2\r\nxx\r\n}
+{100000..133334|*2\r\n$3\r\nDEL\r\n$6\r\n%\r\n} => {100000..133334|:1\r\n}
+*2\r\n$6\r\nEXISTS\r\n$6\r\n116667\r\n => :0\r\n
 ";
 
 #[test]
 fn a_store_may_be_large(rt: HostRuntime) -> Result<(), Fail> {
-    answers_by(&rt, AMPLE_PIPE, MANY)?;
-    answers_by(&rt, "pipe --tenants ample.toml --fanout 256", MANY)?;
-    answers_by(
-        &rt,
-        "pipe --tenants ample.toml --fanout 4 --leaf 4096",
-        MANY,
-    )
+    answers_by(&rt, "pipe --tenants all.toml", MANY)?;
+    answers_by(&rt, "pipe --tenants all.toml --fanout 256", MANY)?;
+    answers_by(&rt, "pipe --tenants all.toml --fanout 4 --leaf 4096", MANY)
 }
 
 /// As many connections as there may be, and 90,000 events of some of them: more than 64 KiB of answers.

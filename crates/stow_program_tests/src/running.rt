@@ -17,7 +17,7 @@ use stow_run::folder::Folder;
 use stow_run::job::Task;
 use stow_run::salt_source::SaltSource;
 use stow_tasks::service::serve;
-use stow_testing::tenants::{AMPLE, TEN_MILLION, THREE};
+use stow_testing::tenants::{AMPLE, AMPLE_THREE, TEN_MILLION, THREE};
 use stow_tree::tree_shape::TreeShape;
 use stow_workers::counted::Counted;
 
@@ -51,6 +51,7 @@ impl<'a> Folder for Shelf<'a> {
         match path {
             "three.toml" => Ok(Given::all(THREE.as_bytes())),
             "ample.toml" => Ok(Given::all(AMPLE.as_bytes())),
+            "all.toml" => Ok(Given::all(AMPLE_THREE.as_bytes())),
             "ten.toml" => Ok(Given::all(TEN_MILLION.as_bytes())),
             "empty.toml" => Ok(Given::all(b"")),
             "latin.toml" => Ok(Given::all(b"# \xe9\n")),

@@ -1,15 +1,16 @@
-//! `stow serve` over loopback: clients that come and go, and an address that is taken.
+//! `stow serve` over loopback: clients that come and go, what they leave, and an address that is taken.
 use crate::given::Given;
 use crate::running::{Shelf, joined, run_over, wants};
-use std::alloc::Global;
-use std::io;
+use std::alloc::{AllocError, Global};
 use std::io::{Read, Write};
 use std::net::{Net, Shutdown, SocketAddr, TcpListener, TcpStream};
 use std::os::fd::{AsRawFd, RawFd};
 use std::process::Abort;
-use std::sync::Wait;
+use std::rt::Files;
+use std::sync::{OnceLock, Wait};
 use std::test::Fail;
-use std::thread::Threads;
+use std::thread::{Threads, join};
+use std::{fs, io};
 
 /// A client: what it asks, in three parts, before it closes its half, whether it then waits for replies, and what it is told.
 #[derive(Clone, Copy)]
@@ -100,18 +101,31 @@ fn address_in(told: &[u8]) -> Option<SocketAddr> {
     address.ip().is_loopback().then_some(address)
 }
 
-impl<R: Net<Stream = TcpStream>> Clients<'_, R> {
-    /// A client comes.
-    fn visit(&mut self, address: SocketAddr, visit: Visit<'_>) -> io::Result<()> {
-        let mut stream = TcpStream::connect(self.rt, address)?;
-        stream.write_all(visit.asks)?;
-        stream.write_all(visit.fill)?;
-        stream.write_all(visit.then)?;
-        stream.shutdown(Shutdown::Write)?;
-        self.streams
-            .push(if visit.waits { Some(stream) } else { None })?;
-        Ok(())
+/// A client comes. It stays where it waits for replies.
+fn come<R: Net<Stream = TcpStream>>(
+    rt: &R,
+    address: SocketAddr,
+    visit: Visit<'_>,
+) -> io::Result<Option<TcpStream>> {
+    let mut stream = TcpStream::connect(rt, address)?;
+    stream.write_all(visit.asks)?;
+    stream.write_all(visit.fill)?;
+    stream.write_all(visit.then)?;
+    stream.shutdown(Shutdown::Write)?;
+    Ok(if visit.waits { Some(stream) } else { None })
+}
+
+/// Clients come, one after another.
+fn come_all<R: Net<Stream = TcpStream>>(
+    rt: &R,
+    address: SocketAddr,
+    visits: &[Visit<'_>],
+    streams: &mut Vec<Option<TcpStream>>,
+) -> io::Result<()> {
+    for i in 0..visits.len() {
+        streams.push(come(rt, address, visits[i])?)?;
     }
+    Ok(())
 }
 
 impl<R: Net<Stream = TcpStream>> Write for Clients<'_, R> {
@@ -122,10 +136,7 @@ impl<R: Net<Stream = TcpStream>> Write for Clients<'_, R> {
 
     fn flush(&mut self) -> io::Result<()> {
         if let Some(address) = address_in(self.told.as_slice()) {
-            let visits = self.visits;
-            for i in 0..visits.len() {
-                self.visit(address, visits[i])?;
-            }
+            come_all(self.rt, address, self.visits, &mut self.streams)?;
         }
         Ok(())
     }
@@ -261,6 +272,163 @@ fn clients_come_and_go(rt: HostRuntime) -> Result<(), Fail> {
         assert!(rt; status == 0 && are_told, "{options}");
     }
     assert_eq!(rt; last_descriptor(&rt, rt.alloc())?, before);
+    Ok(())
+}
+
+/// Clients that send a long value each, in the place of what fills: one is served and quits, one goes away before the value's end, one
+/// breaks the protocol there, and one closes its half in the middle of a message.
+const LONG: [Visit<'_>; 4] = [
+    Visit {
+        asks: b"AUTH ann bc\n*3\r\n$3\r\nSET\r\n$1\r\nk\r\n$1048576\r\n",
+        fill: b"",
+        then: b"\r\nSTRLEN k\nQUIT\n",
+        waits: true,
+        told: b"+OK\r\n+OK\r\n:1048576\r\n+OK\r\n",
+    },
+    Visit {
+        asks: b"AUTH ann bc\n*3\r\n$3\r\nSET\r\n$1\r\nk\r\n$1048576\r\n",
+        fill: b"",
+        then: b"\r",
+        waits: false,
+        told: b"",
+    },
+    Visit {
+        asks: b"AUTH ann bc\n*3\r\n$3\r\nSET\r\n$1\r\nk\r\n$1048576\r\n",
+        fill: b"",
+        then: b"X",
+        waits: true,
+        told: b"+OK\r\n-ERR Protocol error: bulk not ended by CRLF\r\n",
+    },
+    Visit {
+        asks: b"AUTH ann bc\n*3\r\n$3\r\nSET\r\n$1\r\nk\r\n$1048576\r\n",
+        fill: b"",
+        then: b"\r\n*2\r\n$3\r\nGE",
+        waits: true,
+        told: b"+OK\r\n+OK\r\n",
+    },
+];
+
+/// The rounds of these clients before memory is first looked at, and those after: 24 hold 96 MiB.
+const FIRST_ROUNDS: u32 = 8;
+
+const ROUNDS: u32 = 24;
+
+/// The most pages of 4,096 bytes that may come: 48 MiB.
+const MOST_PAGES: u64 = 12_288;
+
+/// How many pages of the process are in memory.
+fn resident<R: Files + Alloc<A = Global>>(rt: &R) -> io::Result<u64> {
+    let text = fs::read_to_string(rt, "/proc/self/statm")?;
+    let pages = text.split_whitespace().nth(1).unwrap_or("");
+    pages
+        .parse::<u64>()
+        .map_err(|_| io::Error::from(io::ErrorKind::InvalidData))
+}
+
+/// So many rounds of clients. Whether all are told what they are to be told.
+fn are_served<R: Net<Stream = TcpStream>>(
+    rt: &R,
+    alloc: Global,
+    address: SocketAddr,
+    visits: &[Visit<'_>],
+    rounds: u32,
+) -> io::Result<bool> {
+    let mut are_right = true;
+    for _ in 0..rounds {
+        let mut streams = Vec::new(alloc);
+        come_all(rt, address, visits, &mut streams)?;
+        let are_told = are_told(visits, &mut streams, alloc)?;
+        are_right = are_right && are_told;
+    }
+    Ok(are_right)
+}
+
+/// Whether clients with this value are told what they are to be told, and how many pages the later ones leave.
+fn left_by<R>(rt: &R, address: SocketAddr, value: &[u8]) -> io::Result<(bool, u64)>
+where
+    R: Files + Alloc<A = Global> + Net<Stream = TcpStream>,
+{
+    let mut visits = LONG;
+    for visit in &mut visits {
+        visit.fill = value;
+    }
+    let alloc = rt.alloc();
+    let first = are_served(rt, alloc, address, &visits, FIRST_ROUNDS)?;
+    let before = resident(rt)?;
+    let later = are_served(rt, alloc, address, &visits, ROUNDS)?;
+    Ok((first && later, resident(rt)?.saturating_sub(before)))
+}
+
+/// An output that hands on the address that it tells.
+#[derive(Drop)]
+struct Telling<'a> {
+    told: Vec<u8>,
+    address: &'a OnceLock<Option<SocketAddr>>,
+}
+
+impl Write for Telling<'_> {
+    fn write(&mut self, bytes: &[u8]) -> io::Result<usize> {
+        self.told.extend_from_slice(bytes)?;
+        Ok(bytes.len())
+    }
+
+    fn flush(&mut self) -> io::Result<()> {
+        let _ = self.address.try_set(address_in(self.told.as_slice()));
+        Ok(())
+    }
+}
+
+/// The status of a serving of all rounds, whose address is handed on, or nothing where there is none.
+fn served_rounds<H>(rt: &H, address: &OnceLock<Option<SocketAddr>>) -> Result<u8, AllocError>
+where
+    H: Abort
+        + Alloc<A = Global>
+        + Net<Listener = TcpListener, Stream = TcpStream>
+        + Threads
+        + Wait
+        + Sync,
+{
+    let alloc = rt.alloc();
+    let connections = 4 * (FIRST_ROUNDS + ROUNDS);
+    let line = format!(in alloc;
+        "serve --tenants ample.toml --listen 127.0.0.1:0 --connections {connections}"
+    )?;
+    let (mut input, mut errors) = (Given::all(b""), Vec::new(alloc));
+    let mut output = Telling {
+        told: Vec::new(alloc),
+        address,
+    };
+    let shelf = Shelf { own: b"" };
+    let status = run_over(
+        rt,
+        &shelf,
+        line.as_str(),
+        &mut input,
+        &mut output,
+        &mut errors,
+    );
+    let _ = address.try_set(None);
+    status
+}
+
+// One server, and rounds of clients that send values of 1 MiB: the later ones leave less than half of what they sent.
+#[test]
+fn clients_leave_no_memory(rt: HostRuntime) -> Result<(), Fail> {
+    let value = vec![in rt.alloc(); b'v'; 1_048_576]?;
+    let address = OnceLock::new();
+    let (status, left) = join(
+        &rt,
+        || served_rounds(&rt, &address),
+        || match *address.wait(&rt) {
+            Some(address) => left_by(&rt, address, value.as_slice()),
+            None => Ok((false, 0)),
+        },
+    );
+    let (status, (are_told, pages)) = (status?, left?);
+    assert!(rt;
+        status == 0 && are_told && pages <= MOST_PAGES,
+        "{pages} pages"
+    );
     Ok(())
 }
 

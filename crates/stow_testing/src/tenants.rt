@@ -33,6 +33,24 @@ digest = \"ba7816bf8f01cfea414140de5dae2223b00361a396177a9cb410ff61f20015ad\"
 quota = 9223372036854775807
 ";
 
+/// The three tenants, with quotas that nothing reaches.
+pub const AMPLE_THREE: &str = "[[tenant]]
+name = \"ann\"
+salt = \"61\"
+digest = \"ba7816bf8f01cfea414140de5dae2223b00361a396177a9cb410ff61f20015ad\"
+quota = 9223372036854775807
+[[tenant]]
+name = \"ben\"
+salt = \"6162\"
+digest = \"ba7816bf8f01cfea414140de5dae2223b00361a396177a9cb410ff61f20015ad\"
+quota = 9223372036854775807
+[[tenant]]
+name = \"cap\"
+salt = \"\"
+digest = \"ba7816bf8f01cfea414140de5dae2223b00361a396177a9cb410ff61f20015ad\"
+quota = 9223372036854775807
+";
+
 /// One of the three tenants, with a quota of ten million bytes.
 pub const TEN_MILLION: &str = "[[tenant]]
 name = \"ann\"

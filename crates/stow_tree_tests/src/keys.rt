@@ -6,7 +6,8 @@ use stow_tree_model::tenant_key_buf::TenantKeyBuf;
 /// How many tenants have keys.
 pub(crate) const TENANTS: u32 = 3;
 
-/// Keys of the tenants from 1 on: each tenant has one of each of some letters. Where these rise, so do the keys.
+/// Keys of the tenants from 1 on: each tenant has one of each of some letters before each of some tails. Where these rise, so do
+/// the keys.
 #[derive(Drop)]
 pub(crate) struct Keys<A: Allocator> {
     all: Vec<TenantKeyBuf<A>, A>,
@@ -33,28 +34,56 @@ fn lows_of<A: Allocator + Copy>(alloc: A) -> Result<Vec<TenantKeyBuf<A>, A>, All
     Ok(lows)
 }
 
-/// Of each tenant each letter, and what stands behind it.
+/// Adds a tenant's key of a letter before each tail, or what stands behind each.
+fn push_tailed<A: Allocator + Copy>(
+    alloc: A,
+    (tenant, letter): (u32, u8),
+    tails: &[&[u8]],
+    is_behind: bool,
+    keys: &mut Vec<TenantKeyBuf<A>, A>,
+) -> Result<(), AllocError> {
+    for tail in tails {
+        let mut bytes = Vec::from_slice(alloc, &[letter])?;
+        bytes.extend_from_slice(tail)?;
+        if is_behind {
+            bytes.push(b'~')?;
+        }
+        keys.push(TenantKeyBuf::new(alloc, tenant, bytes.as_slice())?)?;
+    }
+    Ok(())
+}
+
+/// Of each tenant each letter before each tail, or what stands behind each.
 fn keys_of<A: Allocator + Copy>(
     alloc: A,
     letters: &[u8],
+    tails: &[&[u8]],
     is_behind: bool,
 ) -> Result<Vec<TenantKeyBuf<A>, A>, AllocError> {
     let mut keys = Vec::new(alloc);
     for tenant in 1..=TENANTS {
         for letter in letters {
-            let key = [*letter, b'~'];
-            let len = if is_behind { 2 } else { 1 };
-            keys.push(TenantKeyBuf::new(alloc, tenant, &key[..len])?)?;
+            push_tailed(alloc, (tenant, *letter), tails, is_behind, &mut keys)?;
         }
     }
     Ok(keys)
 }
 
 impl<A: Allocator + Copy> Keys<A> {
+    /// Of each tenant each letter.
     pub(crate) fn new(alloc: A, letters: &[u8]) -> Result<Keys<A>, AllocError> {
+        Keys::tailed(alloc, letters, &[b""])
+    }
+
+    /// Of each tenant each letter before each tail.
+    pub(crate) fn tailed(
+        alloc: A,
+        letters: &[u8],
+        tails: &[&[u8]],
+    ) -> Result<Keys<A>, AllocError> {
         Ok(Keys {
-            all: keys_of(alloc, letters, false)?,
-            behind: keys_of(alloc, letters, true)?,
+            all: keys_of(alloc, letters, tails, false)?,
+            behind: keys_of(alloc, letters, tails, true)?,
             lows: lows_of(alloc)?,
             beyond: TenantKeyBuf::new(alloc, 65_536, b"a")?,
         })

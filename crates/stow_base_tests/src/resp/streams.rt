@@ -10,10 +10,11 @@ const WORKED: &[u8] =
 /// Streams, what is told of each, and how many bytes are left: whole messages, blanks, and what stands after them. Of lines: words
 /// between spaces and tabs, blanks, quoted lines; a CR before the LF and elsewhere; and lines among arrays. All messages come
 /// before the fault.
-const STREAMS: [(&[u8], &[u8], usize); 41] = [
+const STREAMS: [(&[u8], &[u8], usize); 42] = [
     (b"", b".", 0),
     (WORKED, b"M[AUTH][ann][bc]M[SET][k][v1]M[GET][k].", 0),
     (b"*1024\r\n$1048576\r\n", b".", 17),
+    (b"*1024\r\n$65535\r\n", b".", 15),
     (b"*1\r\n$1048576\r\nab", b".", 16),
     (
         b"*1\r\n$4\r\nPING\r\n*2\r\n$3\r\nGET\r\n$5\r\nabc",

@@ -28,6 +28,15 @@ pub(crate) const OF_FORTY: Course = Course {
     ..COURSE
 };
 
+/// A tree of 3,333 rows.
+const OF_MANY: Course = Course {
+    letters: LETTERS,
+    tails: &[
+        b"0", b"1", b"2", b"3", b"4", b"5", b"6", b"7", b"8", b"9", b"a",
+    ],
+    ..COURSE
+};
+
 /// A tree of eight keys of each tenant, whose values are long.
 const OF_LONG: Course = Course {
     letters: b"abcdefgh",
@@ -151,6 +160,27 @@ const RANDOM: [(Course, TreeShape, &[Call]); 5] = [
 fn a_tree_tells_what_a_list_does(rt: HostRuntime) -> Result<(), Fail> {
     let heap = Refusing::new(rt.alloc());
     assert_eq!(rt; first_other(&heap, &RANDOM)?, None);
+    Ok(())
+}
+
+/// A tree of eleven levels, through which other values then flow.
+// Each row takes a leaf of its own. From the last key down each new leaf comes behind the first: of five children a node keeps
+// three. So the root of so many levels is cut at 5, 11, 23, .. leaves: that of ten at 3,071.
+const HIGHEST: [Call; 6] = [
+    Call::PutDown(3_000),
+    Call::Want(Want::Sizes(11, 3_333, 0)),
+    Call::Want(Want::Agrees),
+    Call::PutAll(2_999),
+    Call::Want(Want::Grown(11, 3_333)),
+    Call::Want(Want::Agrees),
+];
+
+const HIGH_ROWS: [(Course, TreeShape, &[Call]); 1] = [(OF_MANY, SMALLEST, &HIGHEST)];
+
+#[test]
+fn a_tree_grows_past_ten_levels(rt: HostRuntime) -> Result<(), Fail> {
+    let heap = Refusing::new(rt.alloc());
+    assert_eq!(rt; first_other(&heap, &HIGH_ROWS)?, None);
     Ok(())
 }
 

@@ -60,8 +60,9 @@ impl Change {
 #[derive(Clone, Copy)]
 pub(crate) struct Course {
     pub(crate) shape: TreeShape,
-    /// The keys that each tenant has.
+    /// What the keys that each tenant has begin with, and how they end.
     pub(crate) letters: &'static [u8],
+    pub(crate) tails: &'static [&'static [u8]],
     /// Random values are shorter than this.
     pub(crate) longest: u32,
     /// How long the values are that only fill buffers, before each eighth random change, or 0 where there are none.
@@ -198,7 +199,7 @@ impl<A: Allocator + Copy> Run<A> {
         Ok(Run {
             tree: Numbered::new(alloc, course.shape)?,
             pins: Pins::new(alloc),
-            keys: Keys::new(alloc, course.letters)?,
+            keys: Keys::tailed(alloc, course.letters, course.tails)?,
             bytes: repeated(alloc, random_bytes(alloc, &mut random)?.as_slice())?,
             changes: Vec::with_capacity(alloc, 4_000)?,
             random,

@@ -21,6 +21,8 @@ pub(crate) enum Call {
     Put(usize, u32),
     /// A value of so many bytes for each key.
     PutAll(u32),
+    /// The same from the last key down, each drained before the next.
+    PutDown(u32),
     Gone(usize),
     /// Removals of the keys from one on and before another.
     GoneFrom(usize, usize),
@@ -129,6 +131,7 @@ impl<A: Allocator + Copy> Trees<A> {
             Call::Random(count) => self.called().go_on(alloc, count)?,
             Call::Put(key, len) => self.called().change(alloc, (Kind::Put, key, len))?,
             Call::PutAll(len) => self.put_all(alloc, len)?,
+            Call::PutDown(len) => return self.put_down(alloc, len),
             Call::Gone(key) => self.called().change(alloc, (Kind::Gone, key, 0))?,
             Call::GoneFrom(from, to) => self.gone_from(alloc, from, to)?,
             Call::GoneBoth(first) => self.called().remove_both(alloc, first)?,
@@ -164,6 +167,16 @@ impl<A: Allocator + Copy> Trees<A> {
             self.called().change(alloc, (Kind::Put, key, len))?;
         }
         Ok(())
+    }
+
+    fn put_down(&mut self, alloc: A, len: u32) -> Result<bool, AllocError> {
+        for key in (0..self.called().keys()).rev() {
+            self.called().change(alloc, (Kind::Put, key, len))?;
+            if !self.drain(alloc)? {
+                return Ok(false);
+            }
+        }
+        Ok(true)
     }
 
     fn gone_from(&mut self, alloc: A, from: usize, to: usize) -> Result<(), AllocError> {
