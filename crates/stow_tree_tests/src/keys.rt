@@ -6,8 +6,8 @@ use stow_tree_model::tenant_key_buf::TenantKeyBuf;
 /// How many tenants have keys.
 pub(crate) const TENANTS: u32 = 3;
 
-/// Keys of the tenants from 1 on: each tenant has one of each of some letters before each of some tails. Where these rise, so do
-/// the keys.
+/// Keys of the tenants from 1 on: each tenant has one of each of some letters, before each of some tails where there are some.
+/// Where these rise, so do the keys.
 #[derive(Drop)]
 pub(crate) struct Keys<A: Allocator> {
     all: Vec<TenantKeyBuf<A>, A>,
@@ -34,36 +34,26 @@ fn lows_of<A: Allocator + Copy>(alloc: A) -> Result<Vec<TenantKeyBuf<A>, A>, All
     Ok(lows)
 }
 
-/// Adds a tenant's key of a letter before each tail, or what stands behind each.
-fn push_tailed<A: Allocator + Copy>(
-    alloc: A,
-    (tenant, letter): (u32, u8),
-    tails: &[&[u8]],
-    is_behind: bool,
-    keys: &mut Vec<TenantKeyBuf<A>, A>,
-) -> Result<(), AllocError> {
-    for tail in tails {
-        let mut bytes = Vec::from_slice(alloc, &[letter])?;
-        bytes.extend_from_slice(tail)?;
-        if is_behind {
-            bytes.push(b'~')?;
-        }
-        keys.push(TenantKeyBuf::new(alloc, tenant, bytes.as_slice())?)?;
-    }
-    Ok(())
-}
-
-/// Of each tenant each letter before each tail, or what stands behind each.
+/// Of each tenant each letter, before each tail where there are some, or what stands behind it.
 fn keys_of<A: Allocator + Copy>(
     alloc: A,
     letters: &[u8],
-    tails: &[&[u8]],
+    tails: &[u8],
     is_behind: bool,
 ) -> Result<Vec<TenantKeyBuf<A>, A>, AllocError> {
     let mut keys = Vec::new(alloc);
     for tenant in 1..=TENANTS {
         for letter in letters {
-            push_tailed(alloc, (tenant, *letter), tails, is_behind, &mut keys)?;
+            if tails.is_empty() {
+                let key = [*letter, b'~'];
+                let len = if is_behind { 2 } else { 1 };
+                keys.push(TenantKeyBuf::new(alloc, tenant, &key[..len])?)?;
+            }
+            for tail in tails {
+                let key = [*letter, *tail, b'~'];
+                let len = if is_behind { 3 } else { 2 };
+                keys.push(TenantKeyBuf::new(alloc, tenant, &key[..len])?)?;
+            }
         }
     }
     Ok(keys)
@@ -72,15 +62,11 @@ fn keys_of<A: Allocator + Copy>(
 impl<A: Allocator + Copy> Keys<A> {
     /// Of each tenant each letter.
     pub(crate) fn new(alloc: A, letters: &[u8]) -> Result<Keys<A>, AllocError> {
-        Keys::tailed(alloc, letters, &[b""])
+        Keys::tailed(alloc, letters, b"")
     }
 
-    /// Of each tenant each letter before each tail.
-    pub(crate) fn tailed(
-        alloc: A,
-        letters: &[u8],
-        tails: &[&[u8]],
-    ) -> Result<Keys<A>, AllocError> {
+    /// Of each tenant each letter, before each tail where there are some.
+    pub(crate) fn tailed(alloc: A, letters: &[u8], tails: &[u8]) -> Result<Keys<A>, AllocError> {
         Ok(Keys {
             all: keys_of(alloc, letters, tails, false)?,
             behind: keys_of(alloc, letters, tails, true)?,

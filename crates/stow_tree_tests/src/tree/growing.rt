@@ -31,9 +31,7 @@ pub(crate) const OF_FORTY: Course = Course {
 /// A tree of 3,333 rows.
 const OF_MANY: Course = Course {
     letters: LETTERS,
-    tails: &[
-        b"0", b"1", b"2", b"3", b"4", b"5", b"6", b"7", b"8", b"9", b"a",
-    ],
+    tails: b"0123456789a",
     ..COURSE
 };
 

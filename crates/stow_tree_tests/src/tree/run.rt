@@ -60,9 +60,9 @@ impl Change {
 #[derive(Clone, Copy)]
 pub(crate) struct Course {
     pub(crate) shape: TreeShape,
-    /// What the keys that each tenant has begin with, and how they end.
+    /// What the keys that each tenant has begin with, and what they end with, if more than that.
     pub(crate) letters: &'static [u8],
-    pub(crate) tails: &'static [&'static [u8]],
+    pub(crate) tails: &'static [u8],
     /// Random values are shorter than this.
     pub(crate) longest: u32,
     /// How long the values are that only fill buffers, before each eighth random change, or 0 where there are none.

@@ -10,7 +10,7 @@ use stow_tree::tree_shape::{MOST_LEAF, TreeShape};
 pub(crate) const COURSE: Course = Course {
     shape: TreeShape::SMALLEST,
     letters: b"abc",
-    tails: &[b""],
+    tails: b"",
     longest: 8_000,
     filler: 0,
     number: 1,
