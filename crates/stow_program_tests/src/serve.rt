@@ -343,15 +343,28 @@ fn are_served<R: Net<Stream = TcpStream>>(
     Ok(are_right)
 }
 
+/// The client with this value in the place of what fills.
+fn filled<'a>(visit: Visit<'a>, fill: &'a [u8]) -> Visit<'a> {
+    Visit {
+        asks: visit.asks,
+        fill,
+        then: visit.then,
+        waits: visit.waits,
+        told: visit.told,
+    }
+}
+
 /// Whether clients with this value are told what they are to be told, and how many pages the later ones leave.
 fn left_by<R>(rt: &R, address: SocketAddr, value: &[u8]) -> io::Result<(bool, u64)>
 where
     R: Files + Alloc<A = Global> + Net<Stream = TcpStream>,
 {
-    let mut visits = LONG;
-    for visit in &mut visits {
-        visit.fill = value;
-    }
+    let visits = [
+        filled(LONG[0], value),
+        filled(LONG[1], value),
+        filled(LONG[2], value),
+        filled(LONG[3], value),
+    ];
     let alloc = rt.alloc();
     let first = are_served(rt, alloc, address, &visits, FIRST_ROUNDS)?;
     let before = resident(rt)?;
