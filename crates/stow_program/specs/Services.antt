@@ -37,8 +37,8 @@ pub record IsOpened (entries : List Entry) (shape : TreeShape) (serving : Servin
   pub opens : Opens shared.opened (serving.workers + serving.flushers) shared seats
 
 -- Connections were served to their end: over this lock, which was opened so, all its seats came
--- back, the workers' after calls alone and the flushers' after plans and installs alone, and as many
--- connections were accepted as were asked for.
+-- back, the workers' after calls alone and the flushers' after plans and installs alone, and as
+-- many connections were accepted as were asked for.
 pub record IsServed (entries : List Entry) (shape : TreeShape) (serving : Serving)
     (shared : SharedState) (seats : List SeatState) (accepted : ℕ) : Type 0 where
   pub first : List SeatState
