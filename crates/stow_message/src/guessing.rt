@@ -22,6 +22,15 @@ pub(crate) fn guess<A: Allocator>(
     older.saturating_add(young_below(raw, older, key, number))
 }
 
+/// How many messages may stand below a key's next one: as words tell, and all young ones that stand before the next of the others.
+#[inline(always)]
+pub(crate) fn newest_place<A: Allocator>(raw: &SlotBuf<A>, words: &KeyWords<A>, key: &[u8]) -> usize
+    requires { IsPackedBuffer raw.now }
+{
+    let older = words.count_up_to(raw, key);
+    older.saturating_add(raw.young_behind(older.saturating_add(1)))
+}
+
 /// How many young messages stand below the key and number, of which so many others do: those that stand behind fewer, and some of
 /// those behind as many, of which the last is looked at first.
 #[inline(always)]

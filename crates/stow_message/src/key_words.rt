@@ -7,6 +7,7 @@ use crate::slots::key_at;
 use std::alloc::{AllocError, Allocator, Global};
 use std::cmp::Ordering;
 use stow_bytes::compare::compare;
+use stow_slots::halving::step_if;
 use stow_slots::slot_buf::SlotBuf;
 
 /// How many bytes of a buffer there are for each word.
@@ -15,15 +16,15 @@ const BYTES: usize = 64;
 /// Where a key's own bytes begin, behind its tenant's index.
 const INDEX: usize = 4;
 
-/// How many of a key's own bytes its word has.
-const OWN: usize = 6;
+/// How many of a key's own bytes its word has, the last one but for a bit.
+const OWN: usize = 14;
 
 /// A word of each message whose slot isn't young, in the order of the slots, as far as there is room: the lower half of its tenant's
 /// index, and some of the key behind what all keys share behind that index. They rise as the keys do, but where tenants are
 /// more than 65,536. They are a hint: nothing is known of them, and what is found by them is looked at.
 #[derive(Drop)]
 pub(crate) struct KeyWords<A: Allocator = Global> {
-    words: Vec<u64, A>,
+    words: Vec<u128, A>,
     /// How many own bytes all keys share that have a word.
     shared: usize,
 }
@@ -37,21 +38,23 @@ fn own(key: &[u8]) -> &[u8] {
 }
 
 /// A byte of a key, or 0 behind its end.
-fn byte_at(key: &[u8], at: usize) -> u64 {
+fn byte_at(key: &[u8], at: usize) -> u128 {
     match key.get(at) {
-        Some(byte) => u64::from(*byte),
+        Some(byte) => u128::from(*byte),
         None => 0,
     }
 }
 
-/// The word of a key, of whose own bytes so many are left out.
-fn word_of(key: &[u8], shared: usize) -> u64 {
+/// The word of a key, of whose own bytes so many are left out: what the key hasn't is 0.
+fn word_of(key: &[u8], shared: usize) -> u128 {
+    let own = own(key);
+    let rest = &own[shared.min(own.len())..];
+    let count = rest.len().min(OWN);
     let mut word = (byte_at(key, 2) << 8) | byte_at(key, 3);
-    let from = shared.saturating_add(INDEX);
-    for i in 0..OWN {
-        word = (word << 8) | byte_at(key, from.saturating_add(i));
+    for i in 0..count {
+        word = (word << 8) | u128::from(rest[i]);
     }
-    word
+    word << (8 * (OWN - count)) >> 1
 }
 
 /// How many bytes at the front of both are the same, of so many.
@@ -135,7 +138,7 @@ fn shared_by_older<A: Allocator>(raw: &SlotBuf<A>) -> usize
 }
 
 /// The word of the key of a slot.
-fn word_at<A: Allocator>(raw: &SlotBuf<A>, slot: Option<u32>, shared: usize) -> u64
+fn word_at<A: Allocator>(raw: &SlotBuf<A>, slot: Option<u32>, shared: usize) -> u128
     requires filled { IsPackedBuffer raw.now }
     requires there { IfSome slot (Contains raw.now.slots) }
 {
@@ -220,7 +223,7 @@ impl<A: Allocator> KeyWords<A> {
     }
 
     /// Writes a word at a place, if it is there.
-    fn set(&mut self, at: usize, word: u64) {
+    fn set(&mut self, at: usize, word: u128) {
         if at < self.words.len() {
             self.words[at] = word;
         }
@@ -304,25 +307,35 @@ impl<A: Allocator> KeyWords<A> {
         }
     }
 
-    /// How many words are below one.
+    /// How many words are below one, by a search that takes no branch by what it finds: the highest bit of no word is set, so that of a
+    /// difference tells which one is below.
     #[inline(always)]
-    fn count_below(&self, word: u64) -> usize {
+    fn count_below(&self, word: u128) -> usize {
         let words = self.words.as_slice();
-        let (mut low, mut high) = (0, words.len());
-        while low < high {
-            let middle = low + (high - low) / 2;
-            if words[middle] < word {
-                low = middle + 1;
-            } else {
-                high = middle;
-            }
+        let (mut low, mut left) = (0, words.len());
+        while left > 0 {
+            let half = left - left / 2;
+            let difference = words[low + half - 1].wrapping_sub(word);
+            low += step_if((difference >> 127) as usize, half);
+            left /= 2;
         }
         low
     }
 
+    /// Behind how many of the slots that aren't young the key's newest one may stand: by words alone.
+    #[inline(always)]
+    pub(crate) fn count_up_to<B: Allocator>(&self, raw: &SlotBuf<B>, key: &[u8]) -> usize {
+        let count = self.count_below(word_of(key, self.shared).saturating_add(1));
+        if count < self.words.len() {
+            count
+        } else {
+            raw.old_count()
+        }
+    }
+
     /// Where those words end that are this one and begin at a place, if they do: in steps that double, then by halves.
     #[inline(always)]
-    fn end_of(&self, from: usize, word: u64) -> usize {
+    fn end_of(&self, from: usize, word: u128) -> usize {
         let reached = self.last_step(from, word);
         let (mut low, mut high) = (from.min(reached), reached);
         while low < high {
@@ -338,7 +351,7 @@ impl<A: Allocator> KeyWords<A> {
 
     /// The first place reached from another by steps that double whose word isn't this one, or their end.
     #[inline(always)]
-    fn last_step(&self, from: usize, word: u64) -> usize {
+    fn last_step(&self, from: usize, word: u128) -> usize {
         let (mut at, mut step) = (from, 1usize);
         for _ in 0..self.words.len() {
             if !self.is_at(at, word) {
@@ -351,7 +364,7 @@ impl<A: Allocator> KeyWords<A> {
     }
 
     /// Whether the word at a place is this one.
-    fn is_at(&self, at: usize, word: u64) -> bool {
+    fn is_at(&self, at: usize, word: u128) -> bool {
         at < self.words.len() && self.words[at] == word
     }
 

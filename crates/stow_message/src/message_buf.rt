@@ -11,7 +11,7 @@ ghost use Rattle.stow_message.specs.Rising.{is_below, below, placed, IsNew, of_k
 ghost use Rattle.std.specs.List.{All, AllByRecursion, sum_by, remove_range};
 
 use crate::beside::is_place;
-use crate::guessing::guess;
+use crate::guessing::{guess, newest_place};
 use crate::head::{HEAD, SLOT, kind, op_with, read_head, size, write_head};
 use crate::key_words::KeyWords;
 use crate::marking::mark_run;
@@ -273,6 +273,12 @@ impl<A: Allocator> MessageBuf<A> {
         let _known = self.len();
         if self.raw.young_count() == 0 && !self.words.serve(&self.raw) {
             return self.search_all(key, number);
+        }
+        if self.words.serve(&self.raw) {
+            let newest = newest_place(&self.raw, &self.words, key);
+            if is_place(&self.raw, newest, key, number) {
+                return newest;
+            }
         }
         let guess = guess(&self.raw, &self.words, key, number);
         if is_place(&self.raw, guess, key, number) {

@@ -6,6 +6,7 @@ ghost use Rattle.stow_leaf.specs.Intervals.{top_key, spans};
 ghost use Rattle.stow_read.specs.Descent.{LeadsDown, LeadsAllTo};
 
 use std::alloc::Allocator;
+use stow_bytes::compare::compare;
 use stow_leaf::ends::top_key;
 use stow_node::child::{Child, child_for, high_after};
 use stow_node::node::Node;
@@ -47,5 +48,5 @@ pub(crate) fn below_until<'a, A: Allocator>(
 pub fn may_hold<A: Allocator>(node: &Node<A>, key: TenantKey<'_>) -> bool
     ensures { result ≡ spans node.now.low top_key key.entry.bytes.now }
 {
-    key.bytes.cmp(node.low().bytes).is_ge() && key.bytes.cmp(top_key().bytes).is_lt()
+    compare(key.bytes, node.low().bytes).is_ge() && compare(key.bytes, top_key().bytes).is_lt()
 }

@@ -12,6 +12,7 @@
 #![tactic(auto)]
 
 mod around;
+pub mod halving;
 mod ranking;
 mod settling;
 pub mod slot_buf;

@@ -2,11 +2,55 @@
 ghost use Rattle.std.specs.Prelude.{◌≡◌, ◌+◌, ◌<◌, ◌↔◌, IsTrue, false};
 ghost use Rattle.stow_slots.specs.Young.{AreRising, HasOneMore, IsRank};
 
+use crate::halving::step_if;
 use crate::young_slot::YoungSlot;
 use std::alloc::Allocator;
 
-/// How many young slots stand before the place with this index among all.
+/// How many young slots stand before the place with this index among all: a guess, that is believed after a look at those beside it.
+#[inline(always)]
 pub(crate) fn rank_of(young: &[YoungSlot], index: usize) -> usize
+    requires { AreRising 0 young.now }
+    ensures { IsRank 0 index young.now result }
+{
+    let guess = guessed_rank(young, index);
+    if is_rank(young, index, guess) {
+        guess
+    } else {
+        searched_rank(young, index)
+    }
+}
+
+/// Whether so many young slots stand before the place with this index among all, by the last of these and the next one.
+#[inline(always)]
+fn is_rank(young: &[YoungSlot], index: usize, rank: usize) -> bool
+    requires { AreRising 0 young.now }
+    ensures { IsTrue result → IsRank 0 index young.now rank }
+{
+    if rank > young.len() {
+        return false;
+    }
+    let reaches = rank == 0 || is_before(young[rank - 1], rank - 1, index);
+    let ends = rank == young.len() || !is_before(young[rank], rank, index);
+    reaches && ends
+}
+
+/// How many they may be, by a search that takes no branch by what it finds: the numbers are far below 2^63, so the highest bit of
+/// their difference tells which one is below.
+#[inline(always)]
+fn guessed_rank(young: &[YoungSlot], index: usize) -> usize {
+    let (mut low, mut left) = (0, young.len());
+    while left > 0 {
+        let half = left - left / 2;
+        let last = low + half - 1;
+        let difference = young[last].behind.wrapping_add(last).wrapping_sub(index);
+        low += step_if(difference >> 63, half);
+        left /= 2;
+    }
+    low
+}
+
+/// The same by a search that is exact.
+fn searched_rank(young: &[YoungSlot], index: usize) -> usize
     requires { AreRising 0 young.now }
     ensures { IsRank 0 index young.now result }
 {

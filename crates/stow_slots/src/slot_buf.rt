@@ -4,6 +4,7 @@ ghost use Rattle.std.specs.List.{insert, remove_range};
 ghost use Rattle.stow_raw.specs.RawBuf.{raw_lists, raw_used, RawFits};
 
 use crate::around::{slot_at, slot_before};
+use crate::halving::step_if;
 use crate::ranking::{put_young, rank_of};
 use crate::settling::settle;
 use crate::young_slot::YoungSlot;
@@ -13,6 +14,9 @@ use stow_raw::raw_buf::RawBuf;
 
 /// The most young slots.
 const YOUNG: usize = 512;
+
+/// How many young slots are ripe where there are no others; a 32nd of those more are where there are some.
+const FEWEST_RIPE: usize = 16;
 
 /// The fewest bytes of a block that has a list of young slots.
 const LARGE: usize = 65_536;
@@ -209,9 +213,11 @@ impl<A: Allocator> SlotBuf<A> {
         self.young.capacity() > 0
     }
 
-    /// Whether the next slot that is put brings the young ones to the others.
+    /// Whether the young slots had better come to the others before the next one is put: where they are many, by how many others they
+    /// would move.
     pub fn is_ripe(&self) -> bool {
-        self.young.len() == self.young.capacity()
+        let ripe = FEWEST_RIPE.saturating_add(self.raw.slot_count() / 32);
+        self.young.len() >= ripe.min(self.young.capacity())
     }
 
     /// How many slots aren't young.
@@ -255,17 +261,16 @@ impl<A: Allocator> SlotBuf<A> {
         }
     }
 
-    /// How many young slots stand before the place behind so many of the older ones and as many young ones.
+    /// How many young slots stand behind fewer of the older ones, by a search that takes no branch by what it finds.
+    #[inline(always)]
     pub fn young_behind(&self, older: usize) -> usize {
         let young = self.young.as_slice();
-        let (mut low, mut high) = (0, young.len());
-        while low < high {
-            let middle = low + (high - low) / 2;
-            if young[middle].behind < older {
-                low = middle + 1;
-            } else {
-                high = middle;
-            }
+        let (mut low, mut left) = (0, young.len());
+        while left > 0 {
+            let half = left - left / 2;
+            let difference = young[low + half - 1].behind.wrapping_sub(older);
+            low += step_if(difference >> 63, half);
+            left /= 2;
         }
         low
     }

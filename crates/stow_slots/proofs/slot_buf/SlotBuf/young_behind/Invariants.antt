@@ -1,8 +1,8 @@
-use Rattle.std.proofs.Common.{◌-◌, ◌≤◌, length}
+use Rattle.std.proofs.Common.{◌+◌, ◌≤◌, length}
 use Rattle.stow_slots.proofs.slot_buf.SlotBuf.young_behind.Given as goal
 
-abbrev pub invariant-loop-low : goal.invariant-loop-low
-invariant-loop-low g l = (l.low ≤ l.high) × (l.high ≤ length l.young)
+abbrev pub invariant-loop-left : goal.invariant-loop-left
+invariant-loop-left g l = l.low + l.left ≤ length l.young
 
-abbrev pub decreases-loop-low : goal.decreases-loop-low
-decreases-loop-low g l = l.high - l.low
+abbrev pub decreases-loop-left : goal.decreases-loop-left
+decreases-loop-left g l = l.left

@@ -2,7 +2,7 @@ use Rattle.std.proofs.Common.{◌+◌, ◌-◌, ◌/◌, ◌<◌, length, get_or
 use mathlib.Core.Bool.{false≢true}
 use Rattle.std.proofs.lemmas.Option.{slice_get-get_or}
 use Rattle.stow_slots.proofs.Merged.{rank_found, all_before, all_after}
-use Rattle.stow_slots.proofs.ranking.rank_of.Goals as goal
+use Rattle.stow_slots.proofs.ranking.searched_rank.Goals as goal
 
 pub returns : goal.returns
 returns c = let l = c.loop-low in

@@ -1,7 +1,7 @@
 use Rattle.std.proofs.Common.{ℕ, ◌≡◌, ◌+◌, ◌-◌, ◌<◌, ◌≤◌, Some, length}
 use Rattle.std.specs.Prelude.{slice_get}
 use Rattle.stow_slots.specs.declared.young_slot.YoungSlot.{YoungSlot}
-use Rattle.stow_slots.proofs.ranking.rank_of.Given as goal
+use Rattle.stow_slots.proofs.ranking.searched_rank.Given as goal
 
 abbrev pub invariant-loop-low : goal.invariant-loop-low
 invariant-loop-low l = record {
