@@ -60,8 +60,6 @@ pub(crate) fn compare(row: &Version<'_>, message: &Message<'_>) -> Ordering
     ensures { result
         ≡ place_cmp (version_place (version_of row.now)) (place_of (message_of message.now)) }
 {
-    row.key
-        .bytes
-        .cmp(message.key.bytes)
-        .then(row.number.cmp(&message.number))
+    let keys = stow_bytes::compare::compare(row.key.bytes, message.key.bytes);
+    keys.then(row.number.cmp(&message.number))
 }

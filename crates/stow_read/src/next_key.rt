@@ -13,6 +13,7 @@ ghost use Rattle.stow_read.specs.NextKey.{IsNextKey, IsSearchEnd, IsFromPart, pa
 use crate::guesses::Guesses;
 use crate::start::Start;
 use std::alloc::Allocator;
+use stow_bytes::compare::compare;
 use stow_message::message_buf::MessageBuf;
 use stow_node::child::{Child, child_for};
 use stow_node::node::Node;
@@ -23,7 +24,7 @@ use stow_tree_model::tenant_key::TenantKey;
 pub(crate) fn is_below(key: TenantKey<'_>, other: TenantKey<'_>) -> bool
     ensures { result ≡ is_lt (bytes_cmp key.entry.bytes.now other.entry.bytes.now) }
 {
-    key.bytes.cmp(other.bytes).is_lt()
+    compare(key.bytes, other.bytes).is_lt()
 }
 
 /// The number that messages and rows of the keys looked for are above.
