@@ -2,6 +2,7 @@
 ghost use Rattle.std.specs.Prelude.{Contains, IfSome};
 ghost use Rattle.stow_message.specs.MessageBuf.{IsPackedBuffer};
 
+use crate::key_word::{KeyWord, own};
 use crate::run::Run;
 use crate::slots::key_at;
 use std::alloc::{AllocError, Allocator, Global};
@@ -11,50 +12,16 @@ use stow_slots::halving::step_if;
 use stow_slots::slot_buf::SlotBuf;
 
 /// How many bytes of a buffer there are for each word.
-const BYTES: usize = 64;
-
-/// Where a key's own bytes begin, behind its tenant's index.
-const INDEX: usize = 4;
-
-/// How many of a key's own bytes its word has, the last one but for a bit.
-const OWN: usize = 14;
+const BYTES: usize = 96;
 
 /// A word of each message whose slot isn't young, in the order of the slots, as far as there is room: the lower half of its tenant's
 /// index, and some of the key behind what all keys share behind that index. They rise as the keys do, but where tenants are
 /// more than 65,536. They are a hint: nothing is known of them, and what is found by them is looked at.
 #[derive(Drop)]
 pub(crate) struct KeyWords<A: Allocator = Global> {
-    words: Vec<u128, A>,
+    words: Vec<KeyWord, A>,
     /// How many own bytes all keys share that have a word.
     shared: usize,
-}
-
-/// A key's bytes behind its tenant's index.
-fn own(key: &[u8]) -> &[u8] {
-    if key.len() < INDEX {
-        return &[];
-    }
-    &key[INDEX..]
-}
-
-/// A byte of a key, or 0 behind its end.
-fn byte_at(key: &[u8], at: usize) -> u128 {
-    match key.get(at) {
-        Some(byte) => u128::from(*byte),
-        None => 0,
-    }
-}
-
-/// The word of a key, of whose own bytes so many are left out: what the key hasn't is 0.
-fn word_of(key: &[u8], shared: usize) -> u128 {
-    let own = own(key);
-    let rest = &own[shared.min(own.len())..];
-    let count = rest.len().min(OWN);
-    let mut word = (byte_at(key, 2) << 8) | byte_at(key, 3);
-    for i in 0..count {
-        word = (word << 8) | u128::from(rest[i]);
-    }
-    word << (8 * (OWN - count)) >> 1
 }
 
 /// How many bytes at the front of both are the same, of so many.
@@ -138,13 +105,13 @@ fn shared_by_older<A: Allocator>(raw: &SlotBuf<A>) -> usize
 }
 
 /// The word of the key of a slot.
-fn word_at<A: Allocator>(raw: &SlotBuf<A>, slot: Option<u32>, shared: usize) -> u128
+fn word_at<A: Allocator>(raw: &SlotBuf<A>, slot: Option<u32>, shared: usize) -> KeyWord
     requires filled { IsPackedBuffer raw.now }
     requires there { IfSome slot (Contains raw.now.slots) }
 {
     match slot {
-        Some(slot) => word_of(key_at(raw, slot as usize), shared),
-        None => 0,
+        Some(slot) => KeyWord::of(key_at(raw, slot as usize), shared),
+        None => KeyWord::none(),
     }
 }
 
@@ -197,7 +164,7 @@ impl<A: Allocator> KeyWords<A> {
     fn grow(&mut self, count: usize) {
         let more = count.min(self.words.capacity() - self.words.len());
         for _ in 0..more {
-            let _ = self.words.push(0);
+            let _ = self.words.push(KeyWord::none());
         }
     }
 
@@ -219,11 +186,11 @@ impl<A: Allocator> KeyWords<A> {
 
     /// Writes the word of a key at a place, if it is there.
     pub(crate) fn put(&mut self, at: usize, key: &[u8]) {
-        self.set(at, word_of(key, self.shared));
+        self.set(at, KeyWord::of(key, self.shared));
     }
 
     /// Writes a word at a place, if it is there.
-    fn set(&mut self, at: usize, word: u128) {
+    fn set(&mut self, at: usize, word: KeyWord) {
         if at < self.words.len() {
             self.words[at] = word;
         }
@@ -315,7 +282,7 @@ impl<A: Allocator> KeyWords<A> {
         let (mut low, mut left) = (0, words.len());
         while left > 0 {
             let half = left - left / 2;
-            let difference = words[low + half - 1].wrapping_sub(word);
+            let difference = words[low + half - 1].number().wrapping_sub(word);
             low += step_if((difference >> 127) as usize, half);
             left /= 2;
         }
@@ -325,7 +292,7 @@ impl<A: Allocator> KeyWords<A> {
     /// Behind how many of the slots that aren't young the key's newest one may stand: by words alone.
     #[inline(always)]
     pub(crate) fn count_up_to<B: Allocator>(&self, raw: &SlotBuf<B>, key: &[u8]) -> usize {
-        let count = self.count_below(word_of(key, self.shared).saturating_add(1));
+        let count = self.count_below(KeyWord::of(key, self.shared).number().saturating_add(1));
         if count < self.words.len() {
             count
         } else {
@@ -365,7 +332,7 @@ impl<A: Allocator> KeyWords<A> {
 
     /// Whether the word at a place is this one.
     fn is_at(&self, at: usize, word: u128) -> bool {
-        at < self.words.len() && self.words[at] == word
+        at < self.words.len() && self.words[at].number() == word
     }
 
     /// Whether the key shares with the others what they share.
@@ -389,7 +356,7 @@ impl<A: Allocator> KeyWords<A> {
         if !self.serve(raw) || !self.is_alike(raw, key) {
             return (0, count);
         }
-        let word = word_of(key, self.shared);
+        let word = KeyWord::of(key, self.shared).number();
         let low = self.count_below(word);
         let high = self.end_of(low, word);
         (low, if high < self.words.len() { high } else { count })
