@@ -14,6 +14,7 @@ use crate::descent::{below, may_hold};
 use crate::lent_value::LentValue;
 use crate::lookup::Lookup;
 use crate::suffixes::{Look, Suffixes};
+use crate::up_to::place_behind;
 use std::alloc::{AllocError, Allocator};
 use stow_leaf::leaf::Leaf;
 use stow_node::child::Child;
@@ -105,6 +106,6 @@ pub fn get<'a, A: Allocator + Copy>(
     Ok(Lookup {
         found: suffixes.on(alloc, end.base)?,
         leaf: end.leaf,
-        place: suffixes.place,
+        place: place_behind(suffixes.place),
     })
 }

@@ -28,10 +28,10 @@ pub fn glance<A: Allocator>(node: &Node<A>, key: TenantKey<'_>, at: u64) -> Glan
     if !may_hold(node, key) {
         return Glance {
             newest: Newest::Missing,
-            place: 0,
+            place: usize::MAX,
         };
     }
-    let mut place = 0;
+    let mut place = usize::MAX;
     let newest = match newest_up_to(node.buffer(), key, at, &mut place) {
         Some(message) => Newest::of_message(message),
         None => newest_below(node, key, at),

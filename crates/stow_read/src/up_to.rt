@@ -25,6 +25,12 @@ pub(crate) fn count_up_to<A: Allocator>(
     buffer.count_below(key, at.saturating_add(1), guess)
 }
 
+/// Where a key's next message may come to stand, behind so many: a guess beyond all where there are none, which is where the filter
+/// told that the key has no message.
+pub(crate) fn place_behind(count: usize) -> usize {
+    if count == 0 { usize::MAX } else { count }
+}
+
 /// The newest message of a key up to a number, and behind how many messages the key's next one may come to stand.
 #[inline(always)]
 pub(crate) fn newest_up_to<'a, A: Allocator>(
@@ -37,7 +43,7 @@ pub(crate) fn newest_up_to<'a, A: Allocator>(
 {
     let _known = buffer.len();
     let count = count_up_to(buffer, key, at, usize::MAX);
-    *place = count;
+    *place = place_behind(count);
     if count == 0 {
         return None;
     }
