@@ -3,6 +3,7 @@ ghost use Rattle.std.specs.Prelude.{◌≡◌, ◌-◌, ◌<◌, ◌≤◌, IsTr
 ghost use Rattle.stow_message.specs.MessageBuf.{messages_in, IsPackedBuffer};
 ghost use Rattle.stow_message.specs.Rising.{below};
 
+use crate::place::Place;
 use crate::slots::names_below;
 use std::alloc::Allocator;
 use stow_slots::slot_buf::SlotBuf;
@@ -11,14 +12,15 @@ use stow_slots::slot_buf::SlotBuf;
 #[inline(always)]
 pub(crate) fn is_place<A: Allocator>(
     raw: &SlotBuf<A>,
-    count: usize,
+    place: Place,
     key: &[u8],
     number: u64,
 ) -> bool
     requires { IsPackedBuffer raw.now }
-    ensures { IsTrue result → below (key.now, number) (messages_in raw.now) ≡ count }
+    ensures { IsTrue result → below (key.now, number) (messages_in raw.now) ≡ place.count }
 {
-    let (last, next) = raw.around(count);
+    let count = place.count;
+    let (last, next) = raw.around(count, place.young);
     reaches(raw, count, last, key, number) && ends(raw, count, next, key, number)
 }
 

@@ -3,6 +3,7 @@ ghost use Rattle.std.specs.Prelude.{Contains, IfSome};
 ghost use Rattle.stow_message.specs.MessageBuf.{IsPackedBuffer};
 
 use crate::key_words::KeyWords;
+use crate::place::Place;
 use crate::slots::names_below;
 use std::alloc::Allocator;
 use stow_slots::slot_buf::SlotBuf;
@@ -15,20 +16,28 @@ pub(crate) fn guess<A: Allocator>(
     words: &KeyWords<A>,
     key: &[u8],
     number: u64,
-) -> usize
+) -> Place
     requires { IsPackedBuffer raw.now }
 {
     let older = older_below(raw, words.span(raw, key), key, number);
-    older.saturating_add(young_below(raw, older, key, number))
+    let young = young_below(raw, older, key, number);
+    Place {
+        count: older.saturating_add(young),
+        young,
+    }
 }
 
 /// How many messages may stand below a key's next one: as words tell, and all young ones that stand before the next of the others.
 #[inline(always)]
-pub(crate) fn newest_place<A: Allocator>(raw: &SlotBuf<A>, words: &KeyWords<A>, key: &[u8]) -> usize
+pub(crate) fn newest_place<A: Allocator>(raw: &SlotBuf<A>, words: &KeyWords<A>, key: &[u8]) -> Place
     requires { IsPackedBuffer raw.now }
 {
     let older = words.count_up_to(raw, key);
-    older.saturating_add(raw.young_behind(older.saturating_add(1)))
+    let young = raw.young_behind(older.saturating_add(1));
+    Place {
+        count: older.saturating_add(young),
+        young,
+    }
 }
 
 /// How many young messages stand below the key and number, of which so many others do: those that stand behind fewer, and some of

@@ -2,13 +2,13 @@
 ghost use Rattle.std.specs.Prelude.{Contains, IfSome};
 ghost use Rattle.stow_message.specs.MessageBuf.{IsPackedBuffer};
 
-use crate::key_word::{KeyWord, own};
+use crate::key_word::{KeyWord, WordOf, own};
 use crate::run::Run;
 use crate::slots::key_at;
 use std::alloc::{AllocError, Allocator, Global};
 use std::cmp::Ordering;
 use stow_bytes::compare::compare;
-use stow_slots::halving::step_if;
+use stow_slots::quartering::count_below;
 use stow_slots::slot_buf::SlotBuf;
 
 /// How many bytes of a buffer there are for each word.
@@ -27,6 +27,9 @@ pub(crate) struct KeyWords<A: Allocator = Global> {
 /// How many bytes at the front of both are the same, of so many.
 fn shared_of(one: &[u8], other: &[u8], most: usize) -> usize {
     let most = most.min(one.len()).min(other.len());
+    if compare(&one[..most], &other[..most]) == Ordering::Equal {
+        return most;
+    }
     for i in 0..most {
         if one[i] != other[i] {
             return i;
@@ -121,7 +124,7 @@ impl<A: Allocator> KeyWords<A> {
         alloc: A,
         raw: &SlotBuf<B>,
     ) -> Result<KeyWords<A>, AllocError> {
-        let most = if raw.takes_young() {
+        let most = if raw.young_most() > 0 {
             raw.capacity() / BYTES
         } else {
             0
@@ -243,6 +246,21 @@ impl<A: Allocator> KeyWords<A> {
         }
     }
 
+    /// For how many words there is room.
+    pub(crate) fn room(&self) -> usize {
+        self.words.capacity()
+    }
+
+    /// Gets room for so many words, and has words of all slots that aren't young then, as far as there is room. Where memory is refused
+    /// there is as much as before.
+    pub(crate) fn widen<B: Allocator>(&mut self, raw: &SlotBuf<B>, count: usize)
+        requires { IsPackedBuffer raw.now }
+    {
+        let more = count.saturating_sub(self.words.len());
+        let _ = self.words.reserve_exact(more);
+        self.mend(raw);
+    }
+
     /// Takes the words of the young slots up, which are about to come to the others.
     pub(crate) fn settle<B: Allocator>(&mut self, raw: &SlotBuf<B>)
         requires { IsPackedBuffer raw.now }
@@ -274,19 +292,10 @@ impl<A: Allocator> KeyWords<A> {
         }
     }
 
-    /// How many words are below one, by a search that takes no branch by what it finds: the highest bit of no word is set, so that of a
-    /// difference tells which one is below.
+    /// How many words are below one.
     #[inline(always)]
     fn count_below(&self, word: u128) -> usize {
-        let words = self.words.as_slice();
-        let (mut low, mut left) = (0, words.len());
-        while left > 0 {
-            let half = left - left / 2;
-            let difference = words[low + half - 1].number().wrapping_sub(word);
-            low += step_if((difference >> 127) as usize, half);
-            left /= 2;
-        }
-        low
+        count_below(self.words.as_slice(), &WordOf { number: word })
     }
 
     /// Behind how many of the slots that aren't young the key's newest one may stand: by words alone.

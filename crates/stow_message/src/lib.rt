@@ -19,6 +19,7 @@ pub mod laws;
 mod marking;
 pub mod message_buf;
 pub mod newest;
+mod place;
 pub mod run;
 mod slots;
 

@@ -16,6 +16,7 @@ use crate::head::{HEAD, SLOT, kind, op_with, read_head, size, write_head};
 use crate::key_words::KeyWords;
 use crate::marking::mark_run;
 use crate::newest::Newest;
+use crate::place::Place;
 use crate::run::Run;
 use crate::slots::{search_between, search_from};
 use std::alloc::{AllocError, Allocator, Global};
@@ -27,6 +28,9 @@ use stow_raw::raw_buf::RawBuf;
 use stow_slots::slot_buf::SlotBuf;
 use stow_tree_model::message::Message;
 use stow_tree_model::tenant_key::TenantKey;
+
+/// The bytes of a short message, its slot among them.
+const SHORT: usize = 32;
 
 /// Messages in one block, in the order of their keys and numbers, with a filter by which most look-ups of a key that has
 /// none are short.
@@ -227,6 +231,33 @@ impl<A: Allocator> MessageBuf<A> {
         }
     }
 
+    /// Sees that the words of keys serve where so many bytes of messages more come, which may be short ones: then more room is asked for,
+    /// and nothing is lost where it is refused.
+    #[inline(always)]
+    pub fn widen(&mut self, bytes: usize)
+        ensures { self.new ≡ self.old }
+    {
+        let young = self.raw.young_most();
+        let count = self
+            .raw
+            .slot_count()
+            .saturating_add(young)
+            .saturating_add(bytes / SHORT);
+        if count > self.words.room() && self.live > 0 {
+            self.widen_words();
+        }
+    }
+
+    /// Gets room for words of as many messages as the block has room for, if the others are as long as these.
+    #[inline(never)]
+    fn widen_words(&mut self)
+        ensures { self.new ≡ self.old }
+    {
+        let each = self.live / self.raw.slot_count().max(1);
+        self.words
+            .widen(&self.raw, self.raw.capacity() / each.max(SHORT));
+    }
+
     /// How many messages there are.
     pub fn len(&self) -> usize
         ensures len { result ≡ length self.now.messages }
@@ -270,9 +301,20 @@ impl<A: Allocator> MessageBuf<A> {
         ensures valid { All IsMessage self.now.messages }
         ensures small { length self.now.messages < 4294967296 }
     {
+        self.seek(key, number).count
+    }
+
+    /// The same, with how many of those have young slots.
+    #[inline(always)]
+    fn seek(&self, key: &[u8], number: u64) -> Place
+        ensures count { result.count ≡ below (key.now, number) self.now.messages }
+        ensures rising { MessagesRise self.now.messages }
+        ensures valid { All IsMessage self.now.messages }
+        ensures small { length self.now.messages < 4294967296 }
+    {
         let _known = self.len();
         if self.raw.young_count() == 0 && !self.words.serve(&self.raw) {
-            return self.search_all(key, number);
+            return self.place(self.search_all(key, number));
         }
         if self.words.serve(&self.raw) {
             let newest = newest_place(&self.raw, &self.words, key);
@@ -284,7 +326,7 @@ impl<A: Allocator> MessageBuf<A> {
         if is_place(&self.raw, guess, key, number) {
             guess
         } else {
-            self.search_all(key, number)
+            self.place(self.search_all(key, number))
         }
     }
 
@@ -296,6 +338,17 @@ impl<A: Allocator> MessageBuf<A> {
         ensures small { length self.now.messages < 4294967296 }
     {
         search_between(&self.raw, 0, self.len(), key, number)
+    }
+
+    /// The place behind so many messages.
+    #[inline(always)]
+    fn place(&self, count: usize) -> Place
+        ensures { result.count ≡ count }
+    {
+        Place {
+            count,
+            young: self.raw.rank(count),
+        }
     }
 
     /// Whether so many messages at least stand below the key and number, and one at least.
@@ -324,16 +377,27 @@ impl<A: Allocator> MessageBuf<A> {
         ensures rising { MessagesRise self.now.messages }
         ensures valid { All IsMessage self.now.messages }
     {
+        self.seek_near(key, number, guess).count
+    }
+
+    /// The same, with how many of those have young slots.
+    #[inline(always)]
+    fn seek_near(&self, key: TenantKey<'_>, number: u64, guess: usize) -> Place
+        ensures count { result.count ≡ below (key.entry.bytes.now, number) self.now.messages }
+        ensures rising { MessagesRise self.now.messages }
+        ensures valid { All IsMessage self.now.messages }
+    {
         if guess > self.len() {
-            return self.search(key.bytes, number);
+            return self.seek(key.bytes, number);
         }
-        if is_place(&self.raw, guess, key.bytes, number) {
-            return guess;
+        let near = self.place(guess);
+        if is_place(&self.raw, near, key.bytes, number) {
+            return near;
         }
         if self.is_past(guess, key.bytes, number) {
-            self.search_from(guess, key.bytes, number)
+            self.place(self.search_from(guess, key.bytes, number))
         } else {
-            self.search(key.bytes, number)
+            self.seek(key.bytes, number)
         }
     }
 
@@ -381,15 +445,16 @@ impl<A: Allocator> MessageBuf<A> {
     }
 
     /// The same, where no slot is to come to the others by it.
+    #[inline(always)]
     fn put(&mut self, message: Message<'_>, guess: usize)
         requires { Fits self.old (message_of message)
             × IsNew (message_of message) self.old.messages }
         ensures { self.new ≡ with_message (message_of message.entry) self.old }
     {
-        let index = self.count_below(message.key, message.number, guess);
+        let place = self.seek_near(message.key, message.number, guess);
         let at = self.raw.front_len() as u32;
         append(&mut self.raw, message);
-        self.raw.insert_slot(index, at);
+        self.raw.insert_slot_near(place.count, place.young, at);
         self.filter.add(message.key.bytes);
         self.live += size(message);
     }

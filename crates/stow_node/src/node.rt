@@ -539,6 +539,7 @@ impl<A: Allocator> Node<A> {
         ensures spare { spare.new.capacity ≡ spare.old.capacity }
     {
         let capacity = self.buffer.capacity();
+        self.buffer.widen(bytes);
         if bytes <= capacity - self.buffer.used() {
             return true;
         }

@@ -18,7 +18,7 @@ pub(crate) fn slot_at<A: Allocator>(
     ensures { result ≡ slice_get (merged raw.now.slots young.now) index }
 {
     let past = index - rank;
-    if rank < young.len() && young[rank].behind == past {
+    if rank < young.len() && young[rank].behind as usize == past {
         return Some(young[rank].slot);
     }
     if past < raw.slot_count() {
@@ -54,7 +54,7 @@ fn rank_before(young: &[YoungSlot], index: usize, rank: usize) -> usize
     requires rank { IsRank 0 index young.now rank }
     ensures { IsRank 0 (index - 1) young.now result }
 {
-    if rank > 0 && rank - 1 < young.len() && young[rank - 1].behind == index - rank {
+    if rank > 0 && rank - 1 < young.len() && young[rank - 1].behind as usize == index - rank {
         rank - 1
     } else {
         rank

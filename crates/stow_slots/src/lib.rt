@@ -12,7 +12,7 @@
 #![tactic(auto)]
 
 mod around;
-pub mod halving;
+pub mod quartering;
 mod ranking;
 mod settling;
 pub mod slot_buf;

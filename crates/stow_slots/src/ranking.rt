@@ -2,17 +2,17 @@
 ghost use Rattle.std.specs.Prelude.{◌≡◌, ◌+◌, ◌<◌, ◌↔◌, IsTrue, false};
 ghost use Rattle.stow_slots.specs.Young.{AreRising, HasOneMore, IsRank};
 
-use crate::halving::step_if;
+use crate::quartering::{Sought, count_below, step_if};
 use crate::young_slot::YoungSlot;
 use std::alloc::Allocator;
 
-/// How many young slots stand before the place with this index among all: a guess, that is believed after a look at those beside it.
+/// How many young slots stand before the place with this index among all: as many as a guess says where those beside it agree, and
+/// else by a search.
 #[inline(always)]
-pub(crate) fn rank_of(young: &[YoungSlot], index: usize) -> usize
+pub(crate) fn rank_of(young: &[YoungSlot], index: usize, guess: usize) -> usize
     requires { AreRising 0 young.now }
     ensures { IsRank 0 index young.now result }
 {
-    let guess = guessed_rank(young, index);
     if is_rank(young, index, guess) {
         guess
     } else {
@@ -34,22 +34,50 @@ fn is_rank(young: &[YoungSlot], index: usize, rank: usize) -> bool
     reaches && ends
 }
 
-/// How many they may be, by a search that takes no branch by what it finds: the numbers are far below 2^63, so the highest bit of
-/// their difference tells which one is below.
-#[inline(always)]
-fn guessed_rank(young: &[YoungSlot], index: usize) -> usize {
-    let (mut low, mut left) = (0, young.len());
-    while left > 0 {
-        let half = left - left / 2;
-        let last = low + half - 1;
-        let difference = young[last].behind.wrapping_add(last).wrapping_sub(index);
-        low += step_if(difference >> 63, half);
-        left /= 2;
-    }
-    low
+/// The place with this index among all slots, as it is sought among the young ones.
+#[derive(Clone, Copy)]
+struct PlaceOf {
+    index: usize,
 }
 
-/// The same by a search that is exact.
+impl Sought<YoungSlot> for PlaceOf {
+    /// The numbers are far below 2^63, so the highest bit of their difference tells which one is below.
+    #[inline(always)]
+    fn step_past(&self, young: YoungSlot, rank: usize, step: usize) -> usize {
+        let difference = (young.behind as usize)
+            .wrapping_add(rank)
+            .wrapping_sub(self.index);
+        step_if(difference >> 63, step)
+    }
+}
+
+/// How many they may be.
+#[inline(always)]
+pub(crate) fn guessed_rank(young: &[YoungSlot], index: usize) -> usize {
+    count_below(young, &PlaceOf { index })
+}
+
+/// So many of the older slots, as they are sought among those that young ones stand behind.
+#[derive(Clone, Copy)]
+struct Older {
+    count: usize,
+}
+
+impl Sought<YoungSlot> for Older {
+    /// As above.
+    #[inline(always)]
+    fn step_past(&self, young: YoungSlot, _rank: usize, step: usize) -> usize {
+        step_if((young.behind as usize).wrapping_sub(self.count) >> 63, step)
+    }
+}
+
+/// How many young slots stand behind fewer of the older ones.
+#[inline(always)]
+pub(crate) fn young_behind(young: &[YoungSlot], older: usize) -> usize {
+    count_below(young, &Older { count: older })
+}
+
+/// How many young slots stand before the place with this index among all, by a search that is exact.
 fn searched_rank(young: &[YoungSlot], index: usize) -> usize
     requires { AreRising 0 young.now }
     ensures { IsRank 0 index young.now result }
@@ -70,13 +98,14 @@ fn searched_rank(young: &[YoungSlot], index: usize) -> usize
 fn is_before(young: YoungSlot, rank: usize, index: usize) -> bool
     ensures { IsTrue result ↔ (young.behind + rank < index) }
 {
-    rank < index && young.behind < index - rank
+    rank < index && (young.behind as usize) < index - rank
 }
 
-/// Puts a slot at the place with this index among all, if its list has room for it.
+/// Puts a slot at the place with this index among all, if its list has room for it. So many young ones may stand before it.
 pub(crate) fn put_young<A: Allocator>(
     young: &mut Vec<YoungSlot, A>,
     index: usize,
+    guess: usize,
     slot: u32,
 ) -> bool
     requires { AreRising 0 young.old.items }
@@ -86,7 +115,9 @@ pub(crate) fn put_young<A: Allocator>(
     if young.len() == young.capacity() {
         return false;
     }
-    let rank = rank_of(young.as_slice(), index);
-    let behind = index - rank;
+    let rank = rank_of(young.as_slice(), index, guess);
+    let Ok(behind) = u32::try_from(index - rank) else {
+        return false;
+    };
     young.insert(rank, YoungSlot { behind, slot }).is_ok()
 }

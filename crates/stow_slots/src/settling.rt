@@ -21,9 +21,10 @@ pub(crate) fn settle<A: Allocator>(raw: &mut RawBuf<A>, young: &mut Vec<YoungSlo
     let mut past = 0;
     for i in 0..count {
         let slot = young[i];
-        raw.move_slots(past + i, count + past, slot.behind - past);
-        raw.set_slot(slot.behind + i, slot.slot);
-        past = slot.behind;
+        let behind = slot.behind as usize;
+        raw.move_slots(past + i, count + past, behind - past);
+        raw.set_slot(behind + i, slot.slot);
+        past = behind;
     }
     young.clear();
 }

@@ -4,8 +4,7 @@ ghost use Rattle.std.specs.List.{insert, remove_range};
 ghost use Rattle.stow_raw.specs.RawBuf.{raw_lists, raw_used, RawFits};
 
 use crate::around::{slot_at, slot_before};
-use crate::halving::step_if;
-use crate::ranking::{put_young, rank_of};
+use crate::ranking::{guessed_rank, put_young, rank_of, young_behind};
 use crate::settling::settle;
 use crate::young_slot::YoungSlot;
 use std::alloc::{AllocError, Allocator, Global};
@@ -13,7 +12,7 @@ use std::marker::Model;
 use stow_raw::raw_buf::RawBuf;
 
 /// The most young slots.
-const YOUNG: usize = 512;
+const YOUNG: usize = 1_024;
 
 /// How many young slots are ripe where there are no others; a 32nd of those more are where there are some.
 const FEWEST_RIPE: usize = 16;
@@ -109,21 +108,28 @@ impl<A: Allocator> SlotBuf<A> {
         ensures { result ≡ slice_index self.now.slots index }
     {
         let young = self.young.as_slice();
-        let rank = rank_of(young, index);
-        if rank < young.len() && young[rank].behind == index - rank {
+        let rank = rank_of(young, index, guessed_rank(young, index));
+        if rank < young.len() && young[rank].behind as usize == index - rank {
             return young[rank].slot;
         }
         self.raw.slot(index - rank)
     }
 
-    /// The slots right before `index` and at it, where they are there.
-    pub fn around(&self, index: usize) -> (Option<u32>, Option<u32>)
+    /// How many young slots may stand before `index`: a guess.
+    #[inline(always)]
+    pub fn rank(&self, index: usize) -> usize {
+        guessed_rank(self.young.as_slice(), index)
+    }
+
+    /// The slots right before `index` and at it, where they are there. So many young ones may stand before it.
+    #[inline(always)]
+    pub fn around(&self, index: usize, guess: usize) -> (Option<u32>, Option<u32>)
         ensures none { index ≡ 0 → result.0 ≡ None }
         ensures before { 0 < index → result.0 ≡ slice_get self.now.slots (index - 1) }
         ensures at { result.1 ≡ slice_get self.now.slots index }
     {
         let young = self.young.as_slice();
-        let rank = rank_of(young, index);
+        let rank = rank_of(young, index, guess);
         (
             slot_before(&self.raw, young, index, rank),
             slot_at(&self.raw, young, index, rank),
@@ -146,7 +152,18 @@ impl<A: Allocator> SlotBuf<A> {
         ensures { self.new
             ≡ raw_lists self.old.front (insert self.old.slots index slot) self.old.capacity }
     {
-        if put_young(&mut self.young, index, slot) {
+        let guess = self.rank(index);
+        self.insert_slot_near(index, guess, slot);
+    }
+
+    /// The same, where so many young slots may stand before `index`.
+    #[inline(always)]
+    pub fn insert_slot_near(&mut self, index: usize, guess: usize, slot: u32)
+        requires { (index ≤ length self.old.slots) × RawFits self.old 4 }
+        ensures { self.new
+            ≡ raw_lists self.old.front (insert self.old.slots index slot) self.old.capacity }
+    {
+        if put_young(&mut self.young, index, guess, slot) {
             return;
         }
         settle(&mut self.raw, &mut self.young);
@@ -208,9 +225,9 @@ impl<A: Allocator> SlotBuf<A> {
         settle(&mut self.raw, &mut self.young);
     }
 
-    /// Whether slots may be young: a block of few bytes has no list for them.
-    pub fn takes_young(&self) -> bool {
-        self.young.capacity() > 0
+    /// How many slots may be young: none of a block of few bytes, which has no list for them.
+    pub fn young_most(&self) -> usize {
+        self.young.capacity()
     }
 
     /// Whether the young slots had better come to the others before the next one is put: where they are many, by how many others they
@@ -255,23 +272,15 @@ impl<A: Allocator> SlotBuf<A> {
     /// How many of the older ones the young slot at this place among the young ones stands behind.
     pub fn young_place(&self, place: usize) -> usize {
         if place < self.young.len() {
-            self.young[place].behind
+            self.young[place].behind as usize
         } else {
             0
         }
     }
 
-    /// How many young slots stand behind fewer of the older ones, by a search that takes no branch by what it finds.
+    /// How many young slots stand behind fewer of the older ones.
     #[inline(always)]
     pub fn young_behind(&self, older: usize) -> usize {
-        let young = self.young.as_slice();
-        let (mut low, mut left) = (0, young.len());
-        while left > 0 {
-            let half = left - left / 2;
-            let difference = young[low + half - 1].behind.wrapping_sub(older);
-            low += step_if(difference >> 63, half);
-            left /= 2;
-        }
-        low
+        young_behind(self.young.as_slice(), older)
     }
 }

@@ -10,9 +10,9 @@ const LARGE: usize = 65_536;
 /// How many slots are put, how large the block is, and how many of them are young then.
 const WAITING: [(u32, usize, usize); 5] = [
     (1, LARGE, 1),
-    (512, LARGE, 512),
-    (513, LARGE, 0),
-    (1_000, LARGE, 487),
+    (1_024, LARGE, 1_024),
+    (1_025, LARGE, 0),
+    (2_000, LARGE, 975),
     (100, LARGE - 1, 0),
 ];
 

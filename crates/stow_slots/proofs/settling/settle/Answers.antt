@@ -22,8 +22,8 @@ pub overflow_add-count : goal.overflow_add-count
 overflow_add-count g c = let w = c.loop-i.invariant.settling in
     omega (arith, w.within, w.gap_is, c.loop-i-test.true, c.capacity-known.ensures, c.requires.room, c.len-count.ensures, ap (λ (r : RawLists). length r.slots) (unadded_is c.args.raw.now c.add_slots.new.self c.len-count.result c.add_slots.ensures))
 
-pub overflow_sub-slot : goal.overflow_sub-slot
-overflow_sub-slot g c = let raw = unadded c.add_slots.new.self c.len-count.result in let young = c.args.young.now.items in let l = c.loop-i in let w = l.invariant.settling in
+pub overflow_sub-behind : goal.overflow_sub-behind
+overflow_sub-behind g c = let raw = unadded c.add_slots.new.self c.len-count.result in let young = c.args.young.now.items in let l = c.loop-i in let w = l.invariant.settling in
     let lt : l.i < length young = omega (arith, c.loop-i-test.true, c.len-count.ensures) in let y = c.index-slot.result.now in
     let is : y ≡ get_or young l.i y = c.index-slot.ensures ∙ ap (λ (v : _). get_or v.items l.i y) l.invariant.young in
     low raw l.raw young l.past l.i w lt y is
@@ -35,8 +35,8 @@ move_slots-requires g c = let raw = unadded c.add_slots.new.self c.len-count.res
     let up = high raw l.raw young l.past l.i w lt y is in let down = low raw l.raw young l.past l.i w lt y is in
     (omega (arith, lt, c.len-count.ensures), omega (arith, counts raw l.raw young l.past l.i w, up, down, c.len-count.ensures, w.within))
 
-pub overflow_add-slot : goal.overflow_add-slot
-overflow_add-slot g c = let raw = unadded c.add_slots.new.self c.len-count.result in let young = c.args.young.now.items in let l = c.loop-i in let w = l.invariant.settling in
+pub overflow_add-behind : goal.overflow_add-behind
+overflow_add-behind g c = let raw = unadded c.add_slots.new.self c.len-count.result in let young = c.args.young.now.items in let l = c.loop-i in let w = l.invariant.settling in
     let lt : l.i < length young = omega (arith, c.loop-i-test.true, c.len-count.ensures) in let y = c.index-slot.result.now in
     let is : y ≡ get_or young l.i y = c.index-slot.ensures ∙ ap (λ (v : _). get_or v.items l.i y) l.invariant.young in
     omega (arith, high raw l.raw young l.past l.i w lt y is, lt, c.capacity-known.ensures, c.requires.room, ap (λ (r : RawLists). length r.slots) (unadded_is c.args.raw.now c.add_slots.new.self c.len-count.result c.add_slots.ensures))

@@ -13,20 +13,20 @@ use Rattle.stow_message.proofs.message_buf.MessageBuf.put.Goals as goal
 pub append-requires : goal.append-requires
 append-requires g c = bytes_fit c.self.inside.raw c.self.invariant.filled c.args.self.now c.self.view_is c.args.message c.requires
 
-pub insert_slot-requires : goal.insert_slot-requires
-insert_slot-requires g c = (push c.self.inside.raw c.self.invariant.filled c.args.self.now c.self.view_is c.args.message c.requires c.append.new.raw c.append.ensures _ c.count_below-index.ensures.count).room
+pub insert_slot_near-requires : goal.insert_slot_near-requires
+insert_slot_near-requires g c = (push c.self.inside.raw c.self.invariant.filled c.args.self.now c.self.view_is c.args.message c.requires c.append.new.raw c.append.ensures _ c.seek_near-place.ensures.count).room
 
 pub invariant_of-self : goal.invariant_of-self
 invariant_of-self g c =
-    let put = push c.self.inside.raw c.self.invariant.filled c.args.self.now c.self.view_is c.args.message c.requires c.append.new.raw c.append.ensures _ c.count_below-index.ensures.count in
+    let put = push c.self.inside.raw c.self.invariant.filled c.args.self.now c.self.view_is c.args.message c.requires c.append.new.raw c.append.ensures _ c.seek_near-place.ensures.count in
     let marks = c.add.new.self in
     record {
-      filled = put.filled _ _ c.front_len-at.ensures c.insert_slot.ensures;
-      covers = subst (Covers marks) (sym (ap (λ (w : MessageList). w.messages) (put.is _ _ c.front_len-at.ensures c.insert_slot.ensures)))
+      filled = put.filled _ _ c.front_len-at.ensures c.insert_slot_near.ensures;
+      covers = subst (Covers marks) (sym (ap (λ (w : MessageList). w.messages) (put.is _ _ c.front_len-at.ensures c.insert_slot_near.ensures)))
           (covers_placed marks (message_of c.args.message) c.args.self.now.messages c.add.ensures.added
           (covers_more c.self.inside.filter marks c.args.self.now.messages c.add.ensures.stay
           (covered c.self.inside.raw c.self.inside.filter c.args.self.now c.self.view_is c.self.invariant.covers)));
-      counted = omega (arith, c.size.ensures, is_counted c.self.inside.raw c.self.inside.live c.args.self.now c.self.view_is c.self.invariant.counted, sum-placed (message_of c.args.message) c.args.self.now.messages, ap (λ (w : MessageList). sum_by message_size w.messages) (put.is _ _ c.front_len-at.ensures c.insert_slot.ensures));
+      counted = omega (arith, c.size.ensures, is_counted c.self.inside.raw c.self.inside.live c.args.self.now c.self.view_is c.self.invariant.counted, sum-placed (message_of c.args.message) c.args.self.now.messages, ap (λ (w : MessageList). sum_by message_size w.messages) (put.is _ _ c.front_len-at.ensures c.insert_slot_near.ensures));
     }
 
 pub overflow_add-self : goal.overflow_add-self
@@ -34,4 +34,4 @@ overflow_add-self g c =
     record { fits = omega (arith, c.size.ensures, c.self.invariant.counted, c.self.invariant.filled.live, c.self.invariant.filled.within, ap (λ (w : MessageList). w.used) c.self.view_is, ap (λ (w : MessageList). w.capacity) c.self.view_is, c.requires.0) }
 
 pub returns : goal.returns
-returns g c = (push c.self.inside.raw c.self.invariant.filled c.args.self.now c.self.view_is c.args.message c.requires c.append.new.raw c.append.ensures _ c.count_below-index.ensures.count).is _ _ c.front_len-at.ensures c.insert_slot.ensures
+returns g c = (push c.self.inside.raw c.self.invariant.filled c.args.self.now c.self.view_is c.args.message c.requires c.append.new.raw c.append.ensures _ c.seek_near-place.ensures.count).is _ _ c.front_len-at.ensures c.insert_slot_near.ensures

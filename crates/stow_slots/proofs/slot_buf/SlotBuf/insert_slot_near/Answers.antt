@@ -4,7 +4,7 @@ use Rattle.std.proofs.lemmas.List.Edits.{length-insert}
 use Rattle.stow_raw.specs.RawBuf.{RawLists, raw_lists, raw_used}
 use Rattle.stow_slots.specs.Young.{IsYoung, all_lists}
 use Rattle.stow_slots.proofs.Parts.{put_in, put_so, settled, settled_all}
-use Rattle.stow_slots.proofs.slot_buf.SlotBuf.insert_slot.Goals as goal
+use Rattle.stow_slots.proofs.slot_buf.SlotBuf.insert_slot_near.Goals as goal
 
 pub invariant_of-self : goal.invariant_of-self
 invariant_of-self g c = let put = c.put_young.ensures.put c.if-put_young.true in
