@@ -26,3 +26,5 @@ mod slots;
 mod superseded;
 #[cfg(test)]
 mod tree;
+#[cfg(test)]
+mod words;
