@@ -8,7 +8,8 @@
 //!
 //! How long a slot stands in which list is no part of a contract. `old_slot`, `young_slot` and their counts serve searches that
 //! look into one list alone: what they give is a slot of the block, and nothing is said of its place, so what is found by them
-//! is a guess. `around` gives the slots beside a place exactly, so that a guess is looked at by one search among the young ones.
+//! is a guess. `around` gives the slots beside a place exactly, so that a guess is looked at from both sides; how many young slots stand before
+//! it is a guess too (`rank`), made by a search in quarters (`quartering`), and believed after a look at those beside it.
 #![tactic(auto)]
 
 mod around;
