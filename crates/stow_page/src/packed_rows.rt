@@ -1,5 +1,5 @@
 //! Versions of a leaf in one block.
-ghost use Rattle.std.specs.Prelude.{◌≡◌, ◌==◌, ◌↔◌, IsTrue, ◌+◌, ◌<◌, ◌≤◌, ◌^◌, [], ◌∷◌, ◌++◌, length, map, slice_get, Some, option_map, IfOk, OnOk, OnErr};
+ghost use Rattle.std.specs.Prelude.{◌≡◌, ◌==◌, ◌↔◌, IsTrue, ◌+◌, ◌<◌, ◌≤◌, ◌^◌, [], ◌∷◌, ◌++◌, length, map, slice_get, Some, option_map, IfOk, IfSome, OnOk, OnErr};
 ghost use Rattle.std.specs.List.{All};
 ghost use Rattle.stow_tree_model.specs.Version.{version_of};
 ghost use Rattle.stow_tree_model.specs.Order.{VersionsRise};
@@ -353,16 +353,30 @@ impl<A: Allocator> PackedRows<A> {
         count == self.len() || stands_above(self.get(count), key, number)
     }
 
-    /// How many versions stand at the key and number or below. It is found at once where it is the guess or one more.
-    pub fn count_near(&self, key: TenantKey<'_>, number: u64, guess: usize) -> usize
-        ensures { IsCountUpTo self.now (key.entry.bytes.now, number) result }
+    /// How many versions stand at the key and number or below, if that is the guess or one more.
+    fn count_at(&self, key: TenantKey<'_>, number: u64, guess: usize) -> Option<usize>
+        ensures { IfSome result (IsCountUpTo self.now (key.entry.bytes.now, number)) }
     {
         let len = self.len();
         if guess <= len && self.is_count(guess, key, number) {
-            return guess;
+            return Some(guess);
         }
         if guess < len && self.is_count(guess + 1, key, number) {
-            return guess + 1;
+            return Some(guess + 1);
+        }
+        None
+    }
+
+    /// How many versions stand at the key and number or below. It is found at once where it is the guess or one more, or where the hint
+    /// knows the key.
+    pub fn count_near(&self, key: TenantKey<'_>, number: u64, guess: usize) -> usize
+        ensures { IsCountUpTo self.now (key.entry.bytes.now, number) result }
+    {
+        if let Some(count) = self.count_at(key, number, guess) {
+            return count;
+        }
+        if let Some(count) = self.count_at(key, number, self.hint.index_of(key.bytes)) {
+            return count;
         }
         self.count_up_to(key, number)
     }
