@@ -31,7 +31,8 @@ fn message<'a>(number: u64, op: Op<'a>, key: &'a [u8]) -> Message<'a>
     }
 }
 
-/// Makes the room that `put` needs. For one key it asks for no memory but the tree's.
+/// Makes the room that `put` needs. For one key it asks for no memory but the tree's. Where it is given a value, or loses its own, an
+/// older message of the key may go, which the newest one hides: then its place is another. Behind appends there seldom is one.
 pub fn reserve<A: Allocator + Copy>(
     tree: &mut Tree<A>,
     alloc: A,
@@ -39,6 +40,7 @@ pub fn reserve<A: Allocator + Copy>(
     number: u64,
     op: Op<'_>,
     keys: LentWords<'_>,
+    places: &mut Places,
 ) -> Result<(), AllocError>
     requires messages { AreMessages (writes_of number (op_of op) (words_in keys)) }
     requires can { CanReserve tree.old (writes_of number (op_of op) (words_in keys)) }
@@ -48,13 +50,18 @@ pub fn reserve<A: Allocator + Copy>(
         (tree_messages tree.new) }
     ensures shape { tree.new.root.shape ≡ tree.old.root.shape }
 {
-    match keys.only() {
-        Some(key) => tree.reserve(alloc, &[message(number, op, key)], pins),
-        None => {
-            let made = messages(alloc, number, op, keys)?;
-            tree.reserve(alloc, made.as_slice(), pins)
-        }
+    let Some(key) = keys.only() else {
+        let made = messages(alloc, number, op, keys)?;
+        return tree.reserve(alloc, made.as_slice(), pins);
+    };
+    let message = message(number, op, key);
+    if let Op::Append(_) = op {
+        return tree.reserve(alloc, &[message], pins);
     }
+    let mut place = places.of(0);
+    tree.reserve_near(alloc, message, pins, &mut place)?;
+    places.set(0, place);
+    Ok(())
 }
 
 /// The messages that do this to the values of these keys.

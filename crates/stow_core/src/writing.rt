@@ -29,7 +29,7 @@ impl<A: Allocator + Copy> Core<A> {
         &mut self,
         alloc: A,
         tenant: u32,
-        write: Write<'a, A>,
+        mut write: Write<'a, A>,
         reply: Reply<A>,
     ) -> Result<Prepared<'a, A>, AllocError>
         requires is_tenant { IsTenant self.old.entries tenant }
@@ -50,8 +50,10 @@ impl<A: Allocator + Copy> Core<A> {
             return Ok(only_refused(tenant));
         }
         let number = self.next_number(tenant);
+        let mut places = write.places;
         let (op, keys) = (write.given.op(), write.keys.lent());
-        reserve(&mut self.tree, alloc, &self.pins, number, op, keys)?;
+        reserve(&mut self.tree, alloc, &self.pins, number, op, keys, &mut places)?;
+        write.places = places;
         Ok(Prepared {
             tenant,
             change: Change::Write(write),

@@ -12,6 +12,7 @@ pub mod Removed
 pub mod RisingLists
 pub mod Searched
 pub mod Shared
+pub mod Single
 pub mod Squeezed
 pub mod Stored
 pub mod Taken

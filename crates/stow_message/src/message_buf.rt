@@ -1,5 +1,5 @@
 //! A buffer of packed messages.
-ghost use Rattle.std.specs.Prelude.{◌≡◌, ◌+◌, ◌-◌, ◌*◌, ◌^◌, ◌<◌, ◌≤◌, ◌==◌, [], ◌++◌, length, map, take, drop, max, reverse, slice_index_or, IfOk, IsTrue, ◌↔◌, false};
+ghost use Rattle.std.specs.Prelude.{◌≡◌, ◌+◌, ◌-◌, ◌*◌, ◌^◌, ◌<◌, ◌≤◌, ◌==◌, [], ◌++◌, length, map, take, drop, max, reverse, slice_get, slice_index_or, IfOk, IfSome, IsTrue, Some, ◌↔◌, false};
 ghost use Rattle.std.specs.Ordering.{is_lt, is_eq};
 ghost use Rattle.stow_tree_model.specs.TreeMessage.{TreeMessage, message_of};
 ghost use Rattle.stow_tree_model.specs.Order.{place_cmp, place_of, MessagesRise};
@@ -282,6 +282,25 @@ impl<A: Allocator> MessageBuf<A> {
         ensures { message_of result ≡ slice_index_or self.now.messages index (message_of result) }
     {
         read_message(&self.raw, self.raw.slot(index) as usize)
+    }
+
+    /// The last two of so many messages, lent out of the block, where they are there.
+    #[inline(always)]
+    pub fn last_two(&self, count: usize) -> Option<(Message<'_>, Message<'_>)>
+        ensures { IfSome result (λ two. (2 ≤ count)
+            × (slice_get self.now.messages (count - 2) ≡ Some (message_of two.0))
+            × (slice_get self.now.messages (count - 1) ≡ Some (message_of two.1))) }
+    {
+        if count < 2 || count > self.len() {
+            return None;
+        }
+        match self.raw.around(count - 1, self.raw.rank(count - 1)) {
+            (Some(first), Some(second)) => Some((
+                read_message(&self.raw, first as usize),
+                read_message(&self.raw, second as usize),
+            )),
+            _ => None,
+        }
     }
 
     /// The bytes of the packed message at `index`, lent.
@@ -567,6 +586,22 @@ impl<A: Allocator> MessageBuf<A> {
         self.raw.remove_slots(index, count);
         self.words.remove(index, count);
         self.live -= gone;
+    }
+
+    /// Lets the message at `index` go if its slot is a young one, so that no other is moved. Its bytes are dead.
+    #[inline(always)]
+    pub fn remove_young(&mut self, index: usize) -> bool
+        ensures gone { IsTrue result → self.new
+            ≡ message_list (remove_range self.old.messages index (index + 1))
+            (self.old.used - 4) self.old.capacity }
+        ensures none { result ≡ false → self.new ≡ self.old }
+    {
+        let guess = self.raw.rank(index);
+        let Some(slot) = self.raw.remove_young(index, guess) else {
+            return false;
+        };
+        self.live -= packed_at(&self.raw, slot as usize).len() + SLOT;
+        true
     }
 
     /// Puts the messages of a run to their places. Each is searched from the place of the one before on, and the slots between are

@@ -1,10 +1,12 @@
 //! Messages of a node's own buffer that newer ones supersede.
+ghost use Rattle.std.specs.Prelude.{◌≡◌, IsTrue, false};
 ghost use Rattle.stow_merge.specs.Pins.{pins_in};
-ghost use Rattle.stow_node.specs.Superseded.{EachMeansTheSame, MayDropSuperseded};
+ghost use Rattle.stow_node.specs.Superseded.{EachMeansTheSame, LosesHidden, MayDropSuperseded};
 
 use crate::node::Node;
 use std::alloc::Allocator;
 use stow_merge::pins::Pins;
+use stow_superseded::hidden::drop_hidden;
 use stow_superseded::superseding::without_superseded;
 
 impl<A: Allocator + Copy> Node<A> {
@@ -18,5 +20,16 @@ impl<A: Allocator + Copy> Node<A> {
         if let Some(fewer) = without_superseded(alloc, &self.buffer, pins) {
             self.buffer = fewer;
         }
+    }
+
+    /// Lets the last but one of so many of its own messages go, where the last of them hides it under the pins and no other is moved by
+    /// it: whether it did.
+    pub fn drop_hidden(&mut self, pins: &Pins<A>, count: usize) -> bool
+        ensures dropped { IsTrue result → LosesHidden (pins_in pins.now) self.old self.new }
+        ensures none { result ≡ false → self.new ≡ self.old }
+        ensures means { EachMeansTheSame (pins_in pins.now) self.old self.new }
+    {
+        let _known = self.buffer.len();
+        drop_hidden(&mut self.buffer, pins, count)
     }
 }

@@ -16,7 +16,7 @@ some_same : {u v : YoungSlot} → Some u ≡ Some v → u.behind ≡ v.behind
 some_same e = cc
 
 -- a young slot stands behind no more than all older ones
-behind_among : (count : ℕ) (young : List YoungSlot) (rank : ℕ) (y : YoungSlot) → AreAmong count young → slice_get young rank ≡ Some y → y.behind ≤ count
+pub behind_among : (count : ℕ) (young : List YoungSlot) (rank : ℕ) (y : YoungSlot) → AreAmong count young → slice_get young rank ≡ Some y → y.behind ≤ count
 behind_among count [] rank y are at = absurd (no_slot rank at)
 behind_among count (x ∷ later) zero y are at = omega (arith, are.0, some_same at)
 behind_among count (x ∷ later) (suc rank) y are at = behind_among count later rank y are.1 at

@@ -3,3 +3,4 @@ pub mod Merged
 pub mod Moved
 pub mod Parts
 pub mod Settled
+pub mod Taken

@@ -5,7 +5,7 @@ use Rattle.std.proofs.lemmas.List.Edits.{insert-append_right}
 use Rattle.std.specs.Prelude.{Bool, true, false, nat_lt, slice_get, Contains}
 use Rattle.std.proofs.lemmas.Bool.{ltb-true, ltb-false}
 use Rattle.std.proofs.lemmas.List.Elements.{Contains-get_or, Contains-append_left, Contains-append_right}
-use Rattle.std.specs.List.{AllByRecursion, insert}
+use Rattle.std.specs.List.{AllByRecursion, insert, remove}
 use Rattle.stow_slots.specs.Young.{merged_from, AreRising, IsRank, young_slot}
 use Rattle.stow_slots.specs.declared.young_slot.YoungSlot.{YoungSlot}
 
@@ -265,3 +265,45 @@ young_within past older (y ∷ later) rise are (suc place) found at =
     Contains-append_right (take (y.behind - past) older) (y.slot ∷ merged_from y.behind (drop (y.behind - past) older) later) found.slot
     (contains_there y.slot (merged_from y.behind (drop (y.behind - past) older) later) found.slot
     (young_within y.behind (drop (y.behind - past) older) later rise.1 (later_among past older y later rise.0 are.0 are.1) place found at))
+
+-- ---- a young slot less
+
+-- a list is itself without an element and with it again
+pub put_back : {X : Type 0} (xs : List X) (i : ℕ) (x : X) → slice_get xs i ≡ Some x → insert (remove xs i) i x ≡ xs
+put_back [] i x at = absurd (no_element i at) where
+  no_element : (j : ℕ) → slice_get [] j ≡ Some x → ⊥
+  no_element zero e = cc
+  no_element (suc j) e = cc
+put_back (y ∷ ys) zero x at = ap (λ z. z ∷ ys) (some_same at) where
+  some_same : Some y ≡ Some x → x ≡ y
+  some_same e = cc
+put_back (y ∷ ys) (suc i) x at = ap (λ l. y ∷ l) (put_back ys i x at)
+
+rises_from : (low past : ℕ) (young : List YoungSlot) → low ≤ past → AreRising past young → AreRising low young
+unfolding AreRising
+rises_from low past [] le rise = tt
+rises_from low past (y ∷ later) le rise = (omega (arith, le, rise.0), rise.1)
+
+pub remove_rises : (past : ℕ) (young : List YoungSlot) (rank : ℕ) → AreRising past young → AreRising past (remove young rank)
+unfolding AreRising
+remove_rises past [] zero rise = tt
+remove_rises past [] (suc rank) rise = tt
+remove_rises past (y ∷ later) zero rise = rises_from past y.behind later rise.0 rise.1
+remove_rises past (y ∷ later) (suc rank) rise = (rise.0, remove_rises y.behind later rank rise.1)
+
+pub remove_among : (count : ℕ) (young : List YoungSlot) (rank : ℕ) → AreAmong count young → AreAmong count (remove young rank)
+remove_among count [] zero are = tt
+remove_among count [] (suc rank) are = tt
+remove_among count (y ∷ later) zero are = are.1
+remove_among count (y ∷ later) (suc rank) are = (are.0, remove_among count later rank are.1)
+
+-- as many young slots stand before a place once the one that stood there is gone
+pub remove_rank : (past index : ℕ) (young : List YoungSlot) (rank : ℕ) (found : YoungSlot) → AreRising past young → IsRank past index young rank → slice_get young rank ≡ Some found → found.behind + rank ≡ index + past
+    → IsRank past index (remove young rank) rank
+unfolding AreRising IsRank
+remove_rank past index [] zero found rise is at place = tt
+remove_rank past index [] (suc rank) found rise is at place = absurd is
+remove_rank past index (y ∷ []) zero found rise is at place = tt
+remove_rank past index (y ∷ z ∷ later) zero found rise is at place = omega (arith, is, rise.0, rise.1.0)
+remove_rank past index (y ∷ later) (suc rank) found rise is at place =
+    (is.0, remove_rank y.behind (index - (y.behind - past) - 1) later rank found rise.1 is.1 at (omega (arith, place, is.0, rise.0)))

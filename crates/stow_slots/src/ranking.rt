@@ -1,5 +1,5 @@
 //! Which young slots stand before a place.
-ghost use Rattle.std.specs.Prelude.{◌≡◌, ◌+◌, ◌<◌, ◌↔◌, IsTrue, false};
+ghost use Rattle.std.specs.Prelude.{◌≡◌, ◌+◌, ◌<◌, ◌↔◌, IfSome, IsTrue, None, false};
 ghost use Rattle.stow_slots.specs.Young.{AreRising, HasOneMore, IsRank};
 
 use crate::quartering::{Sought, count_below, step_if};
@@ -120,4 +120,22 @@ pub(crate) fn put_young<A: Allocator>(
         return false;
     };
     young.insert(rank, YoungSlot { behind, slot }).is_ok()
+}
+
+/// Takes the slot at the place with this index among all out of its list, if it is a young one. So many young ones may stand before it.
+pub(crate) fn take_young<A: Allocator>(
+    young: &mut Vec<YoungSlot, A>,
+    index: usize,
+    guess: usize,
+) -> Option<u32>
+    requires { AreRising 0 young.old.items }
+    ensures taken { IfSome result (λ slot. HasOneMore young.new.items index slot young.old.items) }
+    ensures none { result ≡ None → young.new.items ≡ young.old.items }
+{
+    let rank = rank_of(young.as_slice(), index, guess);
+    if rank < young.len() && young[rank].behind as usize == index - rank {
+        Some(young.remove(rank).slot)
+    } else {
+        None
+    }
 }

@@ -1,10 +1,10 @@
 //! One block, filled from both ends, into which slots are put fast.
-ghost use Rattle.std.specs.Prelude.{◌≡◌, ◌+◌, ◌-◌, ◌*◌, ◌<◌, ◌≤◌, [], ◌++◌, length, take, drop, replicate, slice_set, slice_get, slice_index, IfOk, IfSome, None, Contains};
+ghost use Rattle.std.specs.Prelude.{◌≡◌, ◌+◌, ◌-◌, ◌*◌, ◌<◌, ◌≤◌, [], ◌++◌, length, take, drop, replicate, slice_set, slice_get, slice_index, IfOk, IfSome, None, Some, Contains};
 ghost use Rattle.std.specs.List.{insert, remove_range};
 ghost use Rattle.stow_raw.specs.RawBuf.{raw_lists, raw_used, RawFits};
 
 use crate::around::{slot_at, slot_before};
-use crate::ranking::{guessed_rank, put_young, rank_of, young_behind};
+use crate::ranking::{guessed_rank, put_young, rank_of, take_young, young_behind};
 use crate::settling::settle;
 use crate::young_slot::YoungSlot;
 use std::alloc::{AllocError, Allocator, Global};
@@ -146,17 +146,7 @@ impl<A: Allocator> SlotBuf<A> {
         self.raw.set_slot(index, slot);
     }
 
-    /// Puts a slot at `index`. The older ones aren't moved, unless the young ones are too many.
-    pub fn insert_slot(&mut self, index: usize, slot: u32)
-        requires { (index ≤ length self.old.slots) × RawFits self.old 4 }
-        ensures { self.new
-            ≡ raw_lists self.old.front (insert self.old.slots index slot) self.old.capacity }
-    {
-        let guess = self.rank(index);
-        self.insert_slot_near(index, guess, slot);
-    }
-
-    /// The same, where so many young slots may stand before `index`.
+    /// Puts a slot at `index`. The older ones aren't moved, unless the young ones are too many. So many young ones may stand before it.
     #[inline(always)]
     pub fn insert_slot_near(&mut self, index: usize, guess: usize, slot: u32)
         requires { (index ≤ length self.old.slots) × RawFits self.old 4 }
@@ -168,6 +158,18 @@ impl<A: Allocator> SlotBuf<A> {
         }
         settle(&mut self.raw, &mut self.young);
         self.raw.insert_slot(index, slot);
+    }
+
+    /// Takes the slot at `index` out if it is a young one: no other slot is moved. So many young ones may stand before it.
+    #[inline(always)]
+    pub fn remove_young(&mut self, index: usize, guess: usize) -> Option<u32>
+        ensures taken { IfSome result (λ slot.
+            (slice_get self.old.slots index ≡ Some slot)
+            × (self.new ≡ raw_lists self.old.front
+            (remove_range self.old.slots index (index + 1)) self.old.capacity)) }
+        ensures none { result ≡ None → self.new ≡ self.old }
+    {
+        take_young(&mut self.young, index, guess)
     }
 
     /// Puts `count` slots of value 0 before the others, for `set_slot`. No slot is moved.

@@ -26,7 +26,7 @@ use Rattle.stow_tree_model.proofs.Pruning.{contains_here, contains_there}
 
 -- ---- what stands above a place
 
-none_up_to : (p : VersionPlace) (ms : List TreeMessage) (n : ℕ) → n ≤ p.1 → AllAbove p ms → ops_in ms p.0 n ≡ None
+pub none_up_to : (p : VersionPlace) (ms : List TreeMessage) (n : ℕ) → n ≤ p.1 → AllAbove p ms → ops_in ms p.0 n ≡ None
 none_up_to p [] n l h = refl
 none_up_to p (x ∷ xs) n l h =
     ops_in-skip x xs p.0 n (λ e. let less : p.1 < n = falls_number p.0 p.1 n (subst (λ (q : VersionPlace). place_cmp p q ≡ Less) (sym e) h.0) in omega arith)
@@ -50,7 +50,7 @@ none_within pins from to none = ⊎_elim
     (λ (e : is_pin_within pins from to ≡ false). e)
     (cases_Bool (is_pin_within pins from to))
 
-within_none : (pins : List ℕ) (from to : ℕ) → not (is_pin_within pins from to) ≡ true → NonePinned pins from to
+pub within_none : (pins : List ℕ) (from to : ℕ) → not (is_pin_within pins from to) ≡ true → NonePinned pins from to
 within_none pins from to e p c l m = let t = pin_within pins from to p c l m in let z : false ≡ true = ap not (sym t) ∙ e in absurd cc
 
 -- a hidden message has one that hides it
@@ -116,7 +116,7 @@ begins_whole pins key from (m ∷ ms) w up above e none = ⊎_elim
 -- ---- the law
 
 -- a list's first message stands right above what is older
-moved : (m : TreeMessage) (ms : List TreeMessage) (key : List ℕ) (older : Operations) (n : ℕ) → AllAbove (place_of m) ms
+pub moved : (m : TreeMessage) (ms : List TreeMessage) (key : List ℕ) (older : Operations) (n : ℕ) → AllAbove (place_of m) ms
     → over (ops_in ms key) (over (ops_in (m ∷ []) key) older) n ≡ over (ops_in (m ∷ ms) key) older n
 moved m ms key older n h = ⊎_elim
     (λ (e : (◌≡◌ {A = VersionPlace} (key, n) (place_of m)) × (eq_by_cmp place_cmp (key, n) (place_of m) ≡ true)).
@@ -133,7 +133,7 @@ only_there m key n s = ⊎_elim
     (λ (e : (◌≢◌ {A = VersionPlace} (key, n) (place_of m)) × (eq_by_cmp place_cmp (key, n) (place_of m) ≡ false)). absurd (none_some (ops_in (m ∷ []) key n) (cond-false _ _ _ e.1) s))
     (place_cases (key, n) (place_of m))
 
-above_first : (m : TreeMessage) (ms : List TreeMessage) (key : List ℕ) (older : Operations) → AllAbove (place_of m) ms → Above (ops_in (m ∷ ms) key) older → Above (ops_in ms key) (over (ops_in (m ∷ []) key) older)
+pub above_first : (m : TreeMessage) (ms : List TreeMessage) (key : List ℕ) (older : Operations) → AllAbove (place_of m) ms → Above (ops_in (m ∷ ms) key) older → Above (ops_in ms key) (over (ops_in (m ∷ []) key) older)
 above_first m ms key older h new n k s t = some_or (ops_in (m ∷ []) key k) (older k)
     (λ u. let at = only_there m key k u in let number : k ≡ m.number = ap (λ (p : VersionPlace). p.1) at in ⊎_elim
     (λ (lt : k < n). lt)

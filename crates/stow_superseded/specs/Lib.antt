@@ -1,3 +1,4 @@
 pub mod Superseded
+pub mod Hidden
 pub mod Passes
 pub mod Laws

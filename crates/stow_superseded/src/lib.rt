@@ -8,6 +8,7 @@
 //! A body that always answers `None` meets the contract: tests call it with ample memory, and with its request refused.
 #![tactic(auto)]
 
+pub mod hidden;
 pub mod laws;
 mod sampling;
 pub mod superseding;

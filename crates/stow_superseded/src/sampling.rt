@@ -1,7 +1,7 @@
 //! Whether many messages of a buffer are superseded, by a look at some of them.
 ghost use Rattle.std.specs.Prelude.{◌+◌, ◌<◌, length};
 
-use crate::superseding::{is_hidden, is_whole, of_key};
+use crate::hidden::hides;
 use std::alloc::Allocator;
 use stow_merge::pins::Pins;
 use stow_message::message_buf::MessageBuf;
@@ -14,9 +14,7 @@ fn is_passed<A: Allocator + Copy>(buffer: &MessageBuf<A>, pins: &Pins<A>, index:
     requires { index + 1 < length buffer.now.messages }
 {
     let _known = buffer.len();
-    let message = buffer.message(index);
-    let next = buffer.message(index + 1);
-    is_whole(next.op) && is_hidden(pins, message, of_key(Some(next), message.key))
+    hides(pins, buffer.message(index), buffer.message(index + 1))
 }
 
 /// Whether more than a quarter of some messages, evenly spread, are superseded by those right behind them.

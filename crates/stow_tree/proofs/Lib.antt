@@ -5,6 +5,7 @@ pub mod Put
 pub mod Putting
 pub mod Totalled
 pub mod Held
+pub mod Lost
 pub mod Made
 pub mod Read
 pub mod Sends

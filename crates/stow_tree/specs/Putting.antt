@@ -1,9 +1,12 @@
 -- Messages that come to the tree.
 use Rattle.std.specs.Prelude.{◌≡◌, ◌≢◌, ℕ, ◌+◌, ◌≤◌, List, [], ◌∷◌, ◌++◌, length, None}
 use Rattle.std.specs.List.{AllByRecursion, sum_by}
-use Rattle.stow_flush.specs.Rooms.{BytesFit}
+use Rattle.stow_flush.specs.Rooms.{BytesFit, FitsSqueezed}
 use Rattle.stow_message.specs.Packed.{message_size}
-use Rattle.stow_node.specs.Subtree.{buffered}
+use Rattle.stow_node.specs.Moves.{IsSqueezed}
+use Rattle.stow_node.specs.Subtree.{Subtree, buffered}
+use Rattle.stow_node.specs.Superseded.{MayLoseHidden}
+use Rattle.stow_tree_model.specs.Agreement.{TenantPins}
 use Rattle.stow_tree_model.specs.Messages.{Messages, ops_of, value, with_all}
 use Rattle.stow_tree_model.specs.Operations.{outcome, value_in}
 use Rattle.stow_tree_model.specs.TreeMessage.{TreeMessage}
@@ -39,6 +42,13 @@ pub record CanReserve (tree : TreeState) (ms : List TreeMessage) : Type 0 where
 pub record IsReserved (tree : TreeState) (ms : List TreeMessage) : Type 0 where
   pub can : CanPut (tree_messages tree) ms
   pub room : BytesFit (bytes_of ms) tree.root
+
+-- where one message fits the root, dead bytes dropped, no message moves; but one of the root's own may
+-- go before, which the next one hides
+pub record StandsFor (m : TreeMessage) (pins : TenantPins) (old new : Subtree) : Type 0 where
+  pub between : Subtree
+  pub loses : MayLoseHidden pins old between
+  pub unmoved : FitsSqueezed (message_size m) between → IsSqueezed between new
 
 -- the tree has exactly these messages more, in its buffers, and nothing else changed: what else
 -- there was room for can still be put

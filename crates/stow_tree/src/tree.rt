@@ -20,7 +20,7 @@ ghost use Rattle.stow_tree_model.specs.TreeMessage.{message_of};
 ghost use Rattle.stow_tree_model.specs.Value.{IsValue};
 ghost use Rattle.stow_tree_model.specs.VersionBuf.{version_of_buf};
 ghost use Rattle.stow_tree.specs.declared.tree_fault.TreeFault.TheVariants as fault;
-ghost use Rattle.stow_tree.specs.Putting.{bytes_of, CanReserve, IsReserved, Puts};
+ghost use Rattle.stow_tree.specs.Putting.{bytes_of, CanReserve, IsReserved, Puts, StandsFor};
 ghost use Rattle.stow_tree.specs.Reports.{IsReport};
 ghost use Rattle.stow_tree.specs.Shapes.{AreInRange, IsInRange};
 ghost use Rattle.stow_tree.specs.TreeState.{tree_messages, new_tree, AgreeUnder, IsRead};
@@ -147,6 +147,37 @@ impl<A: Allocator + Copy> Tree<A> {
             alloc,
             &mut self.root,
             total(messages),
+            pins,
+            &mut self.spare,
+            &mut self.cache,
+        )
+    }
+
+    /// Makes the room that `put_near` of the message needs, as `reserve` does. It may come to stand behind so many of the root's: where the
+    /// last one of these hides the one before it, that one may go, and the place is one lower then.
+    pub fn reserve_near(
+        &mut self,
+        alloc: A,
+        message: Message<'_>,
+        pins: &Pins<A>,
+        place: &mut usize,
+    ) -> Result<(), AllocError>
+        requires can { CanReserve self.old (message_of message ∷ []) }
+        ensures reserved { OnOk result (IsReserved self.new (message_of message.entry ∷ [])) }
+        ensures agrees { AgreeUnder (pins_in pins.now) (tree_messages self.old)
+            (tree_messages self.new) }
+        ensures stands { StandsFor (message_of message.entry) (pins_in pins.now)
+            self.old.root self.new.root }
+        ensures shape { self.new.root.shape ≡ self.old.root.shape }
+        ensures limit { self.new.cache.limit ≡ self.old.cache.limit }
+    {
+        if self.root.drop_hidden(pins, *place) {
+            *place = place.saturating_sub(1);
+        }
+        make_room(
+            alloc,
+            &mut self.root,
+            size(message),
             pins,
             &mut self.spare,
             &mut self.cache,
