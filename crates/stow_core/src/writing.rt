@@ -52,7 +52,15 @@ impl<A: Allocator + Copy> Core<A> {
         let number = self.next_number(tenant);
         let mut places = write.places;
         let (op, keys) = (write.given.op(), write.keys.lent());
-        reserve(&mut self.tree, alloc, &self.pins, number, op, keys, &mut places)?;
+        reserve(
+            &mut self.tree,
+            alloc,
+            &self.pins,
+            number,
+            op,
+            keys,
+            &mut places,
+        )?;
         write.places = places;
         Ok(Prepared {
             tenant,

@@ -18,7 +18,8 @@
 //! too wide. `buffer` and `children` lend what reads go by.
 //!
 //! `drop_superseded` drops those of a node's own messages that newer ones of its own supersede under the pins, where a quarter of its
-//! block is free then (`stow_superseded`): the node means the same under the pins. A body that does nothing meets its contract.
+//! block is free then (`stow_superseded`): the node means the same under the pins. `drop_hidden` drops one of them that the next one hides.
+//! Bodies that do nothing meet their contracts.
 //!
 //! `plan` gives a job for a flush outside the lock, or none exactly where no buffer holds a message: of the deepest buffer
 //! that holds one, of equals the fullest or the emptiest (`Pick`), from which the messages for the heaviest child move down first, into empty buffers, where it stands above

@@ -20,7 +20,8 @@ const WAITING: [(u32, usize, usize); 5] = [
 fn put_all<A: Allocator>(buf: &mut SlotBuf<A>, count: u32) {
     for slot in 0..count {
         if buf.room() >= 4 {
-            buf.insert_slot(buf.slot_count() / 2, slot);
+            let middle = buf.slot_count() / 2;
+            buf.insert_slot_near(middle, buf.rank(middle), slot);
         }
     }
 }

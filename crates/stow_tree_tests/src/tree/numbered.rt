@@ -80,9 +80,8 @@ impl<A: Allocator + Copy> Numbered<A> {
         if !self.is_short(alloc, made)? {
             return Err(AllocError);
         }
-        let place = self.tree.glance(key, self.last).place;
-        let messages = [made];
-        self.tree.reserve(alloc, messages.as_slice(), pins)?;
+        let mut place = self.tree.glance(key, self.last).place;
+        self.tree.reserve_near(alloc, made, pins, &mut place)?;
         self.tree.put_near(made, place);
         self.last = made.number;
         Ok(())

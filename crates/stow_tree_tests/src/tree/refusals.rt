@@ -33,7 +33,7 @@ const ROOT: [Call; 2] = [Call::PutAll(2_100), Call::Want(Want::Sizes(1, 1, 102))
 
 /// Most messages of the root are such that no newer one supersedes them, so that none is dropped and all have to move.
 const HIGH: [Call; 5] = [
-    Call::Random(900),
+    Call::Random(988),
     Call::Want(Want::Grown(3, 12)),
     Call::Append(5, 80),
     Call::Append(50, 80),

@@ -24,14 +24,14 @@ const LARGE_LEAF: TreeShape = TreeShape {
     ..TreeShape::SMALLEST
 };
 
-/// A key is written, removed, and appended to.
+/// A key is written, removed, and appended to: the value goes that the removal hides.
 const AGAIN: [Call; 7] = [
     Call::Want(Want::Sizes(1, 1, 0)),
     Call::Put(0, 1),
     Call::Gone(0),
     Call::Want(Want::Sizes(1, 1, 2)),
     Call::Append(0, 1),
-    Call::Want(Want::Sizes(1, 1, 3)),
+    Call::Want(Want::Sizes(1, 1, 2)),
     Call::Want(Want::Agrees),
 ];
 
@@ -43,7 +43,8 @@ const APPENDED: [Call; 4] = [
     Call::Want(Want::Agrees),
 ];
 
-/// The messages of one key, which would fill the root twice, are dropped but for the last and what a pin shows: none goes to the leaf.
+/// The messages of one key, which would fill the root twice: before each the last but one goes, but for what a pin shows and what was
+/// ordered as dead bytes were dropped, which happens before the sixth and the ninth. None goes to the leaf.
 const OFTEN: [Call; 13] = [
     Call::Put(0, 10),
     Call::Pin(1),
@@ -56,6 +57,27 @@ const OFTEN: [Call; 13] = [
     Call::Put(0, 500_006),
     Call::Put(0, 500_007),
     Call::Put(0, 500_008),
+    Call::Want(Want::Sizes(1, 1, 5)),
+    Call::Want(Want::Agrees),
+];
+
+/// The same where each is ordered for a job: they stay until the root is full, and are dropped together.
+const ORDERED: [Call; 17] = [
+    Call::Put(0, 10),
+    Call::Pin(1),
+    Call::Put(0, 500_000),
+    Call::Plan,
+    Call::Put(0, 500_001),
+    Call::Plan,
+    Call::Put(0, 500_002),
+    Call::Plan,
+    Call::Put(0, 500_003),
+    Call::Plan,
+    Call::Want(Want::Sizes(1, 1, 5)),
+    Call::Put(0, 500_004),
+    Call::Want(Want::Sizes(1, 1, 3)),
+    Call::Plan,
+    Call::Put(0, 500_005),
     Call::Want(Want::Sizes(1, 1, 4)),
     Call::Want(Want::Agrees),
 ];
@@ -223,13 +245,14 @@ const SIXTEEN: TreeShape = TreeShape {
     ..TreeShape::SMALLEST
 };
 
-const SCRIPTS: [(Course, TreeShape, &[Call]); 12] = [
+const SCRIPTS: [(Course, TreeShape, &[Call]); 13] = [
     (OF_TWELVE, SIXTEEN, &WIDTHS),
     (COURSE, SMALLEST, &APART),
     (COURSE, LARGE_LEAF, &JOINED),
     (COURSE, SMALLEST, &AGAIN),
     (COURSE, SMALLEST, &APPENDED),
     (COURSE, SMALLEST, &OFTEN),
+    (COURSE, SMALLEST, &ORDERED),
     (COURSE, SMALLEST, &TOGETHER),
     (COURSE, LARGE_LEAF, &FORMATS),
     (COURSE, SMALLEST, &TWICE),

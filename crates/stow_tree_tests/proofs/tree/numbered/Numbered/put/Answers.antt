@@ -8,15 +8,15 @@ use Rattle.stow_tree_tests.proofs.tree.numbered.Numbered.put.Goals as goal
 
 pub invariant_of-self : goal.invariant_of-self
 invariant_of-self g c = record {
-  below = bound_under (pins_in c.args.pins.now) (tree_messages c.args.self.now.tree) (tree_messages c.reserve.new.self) c.args.self.now.last c.reserve.ensures.agrees c.args.self.now.below;
-  room = (let shape = ap (λ (s : Shape). s.buffer) c.reserve.ensures.shape in let room = c.args.self.now.room in omega (arith, shape, room));
+  below = bound_under (pins_in c.args.pins.now) (tree_messages c.args.self.now.tree) (tree_messages c.reserve_near.new.self) c.args.self.now.last c.reserve_near.ensures.agrees c.args.self.now.below;
+  room = (let shape = ap (λ (s : Shape). s.buffer) c.reserve_near.ensures.shape in let room = c.args.self.now.room in omega (arith, shape, room));
 }
 
 pub invariant_of-self-2 : goal.invariant_of-self-2
 invariant_of-self-2 g c = record {
-  below = bound_after c.reserve.new.self c.put_near.new.self c.in-Some.made.number (message_of c.in-Some.made ∷ []) c.args.self.now.last (refl, tt) c.put_near.ensures newer
-      (bound_under (pins_in c.args.pins.now) (tree_messages c.args.self.now.tree) (tree_messages c.reserve.new.self) c.args.self.now.last c.reserve.ensures.agrees c.args.self.now.below);
-  room = (let after = ap (λ (s : Shape). s.buffer) c.put_near.ensures.shape in let shape = ap (λ (s : Shape). s.buffer) c.reserve.ensures.shape in let room = c.args.self.now.room in omega (arith, after, shape, room));
+  below = bound_after c.reserve_near.new.self c.put_near.new.self c.in-Some.made.number (message_of c.in-Some.made ∷ []) c.args.self.now.last (refl, tt) c.put_near.ensures newer
+      (bound_under (pins_in c.args.pins.now) (tree_messages c.args.self.now.tree) (tree_messages c.reserve_near.new.self) c.args.self.now.last c.reserve_near.ensures.agrees c.args.self.now.below);
+  room = (let after = ap (λ (s : Shape). s.buffer) c.put_near.ensures.shape in let shape = ap (λ (s : Shape). s.buffer) c.reserve_near.ensures.shape in let room = c.args.self.now.room in omega (arith, after, shape, room));
 }
   where
     newer : c.args.self.now.last < c.in-Some.made.number
