@@ -1,13 +1,10 @@
 -- A tree whose root may have lost a message that the next one hid, and in which room was made then.
-use Rattle.std.proofs.Common.{◌≡◌, ℕ, ◌≤◌, Bool, true, false, refl, sym, ap, ◌∙◌, arith, inl, inr}
+use Rattle.std.proofs.Common.{◌≡◌, Bool, true, false, refl, ap, ◌∙◌, inl, inr}
 use Rattle.std.specs.Prelude.{IsTrue}
 use Rattle.stow_flush.specs.Rooms.{RootStands}
-use Rattle.stow_leaf.specs.LeafRows.{LeafRows}
-use Rattle.std.specs.Prelude.{List}
 use Rattle.stow_message.specs.MessageBuf.{MessageList}
 use Rattle.stow_node.specs.Subtree.{Subtree}
 use Rattle.stow_node.specs.Superseded.{EachMeansTheSame, LosesHidden, MayLoseHidden}
-use Rattle.stow_node.specs.declared.shape.Shape.{Shape}
 use Rattle.stow_tree_model.specs.Agreement.{TenantPins}
 
 pub may_lose : (pins : TenantPins) (s t : Subtree) (did : Bool) → (IsTrue did → LosesHidden pins s t) → (did ≡ false → t ≡ s) → MayLoseHidden pins s t

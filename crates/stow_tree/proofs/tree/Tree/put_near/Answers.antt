@@ -1,6 +1,6 @@
-use Rattle.std.proofs.Common.{ℕ, [], ◌∷◌, List, map, refl, ap, arith}
+use Rattle.std.proofs.Common.{[], ◌∷◌, map, refl, ap, arith}
 use Rattle.stow_node.specs.Subtree.{Subtree}
-use Rattle.stow_tree_model.specs.TreeMessage.{TreeMessage, message_of}
+use Rattle.stow_tree_model.specs.TreeMessage.{message_of}
 use Rattle.stow_tree.specs.declared.tree.Tree.TheInside.{Inside}
 use Rattle.stow_tree.proofs.Putting.{IsPutting, putting_first, can_push, putting_on, putting_last}
 use Rattle.stow_tree.proofs.tree.Tree.put_near.Goals as goal

@@ -1,16 +1,12 @@
-use Rattle.std.proofs.Common.{◌≡◌, ◌∷◌, [], ap, sym, subst, ◌∙◌, arith}
+use Rattle.std.proofs.Common.{◌∷◌, [], subst, arith}
 use Rattle.std.proofs.lemmas.List.Sums.{sum_by-cons}
 use Rattle.stow_flush.specs.Rooms.{RootStands}
 use Rattle.stow_flush.proofs.Making.{stands_then}
-use Rattle.stow_leaf.specs.LeafRows.{LeafRows}
 use Rattle.stow_leaves.specs.Forgets.{Forgets}
 use Rattle.stow_merge.specs.Pins.{pins_in}
 use Rattle.stow_message.specs.Packed.{message_size}
 use Rattle.stow_node.specs.Superseded.{MayLoseHidden}
-use Rattle.stow_node.specs.declared.shape.Shape.{Shape}
 use Rattle.stow_tree_model.specs.TreeMessage.{message_of}
-use Rattle.stow_tree.specs.Putting.{bytes_of}
-use Rattle.stow_tree.specs.TreeState.{TreeState}
 use Rattle.stow_tree.proofs.Lost.{may_lose, keeps_place, lost_stands, KeepsPlace}
 use Rattle.stow_tree.proofs.Made.{room_kept, room_reserved, room_agrees}
 use Rattle.stow_tree.proofs.tree.Tree.reserve_near.Given as given
