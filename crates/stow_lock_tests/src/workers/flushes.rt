@@ -93,7 +93,7 @@ fn woken(
 /// A core in which one row waits in a buffer, and so many changes of it.
 fn with_row(alloc: Global, changes: usize) -> Result<Core<Global>, AllocError> {
     let mut service = Service::new(alloc, alloc)?;
-    let words = words_of(alloc, "SET k v")?;
+    let words = words_of(alloc, "APPEND k v")?;
     for _ in 0..changes {
         let _told = service.core.call(alloc, 1, &words);
     }
