@@ -45,7 +45,7 @@ pub record IsReserved (tree : TreeState) (ms : List TreeMessage) : Type 0 where
 
 -- where one message fits the root, dead bytes dropped, no message moves; but one of the root's own may
 -- go before, which the next one hides
-pub record StandsFor (m : TreeMessage) (pins : TenantPins) (old new : Subtree) : Type 0 where
+pub record MakesRoomNear (m : TreeMessage) (pins : TenantPins) (old new : Subtree) : Type 0 where
   pub between : Subtree
   pub loses : MayLoseHidden pins old between
   pub unmoved : FitsSqueezed (message_size m) between → IsSqueezed between new

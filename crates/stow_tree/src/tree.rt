@@ -20,7 +20,7 @@ ghost use Rattle.stow_tree_model.specs.TreeMessage.{message_of};
 ghost use Rattle.stow_tree_model.specs.Value.{IsValue};
 ghost use Rattle.stow_tree_model.specs.VersionBuf.{version_of_buf};
 ghost use Rattle.stow_tree.specs.declared.tree_fault.TreeFault.TheVariants as fault;
-ghost use Rattle.stow_tree.specs.Putting.{bytes_of, CanReserve, IsReserved, Puts, StandsFor};
+ghost use Rattle.stow_tree.specs.Putting.{bytes_of, CanReserve, IsReserved, Puts, MakesRoomNear};
 ghost use Rattle.stow_tree.specs.Reports.{IsReport};
 ghost use Rattle.stow_tree.specs.Shapes.{AreInRange, IsInRange};
 ghost use Rattle.stow_tree.specs.TreeState.{tree_messages, new_tree, AgreeUnder, IsRead};
@@ -166,7 +166,7 @@ impl<A: Allocator + Copy> Tree<A> {
         ensures reserved { OnOk result (IsReserved self.new (message_of message.entry ∷ [])) }
         ensures agrees { AgreeUnder (pins_in pins.now) (tree_messages self.old)
             (tree_messages self.new) }
-        ensures stands { StandsFor (message_of message.entry) (pins_in pins.now)
+        ensures near { MakesRoomNear (message_of message.entry) (pins_in pins.now)
             self.old.root self.new.root }
         ensures shape { self.new.root.shape ≡ self.old.root.shape }
         ensures limit { self.new.cache.limit ≡ self.old.cache.limit }
