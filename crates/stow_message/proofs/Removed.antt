@@ -1,5 +1,5 @@
 -- A block after a run of slots is taken out.
-use Rattle.std.proofs.Common.{◌≡◌, ℕ, zero, suc, ◌+◌, ◌*◌, ◌≤◌, List, [], ◌∷◌, ◌++◌, map, length, take, drop, sym, ap, subst, ◌∙◌, arith, length-append, length-take, length-drop, drop-drop}
+use Rattle.std.proofs.Common.{◌≡◌, ℕ, zero, suc, ◌+◌, ◌-◌, ◌*◌, ◌≤◌, List, [], ◌∷◌, ◌++◌, map, length, take, drop, sym, ap, subst, ◌∙◌, arith, length-append, length-take, length-drop, drop-drop}
 use Rattle.std.proofs.lemmas.List.{length-map, map-append}
 use Rattle.std.proofs.lemmas.List.Sums.{sum_by-cons, sum_by-append, sum_by-take-drop}
 use Rattle.std.specs.List.{AllByRecursion, remove_range, sum_by, take-map, drop-map}
@@ -9,7 +9,7 @@ use Rattle.stow_tree_model.specs.TreeMessage.{TreeMessage}
 use Rattle.stow_tree_model.specs.Order.{VersionPlace, place_cmp, place_of, MessagesRise}
 use Rattle.stow_raw.specs.RawBuf.{RawLists, raw_lists, raw_used}
 use Rattle.stow_message.specs.Packed.{message_size, message_at, BeginsWith}
-use Rattle.stow_message.specs.MessageBuf.{messages_in, IsPackedBuffer}
+use Rattle.stow_message.specs.MessageBuf.{MessageList, message_list, messages_in, IsPackedBuffer}
 
 pub all_dropped : {X : Type 0} (P : X → Type 0) (xs : List X) (j : ℕ) → AllByRecursion P xs → AllByRecursion P (drop j xs)
 all_dropped P xs zero h = h
@@ -79,3 +79,19 @@ module _ (raw : RawLists) (h : IsPackedBuffer raw) (i k : ℕ) (le : i + k ≤ l
     live = omega (arith, ap (sum_by message_size) removed_messages, rest_sizes (messages_in raw) i k (omega (arith, long)), h.live, removed_used);
     within = (omega (arith, removed_used, h.within), h.within.1);
   }
+
+-- a block without a run of slots is a buffer without these messages
+module _ (raw last : RawLists) (h : IsPackedBuffer raw) (i k : ℕ) (le : i + k ≤ length raw.slots) (is : last ≡ removed raw h i k le) where
+  pub last_messages : messages_in last ≡ remove_range (messages_in raw) i (i + k)
+  last_messages = ap messages_in is ∙ removed_messages raw h i k le
+
+  pub last_filled : IsPackedBuffer last
+  last_filled = subst IsPackedBuffer (sym is) (removed_filled raw h i k le)
+
+  pub last_view : (v : MessageList) → message_list (messages_in raw) (raw_used raw) raw.capacity ≡ v
+      → message_list (messages_in last) (raw_used last) last.capacity ≡ message_list (remove_range v.messages i (i + k)) (v.used - 4 * k) v.capacity
+  last_view v view =
+      let less : raw_used (removed raw h i k le) ≡ raw_used raw - 4 * k = omega (arith, removed_used raw h i k le) in
+      ap (λ (r : RawLists). message_list (messages_in r) (raw_used r) r.capacity) is
+      ∙ (λ j. message_list (removed_messages raw h i k le j) (less j) raw.capacity)
+      ∙ ap (λ (w : MessageList). message_list (remove_range w.messages i (i + k)) (w.used - 4 * k) w.capacity) view

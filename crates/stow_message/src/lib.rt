@@ -10,6 +10,7 @@
 //! the filter spares stands in no contract: one of whose marks all are set is right too.
 #![tactic(auto)]
 
+mod batches;
 mod beside;
 pub mod copying;
 mod guessing;
@@ -21,7 +22,10 @@ mod marking;
 pub mod message_buf;
 pub mod newest;
 mod place;
+mod putting;
+mod removing;
 pub mod run;
+mod searching;
 mod slots;
 
 pub use stow_tree_model::message::Message;

@@ -1,11 +1,11 @@
-use Rattle.std.proofs.Common.{◌≡◌, ◌+◌, ◌-◌, ◌≤◌, length, drop, ap, sym, subst, ◌∙◌, arith}
-use Rattle.std.specs.List.{remove_range, sum_by}
-use Rattle.stow_raw.specs.RawBuf.{RawLists, raw_used}
+use Rattle.std.proofs.Common.{◌+◌, ◌≤◌, drop, length, ap, sym, subst, ◌∙◌, arith}
+use Rattle.std.specs.List.{sum_by}
+use Rattle.stow_raw.specs.RawBuf.{RawLists}
 use Rattle.stow_message.specs.Filter.{Covers}
-use Rattle.stow_message.specs.MessageBuf.{MessageList, message_list, messages_in, IsPackedBuffer}
+use Rattle.stow_message.specs.MessageBuf.{messages_in}
 use Rattle.stow_message.specs.Packed.{message_bytes, message_at, message_size}
 use Rattle.stow_message.proofs.Covered.{covers_rest}
-use Rattle.stow_message.proofs.Removed.{removed, removed_messages, removed_used, removed_filled}
+use Rattle.stow_message.proofs.Removed.{last_messages, last_filled, last_view}
 use Rattle.stow_message.proofs.Single.{slot_within, single_counted}
 use Rattle.stow_message.proofs.message_buf.MessageBuf.remove_young.Goals as goal
 
@@ -16,22 +16,18 @@ overflow_sub-self g c =
 
 pub invariant_of-self-2 : goal.invariant_of-self-2
 invariant_of-self-2 g c =
-    let raw = c.self.inside.raw in let h = c.self.invariant.filled in let i = c.args.index in let at = c.in-Some.slot in let there = c.in-Some.ensures.taken in
+    let raw = c.self.inside.raw in let last = c.remove_young.new.self in let h = c.self.invariant.filled in let i = c.args.index in let at = c.in-Some.slot in let there = c.in-Some.ensures.taken in
     let within = slot_within raw i at there.0 in
     let le : i + 1 ≤ length raw.slots = omega (arith, within) in
-    let marks = c.self.inside.filter in
     record {
-      filled = subst IsPackedBuffer (sym there.1) (removed_filled raw h i 1 le);
-      covers = subst (λ (r : RawLists). Covers marks (messages_in r)) (sym there.1)
-          (subst (Covers marks) (sym (removed_messages raw h i 1 le)) (covers_rest marks (messages_in raw) i (i + 1) c.self.invariant.covers));
-      counted = omega (arith, c.self.invariant.counted, single_counted raw i at there.0 c.packed_at.result.now (c.packed_at.ensures ∙ ap (λ (r : RawLists). message_bytes (message_at (drop at r.front))) there.1), ap (λ r. sum_by message_size (messages_in r)) there.1, ap (sum_by message_size) (removed_messages raw h i 1 le));
+      filled = last_filled raw last h i 1 le there.1;
+      covers = subst (Covers c.self.inside.filter) (sym (last_messages raw last h i 1 le there.1)) (covers_rest c.self.inside.filter (messages_in raw) i (i + 1) c.self.invariant.covers);
+      counted = omega (arith, c.self.invariant.counted, single_counted raw i at there.0 c.packed_at.result.now (c.packed_at.ensures ∙ ap (λ (r : RawLists). message_bytes (message_at (drop at r.front))) there.1), ap (sum_by message_size) (last_messages raw last h i 1 le there.1));
     }
 
 pub returns-clause-gone : goal.returns-clause-gone
 returns-clause-gone g c = λ _.
-    let raw = c.self.inside.raw in let h = c.self.invariant.filled in let i = c.args.index in let there = c.in-Some.ensures.taken in
-    let within = slot_within raw i c.in-Some.slot there.0 in
-    let le : i + 1 ≤ length raw.slots = omega (arith, within) in
-    let less : raw_used (removed raw h i 1 le) ≡ raw_used raw - 4 = omega (arith, removed_used raw h i 1 le) in
-    ap (λ (r : RawLists). message_list (messages_in r) (raw_used r) r.capacity) there.1 ∙ (λ j. message_list (removed_messages raw h i 1 le j) (less j) raw.capacity)
-    ∙ ap (λ (w : MessageList). message_list (remove_range w.messages i (i + 1)) (w.used - 4) w.capacity) c.self.view_is
+    let raw = c.self.inside.raw in let there = c.in-Some.ensures.taken in
+    let within = slot_within raw c.args.index c.in-Some.slot there.0 in
+    let le : c.args.index + 1 ≤ length raw.slots = omega (arith, within) in
+    last_view raw c.remove_young.new.self c.self.invariant.filled c.args.index 1 le there.1 c.args.self.now c.self.view_is

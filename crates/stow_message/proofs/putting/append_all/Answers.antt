@@ -5,7 +5,7 @@ use Rattle.stow_tree_model.specs.Op.{Gone}
 use Rattle.stow_tree_model.specs.TreeMessage.{TreeMessage}
 use Rattle.stow_message.specs.Packed.{message_bytes, all_bytes}
 use Rattle.stow_message.proofs.Squeezed.{all_bytes-more, taken_within}
-use Rattle.stow_message.proofs.message_buf.append_all.Goals as goal
+use Rattle.stow_message.proofs.putting.append_all.Goals as goal
 
 none : TreeMessage
 none = record { key = []; number = 0; op = Gone }

@@ -3,7 +3,7 @@ use Rattle.stow_raw.specs.RawBuf.{RawLists, raw_used}
 use Rattle.stow_tree_model.specs.TreeMessage.{TreeMessage, message_of}
 use Rattle.stow_message.proofs.Reading.{length-message_bytes}
 use Rattle.stow_message.proofs.Pushed.{after_bytes}
-use Rattle.stow_message.proofs.message_buf.append.Goals as goal
+use Rattle.stow_message.proofs.putting.append.Goals as goal
 
 pub push_front-requires : goal.push_front-requires
 push_front-requires g c =

@@ -4,7 +4,7 @@ use Rattle.stow_message.specs.MessageBuf.{messages_in}
 use Rattle.stow_message.proofs.Covered.{covers_all, covers_more, covers_next}
 use Rattle.stow_message.proofs.Pushed.{slots_of_messages}
 use Rattle.stow_message.proofs.Stored.{filled_at, message_there, read_is}
-use Rattle.stow_message.proofs.message_buf.mark_all.Goals as goal
+use Rattle.stow_message.proofs.removing.mark_all.Goals as goal
 
 pub read_message-message-requires : goal.read_message-message-requires
 read_message-message-requires g c =
