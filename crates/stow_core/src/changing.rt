@@ -29,6 +29,7 @@ use stow_commands::outcome_fault::OutcomeFault;
 use stow_commands::update::Update;
 use stow_ledger::row_change::RowChange;
 use stow_ledger::sized_version::SizedVersion;
+use stow_message::place::Place;
 use stow_model::reply::Reply;
 use stow_read::found::Found;
 
@@ -93,7 +94,7 @@ impl<A: Allocator + Copy> Core<A> {
                 Ok(FoundChange { answer, row })
             }
             Update::Add(_) => {
-                let mut place = usize::MAX;
+                let mut place = Place::none();
                 let rows = self.present(tenant);
                 let found = self.row_with_place(buffer, alloc, rows, key, &mut place)?;
                 let answer = made(alloc, update, value_in(&found));

@@ -28,6 +28,7 @@ use crate::tenancy::Tenancy;
 use std::alloc::{AllocError, Allocator};
 use stow_bytes::byte_string::ByteString;
 use stow_ledger::sized_version::SizedVersion;
+use stow_message::place::Place;
 use stow_model::items::Items;
 use stow_model::lent_words::LentWords;
 use stow_model::reply::Reply;
@@ -74,10 +75,10 @@ impl<A: Allocator + Copy> Core<A> {
         ensures buffer { OnOk result (buffer.new.items ≡ packed rows.tenant key.now) }
         ensures is_key { OnOk result (IsTenantKey buffer.new.items) }
     {
-        self.row_with_place(buffer, alloc, rows, key, &mut 0)
+        self.row_with_place(buffer, alloc, rows, key, &mut Place::none())
     }
 
-    /// What `row` answers. The place is then where the key's next message may come to stand: a guess, beyond all where none was
+    /// What `row` answers. The place is then where the key's next message may come to stand, if a guess was
     /// made.
     #[inline(always)]
     pub(crate) fn row_with_place(
@@ -86,7 +87,7 @@ impl<A: Allocator + Copy> Core<A> {
         alloc: A,
         rows: RowsAt,
         key: &[u8],
-        place: &mut usize,
+        place: &mut Place,
     ) -> Result<Option<Found<'_, A>>, AllocError>
         requires is_tenant { IsTenant self.now.entries rows.tenant }
         requires short { IsShortKey key.now }

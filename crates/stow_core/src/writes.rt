@@ -13,6 +13,7 @@ ghost use Rattle.stow_core.specs.Writes.{write_of, writes_of, AreMessages};
 use crate::places::Places;
 use std::alloc::{AllocError, Allocator};
 use stow_merge::pins::Pins;
+use stow_message::place::Place;
 use stow_model::lent_words::LentWords;
 use stow_tree::tree::Tree;
 use stow_tree_model::message::Message;
@@ -88,7 +89,7 @@ fn put_one<A: Allocator + Copy>(
     number: u64,
     op: Op<'_>,
     key: &[u8],
-    guess: usize,
+    guess: Place,
 )
     requires message { IsMessage (write_of number (op_of op) key.now) }
     requires room { IsReserved tree.old (write_of number (op_of op) key.now ∷ []) }

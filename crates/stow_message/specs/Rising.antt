@@ -1,5 +1,5 @@
 -- Lists of messages that rise by key and number.
-use Rattle.std.specs.Prelude.{◌≡◌, ℕ, suc, ◌≤◌, List, [], ◌∷◌, Bool, if◌then◌else◌, not, ◌&&◌, ◌==◌, false}
+use Rattle.std.specs.Prelude.{◌≡◌, ℕ, zero, suc, ◌≤◌, List, [], ◌∷◌, Bool, if◌then◌else◌, not, ◌&&◌, ◌==◌, false, Option, None, slice_get}
 use Rattle.std.specs.Ordering.{is_lt, is_eq}
 use Rattle.std.specs.List.{All, Contains, filter}
 use Rattle.std.specs.Str.{bytes_eq}
@@ -23,6 +23,11 @@ is_first_below m (n ∷ ns) = is_below (place_of m) n
 abbrev pub below : VersionPlace → List TreeMessage → ℕ
 below p [] = 0
 below p (m ∷ ms) = if is_below p m then suc (below p ms) else 0
+
+-- the last of so many messages at the front
+abbrev pub message_before : ℕ → List TreeMessage → Option TreeMessage
+message_before zero ms = None
+message_before (suc count) ms = slice_get ms count
 
 -- the list with one more message, at its place
 abbrev pub placed : TreeMessage → List TreeMessage → List TreeMessage

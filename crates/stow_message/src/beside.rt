@@ -1,27 +1,42 @@
 //! Whether a place is that of a key and number, by the messages beside it.
-ghost use Rattle.std.specs.Prelude.{◌≡◌, ◌-◌, ◌<◌, ◌≤◌, IsTrue, slice_get};
+ghost use Rattle.std.specs.Option.{option_map};
+ghost use Rattle.std.specs.Prelude.{◌≡◌, ◌-◌, ◌<◌, ◌≤◌, IfSome, IsTrue, slice_get};
 ghost use Rattle.stow_message.specs.MessageBuf.{messages_in, IsPackedBuffer};
-ghost use Rattle.stow_message.specs.Rising.{below};
+ghost use Rattle.stow_message.specs.Rising.{below, message_before};
+ghost use Rattle.stow_tree_model.specs.TreeMessage.{message_of};
 
+use crate::below::Below;
+use crate::message_buf::read_message;
 use crate::place::Place;
 use crate::slots::names_below;
 use std::alloc::Allocator;
 use stow_slots::slot_buf::SlotBuf;
 
-/// Whether so many messages stand below the key and number: only those right before that place and at it are looked at.
+/// The messages before a place, if just those stand below the key and number: only the one right before it and the one at it are
+/// looked at.
 #[inline(always)]
-pub(crate) fn is_place<A: Allocator>(
-    raw: &SlotBuf<A>,
+pub(crate) fn look<'a, A: Allocator>(
+    raw: &'a SlotBuf<A>,
     place: Place,
     key: &[u8],
     number: u64,
-) -> bool
+) -> Option<Below<'a>>
     requires { IsPackedBuffer raw.now }
-    ensures { IsTrue result → below (key.now, number) (messages_in raw.now) ≡ place.count }
+    ensures count { IfSome result (λ found.
+        found.count ≡ below (key.now, number) (messages_in raw.now)) }
+    ensures last { IfSome result (λ found.
+        option_map message_of found.last ≡ message_before found.count (messages_in raw.now)) }
 {
-    let count = place.count;
-    let (last, next) = raw.around(count, place.young);
-    reaches(raw, count, last, key, number) && ends(raw, count, next, key, number)
+    let Place { count, young } = place;
+    let (last, next) = raw.around(count, young);
+    if !reaches(raw, count, last, key, number) || !ends(raw, count, next, key, number) {
+        return None;
+    }
+    let last = match last {
+        Some(slot) => Some(read_message(raw, slot as usize)),
+        None => None,
+    };
+    Some(Below { count, last, young })
 }
 
 /// Whether so many messages at least stand below the key and number, by the slot of the last one of them.

@@ -11,6 +11,7 @@
 #![tactic(auto)]
 
 mod batches;
+pub mod below;
 mod beside;
 pub mod copying;
 mod guessing;
@@ -21,7 +22,7 @@ pub mod laws;
 mod marking;
 pub mod message_buf;
 pub mod newest;
-mod place;
+pub mod place;
 mod putting;
 mod removing;
 pub mod run;

@@ -10,6 +10,7 @@ ghost use Rattle.std.specs.List.{All, sum_by};
 use crate::head::{HEAD, SLOT, kind, op_with, read_head};
 use crate::key_words::KeyWords;
 use crate::newest::Newest;
+use crate::place::Place;
 use crate::run::Run;
 use crate::slots::search_from;
 use std::alloc::{AllocError, Allocator, Global};
@@ -152,18 +153,22 @@ impl<A: Allocator> MessageBuf<A> {
         read_message(&self.raw, self.raw.slot(index) as usize)
     }
 
-    /// The last two of so many messages, lent out of the block, where they are there.
+    /// The last two messages before a place, lent out of the block, where they are there. They are found the faster where the last one has
+    /// a young slot.
     #[inline(always)]
-    pub fn last_two(&self, count: usize) -> Option<(Message<'_>, Message<'_>)>
-        ensures two { IfSome result (λ two. (2 ≤ count)
-            × (slice_get self.now.messages (count - 2) ≡ Some (message_of two.0))
-            × (slice_get self.now.messages (count - 1) ≡ Some (message_of two.1))) }
-        ensures there { 2 ≤ count → count ≤ length self.now.messages → IsSome result }
+    pub fn last_two(&self, place: Place) -> Option<(Message<'_>, Message<'_>)>
+        ensures two { IfSome result (λ two. (2 ≤ place.count)
+            × (slice_get self.now.messages (place.count - 2) ≡ Some (message_of two.0))
+            × (slice_get self.now.messages (place.count - 1) ≡ Some (message_of two.1))) }
+        ensures there { 2 ≤ place.count → place.count ≤ length self.now.messages
+            → IsSome result }
     {
-        if count < 2 || count > self.len() {
+        if place.count < 2 || place.count > self.len() {
             return None;
         }
-        let beside = self.raw.around(count - 1, self.raw.rank(count - 1));
+        let beside = self
+            .raw
+            .around(place.count - 1, place.young.saturating_sub(1));
         let Some(first) = beside.0 else {
             return None;
         };

@@ -1,9 +1,32 @@
 //! A place among messages.
 
-/// Where a message stands, or may stand: so many messages are before it. Slots of so many of those are young, as far as is known: what
-/// is said of them is a guess.
+/// Where a message stands, or may come to stand: behind so many others, of which so many have young slots. Both are guesses, which make a
+/// search short where they are right.
 #[derive(Clone, Copy)]
-pub(crate) struct Place {
-    pub(crate) count: usize,
-    pub(crate) young: usize,
+pub struct Place {
+    pub count: usize,
+    pub young: usize,
+}
+
+impl Place {
+    /// No guess.
+    pub fn none() -> Place {
+        Place {
+            count: usize::MAX,
+            young: 0,
+        }
+    }
+
+    /// Whether it is no guess.
+    pub fn is_none(&self) -> bool {
+        self.count == usize::MAX
+    }
+
+    /// The same once a young message before it is gone.
+    pub fn one_fewer(&self) -> Place {
+        Place {
+            count: self.count.saturating_sub(1),
+            young: self.young.saturating_sub(1),
+        }
+    }
 }

@@ -12,6 +12,7 @@ ghost use Rattle.std.specs.List.{All, sum_by};
 use crate::head::{SLOT, size, write_head};
 use crate::marking::mark_run;
 use crate::message_buf::MessageBuf;
+use crate::place::Place;
 use crate::run::Run;
 use crate::slots::search_from;
 use std::alloc::Allocator;
@@ -130,12 +131,12 @@ impl<A: Allocator> MessageBuf<A> {
             × IsNew (message_of message) self.old.messages }
         ensures { self.new ≡ with_message (message_of message.entry) self.old }
     {
-        self.push_near(message, usize::MAX);
+        self.push_near(message, Place::none());
     }
 
     /// The same; the search is the shorter the nearer the guess is to that place.
     #[inline(never)]
-    pub fn push_near(&mut self, message: Message<'_>, guess: usize)
+    pub fn push_near(&mut self, message: Message<'_>, guess: Place)
         requires { Fits self.old (message_of message)
             × IsNew (message_of message) self.old.messages }
         ensures { self.new ≡ with_message (message_of message.entry) self.old }
@@ -146,12 +147,12 @@ impl<A: Allocator> MessageBuf<A> {
 
     /// The same, where no slot is to come to the others by it.
     #[inline(always)]
-    fn put(&mut self, message: Message<'_>, guess: usize)
+    fn put(&mut self, message: Message<'_>, guess: Place)
         requires { Fits self.old (message_of message)
             × IsNew (message_of message) self.old.messages }
         ensures { self.new ≡ with_message (message_of message.entry) self.old }
     {
-        let place = self.seek_near(message.key, message.number, guess);
+        let place = self.below(message.key, message.number, guess).place();
         let at = self.raw.front_len() as u32;
         append(&mut self.raw, message);
         self.raw.insert_slot_near(place.count, place.young, at);

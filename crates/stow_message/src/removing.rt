@@ -9,6 +9,7 @@ ghost use Rattle.std.specs.List.{sum_by, remove_range};
 use crate::guessing::guess;
 use crate::head::SLOT;
 use crate::message_buf::{MessageBuf, bytes_in, packed_at, read_message};
+use crate::place::Place;
 use crate::run::Run;
 use crate::slots::search_from;
 use std::alloc::Allocator;
@@ -70,16 +71,15 @@ impl<A: Allocator> MessageBuf<A> {
         self.live -= gone;
     }
 
-    /// Lets the message at `index` go if its slot is a young one, so that no other is moved. Its bytes are dead.
+    /// Lets the message at a place go if its slot is a young one, so that no other is moved. Its bytes are dead.
     #[inline(always)]
-    pub fn remove_young(&mut self, index: usize) -> bool
+    pub fn remove_young(&mut self, place: Place) -> bool
         ensures gone { IsTrue result → self.new
-            ≡ message_list (remove_range self.old.messages index (index + 1))
+            ≡ message_list (remove_range self.old.messages place.count (place.count + 1))
             (self.old.used - 4) self.old.capacity }
         ensures none { result ≡ false → self.new ≡ self.old }
     {
-        let guess = self.raw.rank(index);
-        let Some(slot) = self.raw.remove_young(index, guess) else {
+        let Some(slot) = self.raw.remove_young(place.count, place.young) else {
             return false;
         };
         self.live -= packed_at(&self.raw, slot as usize).len() + SLOT;

@@ -1,12 +1,14 @@
 //! Where messages stand in a buffer.
+ghost use Rattle.std.specs.Option.{option_map};
 ghost use Rattle.std.specs.Prelude.{◌≡◌, ◌-◌, ◌<◌, ◌≤◌, ◌==◌, length, max, IsTrue, false};
 ghost use Rattle.stow_tree_model.specs.TreeMessage.{message_of};
 ghost use Rattle.stow_tree_model.specs.Order.{MessagesRise};
 ghost use Rattle.stow_message.specs.Packed.{IsMessage};
-ghost use Rattle.stow_message.specs.Rising.{is_below, below};
+ghost use Rattle.stow_message.specs.Rising.{is_below, below, message_before};
 ghost use Rattle.std.specs.List.{All};
 
-use crate::beside::is_place;
+use crate::below::Below;
+use crate::beside::look;
 use crate::guessing::{guess, newest_place};
 use crate::message_buf::MessageBuf;
 use crate::place::Place;
@@ -40,29 +42,30 @@ impl<A: Allocator> MessageBuf<A> {
         self.seek(key, number).count
     }
 
-    /// The same, with how many of those have young slots.
+    /// The messages that stand below the key and number.
     #[inline(always)]
-    fn seek(&self, key: &[u8], number: u64) -> Place
+    fn seek(&self, key: &[u8], number: u64) -> Below<'_>
         ensures count { result.count ≡ below (key.now, number) self.now.messages }
+        ensures last { option_map message_of result.last
+            ≡ message_before result.count self.now.messages }
         ensures rising { MessagesRise self.now.messages }
         ensures valid { All IsMessage self.now.messages }
         ensures small { length self.now.messages < 4294967296 }
     {
         let _known = self.len();
         if self.raw.young_count() == 0 && !self.words.serve(&self.raw) {
-            return self.place(self.search_all(key, number));
+            return self.front(self.search_all(key, number));
         }
         if self.words.serve(&self.raw) {
             let newest = newest_place(&self.raw, &self.words, key);
-            if is_place(&self.raw, newest, key, number) {
-                return newest;
+            if let Some(found) = look(&self.raw, newest, key, number) {
+                return found;
             }
         }
         let guess = guess(&self.raw, &self.words, key, number);
-        if is_place(&self.raw, guess, key, number) {
-            guess
-        } else {
-            self.place(self.search_all(key, number))
+        match look(&self.raw, guess, key, number) {
+            Some(found) => found,
+            None => self.front(self.search_all(key, number)),
         }
     }
 
@@ -76,13 +79,21 @@ impl<A: Allocator> MessageBuf<A> {
         search_between(&self.raw, 0, self.len(), key, number)
     }
 
-    /// The place behind so many messages.
+    /// So many messages at the front.
     #[inline(always)]
-    fn place(&self, count: usize) -> Place
-        ensures { result.count ≡ count }
+    fn front(&self, count: usize) -> Below<'_>
+        requires { count ≤ length self.now.messages }
+        ensures count { result.count ≡ count }
+        ensures last { option_map message_of result.last ≡ message_before count self.now.messages }
     {
-        Place {
+        let last = if count == 0 {
+            None
+        } else {
+            Some(self.message(count - 1))
+        };
+        Below {
             count,
+            last,
             young: self.raw.rank(count),
         }
     }
@@ -113,25 +124,38 @@ impl<A: Allocator> MessageBuf<A> {
         ensures rising { MessagesRise self.now.messages }
         ensures valid { All IsMessage self.now.messages }
     {
-        self.seek_near(key, number, guess).count
+        self.below(key, number, self.near(guess)).count
     }
 
-    /// The same, with how many of those have young slots.
+    /// The place behind so many messages, if there are so many.
     #[inline(always)]
-    pub(crate) fn seek_near(&self, key: TenantKey<'_>, number: u64, guess: usize) -> Place
+    pub fn near(&self, count: usize) -> Place {
+        if count > self.raw.slot_count() {
+            return Place::none();
+        }
+        Place {
+            count,
+            young: self.raw.rank(count),
+        }
+    }
+
+    /// The messages that stand below the key and number. The search is the shorter the nearer the guess is to the place behind them.
+    #[inline(always)]
+    pub fn below(&self, key: TenantKey<'_>, number: u64, guess: Place) -> Below<'_>
         ensures count { result.count ≡ below (key.entry.bytes.now, number) self.now.messages }
+        ensures last { option_map message_of result.last
+            ≡ message_before result.count self.now.messages }
         ensures rising { MessagesRise self.now.messages }
         ensures valid { All IsMessage self.now.messages }
     {
-        if guess > self.len() {
+        if guess.count > self.len() {
             return self.seek(key.bytes, number);
         }
-        let near = self.place(guess);
-        if is_place(&self.raw, near, key.bytes, number) {
-            return near;
+        if let Some(found) = look(&self.raw, guess, key.bytes, number) {
+            return found;
         }
-        if self.is_past(guess, key.bytes, number) {
-            self.place(self.search_from(guess, key.bytes, number))
+        if self.is_past(guess.count, key.bytes, number) {
+            self.front(self.search_from(guess.count, key.bytes, number))
         } else {
             self.seek(key.bytes, number)
         }

@@ -42,6 +42,7 @@ use stow_leaf_cache::leaf_cache::LeafCache;
 use stow_merge::flush_job::FlushJob;
 use stow_merge::pins::Pins;
 use stow_message::message_buf::MessageBuf;
+use stow_message::place::Place;
 use stow_page::packed_rows::PackedRows;
 use stow_page::rows::Rows;
 use stow_raw::raw_buf::RawBuf;
@@ -504,11 +505,11 @@ impl<A: Allocator> Node<A> {
         requires { CanAccept (message_of message ∷ []) self.old }
         ensures { self.new ≡ accepted (message_of message.entry ∷ []) self.old }
     {
-        self.push_near(message, usize::MAX);
+        self.push_near(message, Place::none());
     }
 
     /// The same; the search is the shorter the nearer the guess is to the message's place.
-    pub fn push_near(&mut self, message: Message<'_>, guess: usize)
+    pub fn push_near(&mut self, message: Message<'_>, guess: Place)
         requires { CanAccept (message_of message ∷ []) self.old }
         ensures { self.new ≡ accepted (message_of message.entry ∷ []) self.old }
     {

@@ -6,6 +6,7 @@ ghost use Rattle.stow_node.specs.Superseded.{EachMeansTheSame, LosesHidden, MayD
 use crate::node::Node;
 use std::alloc::Allocator;
 use stow_merge::pins::Pins;
+use stow_message::place::Place;
 use stow_superseded::hidden::drop_hidden;
 use stow_superseded::superseding::without_superseded;
 
@@ -22,14 +23,14 @@ impl<A: Allocator + Copy> Node<A> {
         }
     }
 
-    /// Lets the last but one of so many of its own messages go, where the last of them hides it under the pins and no other is moved by
+    /// Lets the last but one of its own messages before a place go, where the last of them hides it under the pins and no other is moved by
     /// it: whether it did.
-    pub fn drop_hidden(&mut self, pins: &Pins<A>, count: usize) -> bool
+    pub fn drop_hidden(&mut self, pins: &Pins<A>, place: Place) -> bool
         ensures dropped { IsTrue result → LosesHidden (pins_in pins.now) self.old self.new }
         ensures none { result ≡ false → self.new ≡ self.old }
         ensures means { EachMeansTheSame (pins_in pins.now) self.old self.new }
     {
         let _known = self.buffer.len();
-        drop_hidden(&mut self.buffer, pins, count)
+        drop_hidden(&mut self.buffer, pins, place)
     }
 }

@@ -14,9 +14,9 @@ use crate::descent::{below, may_hold};
 use crate::lent_value::LentValue;
 use crate::lookup::Lookup;
 use crate::suffixes::{Look, Suffixes};
-use crate::up_to::place_behind;
 use std::alloc::{AllocError, Allocator};
 use stow_leaf::leaf::Leaf;
+use stow_message::place::Place;
 use stow_node::child::Child;
 use stow_node::node::Node;
 use stow_page::rows::Rows;
@@ -66,7 +66,7 @@ fn walk<'a, A: Allocator + Copy>(
     let mut here = node;
     loop {
         let _known = here.children();
-        if let Look::Base(base) = suffixes.look(here.buffer(), key, at, usize::MAX)? {
+        if let Look::Base(base) = suffixes.look(here.buffer(), key, at, Place::none())? {
             return Ok(End { base, leaf: None });
         }
         match below(here, key) {
@@ -98,7 +98,7 @@ pub fn get<'a, A: Allocator + Copy>(
         return Ok(Lookup {
             found: None,
             leaf: None,
-            place: usize::MAX,
+            place: Place::none(),
         });
     }
     let mut suffixes = Suffixes::new(alloc);
@@ -106,6 +106,6 @@ pub fn get<'a, A: Allocator + Copy>(
     Ok(Lookup {
         found: suffixes.on(alloc, end.base)?,
         leaf: end.leaf,
-        place: place_behind(suffixes.place),
+        place: suffixes.place,
     })
 }

@@ -13,6 +13,7 @@ use crate::glance::Glance;
 use crate::newest::Newest;
 use crate::up_to::newest_up_to;
 use std::alloc::Allocator;
+use stow_message::place::Place;
 use stow_node::child::Child;
 use stow_node::node::Node;
 use stow_tree_model::tenant_key::TenantKey;
@@ -28,10 +29,10 @@ pub fn glance<A: Allocator>(node: &Node<A>, key: TenantKey<'_>, at: u64) -> Glan
     if !may_hold(node, key) {
         return Glance {
             newest: Newest::Missing,
-            place: usize::MAX,
+            place: Place::none(),
         };
     }
-    let mut place = usize::MAX;
+    let mut place = Place::none();
     let newest = match newest_up_to(node.buffer(), key, at, &mut place) {
         Some(message) => Newest::of_message(message),
         None => newest_below(node, key, at),
@@ -56,7 +57,7 @@ fn newest_below<A: Allocator>(node: &Node<A>, key: TenantKey<'_>, at: u64) -> Ne
             Child::Node(lower) => here = lower,
         }
         let _known = here.children();
-        if let Some(message) = newest_up_to(here.buffer(), key, at, &mut 0) {
+        if let Some(message) = newest_up_to(here.buffer(), key, at, &mut Place::none()) {
             return Newest::of_message(message);
         }
     }

@@ -2,6 +2,7 @@
 use crate::found::Found;
 use std::alloc::{Allocator, Global};
 use stow_leaf::leaf::Leaf;
+use stow_message::place::Place;
 
 /// What a look-up of one key comes to.
 #[derive(Drop)]
@@ -10,6 +11,6 @@ pub struct Lookup<'a, A: Allocator = Global> {
     pub found: Option<Found<'a, A>>,
     /// The leaf that was looked into, if any was.
     pub leaf: Option<&'a Leaf<A>>,
-    /// Where the key's next message may come to stand in the node's own buffer: a guess, beyond all where none was made.
-    pub place: usize,
+    /// Where the key's next message may come to stand in the node's own buffer.
+    pub place: Place,
 }

@@ -10,11 +10,12 @@ ghost use Rattle.stow_read.specs.Walk.{head_of};
 
 use crate::found::Found;
 use crate::lent_value::LentValue;
-use crate::up_to::count_up_to;
+use crate::up_to::{from_last, front_up_to, place_behind};
 use crate::value_head::ValueHead;
 use std::alloc::{AllocError, Allocator};
 use stow_bytes::byte_string::ByteString;
 use stow_message::message_buf::MessageBuf;
+use stow_message::place::Place;
 use stow_tree_model::numbered_value::NumberedValue;
 use stow_tree_model::op::Op;
 use stow_tree_model::tenant_key::TenantKey;
@@ -25,8 +26,8 @@ pub(crate) struct Suffixes<'a, A: Allocator> {
     /// The newest append's number.
     pub(crate) number: u64,
     pub(crate) suffixes: Vec<&'a [u8], A>,
-    /// Behind how many messages of the first buffer the key's next one may come to stand: a guess, beyond all where none was made.
-    pub(crate) place: usize,
+    /// Where the key's next message may come to stand in the first buffer.
+    pub(crate) place: Place,
 }
 
 /// What a key's messages in one buffer come to.
@@ -46,15 +47,15 @@ impl<'a, A: Allocator + Copy> Suffixes<'a, A> {
         Suffixes {
             number: 0,
             suffixes: Vec::new(alloc),
-            place: usize::MAX,
+            place: Place::none(),
         }
     }
 
     /// Keeps where the first search ended.
-    fn keep_place(&mut self, place: usize)
+    fn keep_place(&mut self, place: Place)
         ensures { suffixes_of self.new ≡ suffixes_of self.old }
     {
-        if self.place == usize::MAX {
+        if self.place.is_none() {
             self.place = place;
         }
     }
@@ -79,16 +80,16 @@ impl<'a, A: Allocator + Copy> Suffixes<'a, A> {
         buffer: &'a MessageBuf<A>,
         key: TenantKey<'_>,
         at: u64,
-        guess: usize,
+        guess: Place,
     ) -> Result<Look<'a>, AllocError>
         ensures { IfOk result (λ look. Carries (ops_in buffer.now.messages key.entry.bytes.now) at
             (suffixes_of self.old) (suffixes_of self.new) look) }
     {
         let _known = buffer.len();
-        let count = count_up_to(buffer, key, at, guess);
-        self.keep_place(count);
-        for i in 0..count {
-            let message = buffer.message(count - 1 - i);
+        let front = front_up_to(buffer, key, at, guess);
+        self.keep_place(place_behind(&front));
+        for i in 0..front.count {
+            let message = from_last(buffer, front, i);
             if !message.key.is_same(key) {
                 return Ok(Look::Deeper);
             }

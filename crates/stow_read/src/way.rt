@@ -197,7 +197,8 @@ impl<'a, A: Allocator + Copy> Way<'a, A> {
         for i in 0..self.levels.len() {
             let level = &self.levels[i];
             if is_next(level.next, key) {
-                if let Look::Base(base) = suffixes.look(level.buffer, key, at, level.place)? {
+                let guess = level.buffer.near(level.place);
+                if let Look::Base(base) = suffixes.look(level.buffer, key, at, guess)? {
                     return Ok(base);
                 }
             }

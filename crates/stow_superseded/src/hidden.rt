@@ -8,6 +8,7 @@ use crate::superseding::{is_hidden, is_whole};
 use std::alloc::Allocator;
 use stow_merge::pins::Pins;
 use stow_message::message_buf::MessageBuf;
+use stow_message::place::Place;
 use stow_tree_model::message::Message;
 
 /// Whether the next message is a put or removal that hides this one, and no pin stands between.
@@ -21,21 +22,24 @@ pub(crate) fn hides<A: Allocator + Copy>(
     is_whole(next.op) && message.key.is_same(next.key) && is_hidden(pins, message, Some(next))
 }
 
-/// Lets the last but one of so many messages go where the last of them hides it, and its slot is a young one, so that no other is
+/// Lets the last but one of the messages before a place go where the last of them hides it, and its slot is a young one, so that no other is
 /// moved.
 pub fn drop_hidden<A: Allocator + Copy>(
     buffer: &mut MessageBuf<A>,
     pins: &Pins<A>,
-    count: usize,
+    place: Place,
 ) -> bool
     ensures dropped { IsTrue result → DropsHidden (pins_in pins.now) buffer.old buffer.new }
     ensures none { result ≡ false → buffer.new ≡ buffer.old }
 {
-    let Some((message, last)) = buffer.last_two(count) else {
+    let Some((message, last)) = buffer.last_two(place) else {
         return false;
     };
     if !hides(pins, message, last) {
         return false;
     }
-    buffer.remove_young(count - 2)
+    buffer.remove_young(Place {
+        count: place.count - 2,
+        young: place.young.saturating_sub(2),
+    })
 }

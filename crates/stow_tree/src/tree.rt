@@ -38,6 +38,7 @@ use stow_merge::flush_job::FlushJob;
 use stow_merge::flush_result::FlushResult;
 use stow_merge::pins::Pins;
 use stow_message::head::size;
+use stow_message::place::Place;
 use stow_node::installed::Installed;
 use stow_node::node::Node;
 use stow_node::pick::Pick;
@@ -153,14 +154,14 @@ impl<A: Allocator + Copy> Tree<A> {
         )
     }
 
-    /// Makes the room that `put_near` of the message needs, as `reserve` does. It may come to stand behind so many of the root's: where the
-    /// last one of these hides the one before it, that one may go, and the place is one lower then.
+    /// Makes the room that `put_near` of the message needs, as `reserve` does. It may come to stand at this place in the root's buffer:
+    /// where the last message before it hides the one before that, that one may go, and the place is one lower then.
     pub fn reserve_near(
         &mut self,
         alloc: A,
         message: Message<'_>,
         pins: &Pins<A>,
-        place: &mut usize,
+        place: &mut Place,
     ) -> Result<(), AllocError>
         requires can { CanReserve self.old (message_of message ∷ []) }
         ensures reserved { OnOk result (IsReserved self.new (message_of message.entry ∷ [])) }
@@ -172,7 +173,7 @@ impl<A: Allocator + Copy> Tree<A> {
         ensures limit { self.new.cache.limit ≡ self.old.cache.limit }
     {
         if self.root.drop_hidden(pins, *place) {
-            *place = place.saturating_sub(1);
+            *place = place.one_fewer();
         }
         make_room(
             alloc,
@@ -196,7 +197,7 @@ impl<A: Allocator + Copy> Tree<A> {
 
     /// Puts a message into the tree, for which there is room, as `put_all` does. The search is the shorter the nearer the guess
     /// is to the message's place in the root's buffer.
-    pub fn put_near(&mut self, message: Message<'_>, guess: usize)
+    pub fn put_near(&mut self, message: Message<'_>, guess: Place)
         requires { IsReserved self.old (message_of message ∷ []) }
         ensures { Puts (message_of message.entry ∷ []) self.old self.new }
     {
@@ -276,7 +277,7 @@ impl<A: Allocator + Copy> Tree<A> {
             ≡ value (tree_messages self.now) key.entry.bytes.now at) }
         ensures short { IfOk result (λ found. IsValue (value_in (option_map found_value found))) }
     {
-        self.get_with_place(alloc, key, at, &mut 0)
+        self.get_with_place(alloc, key, at, &mut Place::none())
     }
 
     /// What `get` answers. The place is then where the key's next message may come to stand in the root's buffer: a guess,
@@ -286,7 +287,7 @@ impl<A: Allocator + Copy> Tree<A> {
         alloc: A,
         key: TenantKey<'_>,
         at: u64,
-        place: &mut usize,
+        place: &mut Place,
     ) -> Result<Option<Found<'_, A>>, AllocError>
         ensures value { IfOk result (λ found. option_map found_value found
             ≡ value (tree_messages self.now) key.entry.bytes.now at) }

@@ -4,6 +4,7 @@ use std::alloc::{AllocError, Allocator};
 use std::test::Fail;
 use stow_merge::pins::Pins;
 use stow_message::message_buf::MessageBuf;
+use stow_message::place::Place;
 use stow_refusing::{Plan, Refusing};
 use stow_superseded::hidden::drop_hidden;
 use stow_superseded::superseding::without_superseded;
@@ -104,7 +105,11 @@ fn left_of<A: Allocator + Copy>(
     if is_ordered {
         buffer.settle();
     }
-    let did = drop_hidden(&mut buffer, &pins(alloc, pin)?, count);
+    let place = Place {
+        count,
+        young: count,
+    };
+    let did = drop_hidden(&mut buffer, &pins(alloc, pin)?, place);
     Ok((did, buffer.len(), buffer.used()))
 }
 

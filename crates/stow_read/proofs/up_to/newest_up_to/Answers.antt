@@ -9,21 +9,21 @@ pub returns-then-is_same : goal.returns-then-is_same
 returns-then-is_same g c =
     let ms = c.args.buffer.now.messages in
     let key = c.args.key.bytes.now in
-    let m = message_of c.message-message.result in
-    let count = c.count_up_to-count.result in
+    let m = message_of c.from_last-message.result in
+    let count = c.front_up_to-front.result.count in
     let some : 0 < count = (let n = c.if-count-eq0.false in grind (arith, nat_tests, n)) in
     let own = is_own key m.key (sym c.is_same.ensures ∙ c.if-is_same.true) in
     record {
-      within = top_within ms key c.args.at count c.count_up_to-count.ensures m some c.message-message.ensures c.len-known.ensures.rising own;
-      there = top_there ms key c.args.at count c.count_up_to-count.ensures m some c.message-message.ensures c.len-known.ensures.rising own;
-      none = top_none ms key c.args.at count c.count_up_to-count.ensures m some c.message-message.ensures c.len-known.ensures.rising own;
+      within = top_within ms key c.args.at count c.front_up_to-front.ensures.count m some c.from_last-message.ensures c.len-known.ensures.rising own;
+      there = top_there ms key c.args.at count c.front_up_to-front.ensures.count m some c.from_last-message.ensures c.len-known.ensures.rising own;
+      none = top_none ms key c.args.at count c.front_up_to-front.ensures.count m some c.from_last-message.ensures c.len-known.ensures.rising own;
     }
 
 pub returns-else-is_same : goal.returns-else-is_same
 returns-else-is_same g c =
     let ms = c.args.buffer.now.messages in
     let key = c.args.key.bytes.now in
-    let m = message_of c.message-message.result in
-    let count = c.count_up_to-count.result in
+    let m = message_of c.from_last-message.result in
+    let count = c.front_up_to-front.result.count in
     let some : 0 < count = (let n = c.if-count-eq0.false in grind (arith, nat_tests, n)) in
-    top_other ms key c.args.at count c.count_up_to-count.ensures m some c.message-message.ensures c.len-known.ensures.rising (sym c.is_same.ensures ∙ c.if-is_same.false)
+    top_other ms key c.args.at count c.front_up_to-front.ensures.count m some c.from_last-message.ensures c.len-known.ensures.rising (sym c.is_same.ensures ∙ c.if-is_same.false)

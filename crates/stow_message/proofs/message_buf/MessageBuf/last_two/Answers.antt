@@ -6,8 +6,8 @@ use Rattle.stow_message.proofs.message_buf.MessageBuf.last_two.Goals as goal
 
 pub returns-clause-two : goal.returns-clause-two
 returns-clause-two g c =
-    let raw = c.self.inside.raw in let n = c.args.count in
-    let two : 2 ≤ n = omega (arith, c.if-count-lt2.false) in
+    let raw = c.self.inside.raw in let n = c.args.place.count in
+    let two : 2 ≤ n = omega (arith, c.if-place-lt2.false) in
     let some : 0 < n - 1 = omega (arith, two) in
     let before : n - 1 - 1 ≡ n - 2 = omega arith in
     let first : slice_get raw.slots (n - 2) ≡ Some c.in-Some.first = ap (slice_get raw.slots) (sym before) ∙ sym (c.around-beside.ensures.before some) ∙ c.in-Some.is in

@@ -1,4 +1,4 @@
-use Rattle.std.proofs.Common.{ap, sym, subst, arith}
+use Rattle.std.proofs.Common.{ap, sym, subst, ◌∙◌, arith}
 use Rattle.std.specs.List.{sum_by}
 use Rattle.stow_tree_model.specs.TreeMessage.{message_of}
 use Rattle.stow_message.specs.Filter.{Covers}
@@ -14,11 +14,11 @@ pub append-requires : goal.append-requires
 append-requires g c = bytes_fit c.self.inside.raw c.self.invariant.filled c.args.self.now c.self.view_is c.args.message c.requires
 
 pub insert_slot_near-requires : goal.insert_slot_near-requires
-insert_slot_near-requires g c = (push c.self.inside.raw c.self.invariant.filled c.args.self.now c.self.view_is c.args.message c.requires c.append.new.raw c.append.ensures _ c.seek_near-place.ensures.count).room
+insert_slot_near-requires g c = (push c.self.inside.raw c.self.invariant.filled c.args.self.now c.self.view_is c.args.message c.requires c.append.new.raw c.append.ensures _ (c.place-place.ensures ∙ c.below.ensures.count)).room
 
 pub invariant_of-self : goal.invariant_of-self
 invariant_of-self g c =
-    let put = push c.self.inside.raw c.self.invariant.filled c.args.self.now c.self.view_is c.args.message c.requires c.append.new.raw c.append.ensures _ c.seek_near-place.ensures.count in
+    let put = push c.self.inside.raw c.self.invariant.filled c.args.self.now c.self.view_is c.args.message c.requires c.append.new.raw c.append.ensures _ (c.place-place.ensures ∙ c.below.ensures.count) in
     let marks = c.add.new.self in
     record {
       filled = put.filled _ _ c.front_len-at.ensures c.insert_slot_near.ensures;
@@ -34,4 +34,4 @@ overflow_add-self g c =
     record { fits = omega (arith, c.size.ensures, c.self.invariant.counted, c.self.invariant.filled.live, c.self.invariant.filled.within, ap (λ (w : MessageList). w.used) c.self.view_is, ap (λ (w : MessageList). w.capacity) c.self.view_is, c.requires.0) }
 
 pub returns : goal.returns
-returns g c = (push c.self.inside.raw c.self.invariant.filled c.args.self.now c.self.view_is c.args.message c.requires c.append.new.raw c.append.ensures _ c.seek_near-place.ensures.count).is _ _ c.front_len-at.ensures c.insert_slot_near.ensures
+returns g c = (push c.self.inside.raw c.self.invariant.filled c.args.self.now c.self.view_is c.args.message c.requires c.append.new.raw c.append.ensures _ (c.place-place.ensures ∙ c.below.ensures.count)).is _ _ c.front_len-at.ensures c.insert_slot_near.ensures

@@ -12,11 +12,11 @@ use Rattle.stow_message.proofs.message_buf.MessageBuf.remove_young.Goals as goal
 pub overflow_sub-self : goal.overflow_sub-self
 overflow_sub-self g c =
     let raw = c.self.inside.raw in let at = c.in-Some.slot in let there = c.in-Some.ensures.taken in
-    omega (arith, c.self.invariant.counted, single_counted raw c.args.index at there.0 c.packed_at.result.now (c.packed_at.ensures ∙ ap (λ (r : RawLists). message_bytes (message_at (drop at r.front))) there.1))
+    omega (arith, c.self.invariant.counted, single_counted raw c.args.place.count at there.0 c.packed_at.result.now (c.packed_at.ensures ∙ ap (λ (r : RawLists). message_bytes (message_at (drop at r.front))) there.1))
 
 pub invariant_of-self-2 : goal.invariant_of-self-2
 invariant_of-self-2 g c =
-    let raw = c.self.inside.raw in let last = c.remove_young.new.self in let h = c.self.invariant.filled in let i = c.args.index in let at = c.in-Some.slot in let there = c.in-Some.ensures.taken in
+    let raw = c.self.inside.raw in let last = c.remove_young.new.self in let h = c.self.invariant.filled in let i = c.args.place.count in let at = c.in-Some.slot in let there = c.in-Some.ensures.taken in
     let within = slot_within raw i at there.0 in
     let le : i + 1 ≤ length raw.slots = omega (arith, within) in
     record {
@@ -28,6 +28,6 @@ invariant_of-self-2 g c =
 pub returns-clause-gone : goal.returns-clause-gone
 returns-clause-gone g c = λ _.
     let raw = c.self.inside.raw in let there = c.in-Some.ensures.taken in
-    let within = slot_within raw c.args.index c.in-Some.slot there.0 in
-    let le : c.args.index + 1 ≤ length raw.slots = omega (arith, within) in
-    last_view raw c.remove_young.new.self c.self.invariant.filled c.args.index 1 le there.1 c.args.self.now c.self.view_is
+    let within = slot_within raw c.args.place.count c.in-Some.slot there.0 in
+    let le : c.args.place.count + 1 ≤ length raw.slots = omega (arith, within) in
+    last_view raw c.remove_young.new.self c.self.invariant.filled c.args.place.count 1 le there.1 c.args.self.now c.self.view_is

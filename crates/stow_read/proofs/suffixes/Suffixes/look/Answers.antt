@@ -10,46 +10,46 @@ use Rattle.stow_read.proofs.suffixes.Suffixes.look.Goals as goal
 
 pub loop-i-init : goal.loop-i-init
 loop-i-init g c =
-    let all : c.count_up_to-count.result ≡ c.count_up_to-count.result - 0 = omega arith in
-    subst (IsLooking c.args.buffer.now.messages c.args.key.bytes.now c.args.at (c.count_up_to-count.result - 0) (suffixes_of c.args.self.now)) (sym c.keep_place.ensures)
+    let all : c.front_up_to-front.result.count ≡ c.front_up_to-front.result.count - 0 = omega arith in
+    subst (IsLooking c.args.buffer.now.messages c.args.key.bytes.now c.args.at (c.front_up_to-front.result.count - 0) (suffixes_of c.args.self.now)) (sym c.keep_place.ensures)
     (subst (λ left. IsLooking c.args.buffer.now.messages c.args.key.bytes.now c.args.at left (suffixes_of c.args.self.now) (suffixes_of c.args.self.now)) all
-    (looking_first c.args.buffer.now.messages c.args.key.bytes.now c.args.at c.count_up_to-count.result (suffixes_of c.args.self.now) c.len-known.ensures.rising c.count_up_to-count.ensures))
+    (looking_first c.args.buffer.now.messages c.args.key.bytes.now c.args.at c.front_up_to-front.result.count (suffixes_of c.args.self.now) c.len-known.ensures.rising c.front_up_to-front.ensures.count))
 
 pub returns-then-not-is_same : goal.returns-then-not-is_same
 returns-then-not-is_same g c =
-    looked_past c.args.buffer.now.messages c.args.key.bytes.now c.args.at c.count_up_to-count.result (suffixes_of c.args.self.now) (suffixes_of c.loop-i.self) c.loop-i.i (message_of c.message-message.result)
-    c.len-known.ensures.rising c.count_up_to-count.ensures c.loop-i-test.true c.message-message.ensures c.loop-i.invariant (sym c.is_same.ensures ∙ c.if-not-is_same.true)
+    looked_past c.args.buffer.now.messages c.args.key.bytes.now c.args.at c.front_up_to-front.result.count (suffixes_of c.args.self.now) (suffixes_of c.loop-i.self) c.loop-i.i (message_of c.from_last-message.result)
+    c.len-known.ensures.rising c.front_up_to-front.ensures.count c.loop-i-test.true c.from_last-message.ensures c.loop-i.invariant (sym c.is_same.ensures ∙ c.if-not-is_same.true)
 
 pub returns-in-Put : goal.returns-in-Put
 returns-in-Put g c older above =
     let ms = c.args.buffer.now.messages in
     let key = c.args.key.bytes.now in
-    let m = message_of c.message-message.result in
-    applied_next ms key c.args.at c.count_up_to-count.result (suffixes_of c.args.self.now) (suffixes_of c.loop-i.self) c.loop-i.i m
-    c.len-known.ensures.rising c.count_up_to-count.ensures c.loop-i-test.true c.message-message.ensures c.loop-i.invariant (is_own key m.key (sym c.is_same.ensures ∙ c.if-not-is_same.false)) older above
-    ∙ ap (λ o. continued (suffixes_of c.loop-i.self) (applied m.number (Some (op_of o)) (latest (over (ops_in (reverse (take (c.count_up_to-count.result - 1 - c.loop-i.i) ms)) key) older) c.args.at))) c.in-Put.is
+    let m = message_of c.from_last-message.result in
+    applied_next ms key c.args.at c.front_up_to-front.result.count (suffixes_of c.args.self.now) (suffixes_of c.loop-i.self) c.loop-i.i m
+    c.len-known.ensures.rising c.front_up_to-front.ensures.count c.loop-i-test.true c.from_last-message.ensures c.loop-i.invariant (is_own key m.key (sym c.is_same.ensures ∙ c.if-not-is_same.false)) older above
+    ∙ ap (λ o. continued (suffixes_of c.loop-i.self) (applied m.number (Some (op_of o)) (latest (over (ops_in (reverse (take (c.front_up_to-front.result.count - 1 - c.loop-i.i) ms)) key) older) c.args.at))) c.in-Put.is
 
 pub returns-in-Gone : goal.returns-in-Gone
 returns-in-Gone g c older above =
     let ms = c.args.buffer.now.messages in
     let key = c.args.key.bytes.now in
-    let m = message_of c.message-message.result in
-    applied_next ms key c.args.at c.count_up_to-count.result (suffixes_of c.args.self.now) (suffixes_of c.loop-i.self) c.loop-i.i m
-    c.len-known.ensures.rising c.count_up_to-count.ensures c.loop-i-test.true c.message-message.ensures c.loop-i.invariant (is_own key m.key (sym c.is_same.ensures ∙ c.if-not-is_same.false)) older above
-    ∙ ap (λ o. continued (suffixes_of c.loop-i.self) (applied m.number (Some (op_of o)) (latest (over (ops_in (reverse (take (c.count_up_to-count.result - 1 - c.loop-i.i) ms)) key) older) c.args.at))) c.in-Gone.is
+    let m = message_of c.from_last-message.result in
+    applied_next ms key c.args.at c.front_up_to-front.result.count (suffixes_of c.args.self.now) (suffixes_of c.loop-i.self) c.loop-i.i m
+    c.len-known.ensures.rising c.front_up_to-front.ensures.count c.loop-i-test.true c.from_last-message.ensures c.loop-i.invariant (is_own key m.key (sym c.is_same.ensures ∙ c.if-not-is_same.false)) older above
+    ∙ ap (λ o. continued (suffixes_of c.loop-i.self) (applied m.number (Some (op_of o)) (latest (over (ops_in (reverse (take (c.front_up_to-front.result.count - 1 - c.loop-i.i) ms)) key) older) c.args.at))) c.in-Gone.is
 
 pub loop-i-preserved : goal.loop-i-preserved
 loop-i-preserved g c =
     let ms = c.args.buffer.now.messages in
     let key = c.args.key.bytes.now in
-    let m = message_of c.message-message.result in
-    subst (λ now. IsLooking ms key c.args.at (c.count_up_to-count.result - (c.loop-i.i + 1)) (suffixes_of c.args.self.now) now)
+    let m = message_of c.from_last-message.result in
+    subst (λ now. IsLooking ms key c.args.at (c.front_up_to-front.result.count - (c.loop-i.i + 1)) (suffixes_of c.args.self.now) now)
     (sym c.in_ok-add-in-Append.ensures)
-    (looking_on ms key c.args.at c.count_up_to-count.result (suffixes_of c.args.self.now) (suffixes_of c.loop-i.self) c.loop-i.i m
-    c.len-known.ensures.rising c.count_up_to-count.ensures c.loop-i-test.true c.message-message.ensures c.loop-i.invariant c.in-Append.suffix.now (is_own key m.key (sym c.is_same.ensures ∙ c.if-not-is_same.false)) (ap op_of c.in-Append.is))
+    (looking_on ms key c.args.at c.front_up_to-front.result.count (suffixes_of c.args.self.now) (suffixes_of c.loop-i.self) c.loop-i.i m
+    c.len-known.ensures.rising c.front_up_to-front.ensures.count c.loop-i-test.true c.from_last-message.ensures c.loop-i.invariant c.in-Append.suffix.now (is_own key m.key (sym c.is_same.ensures ∙ c.if-not-is_same.false)) (ap op_of c.in-Append.is))
 
 pub returns : goal.returns
 returns g c older above =
     let all = c.loop-i-test.false in
-    looked_all c.args.buffer.now.messages c.args.key.bytes.now c.args.at (c.count_up_to-count.result - c.loop-i.i) (suffixes_of c.args.self.now) (suffixes_of c.loop-i.self) c.loop-i.invariant
+    looked_all c.args.buffer.now.messages c.args.key.bytes.now c.args.at (c.front_up_to-front.result.count - c.loop-i.i) (suffixes_of c.args.self.now) (suffixes_of c.loop-i.self) c.loop-i.invariant
     (omega (arith, all)) older above
