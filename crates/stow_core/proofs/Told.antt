@@ -20,9 +20,9 @@ bulks_more [] i row l is = absurd (omega (arith, l))
 bulks_more (r ∷ rows) zero row l is = ap (λ x. row_bulks (key_value x)) (sym is)
 bulks_more (r ∷ rows) (suc i) row l is = ap (λ bulks. row_bulks (key_value r) ++ bulks) (bulks_more rows i row (omega (arith, l)) is)
 
-keys_more : {A : Type 0} (rows : List (coded.Row A)) (i : ℕ) (row : coded.Row A) → i < length rows → row ≡ get_or rows i row → AllByRecursion IsWholeKey (keys_of (take i rows)) → IsWholeKey row.key → AllByRecursion IsWholeKey (keys_of (take (suc i) rows))
+keys_more : {A : Type 0} (rows : List (coded.Row A)) (i : ℕ) (row : coded.Row A) → i < length rows → row ≡ get_or rows i row → AllByRecursion IsWholeKey (keys_of (take i rows)) → IsWholeKey row.key.bytes.now → AllByRecursion IsWholeKey (keys_of (take (suc i) rows))
 keys_more [] i row l is all one = absurd (omega (arith, l))
-keys_more (r ∷ rows) zero row l is all one = (subst (λ (x : coded.Row _). IsWholeKey x.key) is one, tt)
+keys_more (r ∷ rows) zero row l is all one = (subst (λ (x : coded.Row _). IsWholeKey x.key.bytes.now) is one, tt)
 keys_more (r ∷ rows) (suc i) row l is all one = (all.0, keys_more rows i row (omega (arith, l)) is all.1 one)
 
 -- the first rows were told, and their keys are whole
@@ -30,7 +30,7 @@ pub record AreTold {A : Type 0} (rows : List (coded.Row A)) (i : ℕ) (items : L
   pub so_far : items ≡ flat_map row_bulks (map key_value (take i rows))
   pub keys : AllByRecursion IsWholeKey (keys_of (take i rows))
 
-pub one_more_told : {A : Type 0} (rows : List (coded.Row A)) (i : ℕ) (row : coded.Row A) (items more : List Item) → i < length rows → row ≡ get_or rows i row → AreTold rows i items → more ≡ items ++ row_bulks (key_value row) → IsWholeKey row.key → AreTold rows (i + 1) more
+pub one_more_told : {A : Type 0} (rows : List (coded.Row A)) (i : ℕ) (row : coded.Row A) (items more : List Item) → i < length rows → row ≡ get_or rows i row → AreTold rows i items → more ≡ items ++ row_bulks (key_value row) → IsWholeKey row.key.bytes.now → AreTold rows (i + 1) more
 one_more_told rows i row items more l is told adds whole = subst (λ n. AreTold rows n more) next (record {
   so_far = adds ∙ ap (λ front. front ++ row_bulks (key_value row)) told.so_far ∙ sym (bulks_more rows i row l is);
   keys = keys_more rows i row l is told.keys whole;

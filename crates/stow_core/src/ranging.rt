@@ -19,8 +19,15 @@ use stow_tree::tree::Tree;
 use stow_tree_model::tenant_key::TenantKey;
 use stow_tree_model::tenant_key_buf::TenantKeyBuf;
 
+/// Rows that were read, and a key of each leaf that they are of, among the keys of all.
+#[derive(Drop)]
+struct ReadRows<A: Allocator> {
+    items: Items<A>,
+    leaf_keys: Vec<TenantKeyBuf<A>, A>,
+}
+
 /// The first rows of an interval at a number, `count` at most, in the order of their keys: of each its tenant's own key
-/// and its value, copied.
+/// and its value, copied. Their leaves are held, where there is memory.
 pub fn first_rows<A: Allocator + Copy>(
     tree: &mut Tree<A>,
     buffer: &mut Vec<u8, A>,
@@ -37,11 +44,39 @@ pub fn first_rows<A: Allocator + Copy>(
         interval.entry count) }
     ensures same { IsRead tree.old tree.new }
 {
+    let ReadRows { items, leaf_keys } = read_rows(tree, buffer, alloc, interval, at, count)?;
+    for index in 0..leaf_keys.len() {
+        tree.offer(leaf_keys[index].as_key());
+    }
+    Ok(items)
+}
+
+/// The same rows. A key of a leaf may lack where memory is refused for it.
+fn read_rows<A: Allocator + Copy>(
+    tree: &Tree<A>,
+    buffer: &mut Vec<u8, A>,
+    alloc: A,
+    interval: Interval<'_>,
+    at: u64,
+    count: u32,
+) -> Result<ReadRows<A>, AllocError>
+    requires index { interval.tenant ≤ tenant_limit }
+    requires from { length interval.from.now ≤ key_limit }
+    requires to { length interval.to.now ≤ key_limit }
+    ensures { IfOk result (λ read. read.items
+        ≡ told_rows (rows_at (tree_messages tree.now) interval.entry.tenant at)
+        interval.entry count) }
+{
     pack_into(buffer, interval.tenant, interval.from)?;
     let to = end_of(alloc, interval.tenant, interval.to)?;
     let from = TenantKey::from_packed(buffer.as_slice());
     let rows = tree.range(alloc, from, to.as_key(), at, count as usize)?;
-    items_of(alloc, rows.as_slice())
+    let items = items_of(alloc, rows.as_slice())?;
+    let leaf_keys = match tree.leaf_keys(alloc, rows.as_slice()) {
+        Ok(keys) => keys,
+        Err(_) => Vec::new(alloc),
+    };
+    Ok(ReadRows { items, leaf_keys })
 }
 
 /// The upper end among the keys of all. Where the interval has none, it is the first key of the next index.
@@ -58,18 +93,18 @@ fn end_of<A: Allocator>(alloc: A, tenant: u32, to: &[u8]) -> Result<TenantKeyBuf
 }
 
 /// The bytes of the keys and values of rows.
-fn bytes_of<A: Allocator>(rows: &[Row<A>]) -> usize {
+fn bytes_of<A: Allocator>(rows: &[Row<'_, A>]) -> usize {
     let mut total = 0usize;
     for row in rows {
         total = total
-            .saturating_add(row.key.as_key().bytes.len())
-            .saturating_add(row.value.len());
+            .saturating_add(row.key.bytes.len())
+            .saturating_add(row.value.bytes().len());
     }
     total
 }
 
 /// The own keys of rows with their values, in their order, in a block that is got once.
-fn items_of<A: Allocator + Copy>(alloc: A, rows: &[Row<A>]) -> Result<Items<A>, AllocError>
+fn items_of<A: Allocator + Copy>(alloc: A, rows: &[Row<'_, A>]) -> Result<Items<A>, AllocError>
     ensures items { IfOk result (λ items. items ≡ flat_map row_bulks (map key_value rows.now)) }
     ensures keys { IfOk result (λ _. AllByRecursion IsWholeKey
         (map (λ row. row.0) (map key_value rows.now))) }
@@ -77,7 +112,7 @@ fn items_of<A: Allocator + Copy>(alloc: A, rows: &[Row<A>]) -> Result<Items<A>, 
     let mut items = Items::with_capacity(alloc, 2 * rows.len(), bytes_of(rows))?;
     for index in 0..rows.len() {
         let row = &rows[index];
-        push_row(&mut items, row.key.as_key().bytes, row.value.as_slice())?;
+        push_row(&mut items, row.key.bytes, row.value.bytes())?;
     }
     Ok(items)
 }

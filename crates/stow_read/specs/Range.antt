@@ -6,6 +6,7 @@ use Rattle.std.specs.List.Sorted.{IsStrictlySortedBy}
 use Rattle.stow_bytes.specs.Bytes.{bytes_cmp}
 use Rattle.stow_leaf.specs.Intervals.{spans}
 use Rattle.stow_tree_model.specs.Operations.{Operations, latest, value_in}
+use Rattle.stow_read.specs.Found.{found_value}
 use Rattle.stow_read.specs.declared.row.Row as coded
 
 -- a key with its value
@@ -13,7 +14,7 @@ abbrev pub KeyValue : Type 0
 KeyValue = List ℕ × List ℕ
 
 abbrev pub key_value : {A : Type 0} → coded.Row A → KeyValue
-key_value row = (row.key, row.value)
+key_value row = (row.key.bytes.now, (found_value row.value).value)
 
 -- all these rows are of keys below this one
 abbrev pub AreUnder : List KeyValue → List ℕ → Type 0

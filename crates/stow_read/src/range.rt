@@ -2,41 +2,27 @@
 ghost use Rattle.std.specs.Prelude.{◌≡◌, IfOk, map};
 ghost use Rattle.stow_node.specs.Subtree.{messages_of};
 ghost use Rattle.stow_tree_model.specs.Messages.{ops_in};
-ghost use Rattle.stow_read.specs.Found.{found_value};
 ghost use Rattle.stow_read.specs.Range.{IsRange, key_value};
 
-use crate::found::Found;
 use crate::guesses::Guesses;
 use crate::row::Row;
 use crate::start::Start;
 use crate::stepping::{first_key, step};
 use crate::way::Way;
 use std::alloc::{AllocError, Allocator};
-use stow_bytes::byte_string::ByteString;
 use stow_node::node::Node;
 use stow_tree_model::tenant_key::TenantKey;
-use stow_tree_model::tenant_key_buf::TenantKeyBuf;
-
-/// The bytes of a found value, in memory of their own.
-fn owned<A: Allocator + Copy>(alloc: A, found: Found<'_, A>) -> Result<ByteString<A>, AllocError>
-    ensures { IfOk result (λ value. value ≡ (found_value found.entry).value) }
-{
-    match found {
-        Found::Lent(lent) => ByteString::from_slice(alloc, lent.value),
-        Found::Folded(folded) => Ok(folded.value),
-    }
-}
 
 /// The first `count` keys from `from` on and below `to` that have a value at a number by all messages of the node, in
-/// order, with it.
-pub fn range<A: Allocator + Copy>(
+/// order, with it: none is copied, but those that appends make are.
+pub fn range<'a, A: Allocator + Copy>(
     alloc: A,
-    node: &Node<A>,
+    node: &'a Node<A>,
     from: TenantKey<'_>,
     to: TenantKey<'_>,
     at: u64,
     count: usize,
-) -> Result<Vec<Row<A>, A>, AllocError>
+) -> Result<Vec<Row<'a, A>, A>, AllocError>
     ensures { IfOk result (λ rows. IsRange (ops_in (messages_of node.now)) from.entry.bytes.now
         to.entry.bytes.now at count (map key_value rows.items)) }
 {
@@ -56,9 +42,7 @@ pub fn range<A: Allocator + Copy>(
         if rows.len() == count {
             return Ok(rows);
         }
-        if let Some(found) = way.value(alloc, key, at)? {
-            let value = owned(alloc, found)?;
-            let key = TenantKeyBuf::from_key(alloc, key)?;
+        if let Some(value) = way.value(alloc, key, at)? {
             rows.push(Row { key, value })?;
         }
         next = step(alloc, node, &mut way, key, to, &mut guesses)?;

@@ -1,11 +1,11 @@
 //! Keys with their values.
+use crate::found::Found;
 use std::alloc::{Allocator, Global};
-use stow_bytes::byte_string::ByteString;
-use stow_tree_model::tenant_key_buf::TenantKeyBuf;
+use stow_tree_model::tenant_key::TenantKey;
 
-/// A key with its value, with memory of its own.
+/// A key with its value. Both are lent, but for a value that appends make.
 #[derive(Drop)]
-pub struct Row<A: Allocator = Global> {
-    pub key: TenantKeyBuf<A>,
-    pub value: ByteString<A>,
+pub struct Row<'a, A: Allocator = Global> {
+    pub key: TenantKey<'a>,
+    pub value: Found<'a, A>,
 }

@@ -38,7 +38,7 @@ fn is_pin_within(pins: &[u64], from: u64, to: u64) -> bool
 }
 
 /// The message, where it is of the key.
-pub(crate) fn of_key<'a>(message: Option<Message<'a>>, key: TenantKey<'_>) -> Option<Message<'a>>
+fn of_key<'a>(message: Option<Message<'a>>, key: TenantKey<'_>) -> Option<Message<'a>>
     ensures { option_map message_of result
         ≡ of_key key.entry.bytes.now (option_map message_of message.entry) }
 {

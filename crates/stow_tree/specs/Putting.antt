@@ -43,8 +43,8 @@ pub record IsReserved (tree : TreeState) (ms : List TreeMessage) : Type 0 where
   pub can : CanPut (tree_messages tree) ms
   pub room : BytesFit (bytes_of ms) tree.root
 
--- where one message fits the root, dead bytes dropped, no message moves; but one of the root's own may
--- go before, which the next one hides
+-- where one message fits the root, dead bytes dropped, no message moves; but one of the root's own
+-- may go before, which the next one hides
 pub record MakesRoomNear (m : TreeMessage) (pins : TenantPins) (old new : Subtree) : Type 0 where
   pub between : Subtree
   pub loses : MayLoseHidden pins old between

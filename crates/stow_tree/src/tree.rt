@@ -56,6 +56,7 @@ use stow_read::versions::versions;
 use stow_read::walk::walk;
 use stow_tree_model::message::Message;
 use stow_tree_model::tenant_key::TenantKey;
+use stow_tree_model::tenant_key_buf::TenantKeyBuf;
 use stow_tree_model::version_buf::VersionBuf;
 
 /// The changes and rows of all tenants, in nodes and leaves.
@@ -90,7 +91,7 @@ fn total(messages: &[Message<'_>]) -> usize
 }
 
 /// How many keys of the rows stand no higher than the leaf's last; the first one counts wherever it stands.
-fn reached<A: Allocator>(leaf: &Leaf<A>, rows: &[Row<A>]) -> usize
+fn reached<A: Allocator>(leaf: &Leaf<A>, rows: &[Row<'_, A>]) -> usize
     requires { 0 < length rows.now }
     ensures { (0 < result) × (result ≤ length rows.now) }
 {
@@ -99,12 +100,16 @@ fn reached<A: Allocator>(leaf: &Leaf<A>, rows: &[Row<A>]) -> usize
         return 1;
     }
     let last = leaf.rows.get(len - 1).key;
-    for i in 1..rows.len() {
-        if rows[i].key.as_key().bytes > last.bytes {
-            return i;
+    let (mut low, mut high) = (1, rows.len());
+    while low < high {
+        let middle = low + (high - low) / 2;
+        if rows[middle].key.bytes > last.bytes {
+            high = middle;
+        } else {
+            low = middle + 1;
         }
     }
-    rows.len()
+    low
 }
 
 impl<A: Allocator + Copy> Tree<A> {
@@ -306,25 +311,39 @@ impl<A: Allocator + Copy> Tree<A> {
         glance(&self.root, key, at)
     }
 
-    /// The first `count` keys from `from` on and below `to` that have a value at a number, in order, with it.
+    /// The first `count` keys from `from` on and below `to` that have a value at a number, in order, with it: none is copied, but
+    /// those that appends make are.
     pub fn range(
-        &mut self,
+        &self,
         alloc: A,
         from: TenantKey<'_>,
         to: TenantKey<'_>,
         at: u64,
         count: usize,
-    ) -> Result<Vec<Row<A>, A>, AllocError>
-        ensures rows { IfOk result (λ rows. IsRange (ops_of (tree_messages self.old))
+    ) -> Result<Vec<Row<'_, A>, A>, AllocError>
+        ensures { IfOk result (λ rows. IsRange (ops_of (tree_messages self.now))
             from.entry.bytes.now to.entry.bytes.now at count (map key_value rows.items)) }
-        ensures same { IsRead self.old self.new }
     {
-        let rows = range(alloc, &self.root, from, to, at, count)?;
-        let mut offered = 0;
-        while offered < rows.len() {
-            offered += self.offer_first(&rows.as_slice()[offered..]);
+        range(alloc, &self.root, from, to, at, count)
+    }
+
+    /// A key of each leaf that these rows' keys are of, for `offer`.
+    pub fn leaf_keys(
+        &self,
+        alloc: A,
+        rows: &[Row<'_, A>],
+    ) -> Result<Vec<TenantKeyBuf<A>, A>, AllocError> {
+        let mut keys = Vec::new(alloc);
+        let mut first = 0;
+        while first < rows.len() {
+            let key = rows[first].key;
+            keys.push(TenantKeyBuf::from_key(alloc, key)?)?;
+            first += match leaf_for(&self.root, key) {
+                Some(leaf) => reached(leaf, &rows[first..]),
+                None => 1,
+            };
         }
-        Ok(rows)
+        Ok(keys)
     }
 
     /// The first `count` keys from the start on and below `to` that have a value at a number, in order, with what is told
@@ -341,21 +360,6 @@ impl<A: Allocator + Copy> Tree<A> {
             from.entry.key.bytes.now from.entry.after to.entry.bytes.now at count rows.items) }
     {
         walk(alloc, &self.root, from, to, at, count)
-    }
-
-    /// Holds the rows of the first key's leaf, and tells how many of the keys it reaches, one at least.
-    fn offer_first(&mut self, rows: &[Row<A>]) -> usize
-        requires { 0 < length rows.now }
-        ensures same { IsRead self.old self.new }
-        ensures some { (0 < result) × (result ≤ length rows.now) }
-    {
-        let first = rows[0].key.as_key();
-        let reached = match leaf_for(&self.root, first) {
-            Some(leaf) => reached(leaf, rows),
-            None => 1,
-        };
-        self.offer(first);
-        reached
     }
 
     /// Holds the rows of the key's leaf, in front of all, where there is memory.

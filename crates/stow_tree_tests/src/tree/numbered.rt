@@ -142,14 +142,30 @@ impl<A: Allocator + Copy> Numbered<A> {
 
     /// The tree's `range`.
     pub(crate) fn range(
+        &self,
+        alloc: A,
+        interval: Interval<'_>,
+        at: u64,
+        count: usize,
+    ) -> Result<Vec<Row<'_, A>, A>, AllocError> {
+        self.tree
+            .range(alloc, interval.from, interval.to, at, count)
+    }
+
+    /// Offers the leaves of a range's rows, as the service does.
+    pub(crate) fn offer_range(
         &mut self,
         alloc: A,
         interval: Interval<'_>,
         at: u64,
         count: usize,
-    ) -> Result<Vec<Row<A>, A>, AllocError> {
-        self.tree
-            .range(alloc, interval.from, interval.to, at, count)
+    ) -> Result<(), AllocError> {
+        let rows = self.range(alloc, interval, at, count)?;
+        let keys = self.tree.leaf_keys(alloc, rows.as_slice())?;
+        for index in 0..keys.len() {
+            self.tree.offer(keys[index].as_key());
+        }
+        Ok(())
     }
 
     /// The tree's `offer`.

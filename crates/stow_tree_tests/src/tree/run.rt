@@ -406,7 +406,7 @@ impl<A: Allocator + Copy> Run<A> {
         match read {
             Read::Get => self.get(alloc, place)?,
             Read::Versions => self.tree.versions(alloc, self.keys.at(place))?.is_empty(),
-            Read::Range => self.rows(alloc, own(1), (last, 100))?.is_empty(),
+            Read::Range => self.offer_rows(alloc, own(1), (last, 100))?,
             Read::Walk => self.heads(alloc, own(1), (last, 100))?.is_empty(),
         };
         Ok(())
@@ -430,16 +430,31 @@ impl<A: Allocator + Copy> Run<A> {
 
     /// The first rows of an interval.
     pub(crate) fn rows(
-        &mut self,
+        &self,
         alloc: A,
         within: Within,
         (at, count): (u64, usize),
-    ) -> Result<Vec<Row<A>, A>, AllocError> {
+    ) -> Result<Vec<Row<'_, A>, A>, AllocError> {
         let interval = Interval {
             from: self.keys.bound(within.from),
             to: self.keys.bound(within.to),
         };
         self.tree.range(alloc, interval, at, count)
+    }
+
+    /// Reads the first rows of an interval, and offers their leaves.
+    fn offer_rows(
+        &mut self,
+        alloc: A,
+        within: Within,
+        (at, count): (u64, usize),
+    ) -> Result<bool, AllocError> {
+        let interval = Interval {
+            from: self.keys.bound(within.from),
+            to: self.keys.bound(within.to),
+        };
+        self.tree.offer_range(alloc, interval, at, count)?;
+        Ok(true)
     }
 
     /// What is told of the first rows of an interval.
@@ -538,7 +553,7 @@ impl<A: Allocator + Copy> Run<A> {
     fn is_row(
         &self,
         alloc: A,
-        row: Option<&Row<A>>,
+        row: Option<&Row<'_, A>>,
         (place, at): (usize, u64),
     ) -> Result<Option<bool>, AllocError> {
         let key = self.keys.at(place);
@@ -546,8 +561,7 @@ impl<A: Allocator + Copy> Run<A> {
             (None, _) => None,
             (Some(_), None) => Some(false),
             (Some(wanted), Some(row)) => Some(
-                row.key.as_key().bytes == key.bytes
-                    && row.value.as_slice() == wanted.value.as_slice(),
+                row.key.bytes == key.bytes && row.value.bytes() == wanted.value.as_slice(),
             ),
         })
     }
@@ -556,7 +570,7 @@ impl<A: Allocator + Copy> Run<A> {
     fn are_rows(
         &self,
         alloc: A,
-        rows: &[Row<A>],
+        rows: &[Row<'_, A>],
         (tenant, at, count): (u32, u64, usize),
     ) -> Result<bool, AllocError> {
         let mut next = 0usize;

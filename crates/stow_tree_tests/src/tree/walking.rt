@@ -104,7 +104,7 @@ fn are_told<A: Allocator + Copy>(
 
 /// Whether a range has the values of these.
 fn have_values<A: Allocator + Copy>(
-    rows: &[Row<A>],
+    rows: &[Row<'_, A>],
     keys: &Keys<A>,
     (from, to): (usize, usize),
 ) -> bool {
@@ -113,8 +113,8 @@ fn have_values<A: Allocator + Copy>(
         let place = from.saturating_add(i);
         have = have
             && place < TOLD.len()
-            && rows[i].key.as_key().bytes == keys.at(TOLD[place].0).bytes
-            && rows[i].value.as_slice().len() == TOLD[place].2 as usize;
+            && rows[i].key.bytes == keys.at(TOLD[place].0).bytes
+            && rows[i].value.bytes().len() == TOLD[place].2 as usize;
     }
     have
 }

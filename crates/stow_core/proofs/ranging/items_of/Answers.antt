@@ -10,8 +10,8 @@ use Rattle.stow_core.proofs.ranging.items_of.Goals as goal
 pub loop-index-preserved : goal.loop-index-preserved
 loop-index-preserved g c =
     one_more_told c.args.rows.now c.loop-index.index c.index-rows-index.result c.loop-index.items c.push_row.new.items c.loop-index-test.true c.index-rows-index.is c.loop-index.invariant
-    (c.in_ok-push_row.ensures.items ∙ (λ i. c.loop-index.items ++ row_bulks (c.as_key.ensures i, c.as_slice.ensures i)))
-    (subst IsWholeKey c.as_key.ensures (c.as_key.result.is_key, c.in_ok-push_row.ensures.bytes))
+    (c.in_ok-push_row.ensures.items ∙ ap (λ value. c.loop-index.items ++ row_bulks (c.index-rows-index.result.key.bytes.now, value)) c.bytes.ensures)
+    (c.index-rows-index.result.key.is_key, c.in_ok-push_row.ensures.bytes)
 
 pub returns-clause-items : goal.returns-clause-items
 returns-clause-items g c = c.loop-index.invariant.so_far ∙ ap (λ rows. flat_map row_bulks (map key_value rows)) (take_all c.args.rows.now c.loop-index.index c.loop-index-test.false)

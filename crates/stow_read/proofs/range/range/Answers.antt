@@ -16,7 +16,7 @@ use Rattle.stow_read.proofs.FirstKeys.{left_from, fewer_left, held_inside}
 use Rattle.stow_read.proofs.Ranged.{IsRangeSoFar, range_first, range_past, range_more, range_all, range_enough}
 use Rattle.stow_read.proofs.Ways.{ready_for, told_by_way}
 use Rattle.stow_read.proofs.range.range.Goals as goal
-use Rattle.stow_read.proofs.range.range.Goals.{in-Some-2+in_ok-value+in_ok-key+in_ok-push, in_default-2}
+use Rattle.stow_read.proofs.range.range.Goals.{in-Some-2+in_ok-push, in_default-2}
 
 pub returns-in_default : goal.returns-in_default
 returns-in_default g c =
@@ -75,20 +75,18 @@ loop-next-preserved g c =
     let now : IsRangeSoFar (ops_in (messages_of c.args.node.now)) c.args.from.bytes.now c.args.to.bytes.now c.args.at c.args.count (map key_value c.loop-next.rows.items) (Some c.in-Some-next.key.bytes.now) =
     subst (λ (next : Option TenantKey). IsRangeSoFar (ops_in (messages_of c.args.node.now)) c.args.from.bytes.now c.args.to.bytes.now c.args.at c.args.count (map key_value c.loop-next.rows.items) (option_map (λ (k : TenantKey). k.bytes.now) next)) c.in-Some-next.is c.loop-next.invariant.rows in
     let value =
-    c.in_ok-found.ensures
+    c.in_ok-value.ensures
     ∙ told_by_way c.args.node.now c.loop-next.way c.in-Some-next.key.bytes.now c.args.to.bytes.now c.args.at
     (subst (λ (next : Option TenantKey). IfSome next (λ k. IsAt c.args.node.now c.loop-next.way k.bytes.now c.args.to.bytes.now)) c.in-Some-next.is c.loop-next.invariant.way) in
     record {
       rows = elim (c.match-branch-3.branch) [
-        | in-Some-2+in_ok-value+in_ok-key+in_ok-push w ↦ subst (λ rows. IsRangeSoFar (ops_in (messages_of c.args.node.now)) c.args.from.bytes.now c.args.to.bytes.now c.args.at c.args.count rows (option_map (λ (k : TenantKey). k.bytes.now) c.in_ok-next.next))
+        | in-Some-2+in_ok-push w ↦ subst (λ rows. IsRangeSoFar (ops_in (messages_of c.args.node.now)) c.args.from.bytes.now c.args.to.bytes.now c.args.at c.args.count rows (option_map (λ (k : TenantKey). k.bytes.now) c.in_ok-next.next))
             (sym (ap (λ (rows : Vec (Row g.row.A.Denot) g.row.A.Denot). map key_value rows.items) w.rows-is
             ∙ ap (map key_value) w.in_ok-push.ensures.items
-            ∙ map-append key_value c.loop-next.rows.items _
-            ∙ ap (λ k. map key_value c.loop-next.rows.items ++ (k, w.in_ok-value.value) ∷ []) w.in_ok-key.ensures))
-            (range_more (ops_in (messages_of c.args.node.now)) c.args.from.bytes.now c.args.to.bytes.now c.args.at c.args.count (map key_value c.loop-next.rows.items) c.in-Some-next.key.bytes.now w.in_ok-value.value (option_map (λ (k : TenantKey). k.bytes.now) c.in_ok-next.next) now
+            ∙ map-append key_value c.loop-next.rows.items _))
+            (range_more (ops_in (messages_of c.args.node.now)) c.args.from.bytes.now c.args.to.bytes.now c.args.at c.args.count (map key_value c.loop-next.rows.items) c.in-Some-next.key.bytes.now (found_value w.in-Some-2.value).value (option_map (λ (k : TenantKey). k.bytes.now) c.in_ok-next.next) now
             (ap value_in (sym value)
-            ∙ ap (λ found. value_in (option_map found_value found)) w.in-Some-2.is
-            ∙ ap (λ v. Some v) (sym w.in_ok-value.ensures))
+            ∙ ap (λ found. value_in (option_map found_value found)) w.in-Some-2.is)
             (let o = c.loop-next.rows.ok.0 in let few = now.keys.few in omega (arith, o, few, length-map c.loop-next.rows.items key_value, length-map (map key_value c.loop-next.rows.items) (λ (row : KeyValue). row.0), c.len.ensures, c.if-len-count.false))
             c.in_ok-next.ensures.next)
         | in_default-2 w ↦ subst (λ (rows : Vec (Row g.row.A.Denot) g.row.A.Denot). IsRangeSoFar (ops_in (messages_of c.args.node.now)) c.args.from.bytes.now c.args.to.bytes.now c.args.at c.args.count (map key_value rows.items) (option_map (λ (k : TenantKey). k.bytes.now) c.in_ok-next.next)) (sym w.rows-is)

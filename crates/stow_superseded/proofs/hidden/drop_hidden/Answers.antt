@@ -8,7 +8,7 @@ use Rattle.stow_superseded.proofs.hidden.drop_hidden.Goals as goal
 pub returns-clause-dropped : goal.returns-clause-dropped
 returns-clause-dropped g c = λ done.
     let ms = c.args.buffer.now.messages in let n = c.args.place.count in
-    let two = c.in-Some.ensures in
+    let two = c.in-Some.ensures.two in
     let m = message_of c.in-Some.message in let last = message_of c.in-Some.last in
     let at : n - 1 ≡ suc (n - 2) = omega (arith, two.0) in
     let past : suc (n - 1) ≡ n = omega (arith, two.0) in
