@@ -44,7 +44,7 @@ pub(crate) fn from_last<'a, A: Allocator>(
     requires last { option_map message_of front.last
         ≡ message_before front.count buffer.now.messages }
     ensures { message_of result
-        ≡ slice_index_or buffer.now.messages (front.count - 1 - index) (message_of result) }
+        ≡ slice_index_or buffer.now.messages (front.entry.count - 1 - index) (message_of result) }
 {
     if index > 0 {
         return buffer.message(front.count - 1 - index);

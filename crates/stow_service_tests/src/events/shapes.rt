@@ -112,11 +112,12 @@ fn report_of<A: Allocator + Copy>(
     Talk::new(alloc, flushes).report(alloc, global, shape)
 }
 
-/// Whether it is told, leaves are held, messages wait, and the leaves are several just where the shape is small.
+/// Whether it is told, all leaves are held, since the last read is of all rows, messages wait, and the leaves are several just where the shape
+/// is small.
 fn is_right(report: Option<ShapeReport>, is_small: bool) -> bool {
     match report {
         Some(sizes) => {
-            sizes.cached >= 1 && sizes.buffered >= 1 && (sizes.leaves >= 2) == is_small
+            sizes.cached == sizes.leaves && sizes.buffered >= 1 && (sizes.leaves >= 2) == is_small
         }
         None => false,
     }

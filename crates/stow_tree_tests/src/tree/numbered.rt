@@ -162,6 +162,7 @@ impl<A: Allocator + Copy> Numbered<A> {
     ) -> Result<(), AllocError> {
         let rows = self.range(alloc, interval, at, count)?;
         let keys = self.tree.leaf_keys(alloc, rows.as_slice())?;
+        drop(rows);
         for index in 0..keys.len() {
             self.tree.offer(keys[index].as_key());
         }

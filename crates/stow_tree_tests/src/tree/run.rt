@@ -181,13 +181,13 @@ fn push_change<'a, A: Allocator>(
 }
 
 /// Whether these tell of the rows, in order.
-fn are_heads<A: Allocator>(heads: &[RowHead<A>], rows: &[Row<A>]) -> bool {
+fn are_heads<A: Allocator>(heads: &[RowHead<A>], rows: &[Row<'_, A>]) -> bool {
     let mut are = heads.len() == rows.len();
     for i in 0..rows.len() {
         are = are
             && i < heads.len()
-            && heads[i].key.as_key().bytes == rows[i].key.as_key().bytes
-            && heads[i].length as usize == rows[i].value.as_slice().len();
+            && heads[i].key.as_key().bytes == rows[i].key.bytes
+            && heads[i].length as usize == rows[i].value.bytes().len();
     }
     are
 }

@@ -1,4 +1,4 @@
-use Rattle.std.proofs.Common.{◌<◌, ◌∙◌, sym, arith}
+use Rattle.std.proofs.Common.{◌≡◌, ◌-◌, ◌<◌, get_or, ap, sym, ◌∙◌, arith}
 use Rattle.std.proofs.lemmas.Bool.Decides.{nat_tests}
 use Rattle.stow_tree_model.specs.TreeMessage.{message_of}
 use Rattle.stow_read.proofs.NextNumbers.{is_own}
@@ -11,12 +11,14 @@ returns-then-is_same g c =
     let key = c.args.key.bytes.now in
     let m = message_of c.from_last-message.result in
     let count = c.front_up_to-front.result.count in
-    let some : 0 < count = (let n = c.if-count-eq0.false in grind (arith, nat_tests, n)) in
+    let last : count - 1 - 0 ≡ count - 1 = omega arith in
+    let there = c.from_last-message.ensures ∙ ap (λ i. get_or ms i m) last in
+    let some : 0 < count = (let n = c.if-front-eq0.false in grind (arith, nat_tests, n)) in
     let own = is_own key m.key (sym c.is_same.ensures ∙ c.if-is_same.true) in
     record {
-      within = top_within ms key c.args.at count c.front_up_to-front.ensures.count m some c.from_last-message.ensures c.len-known.ensures.rising own;
-      there = top_there ms key c.args.at count c.front_up_to-front.ensures.count m some c.from_last-message.ensures c.len-known.ensures.rising own;
-      none = top_none ms key c.args.at count c.front_up_to-front.ensures.count m some c.from_last-message.ensures c.len-known.ensures.rising own;
+      within = top_within ms key c.args.at count c.front_up_to-front.ensures.count m some there c.len-known.ensures.rising own;
+      there = top_there ms key c.args.at count c.front_up_to-front.ensures.count m some there c.len-known.ensures.rising own;
+      none = top_none ms key c.args.at count c.front_up_to-front.ensures.count m some there c.len-known.ensures.rising own;
     }
 
 pub returns-else-is_same : goal.returns-else-is_same
@@ -25,5 +27,7 @@ returns-else-is_same g c =
     let key = c.args.key.bytes.now in
     let m = message_of c.from_last-message.result in
     let count = c.front_up_to-front.result.count in
-    let some : 0 < count = (let n = c.if-count-eq0.false in grind (arith, nat_tests, n)) in
-    top_other ms key c.args.at count c.front_up_to-front.ensures.count m some c.from_last-message.ensures c.len-known.ensures.rising (sym c.is_same.ensures ∙ c.if-is_same.false)
+    let last : count - 1 - 0 ≡ count - 1 = omega arith in
+    let there = c.from_last-message.ensures ∙ ap (λ i. get_or ms i m) last in
+    let some : 0 < count = (let n = c.if-front-eq0.false in grind (arith, nat_tests, n)) in
+    top_other ms key c.args.at count c.front_up_to-front.ensures.count m some there c.len-known.ensures.rising (sym c.is_same.ensures ∙ c.if-is_same.false)
