@@ -51,7 +51,7 @@ pub fn first_rows<A: Allocator + Copy>(
     Ok(items)
 }
 
-/// The same rows. A key of a leaf may lack where memory is refused for it.
+/// The same rows, with a key of each of their leaves.
 fn read_rows<A: Allocator + Copy>(
     tree: &Tree<A>,
     buffer: &mut Vec<u8, A>,
@@ -72,10 +72,7 @@ fn read_rows<A: Allocator + Copy>(
     let from = TenantKey::from_packed(buffer.as_slice());
     let rows = tree.range(alloc, from, to.as_key(), at, count as usize)?;
     let items = items_of(alloc, rows.as_slice())?;
-    let leaf_keys = match tree.leaf_keys(alloc, rows.as_slice()) {
-        Ok(keys) => keys,
-        Err(_) => Vec::new(alloc),
-    };
+    let leaf_keys = tree.leaf_keys(alloc, rows.as_slice())?;
     Ok(ReadRows { items, leaf_keys })
 }
 
