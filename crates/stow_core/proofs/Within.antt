@@ -1,7 +1,7 @@
 -- The rows of an interval, as the tree tells them.
 use Rattle.std.proofs.Common.{◌≡◌, ◌≢◌, ℕ, zero, suc, ◌+◌, ◌<◌, ◌≤◌, ◌^◌, ◌⊎◌, inl, inr, Bool, true, false, cond, not, List, [], ◌∷◌, length, take, map, eqb, Option, Some, None, refl, ap, sym, ◌∙◌, subst, arith, ⊎_elim}
 use Rattle.std.proofs.Math.Bool.{◌&&◌, ◌||◌, false≢true}
-use Rattle.std.specs.Prelude.{filter, Contains, IsSome, T, Result, Ok, Err, IfOk}
+use Rattle.std.specs.Prelude.{filter, Contains, IsSome, T}
 use Rattle.std.specs.FinMap as rows
 use Rattle.std.specs.FinMap.{find, is_sorted}
 use Rattle.std.specs.List.{AllByRecursion, flat_map}
@@ -418,9 +418,8 @@ module _ (m : Messages) (t at count : ℕ) (from to : List ℕ) where
           (range.all (packed t k) (spans_own t from to k l ∙ is.1) (some_value (value m (packed t k) at) there))
 
   -- what was told of the rows that the tree told
-  pub told_range : {E : Type 0} (r : Result (List Item) E) (first last : List ℕ) (told : List KeyValue) → t ≤ 65535 → first ≡ packed t from → last ≡ upper_end t to → IsRange (ops_of m) first last at count told
-      → IfOk r (λ items. items ≡ flat_map row_bulks told) → IfOk r (λ _. AllByRecursion IsWholeKey (map (λ (row : KeyValue). row.0) told))
-      → IfOk r (λ items. items ≡ flat_map row_items (rows_within from to count (rows_at m t at)))
-  told_range (Ok items) first last told l is_first is_last range is whole =
+  pub told_range : (items : List Item) (first last : List ℕ) (told : List KeyValue) → t ≤ 65535 → first ≡ packed t from → last ≡ upper_end t to → IsRange (ops_of m) first last at count told
+      → items ≡ flat_map row_bulks told → AllByRecursion IsWholeKey (map (λ (row : KeyValue). row.0) told)
+      → items ≡ flat_map row_items (rows_within from to count (rows_at m t at))
+  told_range items first last told l is_first is_last range is whole =
       is ∙ range_items told l whole (subst (λ k. IsRange (ops_of m) (packed t from) k at count told) is_last (subst (λ k. IsRange (ops_of m) k last at count told) is_first range))
-  told_range (Err e) first last told l is_first is_last range is whole = is
