@@ -164,7 +164,7 @@ impl<A: Allocator + Copy> Numbered<A> {
         let keys = self.tree.leaf_keys(alloc, rows.as_slice())?;
         drop(rows);
         for index in 0..keys.len() {
-            self.tree.offer(keys[index].as_key());
+            self.offer(keys[index].as_key());
         }
         Ok(())
     }

@@ -1,8 +1,0 @@
-use Rattle.stow_tree_tests.proofs.Numbering.{bound_stays, room_stays}
-use Rattle.stow_tree_tests.proofs.tree.numbered.Numbered.range.Goals as goal
-
-pub invariant_of-self : goal.invariant_of-self
-invariant_of-self g c = record {
-  below = bound_stays c.args.self.now.tree c.range.new.self c.args.self.now.last c.range.ensures.same.root c.args.self.now.below;
-  room = room_stays c.args.self.now.tree c.range.new.self c.range.ensures.same.root c.args.self.now.room;
-}
