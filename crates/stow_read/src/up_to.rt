@@ -32,7 +32,7 @@ pub(crate) fn front_up_to<'a, A: Allocator>(
     buffer.below(key, at.saturating_add(1), guess)
 }
 
-/// One of the messages at the front of a buffer, from the last one on, of which 0 is the index.
+/// The message with so many behind it among those at the front of a buffer: the last one is lent already.
 #[inline(always)]
 pub(crate) fn from_last<'a, A: Allocator>(
     buffer: &'a MessageBuf<A>,
@@ -46,13 +46,12 @@ pub(crate) fn from_last<'a, A: Allocator>(
     ensures { message_of result
         ≡ slice_index_or buffer.now.messages (front.entry.count - 1 - index) (message_of result) }
 {
-    if index > 0 {
-        return buffer.message(front.count - 1 - index);
+    if let Some(last) = front.last {
+        if index == 0 {
+            return last;
+        }
     }
-    match front.last {
-        Some(last) => last,
-        None => buffer.message(front.count - 1),
-    }
+    buffer.message(front.count - 1 - index)
 }
 
 /// Where a key's next message may come to stand, behind those at the front: no guess where there are none, which is where the filter

@@ -16,10 +16,11 @@
 //! leaves the buffer above it. The tree means the same under the present pins. The result is stale exactly where `CanInstall`
 //! doesn't hold, and then nothing changes; where memory is refused it comes back.
 //!
-//! A body of `reserve`, of `reserve_near`, of `plan`, of `install` or of a read that always answers `AllocError` meets its contract, and so does a cache that holds
-//! nothing, as where `offer` does nothing, or `leaf_keys` gives no key: tests call each with ample memory, and with each request refused, and look at what
-//! the cache holds. How much work a call does stands in no contract, so a body of `versions` or of `range` that reads twice
-//! and answers what it read last meets it too: it answers the same.
+//! A body of `reserve`, of `reserve_near`, of `plan`, of `install` or of a read that always answers `AllocError` meets its
+//! contract, and so does a cache that holds nothing, as where `offer` does nothing, or `leaf_keys` gives no key: tests call each
+//! with ample memory, and with each request refused, and look at what the cache holds. How much work a call does stands in no
+//! contract, so a body of `versions` or of `range` that reads twice and answers what it read last meets it too: it answers the
+//! same.
 #![tactic(auto)]
 
 mod counting;

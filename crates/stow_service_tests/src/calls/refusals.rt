@@ -24,7 +24,8 @@ pub(crate) struct Case<'a> {
 }
 
 /// Cases, with how many requests for memory each makes. No prepare asks for more than it takes: a sum's digits, what a reply
-/// copies, the way that a range goes down, and the place of a snapshot. A write's value is lent, and its keys stand where those of the last write stood.
+/// copies, the way that a range goes down with a key of each of its leaves, and the
+/// place of a snapshot. A write's value is lent, and its keys stand where those of the last write stood.
 pub(crate) const CASES: &str = "SET a new|OK|$new|nil|0
 SET b new|OK|$old|$new|0
 SET b new NX|OK|$old|$new|0
