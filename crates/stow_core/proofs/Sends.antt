@@ -6,6 +6,7 @@ use Rattle.std.specs.declared.alloc.Allocator.{Ghosts}
 use Rattle.std.proofs.CrossingOver.{crosses}
 use Rattle.stow_core.proofs.lengths.Lengths.TheSendSync as lengths
 use Rattle.stow_core.proofs.held_back.HeldBack.TheSendSync as held_back
+use Rattle.stow_core.proofs.places.Places.TheSendSync as places
 use Rattle.stow_core.proofs.tenancy.Tenancy.TheSendSync as tenancy
 use Rattle.stow_core.specs.contracts.Core as core
 use Rattle.stow_core.specs.contracts.Core.TheInside as inside
@@ -20,7 +21,7 @@ fields_send A g sent shared free =
       search (tenants.the_send, tenants.the_sync, crosses, sendable) depth 8,
       (
         search (tenancy.the_send, crosses, sendable) depth 8,
-        (search (pins.the_send, crosses, sendable) depth 8, (search sendable, (tree_sends A g sent shared free, (search (crosses, sendable) depth 8, (search (lengths.the_send, crosses, sendable) depth 8, (search (words.the_send, crosses, sendable) depth 8, (search (held_back.the_send, crosses, sendable) depth 16, tt))))))),
+        (search (pins.the_send, crosses, sendable) depth 8, (search sendable, (tree_sends A g sent shared free, (search (crosses, sendable) depth 8, (search (lengths.the_send, crosses, sendable) depth 8, (search (words.the_send, crosses, sendable) depth 8, (search (places.the_send, sendable) depth 8, (search (held_back.the_send, crosses, sendable) depth 16, tt)))))))),
       ),
     )
 

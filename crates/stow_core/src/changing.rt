@@ -138,9 +138,8 @@ impl<A: Allocator + Copy> Core<A> {
             given,
             charge,
             length,
-            places,
         };
-        self.prepare_write(alloc, tenant, write, reply)
+        self.prepare_write(alloc, tenant, write, places, reply)
     }
 }
 

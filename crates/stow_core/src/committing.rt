@@ -40,11 +40,16 @@ impl<A: Allocator + Copy> Core<A> {
             given,
             charge,
             length,
-            places,
         } = write;
         let index = tenant as usize - 1;
         let number = self.tenancies[index].versions.last() + 1;
-        put(&mut self.tree, number, given.op(), keys.lent(), &places);
+        put(
+            &mut self.tree,
+            number,
+            given.op(),
+            keys.lent(),
+            &self.places,
+        );
         self.keys = keys;
         let before = self.tenancies[index].account.present();
         self.held.count(before, charge);

@@ -52,9 +52,8 @@ impl<A: Allocator + Copy> Core<A> {
             given: Given::Gone,
             charge,
             length: None,
-            places,
         };
-        self.prepare_write(alloc, tenant, write, reply)
+        self.prepare_write(alloc, tenant, write, places, reply)
     }
 
     /// Those of the keys that have a row, each once, among the keys of all, in a list that had none, and the charge

@@ -31,7 +31,7 @@
 //! A body of `prepare`, `prepare_command` or `prepare_change` that prepares the same twice is right too, since
 //! a prepared answer that is never carried out changes nothing.
 //! So is one of `told_version`, `length_of` or `kept_length` that tells nothing, and one of `keep` that holds nothing: values
-//! are then read. Other places of a `SizedRow` or a `Write` make a search longer, and change nothing else.
+//! are then read. Other places of a `SizedRow` or of the core make a search longer, and change nothing else.
 #![tactic(auto)]
 
 ghost use Rattle.std.specs.Prelude.{◌≡◌, ◌<◌, Err, IfOk, OnErr, OnOk, length, map};
@@ -49,6 +49,7 @@ ghost use Rattle.stow_tree.specs.TreeState.{new_tree};
 use change::Change;
 use held_back::HeldBack;
 use lengths::Lengths;
+use places::Places;
 use prepared::Prepared;
 use preparing::only_counted;
 use std::alloc::{AllocError, Allocator, Global};
@@ -113,6 +114,8 @@ pub struct Core<A: Allocator + Copy = Global> {
     lengths: Lengths<A>,
     /// Where a write's keys are listed. They mean nothing between calls, so that their memory serves one after another.
     keys: Words<A>,
+    /// Where the messages of the write that is prepared may come to stand.
+    places: Places,
     /// Memory that is held back for removals.
     held: HeldBack<A>,
 }
@@ -169,6 +172,7 @@ impl<A: Allocator + Copy> Core<A> {
             lengths,
             buffer: Vec::new(alloc),
             keys: Words::new(alloc),
+            places: Places::none(),
             held,
         })
     }

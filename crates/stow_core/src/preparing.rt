@@ -31,9 +31,9 @@ impl<A: Allocator + Copy> Core<A> {
         tenant != 0 && tenant as usize <= self.tenancies.len()
     }
 
-    /// Finds what a command says in the tenant's own rows. Its keys are packed in the core's buffer; a PING has none.
-    #[inline(always)]
-    pub(crate) fn prepare_command<'a>(
+    /// Finds what a command says in the tenant's own rows, with the memory that is there. Its keys are packed in the core's buffer.
+    #[inline(never)]
+    pub(crate) fn prepare_once<'a>(
         &mut self,
         alloc: A,
         tenant: u32,
@@ -44,11 +44,8 @@ impl<A: Allocator + Copy> Core<A> {
         requires legal { HasLegalKeys (command_of command) }
         ensures { IsPrepared self.old tenant (serves (command_of command.entry)) self.new result }
     {
-        if let Command::Ping = command {
-            return Ok(only_counted(tenant, Reply::Simple(SimpleString::Pong)));
-        }
         let mut buffer = mem::replace(&mut self.buffer, Vec::new(alloc));
-        let prepared = self.prepare_by_kind(&mut buffer, alloc, tenant, command);
+        let prepared = self.prepare_in(&mut buffer, alloc, tenant, command);
         self.buffer = buffer;
         prepared
     }

@@ -88,19 +88,38 @@ impl<A: Allocator + Copy> Core<A> {
         self.fill(alloc)
     }
 
-    /// Frees what can be had for a removal to which memory was refused.
-    fn make_way(&mut self, alloc: A)
+    /// Whether a command of this kind can be tried: a write that is no removal first gets back what is missing of the memory that is
+    /// held back.
+    fn is_ready(&mut self, alloc: A, kind: Kind) -> bool
         ensures { Keeps self.old self.new }
     {
-        self.drain(alloc);
-        self.give_up();
+        let _known = self.is_tenant(0);
+        match kind {
+            Kind::Growth => self.hold_back(alloc).is_ok(),
+            Kind::Removal | Kind::Read => true,
+        }
     }
 
-    /// Finds what a write says that is no removal, once nothing is missing of the memory that is held back.
-    #[inline(always)]
-    fn prepare_held<'a>(
+    /// Frees what can be had for a command of this kind to which memory was refused. It answers whether the command can be tried once
+    /// more: what only reads is not.
+    fn makes_way(&mut self, alloc: A, kind: Kind) -> bool
+        ensures { Keeps self.old self.new }
+    {
+        let _known = self.is_tenant(0);
+        match kind {
+            Kind::Growth => self.drain(alloc),
+            Kind::Removal => {
+                self.drain(alloc);
+                self.give_up();
+                true
+            }
+            Kind::Read => false,
+        }
+    }
+
+    /// Finds what a command says to which memory was refused, once what can be had for it is freed.
+    fn prepare_again<'a>(
         &mut self,
-        buffer: &mut Vec<u8, A>,
         alloc: A,
         tenant: u32,
         command: Command<'a>,
@@ -110,36 +129,20 @@ impl<A: Allocator + Copy> Core<A> {
         requires legal { HasLegalKeys (command_of command) }
         ensures { IsPrepared self.old tenant (serves (command_of command.entry)) self.new result }
     {
-        if self.hold_back(alloc).is_err() {
+        let kind = kind_of(command);
+        if !self.makes_way(alloc, kind) {
             return Err(AllocError);
         }
-        self.prepare_in(buffer, alloc, tenant, command)
-    }
-
-    /// The same once leaves were drained, if they could be.
-    fn prepare_drained<'a>(
-        &mut self,
-        buffer: &mut Vec<u8, A>,
-        alloc: A,
-        tenant: u32,
-        command: Command<'a>,
-    ) -> Result<Prepared<'a, A>, AllocError>
-        requires is_tenant { IsTenant self.old.entries tenant }
-        requires sound { IsSound (shared_of self.old) }
-        requires legal { HasLegalKeys (command_of command) }
-        ensures { IsPrepared self.old tenant (serves (command_of command.entry)) self.new result }
-    {
-        if !self.drain(alloc) {
+        if !self.is_ready(alloc, kind) {
             return Err(AllocError);
         }
-        self.prepare_held(buffer, alloc, tenant, command)
+        self.prepare_once(alloc, tenant, command)
     }
 
-    /// Finds what a write says that is no removal. Where memory is refused it is tried again with drained leaves.
+    /// Finds what a command says. Where memory is refused to a write, it is tried once more, with what can be freed for it.
     #[inline(always)]
-    pub(crate) fn prepare_growth<'a>(
+    pub(crate) fn prepare_command<'a>(
         &mut self,
-        buffer: &mut Vec<u8, A>,
         alloc: A,
         tenant: u32,
         command: Command<'a>,
@@ -149,70 +152,14 @@ impl<A: Allocator + Copy> Core<A> {
         requires legal { HasLegalKeys (command_of command) }
         ensures { IsPrepared self.old tenant (serves (command_of command.entry)) self.new result }
     {
-        let prepared = self.prepare_held(buffer, alloc, tenant, command);
+        if !self.is_ready(alloc, kind_of(command)) {
+            return self.prepare_again(alloc, tenant, command);
+        }
+        let prepared = self.prepare_once(alloc, tenant, command);
         if prepared.is_ok() {
             return prepared;
         }
-        self.prepare_drained(buffer, alloc, tenant, command)
-    }
-
-    /// Finds what a removal says, with the memory that is held back.
-    fn prepare_freed<'a>(
-        &mut self,
-        buffer: &mut Vec<u8, A>,
-        alloc: A,
-        tenant: u32,
-        command: Command<'a>,
-    ) -> Result<Prepared<'a, A>, AllocError>
-        requires is_tenant { IsTenant self.old.entries tenant }
-        requires sound { IsSound (shared_of self.old) }
-        requires legal { HasLegalKeys (command_of command) }
-        ensures { IsPrepared self.old tenant (serves (command_of command.entry)) self.new result }
-    {
-        self.make_way(alloc);
-        self.prepare_in(buffer, alloc, tenant, command)
-    }
-
-    /// Finds what a removal says. Where memory is refused it is tried again with what is held back.
-    pub(crate) fn prepare_removal<'a>(
-        &mut self,
-        buffer: &mut Vec<u8, A>,
-        alloc: A,
-        tenant: u32,
-        command: Command<'a>,
-    ) -> Result<Prepared<'a, A>, AllocError>
-        requires is_tenant { IsTenant self.old.entries tenant }
-        requires sound { IsSound (shared_of self.old) }
-        requires legal { HasLegalKeys (command_of command) }
-        ensures { IsPrepared self.old tenant (serves (command_of command.entry)) self.new result }
-    {
-        let prepared = self.prepare_in(buffer, alloc, tenant, command);
-        if prepared.is_ok() {
-            return prepared;
-        }
-        self.prepare_freed(buffer, alloc, tenant, command)
-    }
-
-    /// Finds what a command says: a removal has the memory that is held back, other writes get what is missing of it first, and
-    /// what only reads does neither.
-    #[inline(always)]
-    pub(crate) fn prepare_by_kind<'a>(
-        &mut self,
-        buffer: &mut Vec<u8, A>,
-        alloc: A,
-        tenant: u32,
-        command: Command<'a>,
-    ) -> Result<Prepared<'a, A>, AllocError>
-        requires is_tenant { IsTenant self.old.entries tenant }
-        requires sound { IsSound (shared_of self.old) }
-        requires legal { HasLegalKeys (command_of command) }
-        ensures { IsPrepared self.old tenant (serves (command_of command.entry)) self.new result }
-    {
-        match kind_of(command) {
-            Kind::Removal => self.prepare_removal(buffer, alloc, tenant, command),
-            Kind::Growth => self.prepare_growth(buffer, alloc, tenant, command),
-            Kind::Read => self.prepare_in(buffer, alloc, tenant, command),
-        }
+        self.prepare_again(alloc, tenant, command)
     }
 }
 

@@ -1,6 +1,5 @@
 //! Writes of tenants.
 use crate::given::Given;
-use crate::places::Places;
 use std::alloc::{Allocator, Global};
 use stow_ledger::charge::Charge;
 use stow_model::words::Words;
@@ -13,6 +12,4 @@ pub struct Write<'a, A: Allocator = Global> {
     pub given: Given<'a, A>,
     pub charge: Charge,
     pub length: Option<u32>,
-    /// Where the messages may come to stand.
-    pub places: Places,
 }

@@ -11,6 +11,7 @@ ghost use Rattle.stow_core.specs.Writes.{given_op};
 use crate::Core;
 use crate::change::Change;
 use crate::keys::emptied;
+use crate::places::Places;
 use crate::prepared::Prepared;
 use crate::preparing::{only_counted, only_refused};
 use crate::write::Write;
@@ -23,13 +24,15 @@ use stow_model::reply::Reply;
 use stow_model::words::Words;
 
 impl<A: Allocator + Copy> Core<A> {
-    /// Makes room for a write, unless no number is left for it, or it exceeds the tenant's quota.
+    /// Makes room for a write whose messages may come to stand at these places, unless no number is left for it, or it exceeds
+    /// the tenant's quota.
     #[inline(always)]
     pub(crate) fn prepare_write<'a>(
         &mut self,
         alloc: A,
         tenant: u32,
-        mut write: Write<'a, A>,
+        write: Write<'a, A>,
+        places: Places,
         reply: Reply<A>,
     ) -> Result<Prepared<'a, A>, AllocError>
         requires is_tenant { IsTenant self.old.entries tenant }
@@ -50,7 +53,7 @@ impl<A: Allocator + Copy> Core<A> {
             return Ok(only_refused(tenant));
         }
         let number = self.next_number(tenant);
-        let mut places = write.places;
+        self.places = places;
         let (op, keys) = (write.given.op(), write.keys.lent());
         reserve(
             &mut self.tree,
@@ -59,9 +62,8 @@ impl<A: Allocator + Copy> Core<A> {
             number,
             op,
             keys,
-            &mut places,
+            &mut self.places,
         )?;
-        write.places = places;
         Ok(Prepared {
             tenant,
             change: Change::Write(write),

@@ -1,5 +1,5 @@
 -- Which keys may have been added to a filter.
-use Rattle.std.specs.Prelude.{◌≡◌, ◌⊎◌, ℕ, zero, suc, ◌+◌, ◌*◌, ◌/◌, ◌%◌, ◌^◌, ◌==◌, List, [], ◌∷◌, Bool, true, length, take, drop, slice_index_or}
+use Rattle.std.specs.Prelude.{◌≡◌, ◌⊎◌, ℕ, zero, suc, ◌+◌, ◌-◌, ◌*◌, ◌/◌, ◌%◌, ◌^◌, ◌==◌, if◌then◌else◌, List, [], ◌∷◌, Bool, true, nat_lt, length, take, drop, slice_index_or}
 use Rattle.std.specs.Int.{w64, from_le_bytes, IsPowerOfTwo}
 use Rattle.std.specs.Int.Bits.{bit_and, bit_or}
 use Rattle.std.specs.Int.RustNames.{bit_xor}
@@ -23,11 +23,16 @@ abbrev pub number_from : ℕ → List ℕ → ℕ
 number_from n [] = n
 number_from n (b ∷ bs) = number_from ((n * 256 % 2 ^ 64 + b) % 2 ^ 64) bs
 
+-- the last eight bytes as a number, the lowest first, or all of fewer, the highest first
+abbrev pub last_number : List ℕ → ℕ
+last_number bs =
+    if nat_lt (length bs) 8 then number_from 0 bs
+    else from_le_bytes w64 (take 8 (drop (length bs - 8) bs))
+
 -- a number that bytes are told by, which others may have too: each eight of them are mixed in, and
--- then those that are left, as one number
+-- then the last eight, some of them once more
 abbrev pub hash : List ℕ → ℕ
-hash bs =
-    mixed (words_mixed 0 (length bs / 8) bs) (number_from 0 (drop (length bs / 8 * 8) bs))
+hash bs = mixed (words_mixed 0 (length bs / 8) bs) (last_number bs)
 
 -- two bits of a word, by the upper bits of a hash
 abbrev pub marks_of : ℕ → ℕ

@@ -1,7 +1,7 @@
 //! Numbers by which keys are told apart quickly.
-ghost use Rattle.std.specs.Prelude.{◌≡◌, ◌+◌, ◌*◌, ◌/◌, ◌≤◌, length, take, drop};
+ghost use Rattle.std.specs.Prelude.{◌≡◌, ◌+◌, ◌/◌, ◌≤◌, length, take, drop};
 ghost use Rattle.std.specs.Int.{w64, from_le_bytes};
-ghost use Rattle.stow_filter.specs.Filter.{mixed, words_mixed, number_from, hash};
+ghost use Rattle.stow_filter.specs.Filter.{mixed, words_mixed, number_from, last_number, hash};
 
 /// How many bytes are read as one number.
 const WORD: usize = 8;
@@ -45,24 +45,32 @@ fn hash_of_words(bytes: &[u8]) -> u64
     hash
 }
 
-/// The bytes from `at` on as a number.
-fn number_from(bytes: &[u8], at: usize) -> u64
-    requires { at ≤ length bytes.now }
-    ensures { result ≡ number_from 0 (drop at bytes.now) }
+/// The bytes as a number, the highest first.
+fn number_of(bytes: &[u8]) -> u64
+    ensures { result ≡ number_from 0 bytes.now }
 {
     let mut number = 0u64;
-    for i in at..bytes.len() {
+    for i in 0..bytes.len() {
         number = number.wrapping_mul(256).wrapping_add(u64::from(bytes[i]));
     }
     number
 }
 
+/// The last eight bytes as a number, or all of fewer.
+fn last_number(bytes: &[u8]) -> u64
+    ensures { result ≡ last_number bytes.now }
+{
+    if bytes.len() < WORD {
+        number_of(bytes)
+    } else {
+        word_at(bytes, bytes.len() - WORD)
+    }
+}
+
 /// A number for the bytes, which others may have too.
+#[inline(always)]
 pub fn hash(key: &[u8]) -> u64
     ensures { result ≡ hash key.now }
 {
-    mixed(
-        hash_of_words(key),
-        number_from(key, key.len() / WORD * WORD),
-    )
+    mixed(hash_of_words(key), last_number(key))
 }

@@ -1,4 +1,6 @@
 //! The word of one key.
+ghost use Rattle.std.specs.Prelude.{◌≤◌, length};
+
 use stow_slots::quartering::{Sought, step_if};
 
 /// Where a key's own bytes begin, behind its tenant's index.
@@ -16,6 +18,7 @@ pub(crate) struct KeyWord {
 }
 
 /// A key's bytes behind its tenant's index.
+#[inline(always)]
 pub(crate) fn own(key: &[u8]) -> &[u8] {
     if key.len() < INDEX {
         return &[];
@@ -23,31 +26,41 @@ pub(crate) fn own(key: &[u8]) -> &[u8] {
     &key[INDEX..]
 }
 
-/// A byte of these, or 0 behind their end.
-fn byte_at(bytes: &[u8], at: usize) -> u8 {
-    match bytes.get(at) {
-        Some(byte) => *byte,
-        None => 0,
-    }
+/// The first ten of these bytes as a number, the highest first.
+fn ten(bytes: &[u8]) -> u128
+    requires { 10 ≤ length bytes.now }
+{
+    let high = u16::from_be_bytes([bytes[0], bytes[1]]);
+    let low = u64::from_be_bytes([
+        bytes[2], bytes[3], bytes[4], bytes[5], bytes[6], bytes[7], bytes[8], bytes[9],
+    ]);
+    (u128::from(high) << 64) | u128::from(low)
 }
 
-/// The four bytes from a place on, the highest first.
-fn number_at(bytes: &[u8], at: usize) -> u32 {
-    u32::from_be_bytes([
-        byte_at(bytes, at),
-        byte_at(bytes, at.saturating_add(1)),
-        byte_at(bytes, at.saturating_add(2)),
-        byte_at(bytes, at.saturating_add(3)),
-    ])
+/// The bytes as a number, and zeros behind them where they are fewer than ten.
+fn fewer(bytes: &[u8]) -> u128 {
+    let mut number = 0;
+    for i in 0..OWN {
+        let byte = match bytes.get(i) {
+            Some(byte) => *byte,
+            None => 0,
+        };
+        number = (number << 8) | u128::from(byte);
+    }
+    number
 }
 
-/// The word of a key by the lower half of its tenant's index and the rest of its own bytes, which may be fewer than a word has.
-fn word_of_few(tenant: [u8; 2], rest: &[u8]) -> KeyWord {
-    KeyWord {
-        high: u32::from_be_bytes([tenant[0], tenant[1], byte_at(rest, 0), byte_at(rest, 1)]),
-        middle: number_at(rest, 2),
-        low: number_at(rest, 6),
+/// The ten own bytes behind so many as a number, and zeros behind the key's end. Where fewer are left, the last ten are read as one.
+fn number_behind(own: &[u8], shared: usize) -> u128 {
+    if own.len() < OWN {
+        return fewer(&own[shared.min(own.len())..]);
     }
+    let last = own.len() - OWN;
+    if shared <= last {
+        return ten(&own[shared..]);
+    }
+    let over = (shared - last).min(OWN);
+    (ten(&own[last..]) << (8 * over)) & ((1 << 80) - 1)
 }
 
 impl KeyWord {
@@ -62,20 +75,25 @@ impl KeyWord {
 
     /// The word of a key, of whose own bytes so many are left out.
     pub(crate) fn of(key: &[u8], shared: usize) -> KeyWord {
-        let own = own(key);
-        let rest = &own[shared.min(own.len())..];
-        let tenant = [byte_at(key, 2), byte_at(key, 3)];
-        if rest.len() < OWN {
-            return word_of_few(tenant, rest);
-        }
+        let bytes = KeyWord::number_of(key, shared).to_be_bytes();
         KeyWord {
-            high: u32::from_be_bytes([tenant[0], tenant[1], rest[0], rest[1]]),
-            middle: u32::from_be_bytes([rest[2], rest[3], rest[4], rest[5]]),
-            low: u32::from_be_bytes([rest[6], rest[7], rest[8], rest[9]]),
+            high: u32::from_be_bytes([bytes[4], bytes[5], bytes[6], bytes[7]]),
+            middle: u32::from_be_bytes([bytes[8], bytes[9], bytes[10], bytes[11]]),
+            low: u32::from_be_bytes([bytes[12], bytes[13], bytes[14], bytes[15]]),
         }
     }
 
-    /// The word as one number, which is below 2^96.
+    /// The same as one number, which is below 2^96. It stands apart, so that a search for it is compiled without branches.
+    #[inline(never)]
+    pub(crate) fn number_of(key: &[u8], shared: usize) -> u128 {
+        if key.len() < INDEX {
+            return 0;
+        }
+        let tenant = u16::from_be_bytes([key[2], key[3]]);
+        (u128::from(tenant) << 80) | number_behind(own(key), shared)
+    }
+
+    /// The word as one number.
     #[inline(always)]
     pub(crate) fn number(self) -> u128 {
         (u128::from(self.high) << 64) | (u128::from(self.middle) << 32) | u128::from(self.low)

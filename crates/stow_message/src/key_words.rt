@@ -301,7 +301,7 @@ impl<A: Allocator> KeyWords<A> {
     /// Behind how many of the slots that aren't young the key's newest one may stand: by words alone.
     #[inline(always)]
     pub(crate) fn count_up_to<B: Allocator>(&self, raw: &SlotBuf<B>, key: &[u8]) -> usize {
-        let count = self.count_below(KeyWord::of(key, self.shared).number().saturating_add(1));
+        let count = self.count_below(KeyWord::number_of(key, self.shared).saturating_add(1));
         if count < self.words.len() {
             count
         } else {
@@ -365,7 +365,7 @@ impl<A: Allocator> KeyWords<A> {
         if !self.serve(raw) || !self.is_alike(raw, key) {
             return (0, count);
         }
-        let word = KeyWord::of(key, self.shared).number();
+        let word = KeyWord::number_of(key, self.shared);
         let low = self.count_below(word);
         let high = self.end_of(low, word);
         (low, if high < self.words.len() { high } else { count })

@@ -45,6 +45,7 @@ pub(crate) fn below_until<'a, A: Allocator>(
 }
 
 /// Whether a node may hold messages of the key.
+#[inline(always)]
 pub fn may_hold<A: Allocator>(node: &Node<A>, key: TenantKey<'_>) -> bool
     ensures { result ≡ spans node.now.low top_key key.entry.bytes.now }
 {

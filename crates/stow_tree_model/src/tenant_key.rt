@@ -31,6 +31,7 @@ impl<'a> TenantKey<'a> {
     }
 
     /// Whether the two keys are one.
+    #[inline(always)]
     pub fn is_same(self, other: TenantKey<'_>) -> bool
         ensures { result ≡ same_key self.entry.bytes.now other.entry.bytes.now }
     {

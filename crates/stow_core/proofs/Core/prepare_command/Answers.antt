@@ -1,12 +1,32 @@
-use Rattle.std.proofs.Common.{Ok, refl, subst, sym}
-use Rattle.stow_commands.specs.Commands.{command_of}
-use Rattle.stow_core.specs.Prepared.{IsPrepared, serves}
-use Rattle.stow_core.proofs.Answered.{only_counted_prepared}
-use Rattle.stow_core.proofs.Kept.{keeps_itself}
+use Rattle.std.proofs.Common.{List, subst, sym, ◌∙◌}
+use Rattle.stow_model.specs.Login.{Entry, IsTenant}
+use Rattle.stow_core.proofs.Kept.{kept_sound}
+use Rattle.stow_core.proofs.Later.{prepared_then}
 use Rattle.stow_core.proofs.Core.prepare_command.Goals as goal
 
-pub returns-in-Ping : goal.returns-in-Ping
-returns-in-Ping g c =
-    let core = c.args.self.now in
-    subst (λ k. IsPrepared core c.args.tenant (serves (command_of k)) core (Ok c.only_counted.result)) (sym c.in-Ping.is)
-    (only_counted_prepared core core c.args.tenant _ _ c.only_counted.result c.only_counted.ensures (keeps_itself core c.requires.sound) c.requires.is_tenant refl)
+pub prepare_again-requires-clause-is_tenant : goal.prepare_again-requires-clause-is_tenant
+prepare_again-requires-clause-is_tenant g c = subst (λ (entries : List Entry). IsTenant entries c.args.tenant) (sym c.is_ready.ensures.entries) c.requires.is_tenant
+
+pub prepare_again-requires-clause-sound : goal.prepare_again-requires-clause-sound
+prepare_again-requires-clause-sound g c = kept_sound _ _ c.is_ready.ensures
+
+pub returns-then-not-is_ready : goal.returns-then-not-is_ready
+returns-then-not-is_ready g c = prepared_then _ _ _ c.args.tenant _ _ c.is_ready.ensures c.prepare_again.ensures
+
+pub prepare_once-prepared-requires-clause-is_tenant : goal.prepare_once-prepared-requires-clause-is_tenant
+prepare_once-prepared-requires-clause-is_tenant g c = subst (λ (entries : List Entry). IsTenant entries c.args.tenant) (sym c.is_ready.ensures.entries) c.requires.is_tenant
+
+pub prepare_once-prepared-requires-clause-sound : goal.prepare_once-prepared-requires-clause-sound
+prepare_once-prepared-requires-clause-sound g c = kept_sound _ _ c.is_ready.ensures
+
+pub returns-then-is_ok : goal.returns-then-is_ok
+returns-then-is_ok g c = prepared_then _ _ _ c.args.tenant _ _ c.is_ready.ensures c.prepare_once-prepared.ensures
+
+pub prepare_again-requires-2-clause-is_tenant : goal.prepare_again-requires-2-clause-is_tenant
+prepare_again-requires-2-clause-is_tenant g c = subst (λ (entries : List Entry). IsTenant entries c.args.tenant) (sym c.is_ready.ensures.entries ∙ sym c.prepare_once-prepared.ensures.keeps.entries) c.requires.is_tenant
+
+pub prepare_again-requires-2-clause-sound : goal.prepare_again-requires-2-clause-sound
+prepare_again-requires-2-clause-sound g c = kept_sound _ _ c.prepare_once-prepared.ensures.keeps
+
+pub returns : goal.returns
+returns g c = prepared_then _ _ _ c.args.tenant _ _ c.is_ready.ensures (prepared_then _ _ _ c.args.tenant _ _ c.prepare_once-prepared.ensures.keeps c.prepare_again-2.ensures)
