@@ -37,6 +37,12 @@ use stow_read::glance::Glance;
 use stow_read::newest::Newest;
 use stow_tree_model::tenant_key::TenantKey;
 
+/// How many bytes of each value have room from the start where several are read.
+const SHORT_VALUE: usize = 64;
+
+/// Of how many of them.
+const FEW_VALUES: usize = 64;
+
 impl<A: Allocator + Copy> Core<A> {
     /// What a tenant has beside its rows.
     pub(crate) fn tenancy(&self, tenant: u32) -> &Tenancy<A>
@@ -221,7 +227,8 @@ impl<A: Allocator + Copy> Core<A> {
             (map (λ key. item_or_null (finite.get (rows_in self.now rows) key))
             (words_in keys.entry))) }
     {
-        let mut items = Items::with_capacity(alloc, keys.len(), 0)?;
+        let room = SHORT_VALUE * keys.len().min(FEW_VALUES);
+        let mut items = Items::with_capacity(alloc, keys.len(), room)?;
         for index in 0..keys.len() {
             let row = self.row(buffer, alloc, rows, keys.get(index))?;
             push_value(&mut items, &row)?;

@@ -9,12 +9,13 @@ const INDEX: usize = 4;
 /// How many own bytes of a key a word has.
 const OWN: usize = 10;
 
-/// The lower half of a tenant's index, and ten bytes of a key behind some that are left out. Words rise as those bytes do.
+/// The lower half of a tenant's index, and ten bytes of a key behind some that are left out, but for the last bit: 95 bits, in a front
+/// of 63 and a back of 32, so that two words are compared by two numbers each. Words rise as those bytes do.
 #[derive(Clone, Copy)]
 pub(crate) struct KeyWord {
-    high: u32,
-    middle: u32,
-    low: u32,
+    front_low: u32,
+    front_high: u32,
+    back: u32,
 }
 
 /// A key's bytes behind its tenant's index.
@@ -50,26 +51,27 @@ fn fewer(bytes: &[u8]) -> u128 {
     number
 }
 
-/// The ten own bytes behind so many as a number, and zeros behind the key's end. Where fewer are left, the last ten are read as one.
-fn number_behind(own: &[u8], shared: usize) -> u128 {
-    if own.len() < OWN {
-        return fewer(&own[shared.min(own.len())..]);
+/// The ten own bytes of a key behind so many as a number, and zeros behind the key's end. Where fewer are left, the key's last ten
+/// are read, and what stands before those that are left is shifted out.
+fn number_behind(key: &[u8], shared: usize) -> u128 {
+    let left = key.len().saturating_sub(INDEX).saturating_sub(shared);
+    if left >= OWN {
+        return ten(&key[key.len() - left..]);
     }
-    let last = own.len() - OWN;
-    if shared <= last {
-        return ten(&own[shared..]);
+    if key.len() < OWN {
+        return fewer(&key[key.len() - left..]);
     }
-    let over = (shared - last).min(OWN);
-    (ten(&own[last..]) << (8 * over)) & ((1 << 80) - 1)
+    let last = ten(&key[key.len() - OWN..]);
+    (last << (8 * (OWN - left))) & ((1 << 80) - 1)
 }
 
 impl KeyWord {
     /// Below each word of a key.
     pub(crate) fn none() -> KeyWord {
         KeyWord {
-            high: 0,
-            middle: 0,
-            low: 0,
+            front_low: 0,
+            front_high: 0,
+            back: 0,
         }
     }
 
@@ -77,26 +79,28 @@ impl KeyWord {
     pub(crate) fn of(key: &[u8], shared: usize) -> KeyWord {
         let bytes = KeyWord::number_of(key, shared).to_be_bytes();
         KeyWord {
-            high: u32::from_be_bytes([bytes[4], bytes[5], bytes[6], bytes[7]]),
-            middle: u32::from_be_bytes([bytes[8], bytes[9], bytes[10], bytes[11]]),
-            low: u32::from_be_bytes([bytes[12], bytes[13], bytes[14], bytes[15]]),
+            front_low: u32::from_be_bytes([bytes[4], bytes[5], bytes[6], bytes[7]]),
+            front_high: u32::from_be_bytes([bytes[0], bytes[1], bytes[2], bytes[3]]),
+            back: u32::from_be_bytes([bytes[12], bytes[13], bytes[14], bytes[15]]),
         }
     }
 
-    /// The same as one number, which is below 2^96. It stands apart, so that a search for it is compiled without branches.
+    /// The number of a key's word. It isn't inlined, so that a search for it is compiled without branches.
     #[inline(never)]
     pub(crate) fn number_of(key: &[u8], shared: usize) -> u128 {
         if key.len() < INDEX {
             return 0;
         }
         let tenant = u16::from_be_bytes([key[2], key[3]]);
-        (u128::from(tenant) << 80) | number_behind(own(key), shared)
+        let bits = (u128::from(tenant) << 80) | number_behind(key, shared);
+        ((bits >> 33) << 64) | ((bits >> 1) & 0xffff_ffff)
     }
 
-    /// The word as one number.
+    /// The word as one number: its front in the upper half, whose highest bit is 0, and its back in the lower.
     #[inline(always)]
     pub(crate) fn number(self) -> u128 {
-        (u128::from(self.high) << 64) | (u128::from(self.middle) << 32) | u128::from(self.low)
+        let front = (u64::from(self.front_high) << 32) | u64::from(self.front_low);
+        (u128::from(front) << 64) | u128::from(self.back)
     }
 }
 
