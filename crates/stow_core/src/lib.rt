@@ -26,7 +26,7 @@
 //!
 //! Where memory is short removals still have some: it is held back (`HeldBack`) and given up by the removal that is refused memory,
 //! which is then tried once more. Every other write first gets back what is missing of it. No contract speaks of that, nor of when
-//! leaves are drained: a body of `drain`, `make_way` or `hold_back` that does nothing is right too, and a test fills a heap.
+//! leaves are drained: a body of `drain`, `makes_way` or `hold_back` that does nothing is right too, and a test fills a heap.
 //!
 //! A body of `prepare`, `prepare_command` or `prepare_change` that prepares the same twice is right too, since
 //! a prepared answer that is never carried out changes nothing.
