@@ -1,6 +1,6 @@
 //! Numbers by which keys are told apart quickly.
 ghost use Rattle.std.specs.Prelude.{◌≡◌, ◌+◌, ◌/◌, ◌≤◌, length, take, drop};
-ghost use Rattle.std.specs.Int.{w64, from_le_bytes};
+ghost use Rattle.std.specs.Int.{w64, from_be_bytes};
 ghost use Rattle.stow_filter.specs.Filter.{mixed, words_mixed, number_from, last_number, hash};
 
 /// How many bytes are read as one number.
@@ -17,12 +17,13 @@ fn mixed(hash: u64, number: u64) -> u64
     product ^ (product >> 32)
 }
 
-/// The eight bytes from `at` on as a number, the lowest first.
+/// The eight bytes from `at` on as a number, the highest first: keys differ most in their last bytes, and a product's upper bits tell
+/// its factor's lower ones best.
 fn word_at(bytes: &[u8], at: usize) -> u64
     requires { at + 8 ≤ length bytes.now }
-    ensures { result ≡ from_le_bytes w64 (take 8 (drop at bytes.now)) }
+    ensures { result ≡ from_be_bytes w64 (take 8 (drop at bytes.now)) }
 {
-    u64::from_le_bytes([
+    u64::from_be_bytes([
         bytes[at],
         bytes[at + 1],
         bytes[at + 2],
