@@ -1,5 +1,5 @@
 //! Tests of the crates that stand below the tree and the core: the meaning of requests, requests in and replies out,
-//! tenant files, words as commands, the tenant's own run, versions, and accounts.
+//! tenant files, words as commands, the tenant's own run, versions, accounts, and filters.
 //!
 //! They stand in a crate of their own for the gate's time: it proves a crate again with its tests. A module is named after
 //! the crate that it tests. The outcomes of `stow_commands` are tested by `plain`, which asks for them, and the plain reader of
@@ -8,6 +8,8 @@
 
 #[cfg(test)]
 mod bytes;
+#[cfg(test)]
+mod filter;
 #[cfg(test)]
 mod ledger;
 #[cfg(test)]

@@ -1,7 +1,7 @@
 //! Which keys may have been added.
 ghost use Rattle.std.specs.Prelude.{◌≡◌, ◌%◌, ◌<◌, ◌≤◌, [], length, true, IfOk};
 ghost use Rattle.std.specs.Int.{IsPowerOfTwo};
-ghost use Rattle.stow_filter.specs.Filter.{IsWordCount, KeepsMarks, marks_of, may_have};
+ghost use Rattle.stow_filter.specs.Filter.{IsWordCount, KeepsMarks, hash, marks_of, may_have};
 
 use crate::hash::hash;
 use std::alloc::{AllocError, Allocator, Global};
@@ -123,6 +123,16 @@ impl<A: Allocator> Filter<A> {
         ensures added { may_have self.new key.now ≡ true }
         ensures stay { KeepsMarks self.old self.new }
     {
+        self.add_hashed(key, hash(key));
+    }
+
+    /// Adds the key, which has this hash.
+    #[inline(always)]
+    pub fn add_hashed(&mut self, key: &[u8], known: u64)
+        requires { known ≡ hash key.now }
+        ensures added { may_have self.new key.now ≡ true }
+        ensures stay { KeepsMarks self.old self.new }
+    {
         let count = self.words.len();
         if count == 0 {
             return;
@@ -130,7 +140,7 @@ impl<A: Allocator> Filter<A> {
         if self.added / KEYS >= count {
             self.double();
         }
-        self.mark(key);
+        self.mark(key, known);
     }
 
     /// Twice as many words, where there is room for them: the upper half is a copy of the lower one, so that a key has its marks
@@ -149,15 +159,15 @@ impl<A: Allocator> Filter<A> {
         }
     }
 
-    /// Sets the key's marks.
-    fn mark(&mut self, key: &[u8])
-        requires { 0 < length self.old }
+    /// Sets the marks of the key, which has this hash.
+    fn mark(&mut self, key: &[u8], known: u64)
+        requires some { 0 < length self.old }
+        requires known { known ≡ hash key.now }
         ensures added { may_have self.new key.now ≡ true }
         ensures stay { KeepsMarks self.old self.new }
     {
-        let hash = hash(key);
-        let place = place(hash, self.words.len());
-        self.words[place] |= marks_of(hash);
+        let place = place(known, self.words.len());
+        self.words[place] |= marks_of(known);
         self.added = self.added.saturating_add(1);
     }
 

@@ -1,5 +1,5 @@
 -- KeptVersion versions key by key.
-use Rattle.std.proofs.Common.{◌≡◌, ◌≢◌, List, [], ◌∷◌, ◌++◌, take, drop, map, ℕ, refl, ap, ◌∙◌, sym, subst, ⊎_elim}
+use Rattle.std.proofs.Common.{◌≡◌, ◌≢◌, ◌+◌, List, [], ◌∷◌, ◌++◌, take, drop, map, ℕ, suc, refl, ap, ◌∙◌, sym, subst, ⊎_elim, arith}
 use Rattle.std.specs.Prelude.{Contains, false, true}
 use Rattle.std.specs.declared.cmp.Ordering.TheVariants.{Less}
 use Rattle.std.specs.Cmp.Lexicographic.{nat_list_cmp_total}
@@ -102,6 +102,12 @@ runs_rise survey kept (run ∷ runs) h rise =
 -- what is of the first version's key has that version
 run_filled : (first : coded.KeptVersion) (later : List coded.KeptVersion) (n : ℕ) → IsKeyRun first.key.bytes.now (take n (first ∷ later)) (drop n (first ∷ later)) → take n (first ∷ later) ≢ []
 run_filled first later n is e = is.ends first later (ap (λ xs. xs ++ drop n (first ∷ later)) (sym e) ∙ take-append-drop n (first ∷ later)) refl
+
+-- the first version and those behind it of its key are a run
+pub one_run : (kept : List coded.KeptVersion) (first : coded.KeptVersion) (later : List coded.KeptVersion) (n : ℕ) → kept ≡ first ∷ later → IsKeyRun first.key.bytes.now (take n later) (drop n later) → IsKeyRun first.key.bytes.now (take (1 + n) kept) (drop (1 + n) kept)
+one_run kept first later n e run = let one : suc n ≡ 1 + n = omega arith in
+    subst (λ (k : ℕ). IsKeyRun first.key.bytes.now (take k kept) (drop k kept)) one
+    (subst (λ (xs : List coded.KeptVersion). IsKeyRun first.key.bytes.now (take (suc n) xs) (drop (suc n) xs)) (sym e) (record { are_of_key = (refl, run.are_of_key); ends = run.ends }))
 
 pub run_more : (rest : List coded.KeptVersion) (first : coded.KeptVersion) (n : ℕ) (runs : List (List coded.KeptVersion)) → ((later : List coded.KeptVersion) × (rest ≡ first ∷ later)) → IsKeyRun first.key.bytes.now (take n rest) (drop n rest) → AreRuns (drop n rest) runs → AreRuns rest (take n rest ∷ runs)
 run_more rest first n runs h is more = (

@@ -1,6 +1,7 @@
 -- Versions that a merge keeps, by where their bytes stand among messages in order.
-use Rattle.std.specs.Prelude.{ℕ, List, take, drop, Option, Some, None, unwrap_or}
+use Rattle.std.specs.Prelude.{ℕ, Bool, false, List, take, drop, Option, Some, None, unwrap_or}
 use Rattle.std.specs.List.{flat_map}
+use Rattle.stow_tree_model.specs.Merged.{same_key}
 use Rattle.stow_tree_model.specs.Op.{Op, Put, Gone, Append, bytes_in}
 use Rattle.stow_tree_model.specs.TreeMessage.{TreeMessage}
 use Rattle.stow_tree_model.specs.Version.{Version}
@@ -25,3 +26,8 @@ abbrev pub start_after : ℕ → Op → Option ℕ → Option ℕ
 start_after at (Put value) before = Some at
 start_after at Gone before = None
 start_after at (Append suffix) before = Some (unwrap_or before at)
+
+-- there is a next newer message, and it is of the key
+abbrev pub is_of_key : List ℕ → Option TreeMessage → Bool
+is_of_key key None = false
+is_of_key key (Some newer) = same_key newer.key key

@@ -2,7 +2,7 @@
 ghost use Rattle.std.specs.Prelude.{◌≡◌, ◌+◌, ◌<◌, ◌≤◌, ◌&&◌, ◌++◌, ◌∷◌, [], List, map, reverse, length, slice_get, IfOk, OnOk, if◌then◌else◌, nat_le, nat_lt};
 ghost use Rattle.std.specs.List.{list_any};
 ghost use Rattle.std.specs.Option.{option_map};
-ghost use Rattle.stow_merge.specs.KeptVersion.{kept_version, start_after};
+ghost use Rattle.stow_merge.specs.KeptVersion.{kept_version, start_after, is_of_key};
 ghost use Rattle.stow_merge.specs.Pins.{pins_in};
 ghost use Rattle.stow_tree_model.specs.Merged.{begins_with, is_pin_within, is_kept, merged_history};
 ghost use Rattle.stow_tree_model.specs.Op.{op_of};
@@ -12,7 +12,7 @@ ghost use Rattle.stow_tree_model.specs.TreeMessage.{message_of};
 use crate::kept_version::KeptVersion;
 use crate::pins::Pins;
 use std::alloc::{AllocError, Allocator};
-use stow_tree_model::in_order::{ends_in, nth};
+use stow_tree_model::in_order::nth;
 use stow_tree_model::message::Message;
 use stow_tree_model::op::Op;
 use stow_tree_model::tenant_key::TenantKey;
@@ -27,16 +27,18 @@ pub fn keep<'a, A: Allocator + Copy, B: Allocator + Copy>(
     ensures { IfOk result (λ ks. map (kept_version (map message_of joined.now)) ks.items
         ≡ reverse (merged_history (pins_in pins.now) (reverse (map message_of joined.now)))) }
 {
-    let mut kept = Vec::new(alloc);
+    let mut kept = Vec::with_capacity(alloc, joined.len())?;
+    let mut follows = false;
     let mut start = None;
     let mut has_older = false;
     for i in 0..joined.len() {
         let message = joined[i];
-        let follows = ends_in(&joined[..i], message.key);
         let before = if follows { start } else { None };
         start = after(i, message.op, before);
         let has = follows && has_older;
-        let is_kept = keeps(pins, nth(joined, i + 1), message);
+        let newer = nth(joined, i + 1);
+        let is_followed = is_of_key(newer, message.key);
+        let is_kept = keeps(pins, newer, is_followed, message);
         let is_added = is_kept && (has || start.is_some());
         let version = KeptVersion {
             key: message.key,
@@ -46,6 +48,7 @@ pub fn keep<'a, A: Allocator + Copy, B: Allocator + Copy>(
         };
         add(&mut kept, is_added, version)?;
         has_older = is_kept || has;
+        follows = is_followed;
     }
     Ok(kept)
 }
@@ -76,12 +79,24 @@ fn after(at: usize, op: Op<'_>, before: Option<usize>) -> Option<usize>
     }
 }
 
+/// Whether there is a next newer message, and it is of the key.
+fn is_of_key(newer: Option<Message<'_>>, key: TenantKey<'_>) -> bool
+    ensures { result ≡ is_of_key key.entry.bytes.now (option_map message_of newer.entry) }
+{
+    match newer {
+        None => false,
+        Some(newer) => newer.key.is_same(key),
+    }
+}
+
 /// Whether a message is the newest of its key, or a pin shows it.
 fn keeps<B: Allocator + Copy>(
     pins: &Pins<B>,
     newer: Option<Message<'_>>,
+    is_followed: bool,
     message: Message<'_>,
 ) -> bool
+    requires { is_followed ≡ is_of_key message.key.bytes.now (option_map message_of newer) }
     ensures { result
         ≡ is_kept (pins_in pins.now) (option_map message_of newer.entry)
         (message_of message.entry) }
@@ -89,8 +104,7 @@ fn keeps<B: Allocator + Copy>(
     match newer {
         None => true,
         Some(newer) => {
-            !newer.key.is_same(message.key)
-                || pin_within(pins.of(message.key.tenant()), message.number, newer.number)
+            !is_followed || pin_within(pins.of(message.key.tenant()), message.number, newer.number)
         }
     }
 }

@@ -56,7 +56,7 @@ pub(crate) fn sizes_of<A: Allocator + Copy, B: Allocator + Copy>(
     requires { AllByRecursion AreFewAndShort (keys_in survey.now keys.now) }
     ensures { IfOk result (λ sizes. AreSizes format (keys_in survey.now keys.now) sizes.items) }
 {
-    let mut sizes = Vec::new(alloc);
+    let mut sizes = Vec::with_capacity(alloc, keys.len())?;
     for i in 0..keys.len() {
         sizes.push(key_size(survey, keys[i], format))?;
     }

@@ -26,11 +26,11 @@ pub(crate) fn by_key<'k, A: Allocator + Copy>(
 ) -> Result<Vec<&'k [KeptVersion<'k>], A>, AllocError>
     ensures { IfOk result (λ keys. AreRuns kept.now (map (λ key. key.now) keys.items)) }
 {
-    let mut keys = Vec::new(alloc);
+    let mut keys = Vec::with_capacity(alloc, kept.len())?;
     let mut at = 0;
     while at < kept.len() {
         let rest = &kept[at..];
-        let length = run_length(rest[0].key, rest);
+        let length = 1 + run_length(rest[0].key, &rest[1..]);
         keys.push(&rest[..length])?;
         at += length;
     }

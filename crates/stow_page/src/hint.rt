@@ -1,6 +1,6 @@
 //! Where the rows of a block may be found by their keys.
-use crate::big_endian::u64_at_front;
 use std::alloc::{AllocError, Allocator, Global};
+use stow_filter::hash::hash;
 
 /// The fewest rows among which a search isn't short.
 const FEWEST: usize = 16;
@@ -10,9 +10,6 @@ const MOST: usize = 50_000;
 
 /// How many cells may be a key's.
 const PROBES: usize = 8;
-
-/// An odd number whose bits look random: 2^64 by the golden ratio.
-const FACTOR: u64 = 0x9E37_79B9_7F4A_7C15;
 
 /// Cells in which the index of a key's newest row is found by the hash of the key. A cell is a guess, which is believed only
 /// after a look at the row, so nothing is claimed of it.
@@ -39,15 +36,9 @@ impl<A: Allocator> Hint<A> {
         self.cells.resize((rows + rows / 4).next_power_of_two(), 0)
     }
 
-    /// Whether there are no cells.
-    pub(crate) fn is_empty(&self) -> bool {
-        self.cells.is_empty()
-    }
-
-    /// Writes the index of a key's newest row into the first of its cells that is free, if one is.
-    pub(crate) fn note(&mut self, key: &[u8], index: usize) {
+    /// Writes the index of the newest row of a key, which has this hash, into the first of its cells that is free, if one is.
+    pub(crate) fn note(&mut self, hash: u64, index: usize) {
         let last = self.cells.len().saturating_sub(1);
-        let hash = hash_of(key);
         let Ok(named) = u16::try_from(index.saturating_add(1)) else {
             return;
         };
@@ -67,7 +58,7 @@ impl<A: Allocator> Hint<A> {
         let Some(last) = self.cells.len().checked_sub(1) else {
             return usize::MAX;
         };
-        let hash = hash_of(key);
+        let hash = hash(key);
         let tag = tag_of(hash, last);
         let low = low_bits(last);
         for probe in 0..PROBES {
@@ -100,30 +91,4 @@ fn low_bits(last: usize) -> u16 {
 /// The bits of the hash that stand in a cell.
 fn tag_of(hash: u64, last: usize) -> u16 {
     (hash >> 48) as u16 & !low_bits(last)
-}
-
-/// A number for the bytes, which others may have too.
-fn hash_of(bytes: &[u8]) -> u64 {
-    let mut hash = bytes.len() as u64;
-    let mut rest = bytes;
-    while rest.len() >= 8 {
-        hash = mixed(hash ^ u64_at_front(rest));
-        rest = rest.split_at(8).1;
-    }
-    mixed(mixed(hash ^ number_of(rest)))
-}
-
-/// The number that few bytes spell, the highest first.
-fn number_of(bytes: &[u8]) -> u64 {
-    let mut number = 0u64;
-    for byte in bytes {
-        number = number.wrapping_mul(256).wrapping_add(u64::from(*byte));
-    }
-    number
-}
-
-/// A number in which each bit depends on many of this one's.
-fn mixed(number: u64) -> u64 {
-    let product = number.wrapping_mul(FACTOR);
-    product ^ (product >> 32)
 }

@@ -23,6 +23,7 @@
 pub mod big_endian;
 pub mod entry;
 pub mod format;
+mod hashed_key;
 mod hint;
 pub mod laws;
 pub mod packed_rows;

@@ -10,6 +10,7 @@ ghost use Rattle.stow_page.specs.declared.format.Format.TheVariants.{Two};
 
 use crate::entry::{append_entry, entry_size, format_of, lent_version};
 use crate::format::Format;
+use crate::hashed_key::HashedKey;
 use crate::hint::Hint;
 use std::alloc::{AllocError, Allocator, Global};
 use std::cmp::Ordering;
@@ -213,21 +214,14 @@ impl<A: Allocator> PackedRows<A> {
     pub(crate) fn note_keys(&mut self, alloc: A) -> Result<(), AllocError>
         ensures { self.new ≡ self.old }
     {
-        self.filter = marked(
+        self.hint.reserve(self.places.len())?;
+        self.filter = noted(
             alloc,
+            &mut self.hint,
             self.format,
             self.bytes.as_slice(),
             self.places.as_slice(),
         )?;
-        self.hint.reserve(self.places.len())?;
-        if !self.hint.is_empty() {
-            note_newest(
-                &mut self.hint,
-                self.format,
-                self.bytes.as_slice(),
-                self.places.as_slice(),
-            );
-        }
         Ok(())
     }
 
@@ -438,9 +432,10 @@ fn lent_at<'a>(format: Format, bytes: &'a [u8], places: &[u32], index: usize) ->
     lent_version(format, bytes.split_at(place).1)
 }
 
-/// Marks of each version's key.
-fn marked<A: Allocator>(
+/// Marks of each version's key. The hint comes to know where the newest of each key stands.
+fn noted<A: Allocator>(
     alloc: A,
+    hint: &mut Hint<A>,
     format: Format,
     bytes: &[u8],
     places: &[u32],
@@ -449,22 +444,28 @@ fn marked<A: Allocator>(
     ensures { IfOk result (λ marks. CoversRows marks (rows_in format bytes.now places.now)) }
 {
     let mut filter = Filter::for_keys(alloc, places.len())?;
+    let mut last = None;
     for index in 0..places.len() {
-        filter.add(lent_at(format, bytes, places, index).key.bytes);
+        let key = HashedKey::new(lent_at(format, bytes, places, index).key.bytes);
+        filter.add_hashed(key.bytes, key.hash);
+        note_before(hint, index, last, Some(key));
+        last = Some(key);
     }
+    note_before(hint, places.len(), last, None);
     Ok(filter)
 }
 
-/// Notes where the newest version of each key stands.
-fn note_newest<A: Allocator>(hint: &mut Hint<A>, format: Format, bytes: &[u8], places: &[u32])
-    requires { IsBlock format bytes.now places.now }
-{
-    for index in 0..places.len() {
-        let key = lent_at(format, bytes, places, index).key.bytes;
-        if index + 1 == places.len()
-            || compare(key, lent_at(format, bytes, places, index + 1).key.bytes).is_ne()
-        {
-            hint.note(key, index);
+/// Notes where the last row before a place stands, if it is the newest of its key: the next one isn't of that key.
+#[inline(always)]
+fn note_before<A: Allocator>(
+    hint: &mut Hint<A>,
+    place: usize,
+    last: Option<HashedKey<'_>>,
+    next: Option<HashedKey<'_>>,
+) {
+    if let Some(last) = last {
+        if !last.is(next) {
+            hint.note(last.hash, place.saturating_sub(1));
         }
     }
 }

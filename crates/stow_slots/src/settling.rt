@@ -6,16 +6,26 @@ use crate::young_slot::YoungSlot;
 use std::alloc::Allocator;
 use stow_raw::raw_buf::RawBuf;
 
-/// Brings the young slots to the others, in one pass over them.
+/// Brings the young slots to the others, if there are some.
+#[inline(always)]
 pub(crate) fn settle<A: Allocator>(raw: &mut RawBuf<A>, young: &mut Vec<YoungSlot, A>)
     requires { IsYoung raw.old young.old.items }
     ensures all { raw.new ≡ all_lists raw.old young.old.items }
     ensures none { young.new.items ≡ [] }
 {
-    let count = young.len();
-    if count == 0 {
-        return;
+    if young.len() > 0 {
+        settle_all(raw, young);
     }
+}
+
+/// Brings the young slots to the others, in one pass over them.
+#[inline(never)]
+fn settle_all<A: Allocator>(raw: &mut RawBuf<A>, young: &mut Vec<YoungSlot, A>)
+    requires { IsYoung raw.old young.old.items }
+    ensures all { raw.new ≡ all_lists raw.old young.old.items }
+    ensures none { young.new.items ≡ [] }
+{
+    let count = young.len();
     let _known = raw.capacity();
     raw.add_slots(count);
     let mut past = 0;

@@ -103,7 +103,20 @@ impl<A: Allocator> SlotBuf<A> {
     }
 
     /// The slot at `index`.
+    #[inline(always)]
     pub fn slot(&self, index: usize) -> u32
+        requires { index < length self.now.slots }
+        ensures { result ≡ slice_index self.now.slots index }
+    {
+        if self.young.len() == 0 {
+            return self.raw.slot(index);
+        }
+        self.slot_among(index)
+    }
+
+    /// The slot at `index`, which may be a young one.
+    #[inline(never)]
+    fn slot_among(&self, index: usize) -> u32
         requires { index < length self.now.slots }
         ensures { result ≡ slice_index self.now.slots index }
     {

@@ -1,7 +1,5 @@
-use Rattle.std.proofs.Common.{List, subst, sym, ◌∙◌}
-use Rattle.stow_model.specs.Login.{Entry, IsTenant}
 use Rattle.stow_core.proofs.Kept.{kept_sound}
-use Rattle.stow_core.proofs.Later.{prepared_refused, prepared_then}
+use Rattle.stow_core.proofs.Later.{prepared_refused, prepared_then, tenant_then}
 use Rattle.stow_core.proofs.Core.prepare_again.Goals as goal
 
 pub returns-then-not-makes_way : goal.returns-then-not-makes_way
@@ -11,7 +9,7 @@ pub returns-then-not-is_ready : goal.returns-then-not-is_ready
 returns-then-not-is_ready g c = prepared_then _ _ _ c.args.tenant _ _ c.makes_way.ensures (prepared_refused _ _ c.args.tenant _ c.is_ready.ensures)
 
 pub prepare_once-requires-clause-is_tenant : goal.prepare_once-requires-clause-is_tenant
-prepare_once-requires-clause-is_tenant g c = subst (λ (entries : List Entry). IsTenant entries c.args.tenant) (sym c.makes_way.ensures.entries ∙ sym c.is_ready.ensures.entries) c.requires.is_tenant
+prepare_once-requires-clause-is_tenant g c = tenant_then _ _ c.args.tenant c.is_ready.ensures (tenant_then _ _ c.args.tenant c.makes_way.ensures c.requires.is_tenant)
 
 pub prepare_once-requires-clause-sound : goal.prepare_once-requires-clause-sound
 prepare_once-requires-clause-sound g c = kept_sound _ _ c.is_ready.ensures

@@ -1,6 +1,6 @@
 use Rattle.std.proofs.Common.{◌≡◌}
 use Rattle.stow_slots.proofs.Settled.{IsSettling, unadded}
-use Rattle.stow_slots.proofs.settling.settle.Given as goal
+use Rattle.stow_slots.proofs.settling.settle_all.Given as goal
 
 -- the young ones stay in their list, and so many stand in their places too
 abbrev pub invariant-loop-i : goal.invariant-loop-i
