@@ -1,4 +1,6 @@
 //! What no clause says: that a filter spares searches, since most of the keys that weren't added are told from those that were.
+ghost use Rattle.std.specs.Prelude.{◌≤◌};
+
 use std::alloc::{AllocError, Allocator};
 use std::test::Fail;
 use stow_filter::filter::Filter;
