@@ -17,6 +17,10 @@ use stow_tree_model::message::Message;
 use stow_tree_model::op::Op;
 use stow_tree_model::tenant_key::TenantKey;
 
+/// For how many versions there is room from the start, where there may be more. A longer list grows as others do: beside one of a megabyte or so,
+/// which the C library puts among the pages, pages would stand where it leaves them no room to go.
+const MANY: usize = 8_192;
+
 /// What stays of messages in order under pins, in order.
 pub fn keep<'a, A: Allocator + Copy, B: Allocator + Copy>(
     alloc: A,
@@ -27,7 +31,7 @@ pub fn keep<'a, A: Allocator + Copy, B: Allocator + Copy>(
     ensures { IfOk result (λ ks. map (kept_version (map message_of joined.now)) ks.items
         ≡ reverse (merged_history (pins_in pins.now) (reverse (map message_of joined.now)))) }
 {
-    let mut kept = Vec::with_capacity(alloc, joined.len())?;
+    let mut kept = Vec::with_capacity(alloc, joined.len().min(MANY))?;
     let mut follows = false;
     let mut start = None;
     let mut has_older = false;
