@@ -17,8 +17,8 @@ use stow_tree_model::message::Message;
 use stow_tree_model::op::Op;
 use stow_tree_model::tenant_key::TenantKey;
 
-/// For how many versions there is room from the start, where there may be more. A longer list grows as others do: beside one of a megabyte or so,
-/// which the C library puts among the pages, pages would stand where it leaves them no room to go.
+/// For how many versions there is room from the start. Where there may be more the list grows: one of nearly a megabyte would stand in the C
+/// library's heap before the pages that are made, and leave a hole there.
 const MANY: usize = 8_192;
 
 /// What stays of messages in order under pins, in order.
