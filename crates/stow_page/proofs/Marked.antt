@@ -1,6 +1,5 @@
 -- Marks of versions' keys.
-use Rattle.std.proofs.Common.{◌≡◌, ℕ, false, true, List, length, ap, sym, ◌∙◌, None}
-use Rattle.std.specs.List.{slice_get}
+use Rattle.std.proofs.Common.{◌≡◌, ℕ, false, List, length, ap, sym, ◌∙◌, None}
 use Rattle.std.proofs.lemmas.Bool.{true≢false}
 use Rattle.stow_filter.specs.Filter.{may_have}
 use Rattle.stow_filter.proofs.Covered.{none_covers, covers_at}
