@@ -1,10 +1,12 @@
 -- What a change of a row leads to, as this crate's types say it.
-use Rattle.std.specs.Prelude.{◌≡◌, ℕ, Option, Some, None, Result, Ok, Err, List, [], ◌++◌}
+use Rattle.std.specs.Prelude.{◌≡◌, ℕ, ℤ, Option, Some, None, Result, Ok, Err, List, [], ◌++◌}
 use Rattle.std.specs.Borrow.{Bor}
+use Rattle.std.specs.Fmt.{signed_decimal}
 use Rattle.std.specs.Option.{unwrap_or}
 use Rattle.stow_model.specs.declared.refusal.Refusal.{Refusal}
 use Rattle.stow_model.specs.declared.reply.Reply.{Reply}
 use Rattle.stow_model.specs.Reply.{reply_of}
+use Rattle.stow_model.specs.Reply as reply
 use Rattle.stow_model.specs.Store as meant
 use Rattle.stow_commands.specs.declared.outcome.Outcome.{Outcome}
 use Rattle.stow_commands.specs.declared.outcome.Outcome.TheVariants as outcome
@@ -30,3 +32,8 @@ IsAppendReply (Ok reply) suffix present = meant.append_outcome suffix present
     ≡ meant.Written (unwrap_or present [] ++ suffix) (reply_of reply)
 IsAppendReply (Err refusal) suffix present =
     meant.append_outcome suffix present ≡ meant.Failed refusal
+
+-- an addition comes to this sum, or is refused
+abbrev pub IsSum : Result ℤ Refusal → meant.Outcome → Type 0
+IsSum (Ok sum) o = o ≡ meant.Written (signed_decimal sum) (reply.Integer sum)
+IsSum (Err refusal) o = o ≡ meant.Failed refusal

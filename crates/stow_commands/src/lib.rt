@@ -5,7 +5,7 @@
 //! the length of each key. `kind_of` says what words mean to a connection: a login, a quit, a malformed one of
 //! these, or a request to the store. A command borrows its words: nothing is copied, and no memory is asked for.
 //! `Update::outcome` is what a SET, APPEND, INCR, DECR or INCRBY leads to by the row's present value, and
-//! `append_reply` what an APPEND is told, without the value that it leads to.
+//! `append_reply` what an APPEND is told, and `sum` what an addition comes to, without the value that they lead to.
 #![tactic(auto)]
 
 pub mod command;
@@ -13,6 +13,7 @@ pub mod condition;
 pub mod kind;
 mod name;
 pub mod number;
+pub mod number_text;
 pub mod outcome;
 pub mod outcome_fault;
 mod snapshots;

@@ -3,13 +3,13 @@ ghost use Rattle.std.specs.Prelude.{◌≡◌, ◌++◌, [], ℕ, List, Option, 
 ghost use Rattle.std.specs.Option.{unwrap_or};
 ghost use Rattle.stow_model.specs.Store as meant;
 ghost use Rattle.stow_commands.specs.Commands.{condition_of, update_of};
-ghost use Rattle.stow_commands.specs.Outcomes.{value_of, IsAppendReply, IsOutcome};
+ghost use Rattle.stow_commands.specs.Outcomes.{value_of, IsAppendReply, IsOutcome, IsSum};
 
 use crate::condition::Condition;
 use crate::number::number;
+use crate::number_text::NumberText;
 use crate::outcome::Outcome;
 use crate::outcome_fault::OutcomeFault;
-use itoa::Buffer;
 use std::alloc::{AllocError, Allocator};
 use stow_bytes::byte_string::ByteString;
 use stow_bytes::limits::VALUE_LIMIT;
@@ -140,15 +140,27 @@ fn add<A: Allocator + Copy>(
     ensures { IsOutcome result
         (meant.sum_outcome (meant.stored_number (value_of present.entry)) amount) }
 {
+    match sum(amount, present) {
+        Ok(sum) => {
+            let value = ByteString::from_slice(alloc, NumberText::of(sum).as_slice())?;
+            Ok(Outcome::Written(value, Reply::Integer(sum)))
+        }
+        Err(refusal) => Err(OutcomeFault::Refused(refusal)),
+    }
+}
+
+/// What the row's present value and the amount add up to, or why that is refused. The text of the sum isn't made.
+pub fn sum(amount: i64, present: Option<&[u8]>) -> Result<i64, Refusal>
+    ensures { IsSum result
+        (meant.sum_outcome (meant.stored_number (value_of present.entry)) amount) }
+{
     let Some(stored) = stored_number(present) else {
-        return Err(OutcomeFault::Refused(Refusal::NotAnInteger));
+        return Err(Refusal::NotAnInteger);
     };
-    let Some(sum) = stored.checked_add(amount) else {
-        return Err(OutcomeFault::Refused(Refusal::Overflow));
-    };
-    let mut buffer = Buffer::new();
-    let value = ByteString::from_slice(alloc, buffer.format(sum).as_bytes())?;
-    Ok(Outcome::Written(value, Reply::Integer(sum)))
+    match stored.checked_add(amount) {
+        Some(sum) => Ok(sum),
+        None => Err(Refusal::Overflow),
+    }
 }
 
 fn stored_number(present: Option<&[u8]>) -> Option<i64>

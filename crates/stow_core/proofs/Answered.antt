@@ -13,8 +13,6 @@ use Rattle.stow_commands.specs.declared.command.Command as asked
 use Rattle.stow_core.specs.Writes.{IsRowAnswer}
 use Rattle.stow_core.specs.declared.row_answer.RowAnswer as found
 use Rattle.stow_core.proofs.Written.{given_gone}
-use Rattle.stow_commands.specs.declared.outcome_fault.OutcomeFault.{OutcomeFault}
-use Rattle.stow_commands.specs.declared.outcome_fault.OutcomeFault.TheVariants as in_fault
 use Rattle.stow_model.specs.declared.refusal.Refusal.{Refusal}
 use Rattle.stow_model.specs.declared.refusal.Refusal.TheVariants as refusal
 use Rattle.stow_model.specs.declared.reply.Reply as coded
@@ -162,10 +160,6 @@ unfolding answer
 refused_words store words r e = ap (answer_to (counted store)) e
 
 -- ---- changes of a row
-
--- the outcome that the code told as a refusal
-pub told_refused : {A : Type 0} (result : Result (found.RowAnswer A) OutcomeFault) (why : OutcomeFault) (r : Refusal) (present : Option (List ℕ)) (o : Outcome) → result ≡ Err why → why ≡ in_fault.Refused r → IsRowAnswer result present o → o ≡ Failed r
-told_refused {A = A} result why r present o is because told = subst (λ w. IsRowAnswer {A = A} (Err w) present o) because (subst (λ x. IsRowAnswer {A = A} x present o) is told)
 
 -- the answer to a write that makes this of a key's row
 abbrev gives_value : Store → Reply → List ℕ → Option (List ℕ) → Answer

@@ -7,13 +7,12 @@ use Rattle.stow_core.specs.declared.given.Given.{Given}
 use Rattle.stow_core.specs.declared.given.Given.TheVariants as given
 use Rattle.stow_core.specs.declared.row_answer.RowAnswer.{RowAnswer}
 use Rattle.stow_core.specs.declared.row_answer.RowAnswer.TheVariants as answer
-use Rattle.stow_commands.specs.declared.outcome_fault.OutcomeFault.{OutcomeFault}
-use Rattle.stow_commands.specs.declared.outcome_fault.OutcomeFault.TheVariants as fault
 use Rattle.stow_message.specs.Packed.{IsMessage}
 use Rattle.stow_bytes.specs.Limits.{value_limit}
 use Rattle.stow_ledger.specs.Shown.{sized_option}
 use Rattle.stow_ledger.specs.declared.sized_version.SizedVersion.{SizedVersion}
 use Rattle.stow_model.specs.Reply.{reply_of}
+use Rattle.stow_model.specs.declared.refusal.Refusal.{Refusal}
 use Rattle.stow_model.specs.Store.{Rows, Version, value_in}
 use Rattle.stow_model.specs.Store as meant
 use Rattle.stow_tree_model.specs.Operations.{outcome, bytes_or_none, numbered}
@@ -24,9 +23,9 @@ use Rattle.stow_tree_model.specs.Op.{Op, Put, Gone, Append}
 use Rattle.stow_tree_model.specs.TreeMessage.{TreeMessage}
 
 -- what a write does to the value of each of its keys
-abbrev pub given_op : {A : Type 0} → Given A → Op
+abbrev pub given_op : Given → Op
 given_op (given.Value value) = Put value.now
-given_op (given.Made value) = Put value
+given_op (given.Number text) = Put text
 given_op (given.Suffix suffix) = Append suffix.now
 given_op given.Gone = Gone
 
@@ -64,11 +63,10 @@ rows_given number op (key ∷ keys) rows =
 abbrev pub row_of : {A : Type 0} → Option (Found A) → Option Version
 row_of found = version_of (option_map found_value found)
 
--- what a change leads to by the row's present value was found, but for memory
-abbrev pub IsRowAnswer : {A : Type 0} → Result (RowAnswer A) OutcomeFault → Option (List ℕ)
+-- what a change leads to by the row's present value was found
+abbrev pub IsRowAnswer : {A : Type 0} → Result (RowAnswer A) Refusal → Option (List ℕ)
     → meant.Outcome → Type 0
 IsRowAnswer (Ok (answer.Written made reply)) present o =
     IsSomeAnd (outcome (given_op made) present) (λ value. o ≡ meant.Written value (reply_of reply))
 IsRowAnswer (Ok (answer.Unchanged reply)) present o = o ≡ meant.Unchanged (reply_of reply)
-IsRowAnswer (Err (fault.Refused refusal)) present o = o ≡ meant.Failed refusal
-IsRowAnswer (Err fault.OutOfMemory) present o = Unit {0}
+IsRowAnswer (Err refusal) present o = o ≡ meant.Failed refusal

@@ -21,11 +21,10 @@ use crate::given::Given;
 use crate::places::Places;
 use crate::prepared::Prepared;
 use crate::preparing::only_counted;
-use crate::row_answer::{RowAnswer, append, made, set};
+use crate::row_answer::{RowAnswer, add, append, set};
 use crate::sized_row::SizedRow;
 use crate::write::Write;
 use std::alloc::{AllocError, Allocator};
-use stow_commands::outcome_fault::OutcomeFault;
 use stow_commands::update::Update;
 use stow_ledger::row_change::RowChange;
 use stow_ledger::sized_version::SizedVersion;
@@ -55,8 +54,7 @@ impl<A: Allocator + Copy> Core<A> {
                 self.prepare_row(buffer.as_slice(), alloc, tenant, row, given, reply)
             }
             Ok(RowAnswer::Unchanged(reply)) => Ok(only_counted(tenant, reply)),
-            Err(OutcomeFault::Refused(refusal)) => Ok(only_counted(tenant, Reply::Error(refusal))),
-            Err(OutcomeFault::OutOfMemory) => Err(AllocError),
+            Err(refusal) => Ok(only_counted(tenant, Reply::Error(refusal))),
         }
     }
 
@@ -93,11 +91,11 @@ impl<A: Allocator + Copy> Core<A> {
                 let answer = append(suffix, row.version);
                 Ok(FoundChange { answer, row })
             }
-            Update::Add(_) => {
+            Update::Add(amount) => {
                 let mut place = Place::none();
                 let rows = self.present(tenant);
                 let found = self.row_with_place(buffer, alloc, rows, key, &mut place)?;
-                let answer = made(alloc, update, value_in(&found));
+                let answer = add(amount, value_in(&found));
                 let version = sized(&found);
                 let row = SizedRow { version, place };
                 Ok(FoundChange { answer, row })
@@ -113,7 +111,7 @@ impl<A: Allocator + Copy> Core<A> {
         alloc: A,
         tenant: u32,
         row: SizedRow,
-        given: Given<'a, A>,
+        given: Given<'a>,
         reply: Reply<A>,
     ) -> Result<Prepared<'a, A>, AllocError>
         requires is_tenant { IsTenant self.old.entries tenant }
@@ -144,10 +142,10 @@ impl<A: Allocator + Copy> Core<A> {
 }
 
 /// What a write changes of the row of a key, which is one among the keys of all.
-fn row_change<A: Allocator>(
+fn row_change(
     key: &[u8],
     before: Option<SizedVersion>,
-    given: &Given<'_, A>,
+    given: &Given<'_>,
 ) -> RowChange
     requires { IsTenantKey key.now }
     ensures key { result.key ≡ length (own_key key.now) }

@@ -2,11 +2,11 @@
 use crate::row_answer::RowAnswer;
 use crate::sized_row::SizedRow;
 use std::alloc::{Allocator, Global};
-use stow_commands::outcome_fault::OutcomeFault;
+use stow_model::refusal::Refusal;
 
 /// What a change of a row leads to, with the row that it changes.
 #[derive(Drop)]
 pub struct FoundChange<'a, A: Allocator = Global> {
-    pub answer: Result<RowAnswer<'a, A>, OutcomeFault>,
+    pub answer: Result<RowAnswer<'a, A>, Refusal>,
     pub row: SizedRow,
 }

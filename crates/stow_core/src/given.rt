@@ -4,32 +4,31 @@ ghost use Rattle.stow_bytes.specs.Limits.{value_limit};
 ghost use Rattle.stow_core.specs.Writes.{given_op, IsLengthAfter};
 ghost use Rattle.stow_tree_model.specs.Op.{Append, op_of};
 
-use std::alloc::{Allocator, Global};
-use stow_bytes::byte_string::ByteString;
+use stow_commands::number_text::NumberText;
 use stow_ledger::sized_version::SizedVersion;
 use stow_tree_model::op::Op;
 
 /// What a write does to the value of each of its keys.
 #[derive(Drop)]
-pub enum Given<'a, A: Allocator = Global> {
+pub enum Given<'a> {
     /// The key has this value, which is lent from the request.
     Value(&'a [u8]),
-    /// The key has this value, which was made for it.
-    Made(ByteString<A>),
+    /// The key has this number's text.
+    Number(NumberText),
     /// The key's value is followed by this, a missing one counting as empty.
     Suffix(&'a [u8]),
     /// The key has no value any more.
     Gone,
 }
 
-impl<A: Allocator> Given<'_, A> {
+impl Given<'_> {
     /// The same as messages say it.
     pub(crate) fn op(&self) -> Op<'_>
         ensures { op_of result ≡ given_op self.now }
     {
         match self {
             Given::Value(value) => Op::Put(value),
-            Given::Made(value) => Op::Put(value.as_slice()),
+            Given::Number(text) => Op::Put(text.as_slice()),
             Given::Suffix(suffix) => Op::Append(suffix),
             Given::Gone => Op::Gone,
         }
@@ -41,7 +40,7 @@ impl<A: Allocator> Given<'_, A> {
     {
         match self {
             Given::Value(value) => Some(length_of(value)),
-            Given::Made(value) => Some(length_of(value.as_slice())),
+            Given::Number(text) => Some(length_of(text.as_slice())),
             Given::Suffix(suffix) => Some(length_with(before, suffix)),
             Given::Gone => None,
         }

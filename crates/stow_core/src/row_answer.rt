@@ -1,19 +1,18 @@
 //! What changes of rows lead to.
 ghost use Rattle.std.specs.Prelude.{◌≡◌, [], Option, length};
 ghost use Rattle.std.specs.Option.{unwrap_or};
-ghost use Rattle.stow_commands.specs.Commands.{condition_of, update_of};
+ghost use Rattle.stow_commands.specs.Commands.{condition_of};
 ghost use Rattle.stow_commands.specs.Outcomes.{value_of};
 ghost use Rattle.stow_core.specs.Writes.{IsRowAnswer};
 ghost use Rattle.stow_ledger.specs.Shown.{sized_option};
-ghost use Rattle.stow_model.specs.Store.{Version, append_outcome, outcome, set_outcome, value_in};
+ghost use Rattle.stow_model.specs.Store.{Version, append_outcome, set_outcome, stored_number, sum_outcome, value_in};
 
 use crate::given::Given;
 use std::alloc::{Allocator, Global};
 use stow_bytes::limits::VALUE_LIMIT;
 use stow_commands::condition::Condition;
-use stow_commands::outcome::Outcome;
-use stow_commands::outcome_fault::OutcomeFault;
-use stow_commands::update::{Update, allows, append_reply};
+use stow_commands::number_text::NumberText;
+use stow_commands::update::{allows, append_reply, sum};
 use stow_ledger::sized_version::SizedVersion;
 use stow_model::refusal::Refusal;
 use stow_model::reply::Reply;
@@ -23,7 +22,7 @@ use stow_model::simple_string::SimpleString;
 #[derive(Drop)]
 pub enum RowAnswer<'a, A: Allocator = Global> {
     /// The row's key is given this, and this is told.
-    Written(Given<'a, A>, Reply<A>),
+    Written(Given<'a>, Reply<A>),
     /// The row stays as it is, and this is told.
     Unchanged(Reply<A>),
 }
@@ -33,12 +32,12 @@ pub fn set<'a, A: Allocator>(
     value: &'a [u8],
     condition: Condition,
     present: Option<SizedVersion>,
-) -> Result<RowAnswer<'a, A>, OutcomeFault>
+) -> Result<RowAnswer<'a, A>, Refusal>
     ensures { (row : Option Version) → present ≡ sized_option row → IsRowAnswer result
         (value_in row) (set_outcome value.now (condition_of condition) (value_in row)) }
 {
     if value.len() > VALUE_LIMIT {
-        return Err(OutcomeFault::Refused(Refusal::ValueTooLong));
+        return Err(Refusal::ValueTooLong);
     }
     if !allows(condition, present.is_some()) {
         return Ok(RowAnswer::Unchanged(Reply::Null));
@@ -51,14 +50,12 @@ pub fn set<'a, A: Allocator>(
 pub fn append<'a, A: Allocator>(
     suffix: &'a [u8],
     present: Option<SizedVersion>,
-) -> Result<RowAnswer<'a, A>, OutcomeFault>
+) -> Result<RowAnswer<'a, A>, Refusal>
     ensures { (row : Option Version) → present ≡ sized_option row → IsRowAnswer result
         (value_in row) (append_outcome suffix.now (value_in row)) }
 {
-    match append_reply(suffix, length_or_none(present)) {
-        Ok(told) => Ok(RowAnswer::Written(Given::Suffix(suffix), told)),
-        Err(refusal) => Err(OutcomeFault::Refused(refusal)),
-    }
+    let told = append_reply(suffix, length_or_none(present))?;
+    Ok(RowAnswer::Written(Given::Suffix(suffix), told))
 }
 
 /// The bytes of a version's value, a missing one counting as empty.
@@ -72,18 +69,15 @@ fn length_or_none(present: Option<SizedVersion>) -> usize
     }
 }
 
-/// What a change leads to that makes the row's value anew, by the one that it has.
-pub fn made<'a, A: Allocator + Copy>(
-    alloc: A,
-    update: Update<'_>,
+/// What an addition leads to by the row's present value.
+pub fn add<'a, A: Allocator>(
+    amount: i64,
     present: Option<&[u8]>,
-) -> Result<RowAnswer<'a, A>, OutcomeFault>
+) -> Result<RowAnswer<'a, A>, Refusal>
     ensures { IsRowAnswer result (value_of present.entry)
-        (outcome (update_of update.entry) (value_of present.entry)) }
+        (sum_outcome (stored_number (value_of present.entry)) amount) }
 {
-    match update.outcome(alloc, present) {
-        Ok(Outcome::Written(value, told)) => Ok(RowAnswer::Written(Given::Made(value), told)),
-        Ok(Outcome::Unchanged(told)) => Ok(RowAnswer::Unchanged(told)),
-        Err(fault) => Err(fault),
-    }
+    let sum = sum(amount, present)?;
+    let told = Reply::Integer(sum);
+    Ok(RowAnswer::Written(Given::Number(NumberText::of(sum)), told))
 }

@@ -9,7 +9,7 @@ use stow_model::words::Words;
 #[derive(Drop)]
 pub struct Write<'a, A: Allocator = Global> {
     pub keys: Words<A>,
-    pub given: Given<'a, A>,
+    pub given: Given<'a>,
     pub charge: Charge,
     pub length: Option<u32>,
 }

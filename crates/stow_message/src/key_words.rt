@@ -171,11 +171,14 @@ impl<A: Allocator> KeyWords<A> {
         }
     }
 
-    /// Moves the words from one place on and before another up by so many places. Those beyond the room are lost.
+    /// Moves the words from one place on and before another up by so many places, the last of them first. Those beyond the room are lost.
     fn move_up(&mut self, from: usize, end: usize, by: usize) {
-        let end = end.min(self.words.len().saturating_sub(by));
-        if from < end {
-            self.words.copy_within(from..end, from + by);
+        let mut end = end.min(self.words.len().saturating_sub(by));
+        while from < end && by > 0 {
+            let count = by.min(end - from);
+            let (front, back) = self.words.as_mut_slice().split_at_mut(end);
+            back[by - count..by].copy_from_slice(&front[end - count..]);
+            end -= count;
         }
     }
 

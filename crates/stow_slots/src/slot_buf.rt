@@ -15,7 +15,7 @@ use stow_raw::raw_buf::RawBuf;
 const YOUNG: usize = 1_024;
 
 /// How many young slots are ripe where there are no others; a 32nd of those more are where there are some.
-const FEWEST_RIPE: usize = 16;
+const FEWEST_RIPE: usize = 4;
 
 /// The fewest bytes of a block that has a list of young slots.
 const LARGE: usize = 65_536;

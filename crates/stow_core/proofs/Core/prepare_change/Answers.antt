@@ -2,7 +2,7 @@ use Rattle.std.proofs.Common.{rules, ◌≡◌, Ok, ap, sym, ◌∙◌, subst}
 use Rattle.stow_commands.specs.Commands.{update_of}
 use Rattle.stow_core.specs.State.{store_of, row_at}
 use Rattle.stow_core.specs.Writes.{given_op, IsRowAnswer, StaysShort}
-use Rattle.stow_core.proofs.Answered.{change_refused, changed_nothing, changed_row, error_prepared, failed_prepared, only_counted_prepared, prepared_as, told_refused}
+use Rattle.stow_core.proofs.Answered.{change_refused, changed_nothing, changed_row, error_prepared, only_counted_prepared, prepared_as}
 use Rattle.stow_core.proofs.Kept.{keeps_itself}
 use Rattle.stow_core.proofs.Legality.{given_short}
 use Rattle.stow_ledger.specs.Shown.{sized_option}
@@ -60,16 +60,13 @@ returns-in-Ok-Unchanged g c =
     only_counted_prepared old old t _ c.in-Ok-Unchanged.reply c.only_counted.result c.only_counted.ensures (keeps_itself old c.requires.sound) c.requires.is_tenant
     (changed_nothing (store_of old t) key (update_of c.args.update) c.in-Ok-Unchanged.reply said)
 
-pub returns-in-Err-Refused : goal.returns-in-Err-Refused
-returns-in-Err-Refused g c =
+pub returns-in-Err : goal.returns-in-Err
+returns-in-Err g c =
     let old = c.args.self.now in
     let t = c.args.tenant in
     let key = c.args.key.now in
     let present = value_in (row_at old t key) in
     let is = outcome (update_of c.args.update) present in
-    let said = told_refused _ c.in-Err-Refused.field-0 c.in-Err-Refused.refusal present is c.in-Err-Refused.is (search rules) c.in_ok-answer.ensures.answer in
-    only_counted_prepared old old t _ (told.Error c.in-Err-Refused.refusal) c.only_counted-in-Err-Refused.result c.only_counted-in-Err-Refused.ensures (keeps_itself old c.requires.sound) c.requires.is_tenant
-    (change_refused (store_of old t) key (update_of c.args.update) c.in-Err-Refused.refusal said)
-
-pub returns-in-Err-OutOfMemory : goal.returns-in-Err-OutOfMemory
-returns-in-Err-OutOfMemory g c = failed_prepared c.args.self.now c.args.self.now c.args.tenant _ _ (keeps_itself c.args.self.now c.requires.sound)
+    let said = subst (λ r. IsRowAnswer r present is) c.in-Err.is c.in_ok-answer.ensures.answer in
+    only_counted_prepared old old t _ (told.Error c.in-Err.refusal) c.only_counted-in-Err.result c.only_counted-in-Err.ensures (keeps_itself old c.requires.sound) c.requires.is_tenant
+    (change_refused (store_of old t) key (update_of c.args.update) c.in-Err.refusal said)
