@@ -13,7 +13,6 @@ pub mod condition;
 pub mod kind;
 mod name;
 pub mod number;
-pub mod number_text;
 pub mod outcome;
 pub mod outcome_fault;
 mod snapshots;

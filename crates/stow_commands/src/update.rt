@@ -7,9 +7,9 @@ ghost use Rattle.stow_commands.specs.Outcomes.{value_of, IsAppendReply, IsOutcom
 
 use crate::condition::Condition;
 use crate::number::number;
-use crate::number_text::NumberText;
 use crate::outcome::Outcome;
 use crate::outcome_fault::OutcomeFault;
+use itoa::Buffer;
 use std::alloc::{AllocError, Allocator};
 use stow_bytes::byte_string::ByteString;
 use stow_bytes::limits::VALUE_LIMIT;
@@ -142,7 +142,8 @@ fn add<A: Allocator + Copy>(
 {
     match sum(amount, present) {
         Ok(sum) => {
-            let value = ByteString::from_slice(alloc, NumberText::of(sum).as_slice())?;
+            let mut buffer = Buffer::new();
+            let value = ByteString::from_slice(alloc, buffer.format(sum).as_bytes())?;
             Ok(Outcome::Written(value, Reply::Integer(sum)))
         }
         Err(refusal) => Err(OutcomeFault::Refused(refusal)),

@@ -1,5 +1,6 @@
 -- Messages of writes, and the rows that they lead to.
 use Rattle.std.specs.Prelude.{◌≡◌, ℕ, ◌≤◌, List, [], ◌∷◌, map, length, Option, IsSomeAnd, Result, Ok, Err}
+use Rattle.std.specs.Fmt.{signed_decimal}
 use Rattle.std.specs.FinMap as finite
 use Rattle.std.specs.Option.{option_map}
 use Rattle.std.specs.List.{AllByRecursion}
@@ -25,7 +26,7 @@ use Rattle.stow_tree_model.specs.TreeMessage.{TreeMessage}
 -- what a write does to the value of each of its keys
 abbrev pub given_op : Given → Op
 given_op (given.Value value) = Put value.now
-given_op (given.Number text) = Put text
+given_op (given.Number number) = Put (signed_decimal number)
 given_op (given.Suffix suffix) = Append suffix.now
 given_op given.Gone = Gone
 

@@ -8,6 +8,7 @@ use crate::Core;
 use crate::pinning::{add_pin, remove_pin};
 use crate::write::Write;
 use crate::writes::put;
+use itoa::Buffer;
 use std::alloc::Allocator;
 use stow_ledger::charge::Charge;
 
@@ -43,10 +44,11 @@ impl<A: Allocator + Copy> Core<A> {
         } = write;
         let index = tenant as usize - 1;
         let number = self.tenancies[index].versions.last() + 1;
+        let mut text = Buffer::new();
         put(
             &mut self.tree,
             number,
-            given.op(),
+            given.op(&mut text),
             keys.lent(),
             &self.places,
         );

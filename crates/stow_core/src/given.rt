@@ -4,31 +4,31 @@ ghost use Rattle.stow_bytes.specs.Limits.{value_limit};
 ghost use Rattle.stow_core.specs.Writes.{given_op, IsLengthAfter};
 ghost use Rattle.stow_tree_model.specs.Op.{Append, op_of};
 
-use stow_commands::number_text::NumberText;
+use itoa::Buffer;
 use stow_ledger::sized_version::SizedVersion;
 use stow_tree_model::op::Op;
 
 /// What a write does to the value of each of its keys.
-#[derive(Drop)]
+#[derive(Clone, Copy)]
 pub enum Given<'a> {
     /// The key has this value, which is lent from the request.
     Value(&'a [u8]),
-    /// The key has this number's text.
-    Number(NumberText),
+    /// The key has the decimal text of this number.
+    Number(i64),
     /// The key's value is followed by this, a missing one counting as empty.
     Suffix(&'a [u8]),
     /// The key has no value any more.
     Gone,
 }
 
-impl Given<'_> {
-    /// The same as messages say it.
-    pub(crate) fn op(&self) -> Op<'_>
-        ensures { op_of result ≡ given_op self.now }
+impl<'a> Given<'a> {
+    /// The same as messages say it. The text of a number is written into the buffer.
+    pub(crate) fn op(self, text: &'a mut Buffer) -> Op<'a>
+        ensures { op_of result ≡ given_op self }
     {
         match self {
             Given::Value(value) => Op::Put(value),
-            Given::Number(text) => Op::Put(text.as_slice()),
+            Given::Number(number) => Op::Put(text.format(number).as_bytes()),
             Given::Suffix(suffix) => Op::Append(suffix),
             Given::Gone => Op::Gone,
         }
@@ -40,7 +40,7 @@ impl Given<'_> {
     {
         match self {
             Given::Value(value) => Some(length_of(value)),
-            Given::Number(text) => Some(length_of(text.as_slice())),
+            Given::Number(number) => Some(length_of(Buffer::new().format(*number).as_bytes())),
             Given::Suffix(suffix) => Some(length_with(before, suffix)),
             Given::Gone => None,
         }

@@ -11,7 +11,6 @@ use crate::given::Given;
 use std::alloc::{Allocator, Global};
 use stow_bytes::limits::VALUE_LIMIT;
 use stow_commands::condition::Condition;
-use stow_commands::number_text::NumberText;
 use stow_commands::update::{allows, append_reply, sum};
 use stow_ledger::sized_version::SizedVersion;
 use stow_model::refusal::Refusal;
@@ -79,5 +78,5 @@ pub fn add<'a, A: Allocator>(
 {
     let sum = sum(amount, present)?;
     let told = Reply::Integer(sum);
-    Ok(RowAnswer::Written(Given::Number(NumberText::of(sum)), told))
+    Ok(RowAnswer::Written(Given::Number(sum), told))
 }

@@ -16,6 +16,7 @@ use crate::prepared::Prepared;
 use crate::preparing::{only_counted, only_refused};
 use crate::write::Write;
 use crate::writes::reserve;
+use itoa::Buffer;
 use std::alloc::{AllocError, Allocator};
 use std::mem;
 use stow_bytes::limits::NUMBER_LIMIT;
@@ -54,7 +55,8 @@ impl<A: Allocator + Copy> Core<A> {
         }
         let number = self.next_number(tenant);
         self.places = places;
-        let (op, keys) = (write.given.op(), write.keys.lent());
+        let mut text = Buffer::new();
+        let (op, keys) = (write.given.op(&mut text), write.keys.lent());
         reserve(
             &mut self.tree,
             alloc,
