@@ -142,6 +142,7 @@ impl<A: Allocator + Copy> Core<A> {
 }
 
 /// What a write changes of the row of a key, which is one among the keys of all.
+#[inline(always)]
 fn row_change(
     key: &[u8],
     before: Option<SizedVersion>,

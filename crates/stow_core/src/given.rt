@@ -23,6 +23,7 @@ pub enum Given<'a> {
 
 impl<'a> Given<'a> {
     /// The same as messages say it. The text of a number is written into the buffer.
+    #[inline(always)]
     pub(crate) fn op(self, text: &'a mut Buffer) -> Op<'a>
         ensures { op_of result ≡ given_op self }
     {
@@ -35,6 +36,7 @@ impl<'a> Given<'a> {
     }
 
     /// The bytes of the key's value afterwards, if it has one, by the version that stands there before.
+    #[inline(always)]
     pub(crate) fn length_after(&self, before: Option<SizedVersion>) -> Option<u32>
         ensures { IsLengthAfter (given_op self.now) before result }
     {

@@ -54,6 +54,7 @@ impl<A: Allocator> Hint<A> {
     }
 
     /// The index of the row that may be the key's newest, or one beyond all rows.
+    #[inline(always)]
     pub(crate) fn index_of(&self, key: &[u8]) -> usize {
         let Some(last) = self.cells.len().checked_sub(1) else {
             return usize::MAX;

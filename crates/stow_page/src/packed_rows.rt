@@ -471,6 +471,7 @@ fn note_before<A: Allocator>(
 }
 
 /// The version is the key's, and numbered at most this.
+#[inline(always)]
 fn is_up_to(version: Version<'_>, key: TenantKey<'_>, number: u64) -> bool
     ensures { result ≡ is_up_to key.entry.bytes.now number (version_of version.entry) }
 {
