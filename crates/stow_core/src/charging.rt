@@ -19,6 +19,7 @@ use stow_read::found::Found;
 
 impl<A: Allocator + Copy> Core<A> {
     /// The tenant's charge once its next write changes a row so.
+    #[inline(always)]
     pub(crate) fn charge_of_write(&self, tenant: u32, change: &RowChange) -> Charge
         requires { IsTenant self.now.entries tenant }
         ensures { (key : List ℕ) (op : Op)

@@ -160,6 +160,7 @@ impl<A: Allocator + Copy> Core<A> {
 
     /// The version of a tenant's row as it is now, or that there is no row, by what its newest message tells. None where the length
     /// of a value that appends make isn't held.
+    #[inline(always)]
     fn told_version(&self, tenant: u32, newest: Newest) -> Option<Option<SizedVersion>>
         ensures { (key : List ℕ) → IsToldOfRow (row_at self.now tenant key) newest
             → IfSome result (λ version. version ≡ sized_option (row_at self.now tenant key)) }

@@ -171,13 +171,26 @@ impl<A: Allocator> KeyWords<A> {
         }
     }
 
-    /// Moves the words from one place on and before another up by so many places, the last of them first. Those beyond the room are lost.
+    /// Copies the `count` words before a place up by so many places, at least as many.
+    fn copy_up(&mut self, end: usize, count: usize, by: usize) {
+        let len = self.words.len();
+        if count > end || count > by || end > len || by > len - end {
+            return;
+        }
+        let (front, back) = self.words.as_mut_slice().split_at_mut(end);
+        back[by - count..by].copy_from_slice(&front[end - count..]);
+    }
+
+    /// Moves the words from one place on and before another up by so many places, the last ones first, as many at once as come to lie
+    /// behind all of them. Those beyond the room are lost.
     fn move_up(&mut self, from: usize, end: usize, by: usize) {
         let mut end = end.min(self.words.len().saturating_sub(by));
-        while from < end && by > 0 {
+        for _ in 0..self.words.len() {
+            if from >= end || by == 0 {
+                return;
+            }
             let count = by.min(end - from);
-            let (front, back) = self.words.as_mut_slice().split_at_mut(end);
-            back[by - count..by].copy_from_slice(&front[end - count..]);
+            self.copy_up(end, count, by);
             end -= count;
         }
     }

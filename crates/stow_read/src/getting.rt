@@ -49,6 +49,7 @@ pub(crate) fn value_in_rows<'a, A: Allocator>(
 }
 
 /// Goes down, adding the key's suffixes, up to the first message or row that is no append.
+#[inline(always)]
 fn walk<'a, A: Allocator + Copy>(
     suffixes: &mut Suffixes<'a, A>,
     node: &'a Node<A>,
@@ -82,6 +83,7 @@ fn walk<'a, A: Allocator + Copy>(
 }
 
 /// What the key has at a number by all messages of the node. It is copied once where appends make it, and lent else.
+#[inline(always)]
 pub fn get<'a, A: Allocator + Copy>(
     alloc: A,
     node: &'a Node<A>,

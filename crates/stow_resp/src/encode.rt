@@ -96,6 +96,7 @@ fn write_item<B: Allocator>(item: Item<'_>, out: &mut Vec<u8, B>) -> Result<(), 
     }
 }
 
+#[inline(always)]
 fn write_integer<B: Allocator>(number: i64, out: &mut Vec<u8, B>) -> Result<(), AllocError>
     ensures ok { OnOk result (out.new.items ≡ out.old.items ++ integer_encoding number) }
     ensures keeps { Extends out.old.items out.new.items }
@@ -113,6 +114,7 @@ fn write_bulk<B: Allocator>(bytes: &[u8], out: &mut Vec<u8, B>) -> Result<(), Al
 }
 
 /// A line: its first byte, a text, CR, LF.
+#[inline(always)]
 fn write_line<B: Allocator>(sign: u8, text: &[u8], out: &mut Vec<u8, B>) -> Result<(), AllocError>
     ensures ok { OnOk result (out.new.items ≡ out.old.items ++ line sign text.now) }
     ensures keeps { Extends out.old.items out.new.items }

@@ -12,6 +12,7 @@ use stow_message::place::Place;
 use stow_tree_model::message::Message;
 
 /// Whether the next message is a put or removal that hides this one, and no pin stands between.
+#[inline(always)]
 pub(crate) fn hides<A: Allocator + Copy>(
     pins: &Pins<A>,
     message: Message<'_>,

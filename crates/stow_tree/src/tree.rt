@@ -287,6 +287,7 @@ impl<A: Allocator + Copy> Tree<A> {
 
     /// What `get` answers. The place is then where the key's next message may come to stand in the root's buffer: a guess,
     /// beyond all where none was made.
+    #[inline(always)]
     pub fn get_with_place(
         &self,
         alloc: A,

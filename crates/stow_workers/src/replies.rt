@@ -81,6 +81,7 @@ impl<A: Allocator + Copy> Replies<A> {
     }
 
     /// Adds a reply. An `Err` adds nothing.
+    #[inline(always)]
     pub fn add_reply(&mut self, reply: &Reply<A>) -> Result<(), AllocError>
         ensures ok { (writer : Written) → OnOk result (Sends
             (sent_at writer self.old) (sent_at writer self.new) (encoding (reply_of reply.now))) }
