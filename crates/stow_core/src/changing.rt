@@ -51,7 +51,7 @@ impl<A: Allocator + Copy> Core<A> {
         let FoundChange { answer, row } = self.find_change(buffer, alloc, tenant, key, update)?;
         match answer {
             Ok(RowAnswer::Written(given, reply)) => {
-                self.prepare_row(buffer.as_slice(), alloc, tenant, row, given, reply)
+                self.prepare_row(buffer, alloc, tenant, row, given, reply)
             }
             Ok(RowAnswer::Unchanged(reply)) => Ok(only_counted(tenant, reply)),
             Err(refusal) => Ok(only_counted(tenant, Reply::Error(refusal))),
@@ -103,11 +103,11 @@ impl<A: Allocator + Copy> Core<A> {
         }
     }
 
-    /// Makes room for what a key, among the keys of all, is given.
+    /// Makes room for what the key that the buffer has, among the keys of all, is given.
     #[inline(always)]
     fn prepare_row<'a>(
         &mut self,
-        key: &[u8],
+        buffer: &mut Vec<u8, A>,
         alloc: A,
         tenant: u32,
         row: SizedRow,
@@ -116,19 +116,20 @@ impl<A: Allocator + Copy> Core<A> {
     ) -> Result<Prepared<'a, A>, AllocError>
         requires is_tenant { IsTenant self.old.entries tenant }
         requires sound { IsSound (shared_of self.old) }
-        requires own_key { AreKeysOf tenant (key.now ∷ []) }
-        requires is_key { IsTenantKey key.now }
-        requires row { row.version ≡ sized_option (row_at self.old tenant (own_key key.now)) }
+        requires own_key { AreKeysOf tenant (buffer.old.items ∷ []) }
+        requires is_key { IsTenantKey buffer.old.items }
+        requires row { row.version
+            ≡ sized_option (row_at self.old tenant (own_key buffer.old.items)) }
         requires short { StaysShort (given_op given)
-            (value_in (row_at self.old tenant (own_key key.now))) }
+            (value_in (row_at self.old tenant (own_key buffer.old.items))) }
         ensures { IsPrepared self.old tenant
-            (gives (key.now ∷ []) (given_op given.entry) (reply_of reply)) self.new result }
+            (gives (buffer.old.items ∷ []) (given_op given.entry) (reply_of reply))
+            self.new result }
     {
-        let change = row_change(key, row.version, &given);
+        let change = row_change(buffer.as_slice(), row.version, &given);
         let charge = self.charge_of_write(tenant, &change);
         let length = given.kept_length(change.after);
-        let mut keys = self.spare_keys(alloc);
-        keys.push(key)?;
+        let keys = self.only_key(alloc, buffer)?;
         let mut places = Places::none();
         places.set(0, row.place);
         let write = Write {

@@ -1,5 +1,5 @@
 //! Preparing writes.
-ghost use Rattle.std.specs.Prelude.{◌≡◌, [], nat_lt};
+ghost use Rattle.std.specs.Prelude.{◌≡◌, ◌∷◌, [], IfOk, nat_lt};
 ghost use Rattle.stow_bytes.specs.Limits.{number_limit};
 ghost use Rattle.stow_model.specs.Reply.{reply_of};
 ghost use Rattle.stow_model.specs.Login.{IsTenant};
@@ -22,6 +22,7 @@ use std::mem;
 use stow_bytes::limits::NUMBER_LIMIT;
 use stow_model::refusal::Refusal;
 use stow_model::reply::Reply;
+use stow_model::span::Span;
 use stow_model::words::Words;
 
 impl<A: Allocator + Copy> Core<A> {
@@ -79,6 +80,24 @@ impl<A: Allocator + Copy> Core<A> {
         ensures same { self.new ≡ self.old }
     {
         emptied(mem::replace(&mut self.keys, Words::new(alloc)))
+    }
+
+    /// A list of the key that the buffer has, without a copy: the buffer gets the memory that is kept for keys.
+    #[inline(always)]
+    pub(crate) fn only_key(
+        &mut self,
+        alloc: A,
+        buffer: &mut Vec<u8, A>,
+    ) -> Result<Words<A>, AllocError>
+        ensures key { IfOk result (λ keys. keys ≡ buffer.old.items ∷ []) }
+        ensures same { self.new ≡ self.old }
+    {
+        let kept = mem::replace(&mut self.keys, Words::new(alloc));
+        let (spare, mut spans) = kept.into_parts();
+        spans.clear();
+        let end = buffer.len();
+        spans.push(Span { start: 0, end })?;
+        Ok(Words::from_parts(mem::replace(buffer, spare), spans))
     }
 
     /// Keeps the memory of keys for the next write.

@@ -21,7 +21,7 @@ prepare_row-requires-clause-row g c =
     let t = c.args.tenant in
     let key = c.args.key.now in
     let buffer : c.find_change.new.buffer.items ≡ packed t key = c.in_ok-answer.ensures.buffer in
-    let own : own_key c.as_slice.result.now ≡ key = ap own_key (c.as_slice.ensures.value ∙ buffer) ∙ own_key-packed t key in
+    let own : own_key c.find_change.new.buffer.items ≡ key = ap own_key buffer ∙ own_key-packed t key in
     c.in_ok-answer.ensures.row ∙ ap (λ k. sized_option (row_at c.args.self.now t k)) (sym own)
 
 pub prepare_row-requires-clause-short : goal.prepare_row-requires-clause-short
@@ -31,7 +31,7 @@ prepare_row-requires-clause-short g c =
     let key = c.args.key.now in
     let op = given_op c.in-Ok-Written.given in
     let buffer : c.find_change.new.buffer.items ≡ packed t key = c.in_ok-answer.ensures.buffer in
-    let own : own_key c.as_slice.result.now ≡ key = ap own_key (c.as_slice.ensures.value ∙ buffer) ∙ own_key-packed t key in
+    let own : own_key c.find_change.new.buffer.items ≡ key = ap own_key buffer ∙ own_key-packed t key in
     let present = value_in (row_at old t key) in
     let is = outcome (update_of c.args.update) present in
     let said = subst (λ o. IsRowAnswer (Ok o) present is) c.in-Ok-Written.field-0-is (subst (λ r. IsRowAnswer r present is) c.in-Ok-Written.is c.in_ok-answer.ensures.answer) in
@@ -47,7 +47,7 @@ returns-in-Ok-Written g c =
     let is = outcome (update_of c.args.update) present in
     let said = subst (λ o. IsRowAnswer (Ok o) present is) c.in-Ok-Written.field-0-is (subst (λ r. IsRowAnswer r present is) c.in-Ok-Written.is c.in_ok-answer.ensures.answer) in
     prepared_as old c.prepare_row.new.self t _ _ c.prepare_row.result
-    (changed_row (store_of old t) t c.as_slice.result.now key op (update_of c.args.update) (reply_of c.in-Ok-Written.reply) (c.as_slice.ensures.value ∙ c.in_ok-answer.ensures.buffer) said) c.prepare_row.ensures
+    (changed_row (store_of old t) t c.find_change.new.buffer.items key op (update_of c.args.update) (reply_of c.in-Ok-Written.reply) c.in_ok-answer.ensures.buffer said) c.prepare_row.ensures
 
 pub returns-in-Ok-Unchanged : goal.returns-in-Ok-Unchanged
 returns-in-Ok-Unchanged g c =
