@@ -40,9 +40,9 @@ PING hello|$hello|$old|nil|1
 ECHO hello|$hello|$old|nil|1
 APPEND a er|:5|$older|nil|0
 APPEND b er|:2|$old|$er|0
-INCR b|:1|$old|$1|1
-DECR b|:-1|$old|$-1|1
-INCRBY b 12|:12|$old|$12|1
+INCR b|:1|$old|$1|0
+DECR b|:-1|$old|$-1|0
+INCRBY b 12|:12|$old|$12|0
 INCR a|ERR value is not an integer or out of range|$old|nil|0
 DEL b a|:1|nil|nil|0
 SNAPSHOT TAKE|:1|$old|nil|5
