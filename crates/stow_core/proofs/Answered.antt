@@ -10,8 +10,6 @@ use Rattle.std.proofs.lemmas.Int.{to_z_pos}
 use Rattle.stow_bytes.specs.Limits.{number_limit}
 use Rattle.stow_commands.specs.Commands.{command_of}
 use Rattle.stow_commands.specs.declared.command.Command as asked
-use Rattle.stow_core.specs.Writes.{IsRowAnswer}
-use Rattle.stow_core.specs.declared.row_answer.RowAnswer as found
 use Rattle.stow_core.proofs.Written.{given_gone}
 use Rattle.stow_model.specs.declared.refusal.Refusal.{Refusal}
 use Rattle.stow_model.specs.declared.refusal.Refusal.TheVariants as refusal
@@ -21,7 +19,7 @@ use Rattle.stow_model.specs.Reply as reply
 use Rattle.stow_model.specs.Command.{Command, Change, Update, Understood, Refused, reading}
 use Rattle.stow_model.specs.Login.{Entry, IsTenant}
 use Rattle.stow_model.specs.declared.reply.Reply.TheVariants as in_reply
-use Rattle.stow_model.specs.Store.{Store, Answer, Outcome, Request, Asked, counted, served, answer, answer_to, answer_with, can_take, take_answer, del_answer, change_answer, written, exceeds_quota, Written, Unchanged, Failed, outcome, value_in, rows_without}
+use Rattle.stow_model.specs.Store.{Store, Answer, Request, Asked, counted, served, answer, answer_to, answer_with, can_take, take_answer, del_answer, change_answer, written, exceeds_quota, Written, Unchanged, Failed, outcome, value_in, rows_without}
 use Rattle.stow_ledger.specs.Accounts.{IsGivenBy, is_allowed}
 use Rattle.stow_ledger.specs.Shown.{charge_of}
 use Rattle.stow_core.specs.Tenancies.{TenancyState, tenancy_at}

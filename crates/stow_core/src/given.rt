@@ -25,7 +25,7 @@ impl<'a> Given<'a> {
     /// The same as messages say it. The text of a number is written into the buffer.
     #[inline(always)]
     pub(crate) fn op(self, text: &'a mut Buffer) -> Op<'a>
-        ensures { op_of result ≡ given_op self }
+        ensures { op_of result ≡ given_op self.entry }
     {
         match self {
             Given::Value(value) => Op::Put(value),

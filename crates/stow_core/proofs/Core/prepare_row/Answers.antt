@@ -1,4 +1,4 @@
-use Rattle.std.proofs.Common.{◌≡◌, List, [], ◌∷◌, ℕ, sym, ◌∙◌, subst}
+use Rattle.std.proofs.Common.{◌≡◌, List, [], ◌∷◌, ℕ, ap, length, sym, ◌∙◌, subst}
 use Rattle.stow_core.specs.Prepared.{CanGive, IsPrepared, IsPriced, after_given, gives, next_number}
 use Rattle.stow_core.specs.State.{CoreState, store_of, row_at, Keeps}
 use Rattle.stow_core.specs.Writes.{given_op}
@@ -44,7 +44,7 @@ prepare_write-requires-clause-priced g c =
     let ch = c.charge_of_write-charge.result in
     let keys : c.in_ok-keys.keys ≡ key ∷ [] = c.in_ok-keys.ensures.key in
     let change = c.row_change-change.ensures in
-    let told = told_change old t (own_key key) op c.row_change-change.result change.key (change.before ∙ c.requires.row) c.requires.short (λ row is. change.after row (sym change.before ∙ is)) in
+    let told = told_change old t (own_key key) op c.row_change-change.result (change.key ∙ ap (λ (k : List ℕ). length (own_key k)) c.as_slice.ensures.value) (change.before ∙ c.requires.row) c.requires.short (λ row is. change.after row (sym change.before ∙ is)) in
     let priced : IsPriced old t ch (after_given (key ∷ []) op (store_of old t)) = priced_row old t key op ch (c.charge_of_write-charge.ensures (own_key key) op told) in
     subst (λ (ks : List (List ℕ)). IsPriced c.only_key.new.self t ch (after_given ks op (store_of c.only_key.new.self t))) (sym keys)
     (subst (λ (s : CoreState). IsPriced s t ch (after_given (key ∷ []) op (store_of s t))) (sym c.in_ok-keys.ensures.same) priced)
