@@ -144,11 +144,7 @@ impl<A: Allocator + Copy> Core<A> {
 
 /// What a write changes of the row of a key, which is one among the keys of all.
 #[inline(always)]
-fn row_change(
-    key: &[u8],
-    before: Option<SizedVersion>,
-    given: &Given<'_>,
-) -> RowChange
+fn row_change(key: &[u8], before: Option<SizedVersion>, given: &Given<'_>) -> RowChange
     requires { IsTenantKey key.now }
     ensures key { result.key ≡ length (own_key key.now) }
     ensures before { result.before ≡ before }
