@@ -155,13 +155,8 @@ pub fn sum(amount: i64, present: Option<&[u8]>) -> Result<i64, Refusal>
     ensures { IsSum result
         (meant.sum_outcome (meant.stored_number (value_of present.entry)) amount) }
 {
-    let Some(stored) = stored_number(present) else {
-        return Err(Refusal::NotAnInteger);
-    };
-    match stored.checked_add(amount) {
-        Some(sum) => Ok(sum),
-        None => Err(Refusal::Overflow),
-    }
+    let stored = stored_number(present).ok_or(Refusal::NotAnInteger)?;
+    stored.checked_add(amount).ok_or(Refusal::Overflow)
 }
 
 fn stored_number(present: Option<&[u8]>) -> Option<i64>

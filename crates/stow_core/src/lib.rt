@@ -9,9 +9,9 @@
 //! Rows stand in the order of packed keys, each the tenant's index and then its own key, so a tenant's rows
 //! stand together, in the order of its keys. A write is a message to the tree for each of its keys, with the tenant's
 //! next number: `prepare` makes the room for them, which may move other messages towards the leaves, and `commit` puts
-//! them. What they carry is lent from the request, but for the text of a sum. An APPEND's message has its suffix alone. A snapshot is
-//! an id with the number of the last write, its pin: messages that a pin shows stay readable when others are merged. What
-//! a tenant is charged is kept as its changes come, and looked at before room is made.
+//! them. What they carry is lent from the request, but for the text of a sum. An APPEND's message has its suffix alone. A
+//! snapshot is an id with the number of the last write, its pin: messages that a pin shows stay readable when others are
+//! merged. What a tenant is charged is kept as its changes come, and looked at before room is made.
 //!
 //! An APPEND, a STRLEN, an EXISTS, a SET and a DEL ask for no value: the key's newest message tells the number of its row,
 //! and the length where the value is whole there. The length of a value that appends make is kept in a table of 1 MiB, by the

@@ -14,6 +14,9 @@ use stow_slots::slot_buf::SlotBuf;
 /// How many bytes of a buffer there are for each word.
 const BYTES: usize = 96;
 
+/// How many words are moved at once at least: fewer take no longer one by one.
+const FEWEST_AT_ONCE: usize = 16;
+
 /// A word of each message whose slot isn't young, in the order of the slots, as far as there is room: the lower half of its tenant's
 /// index, and some of the key behind what all keys share behind that index. They rise as the keys do, but where tenants are
 /// more than 65,536. They are a hint: nothing is known of them, and what is found by them is looked at.
@@ -181,12 +184,24 @@ impl<A: Allocator> KeyWords<A> {
         back[by - count..by].copy_from_slice(&front[end - count..]);
     }
 
-    /// Moves the words from one place on and before another up by so many places, the last ones first, as many at once as come to lie
-    /// behind all of them. Those beyond the room are lost.
+    /// Moves the words from one place on and before another up by so many places. Those beyond the room are lost.
     fn move_up(&mut self, from: usize, end: usize, by: usize) {
-        let mut end = end.min(self.words.len().saturating_sub(by));
+        let end = end.min(self.words.len().saturating_sub(by));
+        if from >= end {
+            return;
+        }
+        if by < FEWEST_AT_ONCE {
+            self.words.copy_within(from..end, from + by);
+        } else {
+            self.move_blocks_up(from, end, by);
+        }
+    }
+
+    /// The same where so many words are there behind them: the last ones first, as many at once as come to lie behind all of them.
+    fn move_blocks_up(&mut self, from: usize, end: usize, by: usize) {
+        let mut end = end;
         for _ in 0..self.words.len() {
-            if from >= end || by == 0 {
+            if from >= end {
                 return;
             }
             let count = by.min(end - from);
