@@ -3,7 +3,7 @@ use Rattle.std.proofs.Common.{zero, suc, ◌≡◌, ℕ, ◌+◌, ◌<◌, ◌�
 use Rattle.std.proofs.lemmas.Bool.Decides.{nat_tests}
 use Rattle.std.specs.Prelude.{nat_lt}
 use Rattle.std.proofs.lemmas.List.{length-map, get_or-map}
-use Rattle.stow_node.specs.Parts.{Part, low_or, end_of, high_of, IsFor}
+use Rattle.stow_node.specs.Parts.{Part, low_or, end_of, high_of, IsFor, LiesBetween}
 use Rattle.stow_leaf.specs.Intervals.{top_key, spans}
 use Rattle.stow_node.specs.declared.child.Child.{Child}
 use Rattle.stow_node.specs.Nodes.{part_of, parts_of}
@@ -22,13 +22,6 @@ end_of-last high [] i h = refl
 end_of-last high (p ∷ []) zero h = refl
 end_of-last high (p ∷ q ∷ qs) zero h = absurd (omega arith)
 end_of-last high (p ∷ ps) (suc i) h = end_of-last high ps i (omega arith)
-
--- the part for the key is from the one place on and before the other
-pub record LiesBetween (ps : List Part) (key : List ℕ) (at end : ℕ) : Type 0 where
-  pub order : at < end
-  pub inside : end ≤ length ps
-  pub from : (d : Part) → lt key (get_or ps at d).low ≡ false
-  pub below : end < length ps → (d : Part) → lt key (get_or ps end d).low ≡ true
 
 pub at_first : (ps : List Part) (key : List ℕ) → 0 < length ps → spans (low_or top_key ps) top_key key ≡ true → LiesBetween ps key 0 (length ps)
 at_first [] key h s = absurd (omega arith)

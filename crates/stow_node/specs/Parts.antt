@@ -1,6 +1,7 @@
 -- Children in a row, which share out the keys between them.
-use Rattle.std.specs.Prelude.{◌≡◌, ℕ, zero, suc, ◌<◌, slice_index_or, List, [], ◌∷◌, true, length}
+use Rattle.std.specs.Prelude.{◌≡◌, ℕ, zero, suc, ◌<◌, ◌≤◌, slice_index_or, List, [], ◌∷◌, true, false, length}
 use Rattle.std.specs.declared.cmp.Ordering.TheVariants.{Less}
+use Rattle.std.specs.Ordering.{is_lt}
 use Rattle.std.specs.List.{AllByRecursion, flat_map, sum_by}
 use Rattle.stow_bytes.specs.Bytes.{bytes_cmp}
 use Rattle.stow_tree_model.specs.TreeMessage.{TreeMessage}
@@ -56,3 +57,11 @@ weight_in parts = sum_by (λ p. p.weight) parts
 pub record IsFor (ps : List Part) (key : List ℕ) (i : ℕ) : Type 0 where
   pub inside : i < length ps
   pub spanned : (d : Part) → spans (slice_index_or ps i d).low (high_of ps i) key ≡ true
+
+-- the part for the key is from the one place on and before the other
+pub record LiesBetween (ps : List Part) (key : List ℕ) (at end : ℕ) : Type 0 where
+  pub order : at < end
+  pub inside : end ≤ length ps
+  pub from : (d : Part) → is_lt (bytes_cmp key (slice_index_or ps at d).low) ≡ false
+  pub below : end < length ps → (d : Part)
+      → is_lt (bytes_cmp key (slice_index_or ps end d).low) ≡ true

@@ -4,7 +4,7 @@ ghost use Rattle.std.specs.Ordering.{is_lt};
 ghost use Rattle.stow_bytes.specs.Bytes.{bytes_cmp};
 ghost use Rattle.stow_node.specs.Nodes.{part_of, parts_of};
 ghost use Rattle.stow_node.specs.Moves.{AreReallocated, IsReallocatedChild};
-ghost use Rattle.stow_node.specs.Parts.{low_or, high_of, IsFor};
+ghost use Rattle.stow_node.specs.Parts.{low_or, high_of, IsFor, LiesBetween};
 ghost use Rattle.stow_leaf.specs.Intervals.{top_key, spans};
 
 use crate::node::Node;
@@ -56,6 +56,7 @@ pub(crate) fn close_all<A: Allocator + Copy>(alloc: A, children: &mut [Child<A>]
 }
 
 /// Whether the key stands below a fence.
+#[inline(always)]
 fn is_below(key: TenantKey<'_>, fence: TenantKey<'_>) -> bool
     ensures { result ≡ is_lt (bytes_cmp key.entry.bytes.now fence.entry.bytes.now) }
 {
@@ -65,13 +66,44 @@ fn is_below(key: TenantKey<'_>, fence: TenantKey<'_>) -> bool
     }
 }
 
-/// The place of the child for a key: the last one whose fence is at most the key.
-pub fn child_for<A: Allocator>(children: &[Child<A>], key: TenantKey<'_>) -> usize
+/// The places from the first one on and before the second, if the child for the key stands there, or else all.
+#[inline(always)]
+fn narrowed<A: Allocator>(
+    children: &[Child<A>],
+    key: TenantKey<'_>,
+    span: (usize, usize),
+) -> (usize, usize)
+    requires some { 0 < length children.now }
+    requires within { spans (low_or top_key (parts_of children.now)) top_key key.bytes.now ≡ true }
+    ensures { LiesBetween (parts_of children.now) key.entry.bytes.now result.0 result.1 }
+{
+    let all = (0, children.len());
+    let (from, to) = (span.0, span.1.min(children.len()));
+    if from >= to {
+        return all;
+    }
+    if from > 0 && is_below(key, children[from].low()) {
+        return all;
+    }
+    if to < children.len() && !is_below(key, children[to].low()) {
+        return all;
+    }
+    (from, to)
+}
+
+/// The place of the child for a key: the last one whose fence is at most the key. It is found by few looks where it is from the first place
+/// of the span on and before the second.
+#[inline(always)]
+pub fn child_within<A: Allocator>(
+    children: &[Child<A>],
+    key: TenantKey<'_>,
+    span: (usize, usize),
+) -> usize
     requires some { 0 < length children.now }
     requires within { spans (low_or top_key (parts_of children.now)) top_key key.bytes.now ≡ true }
     ensures { IsFor (parts_of children.now) key.entry.bytes.now result }
 {
-    let (mut at, mut end) = (0, children.len());
+    let (mut at, mut end) = narrowed(children, key, span);
     while end - at > 1 {
         let middle = at + (end - at) / 2;
         if is_below(key, children[middle].low()) {
@@ -81,6 +113,15 @@ pub fn child_for<A: Allocator>(children: &[Child<A>], key: TenantKey<'_>) -> usi
         }
     }
     at
+}
+
+/// The place of the child for a key.
+pub fn child_for<A: Allocator>(children: &[Child<A>], key: TenantKey<'_>) -> usize
+    requires some { 0 < length children.now }
+    requires within { spans (low_or top_key (parts_of children.now)) top_key key.bytes.now ≡ true }
+    ensures { IsFor (parts_of children.now) key.entry.bytes.now result }
+{
+    child_within(children, key, (0, children.len()))
 }
 
 /// Where the keys of the child at `index` end.

@@ -1,16 +1,19 @@
-//! Where a node's keys begin.
+//! Where a node's keys begin, and its children's.
 ghost use Rattle.std.specs.Prelude.{◌≡◌, ◌≤◌, []};
 ghost use Rattle.std.specs.Vec.{vec_capacity};
 
+use crate::child::Child;
+use crate::child_words::ChildWords;
 use std::alloc::{Allocator, Global};
 use std::marker::Model;
 use stow_bytes::byte_string::ByteString;
 use stow_tree_model::tenant_key::TenantKey;
 
-/// The lowest key that a node may hold.
+/// The lowest key that a node may hold, with a hint of where its children's keys begin.
 #[derive(Drop)]
 pub(crate) struct Fence<A: Allocator = Global> {
     bytes: ByteString<A>,
+    words: ChildWords,
 }
 
 impl<A: Allocator> Model for Fence<A> {
@@ -34,7 +37,21 @@ impl<A: Allocator> Fence<A> {
         bytes.extend_from_slice(key.bytes).unwrap();
         Fence {
             bytes: ByteString::from_vec(bytes),
+            words: ChildWords::none(),
         }
+    }
+
+    /// Has the hint say where these children begin.
+    pub(crate) fn note(&mut self, children: &[Child<A>])
+        ensures { self.new ≡ self.old }
+    {
+        self.words = ChildWords::of(children);
+    }
+
+    /// Between which children the key's may stand, by the hint: from the first one on, before the second.
+    #[inline(always)]
+    pub(crate) fn span_for(&self, key: TenantKey<'_>) -> (usize, usize) {
+        self.words.span_for(key)
     }
 
     /// The key, lent.

@@ -47,6 +47,7 @@
 
 mod absorbing;
 pub mod child;
+mod child_words;
 mod coming;
 mod counting;
 mod fence;

@@ -119,8 +119,10 @@ impl<A: Allocator + Copy> Node<A> {
         let _known = self.buffer.len();
         let _known = self.buffer.used();
         let (list, mut buffer, fence) = shell.into_parts();
-        let low = Fence::copied(fence, self.children[at].low());
+        let mut low = Fence::copied(fence, self.children[at].low());
         let children = moved_from(&mut self.children, at, list);
+        low.note(children.as_slice());
+        self.low.note(self.children.as_slice());
         self.buffer.move_range(low.as_key(), top_key(), &mut buffer);
         Node {
             low,
@@ -157,11 +159,12 @@ impl<A: Allocator + Copy> Node<A> {
         Ok(())
     }
 
-    /// Each child that holds no message gives its block back (`close`).
+    /// Each child that holds no message gives its block back (`close`), and where they begin is noted.
     fn close_children(&mut self, alloc: A)
         ensures { self.new ≡ self.old }
     {
         close_all(alloc, &mut self.children);
+        self.low.note(self.children.as_slice());
     }
 
     /// Children that hold no message give their blocks back. Then it is cut, where it has too many children, into as few nodes as
@@ -491,6 +494,12 @@ impl<A: Allocator> Node<A> {
         ensures { AreChildren self.now result.now }
     {
         self.children.as_slice()
+    }
+
+    /// Between which children the one for a key may stand, for `child_within`: from the first one on, before the second.
+    #[inline(always)]
+    pub fn span_for(&self, key: TenantKey<'_>) -> (usize, usize) {
+        self.low.span_for(key)
     }
 
     /// Whether there is room for the message in its own buffer.

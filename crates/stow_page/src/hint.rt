@@ -9,15 +9,55 @@ const FEWEST: usize = 16;
 const MOST: usize = 50_000;
 
 /// How many cells may be a key's.
-const PROBES: usize = 8;
+const PROBES: usize = 24;
 
-/// Cells in which the index of a key's newest row is found by the hash of the key. A cell is a guess, which is believed only
-/// after a look at the row, so nothing is claimed of it.
+/// Where a key's newest row may stand.
+#[derive(Clone, Copy)]
+pub(crate) struct Guess {
+    /// Its index among the rows, or one beyond all.
+    pub(crate) index: usize,
+    /// At how many bytes of the block its entry begins.
+    pub(crate) place: usize,
+}
+
+impl Guess {
+    /// No row.
+    fn none() -> Guess {
+        Guess {
+            index: usize::MAX,
+            place: 0,
+        }
+    }
+}
+
+/// The guess for one key.
+#[derive(Clone, Copy)]
+struct Cell {
+    /// The row's index and 1, or 0 in a free cell.
+    named: u16,
+    /// Bits of the key's hash.
+    tag: u16,
+    /// Where the row's entry begins.
+    place: u32,
+}
+
+impl Cell {
+    /// A cell that is free.
+    fn free() -> Cell {
+        Cell {
+            named: 0,
+            tag: 0,
+            place: 0,
+        }
+    }
+}
+
+/// Cells in which a key's newest row is found by the hash of the key. A cell is a guess, which is believed only after a look at the
+/// row, so nothing is claimed of it.
 #[derive(Drop)]
 pub(crate) struct Hint<A: Allocator = Global> {
-    /// A power of two of cells, or none. One that is taken has the index and 1 in as many low bits as the cells' numbers
-    /// have, and above them bits of the hash.
-    cells: Vec<u16, A>,
+    /// None, or three for two rows, and behind them those that only the keys of the last ones reach.
+    cells: Vec<Cell, A>,
 }
 
 impl<A: Allocator> Hint<A> {
@@ -33,63 +73,63 @@ impl<A: Allocator> Hint<A> {
         if rows < FEWEST || rows > MOST {
             return Ok(());
         }
-        self.cells.resize((rows + rows / 4).next_power_of_two(), 0)
+        self.cells.resize(rows + rows / 2 + PROBES, Cell::free())
     }
 
-    /// Writes the index of the newest row of a key, which has this hash, into the first of its cells that is free, if one is.
-    pub(crate) fn note(&mut self, hash: u64, index: usize) {
-        let last = self.cells.len().saturating_sub(1);
+    /// The number of the first cell that may be a key's of this hash.
+    #[inline(always)]
+    fn first_for(&self, hash: u64) -> usize {
+        let count = self.cells.len().saturating_sub(PROBES) as u64;
+        ((hash & 0xffff_ffff).wrapping_mul(count) >> 32) as usize
+    }
+
+    /// Writes the index of the newest row of a key, which has this hash, and where its entry begins into the first of the key's cells
+    /// that is free, if one is.
+    pub(crate) fn note(&mut self, hash: u64, index: usize, place: u32) {
+        let first = self.first_for(hash);
         let Ok(named) = u16::try_from(index.saturating_add(1)) else {
             return;
         };
         for probe in 0..PROBES {
-            let Some(cell) = self.cells.get_mut(cell_of(hash, probe, last)) else {
+            let Some(cell) = self.cells.get_mut(first.saturating_add(probe)) else {
                 return;
             };
-            if *cell == 0 {
-                *cell = tag_of(hash, last) | named;
+            if cell.named == 0 {
+                *cell = Cell {
+                    named,
+                    tag: tag_of(hash),
+                    place,
+                };
                 return;
             }
         }
     }
 
-    /// The index of the row that may be the key's newest, or one beyond all rows.
+    /// Where the key's newest row may stand.
     #[inline(always)]
-    pub(crate) fn index_of(&self, key: &[u8]) -> usize {
-        let Some(last) = self.cells.len().checked_sub(1) else {
-            return usize::MAX;
-        };
+    pub(crate) fn guess(&self, key: &[u8]) -> Guess {
         let hash = hash(key);
-        let tag = tag_of(hash, last);
-        let low = low_bits(last);
+        let first = self.first_for(hash);
+        let tag = tag_of(hash);
         for probe in 0..PROBES {
-            let cell = self
-                .cells
-                .get(cell_of(hash, probe, last))
-                .copied()
-                .unwrap_or(0);
-            if cell == 0 {
-                return usize::MAX;
+            let Some(cell) = self.cells.get(first.saturating_add(probe)) else {
+                return Guess::none();
+            };
+            if cell.named == 0 {
+                return Guess::none();
             }
-            if cell & !low == tag {
-                return usize::from(cell & low).wrapping_sub(1);
+            if cell.tag == tag {
+                return Guess {
+                    index: usize::from(cell.named) - 1,
+                    place: cell.place as usize,
+                };
             }
         }
-        usize::MAX
+        Guess::none()
     }
 }
 
-/// The number of the cell that is looked at after so many others, where the last cell has this number.
-fn cell_of(hash: u64, probe: usize, last: usize) -> usize {
-    (hash as usize).wrapping_add(probe) & last
-}
-
-/// The bits of a cell that tell an index.
-fn low_bits(last: usize) -> u16 {
-    last.min(65_535) as u16
-}
-
-/// The bits of the hash that stand in a cell.
-fn tag_of(hash: u64, last: usize) -> u16 {
-    (hash >> 48) as u16 & !low_bits(last)
+/// The bits of a hash that stand in a cell.
+fn tag_of(hash: u64) -> u16 {
+    (hash >> 48) as u16
 }

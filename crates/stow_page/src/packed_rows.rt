@@ -11,7 +11,7 @@ ghost use Rattle.stow_page.specs.declared.format.Format.TheVariants.{Two};
 use crate::entry::{append_entry, entry_size, format_of, lent_version};
 use crate::format::Format;
 use crate::hashed_key::HashedKey;
-use crate::hint::Hint;
+use crate::hint::{Guess, Hint};
 use std::alloc::{AllocError, Allocator, Global};
 use std::cmp::Ordering;
 use std::marker::Model;
@@ -369,7 +369,7 @@ impl<A: Allocator> PackedRows<A> {
         if let Some(count) = self.count_at(key, number, guess) {
             return count;
         }
-        if let Some(count) = self.count_at(key, number, self.hint.index_of(key.bytes)) {
+        if let Some(count) = self.count_at(key, number, self.hint.guess(key.bytes).index) {
             return count;
         }
         self.count_up_to(key, number)
@@ -383,26 +383,50 @@ impl<A: Allocator> PackedRows<A> {
         if guess <= self.len() {
             return self.version_near(key, number, guess);
         }
-        let index = self.hint.index_of(key.bytes);
-        if self.is_newest(index, key, number) {
-            return Some(self.get(index));
+        let guess = self.hint.guess(key.bytes);
+        if let Some(version) = self.newest_at(guess, key, number) {
+            return Some(version);
         }
         if !self.filter.may_have(key.bytes) {
             return None;
         }
-        self.version_near(key, number, index)
+        self.version_near(key, number, guess.index)
     }
 
-    /// Whether the newest version of the key numbered at most this stands at the index.
-    fn is_newest(&self, index: usize, key: TenantKey<'_>, number: u64) -> bool
-        ensures within { IsTrue result → index < length self.now }
-        ensures newest { IsTrue result
-            → slice_get self.now index ≡ version_at self.now key.entry.bytes.now number }
+    /// The version that a guess names, lent, if its entry begins where the guess says. That is where it is read, which doesn't wait for the
+    /// list of places.
+    #[inline(always)]
+    fn guessed(&self, guess: Guess) -> Option<Version<'_>>
+        ensures { IfSome result (λ version. slice_get self.now guess.index
+            ≡ Some (version_of version)) }
     {
-        if index >= self.len() || !is_up_to(self.get(index), key, number) {
-            return false;
+        if guess.index >= self.places.len() || guess.place != self.places[guess.index] as usize {
+            return None;
         }
-        index + 1 == self.len() || !is_up_to(self.get(index + 1), key, number)
+        let entries = self.bytes.as_slice().split_at(guess.place).1;
+        Some(lent_version(self.format, entries))
+    }
+
+    /// The version that a guess names, lent, if it is the newest of the key numbered at most this.
+    #[inline(always)]
+    fn newest_at(&self, guess: Guess, key: TenantKey<'_>, number: u64) -> Option<Version<'_>>
+        ensures { IfSome result (λ version. Some (version_of version)
+            ≡ version_at self.now key.entry.bytes.now number) }
+    {
+        let version = self.guessed(guess)?;
+        if !is_up_to(version, key, number) {
+            return None;
+        }
+        let len = self.len();
+        let next = guess.index + 1;
+        if next == len {
+            return Some(version);
+        }
+        if is_up_to(self.get(next), key, number) {
+            None
+        } else {
+            Some(version)
+        }
     }
 
     /// The newest version of the key numbered at most this, lent, by a search that begins at the guess.
@@ -448,24 +472,26 @@ fn noted<A: Allocator>(
     for index in 0..places.len() {
         let key = HashedKey::new(lent_at(format, bytes, places, index).key.bytes);
         filter.add_hashed(key.bytes, key.hash);
-        note_before(hint, index, last, Some(key));
+        note_before(hint, places, index, last, Some(key));
         last = Some(key);
     }
-    note_before(hint, places.len(), last, None);
+    note_before(hint, places, places.len(), last, None);
     Ok(filter)
 }
 
-/// Notes where the last row before a place stands, if it is the newest of its key: the next one isn't of that key.
+/// Notes the last row before one with this index, if it is the newest of its key: the next one isn't of that key.
 #[inline(always)]
 fn note_before<A: Allocator>(
     hint: &mut Hint<A>,
-    place: usize,
+    places: &[u32],
+    index: usize,
     last: Option<HashedKey<'_>>,
     next: Option<HashedKey<'_>>,
 ) {
-    if let Some(last) = last {
+    let index = index.saturating_sub(1);
+    if let (Some(last), Some(place)) = (last, places.get(index)) {
         if !last.is(next) {
-            hint.note(last.hash, place.saturating_sub(1));
+            hint.note(last.hash, index, *place);
         }
     }
 }

@@ -8,17 +8,18 @@ ghost use Rattle.stow_read.specs.Descent.{LeadsDown, LeadsAllTo};
 use std::alloc::Allocator;
 use stow_bytes::compare::compare;
 use stow_leaf::ends::top_key;
-use stow_node::child::{Child, child_for, high_after};
+use stow_node::child::{Child, child_within, high_after};
 use stow_node::node::Node;
 use stow_tree_model::tenant_key::TenantKey;
 
 /// What stands below a node for the key.
+#[inline(always)]
 pub(crate) fn below<'a, A: Allocator>(node: &'a Node<A>, key: TenantKey<'_>) -> &'a Child<A>
     requires { spans node.now.low top_key key.bytes.now ≡ true }
     ensures { LeadsDown node.now key.entry.bytes.now result.now }
 {
     let children = node.children();
-    &children[child_for(children, key)]
+    &children[child_within(children, key, node.span_for(key))]
 }
 
 /// What stands below a node for a key, and where the keys end that it stands there for.
@@ -29,6 +30,7 @@ pub(crate) struct Underneath<'a, A: Allocator> {
 }
 
 /// What stands below a node for the key and those behind it.
+#[inline(always)]
 pub(crate) fn below_until<'a, A: Allocator>(
     node: &'a Node<A>,
     key: TenantKey<'_>,
@@ -37,7 +39,7 @@ pub(crate) fn below_until<'a, A: Allocator>(
     ensures { LeadsAllTo node.now key.entry.bytes.now result.high.bytes.now result.child.now }
 {
     let children = node.children();
-    let at = child_for(children, key);
+    let at = child_within(children, key, node.span_for(key));
     Underneath {
         child: &children[at],
         high: high_after(children, at),

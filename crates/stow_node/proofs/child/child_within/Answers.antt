@@ -4,7 +4,7 @@ use Rattle.std.proofs.lemmas.List.{length-map}
 use Rattle.stow_node.specs.Nodes.{part_of, parts_of}
 use Rattle.stow_leaf.proofs.Intervals.{lt}
 use Rattle.stow_node.proofs.Places.{at_first, low_spans, is_for, upper_half, lower_half}
-use Rattle.stow_node.proofs.child.child_for.Goals as goal
+use Rattle.stow_node.proofs.child.child_within.Goals as goal
 
 pub loop-end-init : goal.loop-end-init
 loop-end-init g c = rw (← length-map c.args.children.now part_of) (at_first (parts_of c.args.children.now) c.args.key.bytes.now (let some = c.requires.some in omega (arith, length-map c.args.children.now part_of)) c.requires.within)
