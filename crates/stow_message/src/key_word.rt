@@ -1,6 +1,8 @@
 //! The word of one key.
-ghost use Rattle.std.specs.Prelude.{◌≤◌, length};
+ghost use Rattle.std.specs.Prelude.{◌+◌, ◌≤◌, length};
 
+use std::cmp::Ordering;
+use stow_bytes::compare::compare;
 use stow_slots::quartering::{Sought, step_if};
 
 /// Where a key's own bytes begin, behind its tenant's index.
@@ -9,10 +11,13 @@ const INDEX: usize = 4;
 /// How many own bytes of a key a word has.
 const OWN: usize = 10;
 
+/// How many bytes are read at once.
+const EIGHT: usize = 8;
+
 /// The lower half of a tenant's index, and ten bytes of a key behind some that are left out, but for the last bit: 95 bits, in a front
 /// of 63 and a back of 32, so that two words are compared by two numbers each. Words rise as those bytes do.
 #[derive(Clone, Copy)]
-pub(crate) struct KeyWord {
+pub struct KeyWord {
     front_low: u32,
     front_high: u32,
     back: u32,
@@ -20,11 +25,25 @@ pub(crate) struct KeyWord {
 
 /// A key's bytes behind its tenant's index.
 #[inline(always)]
-pub(crate) fn own(key: &[u8]) -> &[u8] {
+pub fn own(key: &[u8]) -> &[u8] {
     if key.len() < INDEX {
         return &[];
     }
     &key[INDEX..]
+}
+
+/// How many bytes at the front of both are the same, of so many.
+pub fn shared_of(one: &[u8], other: &[u8], most: usize) -> usize {
+    let most = most.min(one.len()).min(other.len());
+    if compare(&one[..most], &other[..most]) == Ordering::Equal {
+        return most;
+    }
+    for i in 0..most {
+        if one[i] != other[i] {
+            return i;
+        }
+    }
+    most
 }
 
 /// The first ten of these bytes as a number, the highest first.
@@ -36,6 +55,23 @@ fn ten(bytes: &[u8]) -> u128
         bytes[2], bytes[3], bytes[4], bytes[5], bytes[6], bytes[7], bytes[8], bytes[9],
     ]);
     (u128::from(high) << 64) | u128::from(low)
+}
+
+/// The eight bytes from a place on as a number, the highest first.
+#[inline(always)]
+fn eight_at(bytes: &[u8], at: usize) -> u64
+    requires { at + 8 ≤ length bytes.now }
+{
+    u64::from_be_bytes([
+        bytes[at],
+        bytes[at + 1],
+        bytes[at + 2],
+        bytes[at + 3],
+        bytes[at + 4],
+        bytes[at + 5],
+        bytes[at + 6],
+        bytes[at + 7],
+    ])
 }
 
 /// The bytes as a number, and zeros behind them where they are fewer than ten.
@@ -63,6 +99,19 @@ fn number_behind(key: &[u8], shared: usize) -> u128 {
     }
     let last = ten(&key[key.len() - OWN..]);
     (last << (8 * (OWN - left))) & ((1 << 80) - 1)
+}
+
+/// The first eight of the ten own bytes of a key behind so many, as `number_behind` reads them.
+#[inline(always)]
+fn eight_behind(key: &[u8], shared: usize) -> u64 {
+    let left = key.len().saturating_sub(INDEX).saturating_sub(shared);
+    if left >= EIGHT {
+        return eight_at(key, key.len() - left);
+    }
+    if left == 0 || key.len() < EIGHT {
+        return ((number_behind(key, shared) << 48) >> 64) as u64;
+    }
+    eight_at(key, key.len() - EIGHT) << (8 * (EIGHT - left))
 }
 
 impl KeyWord {
@@ -94,6 +143,16 @@ impl KeyWord {
         let tenant = u16::from_be_bytes([key[2], key[3]]);
         let bits = (u128::from(tenant) << 80) | number_behind(key, shared);
         ((bits >> 33) << 64) | ((bits >> 1) & 0xffff_ffff)
+    }
+
+    /// The front of a key's word, read at once: its number's upper half.
+    #[inline(always)]
+    pub fn front_of(key: &[u8], shared: usize) -> u64 {
+        if key.len() < INDEX {
+            return 0;
+        }
+        let tenant = u16::from_be_bytes([key[2], key[3]]);
+        (u64::from(tenant) << 47) | (eight_behind(key, shared) >> 17)
     }
 
     /// The word as one number: its front in the upper half, whose highest bit is 0, and its back in the lower.

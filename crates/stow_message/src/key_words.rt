@@ -2,7 +2,7 @@
 ghost use Rattle.std.specs.Prelude.{Contains, IfSome};
 ghost use Rattle.stow_message.specs.MessageBuf.{IsPackedBuffer};
 
-use crate::key_word::{KeyWord, WordOf, own};
+use crate::key_word::{KeyWord, WordOf, own, shared_of};
 use crate::run::Run;
 use crate::slots::key_at;
 use std::alloc::{AllocError, Allocator, Global};
@@ -25,20 +25,6 @@ pub(crate) struct KeyWords<A: Allocator = Global> {
     words: Vec<KeyWord, A>,
     /// How many own bytes all keys share that have a word.
     shared: usize,
-}
-
-/// How many bytes at the front of both are the same, of so many.
-fn shared_of(one: &[u8], other: &[u8], most: usize) -> usize {
-    let most = most.min(one.len()).min(other.len());
-    if compare(&one[..most], &other[..most]) == Ordering::Equal {
-        return most;
-    }
-    for i in 0..most {
-        if one[i] != other[i] {
-            return i;
-        }
-    }
-    most
 }
 
 /// The own bytes of the key of a slot, none where there is no slot.

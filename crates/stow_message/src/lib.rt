@@ -16,7 +16,7 @@ mod beside;
 pub mod copying;
 mod guessing;
 pub mod head;
-mod key_word;
+pub mod key_word;
 mod key_words;
 pub mod laws;
 mod marking;

@@ -1,10 +1,10 @@
 //! What stands below a node.
-ghost use Rattle.std.specs.Prelude.{◌≡◌, ◌<◌, length, true};
+ghost use Rattle.std.specs.Prelude.{◌≡◌, ◌<◌, ◌≤◌, IsTrue, length, slice_index_or, true, false};
 ghost use Rattle.std.specs.Ordering.{is_lt};
 ghost use Rattle.stow_bytes.specs.Bytes.{bytes_cmp};
 ghost use Rattle.stow_node.specs.Nodes.{part_of, parts_of};
 ghost use Rattle.stow_node.specs.Moves.{AreReallocated, IsReallocatedChild};
-ghost use Rattle.stow_node.specs.Parts.{low_or, high_of, IsFor, LiesBetween};
+ghost use Rattle.stow_node.specs.Parts.{Part, low_or, high_of, IsFor, LiesBetween};
 ghost use Rattle.stow_leaf.specs.Intervals.{top_key, spans};
 
 use crate::node::Node;
@@ -66,6 +66,34 @@ fn is_below(key: TenantKey<'_>, fence: TenantKey<'_>) -> bool
     }
 }
 
+/// Whether the child for the key stands at a place or behind it.
+#[inline(always)]
+fn is_from<A: Allocator>(children: &[Child<A>], key: TenantKey<'_>, at: usize) -> bool
+    requires there { at < length children.now }
+    requires within { spans (low_or top_key (parts_of children.now)) top_key key.bytes.now ≡ true }
+    ensures { IsTrue result → (d : Part) → is_lt (bytes_cmp key.entry.bytes.now
+        (slice_index_or (parts_of children.now) at d).low) ≡ false }
+{
+    if at == 0 {
+        return true;
+    }
+    !is_below(key, children[at].low())
+}
+
+/// Whether the child for the key stands before a place.
+#[inline(always)]
+fn is_before<A: Allocator>(children: &[Child<A>], key: TenantKey<'_>, end: usize) -> bool
+    requires { end ≤ length children.now }
+    ensures { IsTrue result → end < length (parts_of children.now) → (d : Part)
+        → is_lt (bytes_cmp key.entry.bytes.now
+        (slice_index_or (parts_of children.now) end d).low) ≡ true }
+{
+    if end == children.len() {
+        return true;
+    }
+    is_below(key, children[end].low())
+}
+
 /// The places from the first one on and before the second, if the child for the key stands there, or else all.
 #[inline(always)]
 fn narrowed<A: Allocator>(
@@ -77,18 +105,12 @@ fn narrowed<A: Allocator>(
     requires within { spans (low_or top_key (parts_of children.now)) top_key key.bytes.now ≡ true }
     ensures { LiesBetween (parts_of children.now) key.entry.bytes.now result.0 result.1 }
 {
-    let all = (0, children.len());
     let (from, to) = (span.0, span.1.min(children.len()));
-    if from >= to {
-        return all;
+    if from < to && is_from(children, key, from) && is_before(children, key, to) {
+        (from, to)
+    } else {
+        (0, children.len())
     }
-    if from > 0 && is_below(key, children[from].low()) {
-        return all;
-    }
-    if to < children.len() && !is_below(key, children[to].low()) {
-        return all;
-    }
-    (from, to)
 }
 
 /// The place of the child for a key: the last one whose fence is at most the key. It is found by few looks where it is from the first place

@@ -1,13 +1,12 @@
-use Rattle.std.proofs.lemmas.Grind.{common_steps}
 use Rattle.std.proofs.Common.{◌+◌, ◌-◌, ◌/◌, arith, ap, ◌∙◌, sym}
 use Rattle.std.proofs.lemmas.List.{length-map}
 use Rattle.stow_node.specs.Nodes.{part_of, parts_of}
 use Rattle.stow_leaf.proofs.Intervals.{lt}
-use Rattle.stow_node.proofs.Places.{at_first, low_spans, is_for, upper_half, lower_half}
+use Rattle.stow_node.proofs.Places.{low_spans, is_for, upper_half, lower_half}
 use Rattle.stow_node.proofs.child.child_within.Goals as goal
 
 pub loop-end-init : goal.loop-end-init
-loop-end-init g c = rw (← length-map c.args.children.now part_of) (at_first (parts_of c.args.children.now) c.args.key.bytes.now (let some = c.requires.some in omega (arith, length-map c.args.children.now part_of)) c.requires.within)
+loop-end-init g c = c.narrowed-at.ensures
 
 pub loop-end-preserved-then-is_below : goal.loop-end-preserved-then-is_below
 loop-end-preserved-then-is_below g c =
@@ -25,7 +24,7 @@ pub returns : goal.returns
 returns g c = is_for (parts_of c.args.children.now) c.args.key.bytes.now c.loop-end.at c.loop-end.end c.loop-end.invariant (let t = c.loop-end-test.false in omega arith) (low_spans (parts_of c.args.children.now) c.args.key.bytes.now c.requires.within)
 
 pub offset_bounds-children-middle : goal.offset_bounds-children-middle
-offset_bounds-children-middle g c = grind (arith, common_steps)
+offset_bounds-children-middle g c = let i = c.loop-end.invariant.inside in let t = c.loop-end-test.true in omega (arith, i, t, length-map c.args.children.now part_of)
 
 pub bounds-children-middle : goal.bounds-children-middle
-bounds-children-middle g c = grind (arith, common_steps)
+bounds-children-middle g c = let i = c.loop-end.invariant.inside in let t = c.loop-end-test.true in omega (arith, i, t, length-map c.args.children.now part_of)

@@ -10,7 +10,7 @@ is_same g c = same_with c.self.inside (with_items c.self.inside.children c.close
     (reallocated_items c.self.inside.children c.close_all.new.children (rw (← c.deref_mut.ensures.value) c.close_all.ensures))
 
 pub invariant_of-self : goal.invariant_of-self
-invariant_of-self g c = (is_same g (goal.at.invariant_of-self g c).After-close_all).is_node
+invariant_of-self g c = rw c.note.ensures (is_same g (goal.at.invariant_of-self g c).After-close_all).is_node
 
 pub returns : goal.returns
-returns g c = (is_same g (goal.at.returns g c).After-close_all).same ∙ c.self.view_is
+returns g c = rw c.note.ensures ((is_same g (goal.at.returns g c).After-close_all).same ∙ c.self.view_is)

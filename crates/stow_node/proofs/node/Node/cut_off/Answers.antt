@@ -54,7 +54,7 @@ invariant_of-self g c =
     c.moved_from-children.ensures.left c.moved_from-children.ensures.moved
     (c.copied-low.ensures ∙ c.low.ensures ∙ ap (λ (x : Child g.row.A.Denot). (part_of x).low) c.index.ensures)
     c.len-known.ensures.rising in
-    rw (c.move_range.ensures.rest, c.as_key.ensures, c.top_key.ensures) done.lower
+    rw (c.move_range.ensures.rest, c.as_key.ensures, c.top_key.ensures, c.note.ensures, c.note-2.ensures) done.lower
 
 pub invariant_of-result : goal.invariant_of-result
 invariant_of-result g c =
@@ -64,7 +64,7 @@ invariant_of-result g c =
     c.moved_from-children.ensures.left c.moved_from-children.ensures.moved
     (c.copied-low.ensures ∙ c.low.ensures ∙ ap (λ (x : Child g.row.A.Denot). (part_of x).low) c.index.ensures)
     c.len-known.ensures.rising in
-    rw (c.move_range.ensures.moved, c.into_parts-list.ensures.buffer, c.as_key.ensures, c.top_key.ensures, own) done.upper
+    rw (c.move_range.ensures.moved, c.into_parts-list.ensures.buffer, c.as_key.ensures, c.top_key.ensures, c.note.ensures, own) done.upper
 
 pub returns-clause-halves : goal.returns-clause-halves
 returns-clause-halves g c =
@@ -74,7 +74,7 @@ returns-clause-halves g c =
     c.moved_from-children.ensures.left c.moved_from-children.ensures.moved
     (c.copied-low.ensures ∙ c.low.ensures ∙ ap (λ (x : Child g.row.A.Denot). (part_of x).low) c.index.ensures)
     c.len-known.ensures.rising in
-    rw (← c.self.view_is) (rw (c.move_range.ensures.rest, c.move_range.ensures.moved, c.into_parts-list.ensures.buffer, c.as_key.ensures, c.top_key.ensures, own) done.halves)
+    rw (← c.self.view_is) (rw (c.move_range.ensures.rest, c.move_range.ensures.moved, c.into_parts-list.ensures.buffer, c.as_key.ensures, c.top_key.ensures, c.note.ensures, c.note-2.ensures, own) done.halves)
 
 pub returns-clause-width : goal.returns-clause-width
 returns-clause-width g c =

@@ -1,4 +1,4 @@
-use Rattle.std.proofs.Common.{◌≡◌, ◌<◌, length, get_or, sym, subst, ◌∙◌, ap, arith}
+use Rattle.std.proofs.Common.{◌≡◌, ◌<◌, length, get_or, sym, subst, ◌∙◌, arith}
 use Rattle.stow_page.proofs.Packing.{IsFound, found}
 use Rattle.stow_page.proofs.packed_rows.PackedRows.guessed.Given as given
 use Rattle.stow_page.proofs.packed_rows.PackedRows.guessed.Goals as goal
