@@ -69,7 +69,8 @@ fn compare_short(one: &[u8], other: &[u8]) -> Ordering
 }
 
 /// The number in the eight bytes from `at` on, the highest first.
-fn word_at(bytes: &[u8], at: usize) -> u64
+#[inline(always)]
+pub fn word_at(bytes: &[u8], at: usize) -> u64
     requires { at + 8 ≤ length bytes.now }
     ensures bytes { AreBytes bytes.now }
     ensures number { result ≡ from_be_bytes w64 (drop at bytes.now) }

@@ -1,8 +1,8 @@
 //! The word of one key.
-ghost use Rattle.std.specs.Prelude.{◌+◌, ◌≤◌, length};
+ghost use Rattle.std.specs.Prelude.{◌≤◌, length};
 
 use std::cmp::Ordering;
-use stow_bytes::compare::compare;
+use stow_bytes::compare::{compare, word_at};
 use stow_slots::quartering::{Sought, step_if};
 
 /// Where a key's own bytes begin, behind its tenant's index.
@@ -57,23 +57,6 @@ fn ten(bytes: &[u8]) -> u128
     (u128::from(high) << 64) | u128::from(low)
 }
 
-/// The eight bytes from a place on as a number, the highest first.
-#[inline(always)]
-fn eight_at(bytes: &[u8], at: usize) -> u64
-    requires { at + 8 ≤ length bytes.now }
-{
-    u64::from_be_bytes([
-        bytes[at],
-        bytes[at + 1],
-        bytes[at + 2],
-        bytes[at + 3],
-        bytes[at + 4],
-        bytes[at + 5],
-        bytes[at + 6],
-        bytes[at + 7],
-    ])
-}
-
 /// The bytes as a number, and zeros behind them where they are fewer than ten.
 fn fewer(bytes: &[u8]) -> u128 {
     let mut number = 0;
@@ -106,12 +89,12 @@ fn number_behind(key: &[u8], shared: usize) -> u128 {
 fn eight_behind(key: &[u8], shared: usize) -> u64 {
     let left = key.len().saturating_sub(INDEX).saturating_sub(shared);
     if left >= EIGHT {
-        return eight_at(key, key.len() - left);
+        return word_at(key, key.len() - left);
     }
     if left == 0 || key.len() < EIGHT {
         return ((number_behind(key, shared) << 48) >> 64) as u64;
     }
-    eight_at(key, key.len() - EIGHT) << (8 * (EIGHT - left))
+    word_at(key, key.len() - EIGHT) << (8 * (EIGHT - left))
 }
 
 impl KeyWord {
