@@ -12,3 +12,4 @@ pub mod Whole
 pub mod OneField
 pub mod Joined
 pub mod Marked
+pub mod Noting

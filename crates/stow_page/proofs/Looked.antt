@@ -19,7 +19,7 @@ use Rattle.stow_bytes.specs.Bytes.{bytes_cmp}
 use Rattle.stow_tree_model.specs.Version.{Version}
 use Rattle.stow_tree_model.specs.Order.{VersionPlace, place_cmp, version_place, VersionsRise}
 use Rattle.stow_tree_model.proofs.Orders.{place_total, less_than, same_number, more_than}
-use Rattle.stow_page.specs.Rows.{is_above, is_up_to, last_of, version_at, IsCountUpTo}
+use Rattle.stow_page.specs.Rows.{is_above, is_up_to, last_of, version_at, AreApart, IsCountUpTo}
 
 -- ---- versions by their index
 
@@ -341,3 +341,14 @@ pub rise_behind_last : (rows : List Version) (i : ℕ) (last v : Version) → sl
 rise_behind_last rows i last v f rise =
     let within = slice_get_within rows i last f in
     versions_rise_at (rows ++ v ∷ []) i (length rows) last v rise (omega arith) (get_front rows (v ∷ []) i last f) (get_behind rows v)
+
+of_key : (key : List ℕ) (number : ℕ) (v : Version) → is_up_to key number v ≡ true → key ≡ v.key
+of_key key number v is = (bytes_decides key v.key).0 (⊎_elim
+    (λ (y : bytes_eq key v.key ≡ true). y)
+    (λ (n : bytes_eq key v.key ≡ false). absurd (true≢false (sym is ∙ ap (λ b. b && nat_le v.number number) n)))
+    (cases_Bool (bytes_eq key v.key)))
+
+-- .. where versions beside each other are of different keys it is any that is the key's
+pub newest_apart : (rows : List Version) (key : List ℕ) (number i : ℕ) (v : Version) → VersionsRise rows → AreApart rows → slice_get rows i ≡ Some v → is_up_to key number v ≡ true → slice_get rows i ≡ version_at rows key number
+newest_apart rows key number i v rise apart e is = newest rows key number i v rise e is
+    (λ w f. other_key key number w (λ same. apart.apart i v w e f (sym (of_key key number v is) ∙ sym same)))

@@ -1,5 +1,5 @@
 -- A leaf's versions in one block, with the place of each.
-use Rattle.std.specs.Prelude.{◌≡◌, ℕ, zero, suc, ◌<◌, ◌≤◌, ◌^◌, Bool, true, false, List, slice_get, [], ◌∷◌, ◌++◌, length, map, filter, Option, Some, None, take, drop, nat_le, ◌&&◌}
+use Rattle.std.specs.Prelude.{◌≡◌, ◌≢◌, ℕ, zero, suc, ◌+◌, ◌<◌, ◌≤◌, ◌^◌, Bool, true, false, List, slice_get, [], ◌∷◌, ◌++◌, length, map, filter, Option, Some, None, take, drop, nat_le, ◌&&◌}
 use Rattle.std.specs.Int.{from_be_bytes, to_be_bytes, w16, w32, w64}
 use Rattle.std.specs.Ordering.{is_lt}
 use Rattle.std.specs.Str.{bytes_eq}
@@ -72,10 +72,17 @@ IsBlock format bytes places = ArePacked format bytes places (rows_in format byte
 abbrev pub CoversRows : List ℕ → List Version → Type 0
 CoversRows marks rows = CoversBy (λ v. v.key) marks rows
 
--- the block stands for the versions that are in it, and marks tell their keys
-pub record IsNoted (format : Format) (bytes places marks : List ℕ) : Type 0 where
+-- versions beside each other are of different keys
+pub record AreApart (rows : List Version) : Type 0 where
+  pub apart : (i : ℕ) (v w : Version) → slice_get rows i ≡ Some v → slice_get rows (i + 1) ≡ Some w
+      → v.key ≢ w.key
+
+-- the block stands for the versions that are in it, and marks tell their keys; they are known to be
+-- of different keys, or nothing is known of it
+pub record IsNoted (format : Format) (bytes places marks : List ℕ) (known : Bool) : Type 0 where
   pub block : IsBlock format bytes places
   pub covers : CoversRows marks (rows_in format bytes places)
+  pub apart : known ≡ true → AreApart (rows_in format bytes places)
 
 -- the format of versions, some of which have the one alone, and the others the other
 abbrev pub wider : Format → Format → Format

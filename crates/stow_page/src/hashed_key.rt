@@ -1,8 +1,7 @@
 //! A key with its hash.
-ghost use Rattle.std.specs.Prelude.{◌≡◌};
-ghost use Rattle.stow_filter.specs.Filter.{hash};
+ghost use Rattle.std.specs.Prelude.{◌≡◌, ◌≢◌, false, IfSome};
+ghost use Rattle.stow_filter.specs.Filter as of_filter;
 
-use std::cmp::Ordering;
 use stow_bytes::compare::compare;
 use stow_filter::hash::hash;
 
@@ -11,14 +10,14 @@ use stow_filter::hash::hash;
 pub(crate) struct HashedKey<'a> {
     pub(crate) bytes: &'a [u8],
     pub(crate) hash: u64,
+    pub(crate) ghost is_hash: { hash ≡ of_filter.hash bytes.now },
 }
 
 impl<'a> HashedKey<'a> {
     /// The key that these bytes are.
     #[inline(always)]
     pub(crate) fn new(bytes: &'a [u8]) -> HashedKey<'a>
-        ensures bytes { result.bytes.now ≡ bytes.now }
-        ensures hash { result.hash ≡ hash bytes.now }
+        ensures { result.bytes.now ≡ bytes.now }
     {
         HashedKey {
             bytes,
@@ -26,13 +25,25 @@ impl<'a> HashedKey<'a> {
         }
     }
 
+    /// Whether the other is this key. Their hashes are looked at first.
+    #[inline(always)]
+    fn is(self, other: HashedKey<'_>) -> bool
+        ensures { result ≡ false → self.entry.bytes.now ≢ other.entry.bytes.now }
+    {
+        if self.hash != other.hash {
+            return false;
+        }
+        compare(self.bytes, other.bytes).is_eq()
+    }
+
     /// Whether the other, if there is one, is this key.
-    pub(crate) fn is(self, other: Option<HashedKey<'_>>) -> bool {
+    pub(crate) fn is_same(self, other: Option<HashedKey<'_>>) -> bool
+        ensures { result ≡ false
+            → IfSome other.entry (λ key. key.bytes.now ≢ self.entry.bytes.now) }
+    {
         match other {
             None => false,
-            Some(other) => {
-                self.hash == other.hash && compare(self.bytes, other.bytes) == Ordering::Equal
-            }
+            Some(other) => other.is(self),
         }
     }
 }

@@ -1,11 +1,11 @@
 //! Versions of a leaf in one block.
-ghost use Rattle.std.specs.Prelude.{◌≡◌, ◌==◌, ◌↔◌, IsTrue, ◌+◌, ◌<◌, ◌≤◌, ◌^◌, [], ◌∷◌, ◌++◌, length, map, slice_get, Some, option_map, IfOk, IfSome, OnOk, OnErr};
+ghost use Rattle.std.specs.Prelude.{◌≡◌, ◌==◌, ◌↔◌, IsTrue, ◌+◌, ◌<◌, ◌≤◌, ◌^◌, [], ◌∷◌, ◌++◌, length, map, slice_get, Some, option_map, true, IfOk, IfSome, OnOk, OnErr};
 ghost use Rattle.std.specs.List.{All};
 ghost use Rattle.stow_tree_model.specs.Version.{version_of};
 ghost use Rattle.stow_tree_model.specs.Order.{VersionsRise};
 ghost use Rattle.stow_tree_model.specs.Value.{bytes_at};
 ghost use Rattle.stow_page.specs.Format.{entries, packed_in, packed_page, format_of, places_from, IsTold, AreVersions};
-ghost use Rattle.stow_page.specs.Rows.{CoversRows, HasRoomFor, IsBlock, rows_in, entry_of, wider, with_count, is_above, is_up_to, IsCountUpTo, version_at};
+ghost use Rattle.stow_page.specs.Rows.{AreApart, CoversRows, HasRoomFor, IsBlock, rows_in, entry_of, wider, with_count, is_above, is_up_to, IsCountUpTo, version_at};
 ghost use Rattle.stow_page.specs.declared.format.Format.TheVariants.{Two};
 
 use crate::entry::{append_entry, entry_size, format_of, lent_version};
@@ -29,6 +29,8 @@ pub struct PackedRows<A: Allocator = Global> {
     places: Vec<u32, A>,
     hint: Hint<A>,
     filter: Filter<A>,
+    /// Whether versions beside each other are known to be of different keys.
+    apart: bool,
 }
 
 impl<A: Allocator> Model for PackedRows<A> {
@@ -40,7 +42,7 @@ impl<A: Allocator> Model for PackedRows<A> {
 
     ghost view = { λ r. rows_in r.format r.bytes.items r.places.items };
 
-    ghost invariant = { λ r. IsNoted r.format r.bytes.items r.places.items r.filter };
+    ghost invariant = { λ r. IsNoted r.format r.bytes.items r.places.items r.filter r.apart };
 }
 
 impl<A: Allocator + Copy> PackedRows<A> {
@@ -56,6 +58,7 @@ impl<A: Allocator + Copy> PackedRows<A> {
             places: Vec::new(alloc),
             hint: Hint::new(alloc),
             filter: Filter::none(alloc),
+            apart: false,
         })
     }
 
@@ -71,6 +74,7 @@ impl<A: Allocator + Copy> PackedRows<A> {
             places: Vec::with_capacity(alloc, versions)?,
             hint: Hint::new(alloc),
             filter: Filter::none(alloc),
+            apart: false,
         })
     }
 
@@ -123,6 +127,7 @@ impl<A: Allocator + Copy> PackedRows<A> {
             places,
             hint,
             filter,
+            apart: false,
         })
     }
 
@@ -151,6 +156,7 @@ impl<A: Allocator + Copy> PackedRows<A> {
             places,
             hint: Hint::new(alloc),
             filter,
+            apart: false,
         })
     }
 
@@ -180,6 +186,7 @@ impl<A: Allocator + Copy> PackedRows<A> {
         append_placed(&mut self.bytes, &mut self.places, self.format, version)?;
         write_count(&mut self.bytes, self.places.len() as u32);
         self.filter.forget();
+        self.apart = false;
         Ok(())
     }
 
@@ -205,6 +212,7 @@ impl<A: Allocator + Copy> PackedRows<A> {
             places,
             hint: Hint::new(alloc),
             filter,
+            apart: false,
         })
     }
 }
@@ -215,13 +223,15 @@ impl<A: Allocator> PackedRows<A> {
         ensures { self.new ≡ self.old }
     {
         self.hint.reserve(self.places.len())?;
-        self.filter = noted(
+        let (filter, apart) = noted(
             alloc,
             &mut self.hint,
             self.format,
             self.bytes.as_slice(),
             self.places.as_slice(),
         )?;
+        self.filter = filter;
+        self.apart = apart;
         Ok(())
     }
 
@@ -417,6 +427,9 @@ impl<A: Allocator> PackedRows<A> {
         if !is_up_to(version, key, number) {
             return None;
         }
+        if self.apart {
+            return Some(version);
+        }
         let len = self.len();
         let next = guess.index + 1;
         if next == len {
@@ -456,43 +469,47 @@ fn lent_at<'a>(format: Format, bytes: &'a [u8], places: &[u32], index: usize) ->
     lent_version(format, bytes.split_at(place).1)
 }
 
-/// Marks of each version's key. The hint comes to know where the newest of each key stands.
+/// Marks of each version's key, and whether versions beside each other are of different keys. The hint comes to know where the newest of
+/// each key stands.
 fn noted<A: Allocator>(
     alloc: A,
     hint: &mut Hint<A>,
     format: Format,
     bytes: &[u8],
     places: &[u32],
-) -> Result<Filter<A>, AllocError>
+) -> Result<(Filter<A>, bool), AllocError>
     requires { IsBlock format bytes.now places.now }
-    ensures { IfOk result (λ marks. CoversRows marks (rows_in format bytes.now places.now)) }
+    ensures marks { IfOk result (λ r. CoversRows r.0 (rows_in format bytes.now places.now)) }
+    ensures apart { IfOk result (λ r. r.1 ≡ true
+        → AreApart (rows_in format bytes.now places.now)) }
 {
     let mut filter = Filter::for_keys(alloc, places.len())?;
-    let mut last = None;
+    let (mut last, mut apart) = (None, true);
     for index in 0..places.len() {
         let key = HashedKey::new(lent_at(format, bytes, places, index).key.bytes);
         filter.add_hashed(key.bytes, key.hash);
-        note_before(hint, places, index, last, Some(key));
+        if key.is_same(last) {
+            apart = false;
+        } else {
+            note_before(hint, places, index, last);
+        }
         last = Some(key);
     }
-    note_before(hint, places, places.len(), last, None);
-    Ok(filter)
+    note_before(hint, places, places.len(), last);
+    Ok((filter, apart))
 }
 
-/// Notes the last row before one with this index, if it is the newest of its key: the next one isn't of that key.
+/// Notes the last row before one with this index, the newest of its key.
 #[inline(always)]
 fn note_before<A: Allocator>(
     hint: &mut Hint<A>,
     places: &[u32],
     index: usize,
     last: Option<HashedKey<'_>>,
-    next: Option<HashedKey<'_>>,
 ) {
     let index = index.saturating_sub(1);
     if let (Some(last), Some(place)) = (last, places.get(index)) {
-        if !last.is(next) {
-            hint.note(last.hash, index, *place);
-        }
+        hint.note(last.hash, index, *place);
     }
 }
 

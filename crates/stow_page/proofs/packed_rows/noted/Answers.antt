@@ -1,12 +1,34 @@
-use Rattle.std.proofs.Common.{◌≡◌, ℕ, List, true, take, subst}
+use Rattle.std.proofs.Common.{◌≡◌, ℕ, ◌+◌, List, true, take, subst, arith}
+use Rattle.std.proofs.lemmas.List.{length-map}
+use Rattle.std.proofs.lemmas.Option.{slice_get_within}
+use Rattle.std.specs.Prelude.{drop}
 use Rattle.stow_filter.specs.Filter.{may_have}
 use Rattle.stow_filter.proofs.Covered.{covers_more, covers_next}
 use Rattle.stow_tree_model.specs.Version.{Version, version_of}
-use Rattle.stow_page.specs.Rows.{rows_in}
+use Rattle.stow_page.specs.Rows.{CoversRows, rows_in, version_in}
+use Rattle.stow_page.proofs.Noting.{next_noted, more_noted}
+use Rattle.stow_page.proofs.packed_rows.noted.Given as given
 use Rattle.stow_page.proofs.packed_rows.noted.Goals as goal
+use Rattle.stow_page.proofs.packed_rows.noted.Goals.{After-add_hashed, then-is_same, else-is_same}
+
+covers : (g : given.Over) (c : After-add_hashed g) → CoversRows c.add_hashed.new.self (take (c.loop-index.index + 1) (rows_in c.args.format c.args.bytes.now c.args.places.now))
+covers g c =
+    let rows = rows_in c.args.format c.args.bytes.now c.args.places.now in let i = c.loop-index.index in
+    covers_next (λ (v : Version). v.key) c.add_hashed.new.self rows i (version_of c.lent_at.result) c.lent_at.ensures (subst (λ (key : List ℕ). may_have c.add_hashed.new.self key ≡ true) c.new-key.ensures c.add_hashed.ensures.added)
+    (covers_more (λ (v : Version). v.key) c.loop-index.filter c.add_hashed.new.self (take i rows) c.add_hashed.ensures.stay c.loop-index.invariant.covers)
 
 pub loop-index-preserved : goal.loop-index-preserved
 loop-index-preserved g c =
-    let rows = rows_in c.args.format c.args.bytes.now c.args.places.now in let i = c.loop-index.index in
-    covers_next (λ (v : Version). v.key) c.add_hashed.new.self rows i (version_of c.lent_at.result) c.lent_at.ensures (subst (λ (key : List ℕ). may_have c.add_hashed.new.self key ≡ true) c.new-key.ensures.bytes c.add_hashed.ensures.added)
-    (covers_more (λ (v : Version). v.key) c.loop-index.filter c.add_hashed.new.self (take i rows) c.add_hashed.ensures.stay c.loop-index.invariant)
+    let rows = rows_in c.args.format c.args.bytes.now c.args.places.now in
+    elim c.if-is_same.branch [
+      | then-is_same w ↦ rw w.apart-is (more_noted rows c.loop-index.index c.add_hashed.new.self (version_of c.lent_at.result) c.new-key.result.bytes.now c.lent_at.ensures c.new-key.ensures (covers g (goal.at.loop-index-preserved g c).After-add_hashed))
+      | else-is_same w ↦ rw w.apart-is (next_noted rows c.loop-index.index c.loop-index.filter c.add_hashed.new.self c.loop-index.apart _ (version_of c.lent_at.result) c.new-key.result.bytes.now c.lent_at.ensures c.new-key.ensures (covers g (goal.at.loop-index-preserved g c).After-add_hashed) c.loop-index.invariant (c.is_same.ensures w.if-is_same.false))
+    ]
+
+pub returns-clause-apart : goal.returns-clause-apart
+returns-clause-apart g c = λ known. record {
+  apart = λ i v w e f. c.loop-index.invariant.seen known i v w
+      (let low = slice_get_within (rows_in c.args.format c.args.bytes.now c.args.places.now) (i + 1) w f in
+      let end = c.loop-index-test.false in
+      omega (arith, low, end, length-map c.args.places.now (λ p. version_in c.args.format (drop p c.args.bytes.now)))) e f;
+}

@@ -1,6 +1,8 @@
-use Rattle.std.proofs.Common.{take}
-use Rattle.stow_page.specs.Rows.{CoversRows, rows_in}
+use Rattle.std.proofs.Common.{◌≢◌}
+use Rattle.std.specs.Prelude.{IfSome}
+use Rattle.stow_page.specs.Rows.{rows_in}
+use Rattle.stow_page.proofs.Noting.{Noting}
 use Rattle.stow_page.proofs.packed_rows.noted.Given as goal
 
 abbrev pub invariant-loop-index : goal.invariant-loop-index
-invariant-loop-index g l = CoversRows l.filter (take l.index (rows_in l.format l.bytes l.places))
+invariant-loop-index g l = Noting (rows_in l.format l.bytes l.places) l.index l.filter l.apart (λ other. IfSome l.last (λ key. key.bytes.now ≢ other))

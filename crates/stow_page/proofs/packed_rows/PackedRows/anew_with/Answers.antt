@@ -1,5 +1,5 @@
 use Rattle.std.proofs.Common.{◌++◌, ◌∷◌, [], ◌∙◌, arith, ap, length}
-use Rattle.stow_page.proofs.Marked.{none_marked}
+use Rattle.stow_page.proofs.Marked.{none_marked, not_known}
 use Rattle.stow_tree_model.specs.Version.{version_of}
 use Rattle.stow_page.proofs.Entries.{is_version}
 use Rattle.stow_page.proofs.Pushed.{IsWritten}
@@ -39,7 +39,7 @@ made g c =
     c.write_count.ensures (c.len-2.ensures ∙ c.append_placed.new.places.ok.0)
 
 pub invariant_of-result : goal.invariant_of-result
-invariant_of-result g c = record { block = (made g c).are_packed; covers = none_marked _ _ (ap length c.none-filter.ensures) }
+invariant_of-result g c = record { block = (made g c).are_packed; covers = none_marked _ _ (ap length c.none-filter.ensures); apart = not_known }
 
 pub returns : goal.returns
 returns g c = (made g c).are_rows

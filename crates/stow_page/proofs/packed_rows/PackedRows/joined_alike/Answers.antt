@@ -1,4 +1,4 @@
-use Rattle.stow_page.proofs.Marked.{none_marked}
+use Rattle.stow_page.proofs.Marked.{none_marked, not_known}
 use Rattle.std.proofs.Common.{◌≡◌, ◌+◌, ◌-◌, ◌++◌, length, drop, map, ap, ◌∙◌, arith, length-append}
 use Rattle.stow_page.specs.Rows.{with_count}
 use Rattle.stow_page.proofs.Pushed.{IsWritten, block_has_header}
@@ -54,7 +54,7 @@ made g c =
     (c.write_count.ensures ∙ (λ i. with_count (bytes i) ((c.len-3.ensures ∙ c.in_ok-places.places.ok.0) i)))
 
 pub invariant_of-result : goal.invariant_of-result
-invariant_of-result g c = record { block = (made g c).are_packed; covers = none_marked _ _ (ap length c.none-filter.ensures) }
+invariant_of-result g c = record { block = (made g c).are_packed; covers = none_marked _ _ (ap length c.none-filter.ensures); apart = not_known }
 
 pub returns : goal.returns
 returns g c = (made g c).are_rows

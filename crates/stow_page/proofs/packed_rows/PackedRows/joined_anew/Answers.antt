@@ -1,5 +1,5 @@
 use Rattle.std.proofs.Common.{◌++◌, ◌∙◌, arith, ap, length}
-use Rattle.stow_page.proofs.Marked.{none_marked}
+use Rattle.stow_page.proofs.Marked.{none_marked, not_known}
 use Rattle.stow_page.proofs.Pushed.{IsWritten, length-packed_in}
 use Rattle.stow_page.specs.declared.format.Format.TheVariants.{Two}
 use Rattle.stow_page.proofs.Anew.{AreBoth, lower_written, lower_room, upper_room, both_written, few_places, few_versions, has_header, written_anew}
@@ -49,7 +49,7 @@ made g c =
     c.write_count.ensures (c.len-3.ensures ∙ c.append_all-2.new.places.ok.0)
 
 pub invariant_of-result : goal.invariant_of-result
-invariant_of-result g c = record { block = (made g c).are_packed; covers = none_marked _ _ (ap length c.none-filter.ensures) }
+invariant_of-result g c = record { block = (made g c).are_packed; covers = none_marked _ _ (ap length c.none-filter.ensures); apart = not_known }
 
 pub returns : goal.returns
 returns g c = (made g c).are_rows

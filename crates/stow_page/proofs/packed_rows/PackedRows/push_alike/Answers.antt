@@ -1,4 +1,4 @@
-use Rattle.stow_page.proofs.Marked.{none_marked}
+use Rattle.stow_page.proofs.Marked.{none_marked, not_known}
 use Rattle.std.proofs.Common.{◌∷◌, [], ◌∙◌, ap, length, length-append, arith}
 use Rattle.stow_tree_model.specs.Version.{version_of}
 use Rattle.stow_page.specs.Format.{format_of}
@@ -28,6 +28,7 @@ write_count-requires g c =
 pub invariant_of-self-2 : goal.invariant_of-self-2
 invariant_of-self-2 g c = record {
   covers = none_marked _ _ (ap length c.forget.ensures);
+  apart = not_known;
   block =
       (pushed c.self.inside.format c.self.inside.bytes.items c.self.inside.places.items c.append_placed.new.places.items c.write_count.new.bytes.items c.args.self.now (version_of c.args.version) (block_of _ _ _ _ c.self.invariant.block c.self.view_is) (is_version c.args.version)
       c.requires.above c.requires.room c.requires.alike
