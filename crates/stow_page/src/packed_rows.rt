@@ -46,20 +46,29 @@ impl<A: Allocator> Model for PackedRows<A> {
 }
 
 impl<A: Allocator + Copy> PackedRows<A> {
+    /// The versions of a block, of which nothing is noted yet.
+    fn from_block(alloc: A, format: Format, bytes: Vec<u8, A>, places: Vec<u32, A>) -> PackedRows<A>
+        requires { IsBlock format bytes.items places.items }
+        ensures { result ≡ rows_in format bytes.items places.items }
+    {
+        PackedRows {
+            format,
+            bytes,
+            places,
+            hint: Hint::new(alloc),
+            filter: Filter::none(alloc),
+            apart: false,
+        }
+    }
+
     /// No versions, in a block of their page's header.
     pub fn new(alloc: A) -> Result<PackedRows<A>, AllocError>
         ensures { IfOk result (λ r. r ≡ []) }
     {
         let mut bytes = Vec::new(alloc);
         bytes.extend_from_slice(&[1, 0, 0, 0, 0])?;
-        Ok(PackedRows {
-            format: Format::One,
-            bytes,
-            places: Vec::new(alloc),
-            hint: Hint::new(alloc),
-            filter: Filter::none(alloc),
-            apart: false,
-        })
+        let places = Vec::new(alloc);
+        Ok(PackedRows::from_block(alloc, Format::One, bytes, places))
     }
 
     /// No versions, with room for a page of so many bytes and for so many versions.
@@ -68,14 +77,8 @@ impl<A: Allocator + Copy> PackedRows<A> {
     {
         let mut bytes = Vec::with_capacity(alloc, size)?;
         bytes.extend_from_slice(&[1, 0, 0, 0, 0])?;
-        Ok(PackedRows {
-            format: Format::One,
-            bytes,
-            places: Vec::with_capacity(alloc, versions)?,
-            hint: Hint::new(alloc),
-            filter: Filter::none(alloc),
-            apart: false,
-        })
+        let places = Vec::with_capacity(alloc, versions)?;
+        Ok(PackedRows::from_block(alloc, Format::One, bytes, places))
     }
 
     /// Versions and others above them, in a block of their own. Their entries are copied as they stand, if their formats
@@ -108,8 +111,6 @@ impl<A: Allocator + Copy> PackedRows<A> {
         ensures { IfOk result (λ r. r ≡ lower.now ++ upper.now) }
     {
         let (_, entries) = upper.bytes.as_slice().split_at(5);
-        let hint = Hint::new(alloc);
-        let filter = Filter::none(alloc);
         let mut bytes = Vec::with_capacity(alloc, lower.bytes.len() + entries.len())?;
         bytes.extend_from_slice(lower.bytes.as_slice())?;
         bytes.extend_from_slice(entries)?;
@@ -121,14 +122,7 @@ impl<A: Allocator + Copy> PackedRows<A> {
             from,
         )?;
         write_count(&mut bytes, places.len() as u32);
-        Ok(PackedRows {
-            format: lower.format,
-            bytes,
-            places,
-            hint,
-            filter,
-            apart: false,
-        })
+        Ok(PackedRows::from_block(alloc, lower.format, bytes, places))
     }
 
     /// Versions and others above them, written anew in format 2.
@@ -142,7 +136,6 @@ impl<A: Allocator + Copy> PackedRows<A> {
         requires wide { format_of (lower.now ++ upper.now) ≡ Two }
         ensures { IfOk result (λ r. r ≡ lower.now ++ upper.now) }
     {
-        let filter = Filter::none(alloc);
         let size = lower.len_in(Format::Two) + upper.len_in(Format::Two) - 5;
         let mut bytes = Vec::with_capacity(alloc, size)?;
         let mut places = Vec::with_capacity(alloc, lower.len() + upper.len())?;
@@ -150,14 +143,7 @@ impl<A: Allocator + Copy> PackedRows<A> {
         append_all(&mut bytes, &mut places, lower)?;
         append_all(&mut bytes, &mut places, upper)?;
         write_count(&mut bytes, places.len() as u32);
-        Ok(PackedRows {
-            format: Format::Two,
-            bytes,
-            places,
-            hint: Hint::new(alloc),
-            filter,
-            apart: false,
-        })
+        Ok(PackedRows::from_block(alloc, Format::Two, bytes, places))
     }
 
     /// Adds a version above all others. An `Err` changes nothing. The first value that two bytes can't tell the length of
@@ -198,7 +184,6 @@ impl<A: Allocator + Copy> PackedRows<A> {
         ensures { IfOk result (λ r. r ≡ self.now ++ version_of version.entry ∷ []) }
     {
         let alloc = *self.bytes.allocator();
-        let filter = Filter::none(alloc);
         let size = self.len_in(Format::Two) + entry_size(Format::Two, version);
         let mut bytes = Vec::with_capacity(alloc, self.bytes.capacity().max(size))?;
         let mut places = Vec::with_capacity(alloc, self.places.capacity().max(self.len() + 1))?;
@@ -206,14 +191,7 @@ impl<A: Allocator + Copy> PackedRows<A> {
         append_all(&mut bytes, &mut places, self)?;
         append_placed(&mut bytes, &mut places, Format::Two, version)?;
         write_count(&mut bytes, places.len() as u32);
-        Ok(PackedRows {
-            format: Format::Two,
-            bytes,
-            places,
-            hint: Hint::new(alloc),
-            filter,
-            apart: false,
-        })
+        Ok(PackedRows::from_block(alloc, Format::Two, bytes, places))
     }
 }
 

@@ -1,9 +1,9 @@
-use Rattle.stow_page.proofs.Marked.{none_marked, not_known}
 use Rattle.std.proofs.Common.{◌≡◌, ◌+◌, ◌-◌, ◌++◌, length, drop, map, ap, ◌∙◌, arith, length-append}
 use Rattle.stow_page.specs.Rows.{with_count}
 use Rattle.stow_page.proofs.Pushed.{IsWritten, block_has_header}
 use Rattle.stow_page.proofs.Joined.{alike_block, block_of, header_cut, both_places, count_fits, places_fit, joined}
 use Rattle.stow_page.proofs.packed_rows.PackedRows.joined_alike.Goals as goal
+use Rattle.stow_page.proofs.packed_rows.PackedRows.joined_alike.Goals.{After-write_count}
 use Rattle.stow_page.proofs.packed_rows.PackedRows.joined_alike.Given as given
 
 pub split_at-requires : goal.split_at-requires
@@ -41,7 +41,7 @@ write_count-requires g c =
     let l = ap length (bytes_are g c) ∙ length-append c.lower.inside.bytes.items (drop 5 c.upper.inside.bytes.items) in
     omega (arith, h, l)
 
-made : (g : given.Over) (c : goal.After-result-1 g) → IsWritten c.lower.inside.format c.write_count.new.bytes.items c.in_ok-places.places.items (c.args.lower.now ++ c.args.upper.now)
+made : (g : given.Over) (c : After-write_count g) → IsWritten c.lower.inside.format c.write_count.new.bytes.items c.in_ok-places.places.items (c.args.lower.now ++ c.args.upper.now)
 made g c =
     let places : c.in_ok-places.places.items ≡ c.lower.inside.places.items ++ map (λ place. (c.len-2.result - 5) + place) c.upper.inside.places.items
     = c.in_ok-places.ensures ∙ (λ i. c.as_slice-3.ensures.value i ++ map (λ place. (c.len-2.result - 5) + place) (c.as_slice-4.ensures.value i)) in
@@ -53,8 +53,8 @@ made g c =
     (header_cut _ _ _ _ _ c.lower.invariant.block (c.len-2.ensures ∙ c.lower.inside.bytes.ok.0)).1 places
     (c.write_count.ensures ∙ (λ i. with_count (bytes i) ((c.len-3.ensures ∙ c.in_ok-places.places.ok.0) i)))
 
-pub invariant_of-result : goal.invariant_of-result
-invariant_of-result g c = record { block = (made g c).are_packed; covers = none_marked _ _ (ap length c.none-filter.ensures); apart = not_known }
+pub from_block-requires : goal.from_block-requires
+from_block-requires g c = (made g (goal.at.from_block-requires g c).After-write_count).are_packed
 
 pub returns : goal.returns
-returns g c = (made g c).are_rows
+returns g c = c.from_block.ensures ∙ (made g (goal.at.returns g c).After-write_count).are_rows

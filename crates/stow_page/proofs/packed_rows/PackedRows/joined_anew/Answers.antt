@@ -1,9 +1,9 @@
-use Rattle.std.proofs.Common.{◌++◌, ◌∙◌, arith, ap, length}
-use Rattle.stow_page.proofs.Marked.{none_marked, not_known}
+use Rattle.std.proofs.Common.{◌++◌, ◌∙◌, arith}
 use Rattle.stow_page.proofs.Pushed.{IsWritten, length-packed_in}
 use Rattle.stow_page.specs.declared.format.Format.TheVariants.{Two}
 use Rattle.stow_page.proofs.Anew.{AreBoth, lower_written, lower_room, upper_room, both_written, few_places, few_versions, has_header, written_anew}
 use Rattle.stow_page.proofs.packed_rows.PackedRows.joined_anew.Goals as goal
+use Rattle.stow_page.proofs.packed_rows.PackedRows.joined_anew.Goals.{After-write_count}
 use Rattle.stow_page.proofs.packed_rows.PackedRows.joined_anew.Given as given
 
 pub overflow_sub-size : goal.overflow_sub-size
@@ -43,13 +43,13 @@ overflow_cast-len g c =
 pub write_count-requires : goal.write_count-requires
 write_count-requires g c = has_header _ _ c.args.lower.now c.args.upper.now (both_are g c)
 
-made : (g : given.Over) (c : goal.After-new g) → IsWritten Two c.write_count.new.bytes.items c.append_all-2.new.places.items (c.args.lower.now ++ c.args.upper.now)
+made : (g : given.Over) (c : After-write_count g) → IsWritten Two c.write_count.new.bytes.items c.append_all-2.new.places.items (c.args.lower.now ++ c.args.upper.now)
 made g c =
     written_anew _ _ _ _ c.args.lower.now c.args.upper.now (both_written _ _ _ _ c.args.lower.now c.args.upper.now (lower_written _ _ _ _ _ c.args.lower.now c.in_ok-bytes.ensures.items c.in_ok-extend_from_slice.ensures.items c.in_ok-places.ensures.items c.in_ok-append_all.ensures.bytes c.in_ok-append_all.ensures.places) c.in_ok-append_all-2.ensures.bytes c.in_ok-append_all-2.ensures.places) c.len.ensures.versions c.len-2.ensures.versions c.requires.rise c.requires.room c.requires.wide
     c.write_count.ensures (c.len-3.ensures ∙ c.append_all-2.new.places.ok.0)
 
-pub invariant_of-result : goal.invariant_of-result
-invariant_of-result g c = record { block = (made g c).are_packed; covers = none_marked _ _ (ap length c.none-filter.ensures); apart = not_known }
+pub from_block-requires : goal.from_block-requires
+from_block-requires g c = (made g (goal.at.from_block-requires g c).After-write_count).are_packed
 
 pub returns : goal.returns
-returns g c = (made g c).are_rows
+returns g c = c.from_block.ensures ∙ (made g (goal.at.returns g c).After-write_count).are_rows

@@ -1,11 +1,5 @@
-use Rattle.std.proofs.Common.{ap, length}
-use Rattle.stow_page.proofs.Marked.{none_marked, not_known}
 use Rattle.stow_page.proofs.Packing.{none_packed}
 use Rattle.stow_page.proofs.packed_rows.PackedRows.new.Goals as goal
 
-pub invariant_of-result : goal.invariant_of-result
-invariant_of-result g c = record {
-  block = rw (c.new.ensures.items, c.in_ok-extend_from_slice.ensures.items, c.new-bytes.ensures.items) none_packed;
-  covers = none_marked _ _ (ap length c.none.ensures);
-  apart = not_known;
-}
+pub from_block-requires : goal.from_block-requires
+from_block-requires g c = rw (c.new-places.ensures.items, c.in_ok-extend_from_slice.ensures.items, c.new-bytes.ensures.items) none_packed
