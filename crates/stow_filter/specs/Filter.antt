@@ -1,5 +1,5 @@
 -- Which keys may have been added to a filter.
-use Rattle.std.specs.Prelude.{◌≡◌, ◌⊎◌, ℕ, zero, suc, ◌+◌, ◌-◌, ◌*◌, ◌/◌, ◌%◌, ◌^◌, ◌==◌, if◌then◌else◌, List, [], ◌∷◌, Bool, true, nat_lt, length, take, drop, slice_index_or}
+use Rattle.std.specs.Prelude.{◌≡◌, ◌⊎◌, ℕ, zero, suc, ◌+◌, ◌-◌, ◌*◌, ◌/◌, ◌%◌, ◌^◌, ◌==◌, if◌then◌else◌, List, [], ◌∷◌, Bool, true, nat_lt, length, drop, slice_index_or}
 use Rattle.std.specs.Int.{w64, from_be_bytes, IsPowerOfTwo}
 use Rattle.std.specs.Int.Bits.{bit_and, bit_or}
 use Rattle.std.specs.Int.RustNames.{bit_xor}
@@ -16,7 +16,7 @@ mixed hash n = folded (bit_xor hash n * 11400714819323198485 % 2 ^ 64)
 -- the hash with so many numbers of eight bytes each in it, the highest byte of each first
 abbrev pub words_mixed : ℕ → ℕ → List ℕ → ℕ
 words_mixed hash zero bs = hash
-words_mixed hash (suc n) bs = words_mixed (mixed hash (from_be_bytes w64 (take 8 bs))) n (drop 8 bs)
+words_mixed hash (suc n) bs = words_mixed (mixed hash (from_be_bytes w64 bs)) n (drop 8 bs)
 
 -- the number whose bytes these are after the number's, the highest first, of 64 bits
 abbrev pub number_from : ℕ → List ℕ → ℕ
@@ -27,7 +27,7 @@ number_from n (b ∷ bs) = number_from ((n * 256 % 2 ^ 64 + b) % 2 ^ 64) bs
 abbrev pub last_number : List ℕ → ℕ
 last_number bs =
     if nat_lt (length bs) 8 then number_from 0 bs
-    else from_be_bytes w64 (take 8 (drop (length bs - 8) bs))
+    else from_be_bytes w64 (drop (length bs - 8) bs)
 
 -- a number that bytes are told by, which others may have too: each eight of them are mixed in, and
 -- then the last eight, some of them once more

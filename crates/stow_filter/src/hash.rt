@@ -1,9 +1,11 @@
 //! Numbers by which keys are told apart quickly.
-ghost use Rattle.std.specs.Prelude.{◌≡◌, ◌+◌, ◌/◌, ◌≤◌, length, take, drop};
-ghost use Rattle.std.specs.Int.{w64, from_be_bytes};
+ghost use Rattle.std.specs.Prelude.{◌≡◌, ◌/◌, length};
 ghost use Rattle.stow_filter.specs.Filter.{mixed, words_mixed, number_from, last_number, hash};
 
-/// How many bytes are read as one number.
+use stow_bytes::compare::word_at;
+
+/// How many bytes are read as one number, the highest first: keys differ most in their last bytes, and a product's upper bits tell its factor's
+/// lower ones best.
 const WORD: usize = 8;
 
 /// What a hash is multiplied by (multiplicative hashing: Knuth 1973): 2 ^ 64 over the golden ratio.
@@ -15,24 +17,6 @@ fn mixed(hash: u64, number: u64) -> u64
 {
     let product = (hash ^ number).wrapping_mul(FACTOR);
     product ^ (product >> 32)
-}
-
-/// The eight bytes from `at` on as a number, the highest first: keys differ most in their last bytes, and a product's upper bits tell
-/// its factor's lower ones best.
-fn word_at(bytes: &[u8], at: usize) -> u64
-    requires { at + 8 ≤ length bytes.now }
-    ensures { result ≡ from_be_bytes w64 (take 8 (drop at bytes.now)) }
-{
-    u64::from_be_bytes([
-        bytes[at],
-        bytes[at + 1],
-        bytes[at + 2],
-        bytes[at + 3],
-        bytes[at + 4],
-        bytes[at + 5],
-        bytes[at + 6],
-        bytes[at + 7],
-    ])
 }
 
 /// The hash of the bytes, eight at a time, but those at the end that are fewer.

@@ -1,5 +1,5 @@
 //! The word of one key.
-ghost use Rattle.std.specs.Prelude.{◌≤◌, length};
+ghost use Rattle.std.specs.Prelude.{◌≡◌, ◌≤◌, drop, length};
 
 use std::cmp::Ordering;
 use stow_bytes::compare::{compare, word_at};
@@ -17,7 +17,7 @@ const EIGHT: usize = 8;
 /// The lower half of a tenant's index, and ten bytes of a key behind some that are left out, but for the last bit: 95 bits, in a front
 /// of 63 and a back of 32, so that two words are compared by two numbers each. Words rise as those bytes do.
 #[derive(Clone, Copy)]
-pub struct KeyWord {
+pub(crate) struct KeyWord {
     front_low: u32,
     front_high: u32,
     back: u32,
@@ -25,7 +25,9 @@ pub struct KeyWord {
 
 /// A key's bytes behind its tenant's index.
 #[inline(always)]
-pub fn own(key: &[u8]) -> &[u8] {
+pub fn own(key: &[u8]) -> &[u8]
+    ensures { result.now ≡ drop 4 key.now }
+{
     if key.len() < INDEX {
         return &[];
     }
@@ -97,6 +99,16 @@ fn eight_behind(key: &[u8], shared: usize) -> u64 {
     word_at(key, key.len() - EIGHT) << (8 * (EIGHT - left))
 }
 
+/// The front of a key's word (`KeyWord::number_of`), read at once: 63 bits, which rise as the bytes do that the word has.
+#[inline(always)]
+pub fn front_of(key: &[u8], shared: usize) -> u64 {
+    if key.len() < INDEX {
+        return 0;
+    }
+    let tenant = u16::from_be_bytes([key[2], key[3]]);
+    (u64::from(tenant) << 47) | (eight_behind(key, shared) >> 17)
+}
+
 impl KeyWord {
     /// Below each word of a key.
     pub(crate) fn none() -> KeyWord {
@@ -126,16 +138,6 @@ impl KeyWord {
         let tenant = u16::from_be_bytes([key[2], key[3]]);
         let bits = (u128::from(tenant) << 80) | number_behind(key, shared);
         ((bits >> 33) << 64) | ((bits >> 1) & 0xffff_ffff)
-    }
-
-    /// The front of a key's word, read at once: its number's upper half.
-    #[inline(always)]
-    pub fn front_of(key: &[u8], shared: usize) -> u64 {
-        if key.len() < INDEX {
-            return 0;
-        }
-        let tenant = u16::from_be_bytes([key[2], key[3]]);
-        (u64::from(tenant) << 47) | (eight_behind(key, shared) >> 17)
     }
 
     /// The word as one number: its front in the upper half, whose highest bit is 0, and its back in the lower.

@@ -58,10 +58,18 @@ pub record IsFor (ps : List Part) (key : List ℕ) (i : ℕ) : Type 0 where
   pub inside : i < length ps
   pub spanned : (d : Part) → spans (slice_index_or ps i d).low (high_of ps i) key ≡ true
 
+-- the part at this place begins at the key or below it
+abbrev pub BeginsUpTo : List Part → List ℕ → ℕ → Type 0
+BeginsUpTo ps key at = (d : Part) → is_lt (bytes_cmp key (slice_index_or ps at d).low) ≡ false
+
+-- the part at this place, if there is one, begins above the key
+abbrev pub BeginsAbove : List Part → List ℕ → ℕ → Type 0
+BeginsAbove ps key at = at < length ps
+    → (d : Part) → is_lt (bytes_cmp key (slice_index_or ps at d).low) ≡ true
+
 -- the part for the key is from the one place on and before the other
 pub record LiesBetween (ps : List Part) (key : List ℕ) (at end : ℕ) : Type 0 where
   pub order : at < end
   pub inside : end ≤ length ps
-  pub from : (d : Part) → is_lt (bytes_cmp key (slice_index_or ps at d).low) ≡ false
-  pub below : end < length ps → (d : Part)
-      → is_lt (bytes_cmp key (slice_index_or ps end d).low) ≡ true
+  pub from : BeginsUpTo ps key at
+  pub below : BeginsAbove ps key end

@@ -1,10 +1,10 @@
 //! What stands below a node.
-ghost use Rattle.std.specs.Prelude.{◌≡◌, ◌<◌, ◌≤◌, IsTrue, length, slice_index_or, true, false};
+ghost use Rattle.std.specs.Prelude.{◌≡◌, ◌<◌, ◌≤◌, IsTrue, length, true};
 ghost use Rattle.std.specs.Ordering.{is_lt};
 ghost use Rattle.stow_bytes.specs.Bytes.{bytes_cmp};
 ghost use Rattle.stow_node.specs.Nodes.{part_of, parts_of};
 ghost use Rattle.stow_node.specs.Moves.{AreReallocated, IsReallocatedChild};
-ghost use Rattle.stow_node.specs.Parts.{Part, low_or, high_of, IsFor, LiesBetween};
+ghost use Rattle.stow_node.specs.Parts.{low_or, high_of, BeginsAbove, BeginsUpTo, IsFor, LiesBetween};
 ghost use Rattle.stow_leaf.specs.Intervals.{top_key, spans};
 
 use crate::node::Node;
@@ -71,8 +71,7 @@ fn is_below(key: TenantKey<'_>, fence: TenantKey<'_>) -> bool
 fn is_from<A: Allocator>(children: &[Child<A>], key: TenantKey<'_>, at: usize) -> bool
     requires there { at < length children.now }
     requires within { spans (low_or top_key (parts_of children.now)) top_key key.bytes.now ≡ true }
-    ensures { IsTrue result → (d : Part) → is_lt (bytes_cmp key.entry.bytes.now
-        (slice_index_or (parts_of children.now) at d).low) ≡ false }
+    ensures { IsTrue result → BeginsUpTo (parts_of children.now) key.entry.bytes.now at }
 {
     if at == 0 {
         return true;
@@ -84,9 +83,7 @@ fn is_from<A: Allocator>(children: &[Child<A>], key: TenantKey<'_>, at: usize) -
 #[inline(always)]
 fn is_before<A: Allocator>(children: &[Child<A>], key: TenantKey<'_>, end: usize) -> bool
     requires { end ≤ length children.now }
-    ensures { IsTrue result → end < length (parts_of children.now) → (d : Part)
-        → is_lt (bytes_cmp key.entry.bytes.now
-        (slice_index_or (parts_of children.now) end d).low) ≡ true }
+    ensures { IsTrue result → BeginsAbove (parts_of children.now) key.entry.bytes.now end }
 {
     if end == children.len() {
         return true;

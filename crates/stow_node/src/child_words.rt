@@ -1,7 +1,7 @@
 //! Words of where children begin, by which the way down looks at few of them.
 use crate::child::Child;
 use std::alloc::Allocator;
-use stow_message::key_word::{KeyWord, own, shared_of};
+use stow_message::key_word::{front_of, own, shared_of};
 use stow_tree_model::tenant_key::TenantKey;
 
 /// How many words there are.
@@ -51,7 +51,7 @@ impl ChildWords {
         words.step = children.len().saturating_sub(2) / WORDS + 1;
         for i in 0..WORDS {
             if let Some(child) = children.get((i + 1).saturating_mul(words.step)) {
-                words.words[i] = KeyWord::front_of(child.low().bytes, words.shared);
+                words.words[i] = front_of(child.low().bytes, words.shared);
             }
         }
         words
@@ -60,7 +60,7 @@ impl ChildWords {
     /// Between which children the key's may stand: from the first place on, before the second. No branch is taken by what is found.
     #[inline(always)]
     pub(crate) fn span_for(&self, key: TenantKey<'_>) -> (usize, usize) {
-        let above = KeyWord::front_of(key.bytes, self.shared).wrapping_add(1);
+        let above = front_of(key.bytes, self.shared).wrapping_add(1);
         let mut count = 0;
         for i in 0..WORDS {
             count = u64::wrapping_add(count, self.words[i].wrapping_sub(above) >> 63);

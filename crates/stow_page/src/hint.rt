@@ -1,4 +1,6 @@
 //! Where the rows of a block may be found by their keys.
+use crate::guess::Guess;
+use crate::hint_cell::HintCell;
 use std::alloc::{AllocError, Allocator, Global};
 use stow_filter::hash::hash;
 
@@ -11,53 +13,12 @@ const MOST: usize = 50_000;
 /// How many cells may be a key's.
 const PROBES: usize = 24;
 
-/// Where a key's newest row may stand.
-#[derive(Clone, Copy)]
-pub(crate) struct Guess {
-    /// Its index among the rows, or one beyond all.
-    pub(crate) index: usize,
-    /// At how many bytes of the block its entry begins.
-    pub(crate) place: usize,
-}
-
-impl Guess {
-    /// No row.
-    fn none() -> Guess {
-        Guess {
-            index: usize::MAX,
-            place: 0,
-        }
-    }
-}
-
-/// The guess for one key.
-#[derive(Clone, Copy)]
-struct Cell {
-    /// The row's index and 1, or 0 in a free cell.
-    named: u16,
-    /// Bits of the key's hash.
-    tag: u16,
-    /// Where the row's entry begins.
-    place: u32,
-}
-
-impl Cell {
-    /// A cell that is free.
-    fn free() -> Cell {
-        Cell {
-            named: 0,
-            tag: 0,
-            place: 0,
-        }
-    }
-}
-
 /// Cells in which a key's newest row is found by the hash of the key. A cell is a guess, which is believed only after a look at the
 /// row, so nothing is claimed of it.
 #[derive(Drop)]
 pub(crate) struct Hint<A: Allocator = Global> {
     /// None, or three for two rows, and behind them those that only the keys of the last ones reach.
-    cells: Vec<Cell, A>,
+    cells: Vec<HintCell, A>,
 }
 
 impl<A: Allocator> Hint<A> {
@@ -73,7 +34,7 @@ impl<A: Allocator> Hint<A> {
         if rows < FEWEST || rows > MOST {
             return Ok(());
         }
-        self.cells.resize(rows + rows / 2 + PROBES, Cell::free())
+        self.cells.resize(rows + rows / 2 + PROBES, HintCell::free())
     }
 
     /// The number of the first cell that may be a key's of this hash.
@@ -95,7 +56,7 @@ impl<A: Allocator> Hint<A> {
                 return;
             };
             if cell.named == 0 {
-                *cell = Cell {
+                *cell = HintCell {
                     named,
                     tag: tag_of(hash),
                     place,

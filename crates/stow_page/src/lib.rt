@@ -23,8 +23,11 @@
 pub mod big_endian;
 pub mod entry;
 pub mod format;
+mod guess;
 mod hashed_key;
 mod hint;
+mod hint_cell;
+mod notes;
 pub mod laws;
 pub mod packed_rows;
 pub mod page;

@@ -10,8 +10,10 @@ ghost use Rattle.stow_page.specs.declared.format.Format.TheVariants.{Two};
 
 use crate::entry::{append_entry, entry_size, format_of, lent_version};
 use crate::format::Format;
+use crate::guess::Guess;
 use crate::hashed_key::HashedKey;
-use crate::hint::{Guess, Hint};
+use crate::hint::Hint;
+use crate::notes::Notes;
 use std::alloc::{AllocError, Allocator, Global};
 use std::cmp::Ordering;
 use std::marker::Model;
@@ -201,15 +203,15 @@ impl<A: Allocator> PackedRows<A> {
         ensures { self.new ≡ self.old }
     {
         self.hint.reserve(self.places.len())?;
-        let (filter, apart) = noted(
+        let notes = noted(
             alloc,
             &mut self.hint,
             self.format,
             self.bytes.as_slice(),
             self.places.as_slice(),
         )?;
-        self.filter = filter;
-        self.apart = apart;
+        self.filter = notes.filter;
+        self.apart = notes.apart;
         Ok(())
     }
 
@@ -447,18 +449,18 @@ fn lent_at<'a>(format: Format, bytes: &'a [u8], places: &[u32], index: usize) ->
     lent_version(format, bytes.split_at(place).1)
 }
 
-/// Marks of each version's key, and whether versions beside each other are of different keys. The hint comes to know where the newest of
-/// each key stands.
+/// What is noted of the versions of a block. The hint comes to know where the newest of each key stands.
 fn noted<A: Allocator>(
     alloc: A,
     hint: &mut Hint<A>,
     format: Format,
     bytes: &[u8],
     places: &[u32],
-) -> Result<(Filter<A>, bool), AllocError>
+) -> Result<Notes<A>, AllocError>
     requires { IsBlock format bytes.now places.now }
-    ensures marks { IfOk result (λ r. CoversRows r.0 (rows_in format bytes.now places.now)) }
-    ensures apart { IfOk result (λ r. r.1 ≡ true
+    ensures marks { IfOk result (λ notes.
+        CoversRows notes.filter (rows_in format bytes.now places.now)) }
+    ensures apart { IfOk result (λ notes. notes.apart ≡ true
         → AreApart (rows_in format bytes.now places.now)) }
 {
     let mut filter = Filter::for_keys(alloc, places.len())?;
@@ -474,7 +476,7 @@ fn noted<A: Allocator>(
         last = Some(key);
     }
     note_before(hint, places, places.len(), last);
-    Ok((filter, apart))
+    Ok(Notes { filter, apart })
 }
 
 /// Notes the last row before one with this index, the newest of its key.
