@@ -9,3 +9,12 @@ pub mod WritingLemmas
 pub mod PagedLemmas
 pub mod FewLemmas
 pub mod Places
+pub mod KeyOps
+pub mod KeyByKey
+pub mod Settled
+pub mod Steps
+pub mod RisingMessages
+pub mod OneKeyLemmas
+pub mod Going
+pub mod Folded
+pub mod PartLemmas

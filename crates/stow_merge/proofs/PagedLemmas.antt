@@ -3,7 +3,8 @@ use Rattle.std.proofs.Common.{◌≡◌, ℕ, ◌-◌, ◌<◌, ◌≤◌, ◌^�
 use Rattle.std.specs.Prelude.{Result, Ok, Err, IfOk, sum}
 use Rattle.std.specs.Borrow.{Bor}
 use Rattle.std.specs.List.{AllByRecursion}
-use Rattle.std.proofs.lemmas.List.{length-map}
+use Rattle.std.proofs.lemmas.List.{append-nil, length-map}
+use Rattle.stow_tree_model.proofs.Pruning.{none_in_nothing}
 use Rattle.std.proofs.Math.Seq.{take-length}
 use Rattle.std.proofs.lemmas.List.Sums.{sum-map}
 use Rattle.stow_page.proofs.Pushed.{length-packed_page}
@@ -82,3 +83,19 @@ filled target versions (page ∷ pages) one all e = record { are = e; is_one_the
 
 pub pages_of : (target : ℕ) (versions : List Version) (keys pages : List (List Version)) → (length (packed_page versions) ≤ target → length pages ≤ 1) → AreKeys versions keys → AreWritten target keys 0 pages → ArePagesOf versions target (at_least_one_page pages)
 pages_of target versions keys pages one h w = filled target versions pages one w.are_leaf_pages (w.are ∙ h.are)
+
+-- versions that one page holds within the target are pages for themselves
+pub alone_page : (target : ℕ) (versions : List Version) → length (packed_page versions) ≤ target → ArePagesOf versions target (versions ∷ [])
+alone_page target versions fits = record {
+  are = append-nil versions;
+  is_one_there = λ z. cc;
+  is_one_enough = λ _. refl;
+  are_cut = λ other. (
+    record {
+      is_filled = λ none. other (ap (λ vs. vs ∷ []) none);
+      fits = λ over. absurd (omega (arith, fits, over));
+      is_below = record { are_below = λ v w c d. absurd (none_in_nothing w d) };
+    },
+    tt,
+  );
+}

@@ -11,6 +11,7 @@ use Rattle.stow_bytes.specs.Limits.{value_limit}
 use Rattle.stow_page.specs.Format.{is_long, has_long}
 use Rattle.stow_tree_model.specs.Merged.{same_key}
 use Rattle.stow_tree_model.specs.Op.{op_of, bytes_in}
+use Rattle.stow_tree_model.specs.Order.{VersionsRise}
 use Rattle.stow_tree_model.specs.TreeMessage.{TreeMessage, message_of}
 use Rattle.stow_tree_model.specs.Value.{IsValue}
 use Rattle.stow_tree_model.specs.Version.{Version}
@@ -20,6 +21,7 @@ use Rattle.stow_tree_model.proofs.Readings.{drop_one_less}
 use Rattle.stow_merge.specs.KeptVersion.{bytes_between, value_between}
 use Rattle.stow_merge.specs.Pages.{read_in_order}
 use Rattle.stow_merge.specs.Writing.{CanPack}
+use Rattle.stow_merge.proofs.KeyLemmas.{rises_front}
 use Rattle.stow_merge.proofs.PageLemmas.{can_front}
 
 -- ---- keys that are one
@@ -108,16 +110,21 @@ long_more f xs i x l e before here =
     ∙ list_any-append (λ v. is_long v.value) (map f (take i xs)) (f x ∷ [])
     ∙ or_from (has_long (map f (take i xs))) (has_long (f x ∷ [])) before (or_from (is_long (f x).value) false here refl)
 
--- a page that can be made of some versions and more can be made of them and the next
-pub pack_next : {X : Type 0} (f : X → Version) (done : List Version) (xs : List X) (i : ℕ) (x : X) → CanPack (done ++ map f xs) → i < length xs → x ≡ get_or xs i x → CanPack ((done ++ map f (take i xs)) ++ f x ∷ [])
-pack_next f done xs i x can l e =
-    can_front ((done ++ map f (take i xs)) ++ f x ∷ []) (map f (drop (suc i) xs))
-    (subst CanPack
-    (ap (λ ys. done ++ map f ys) (around xs i x l e)
+-- some versions and more, told around one of the others
+around_next : {X : Type 0} (f : X → Version) (done : List Version) (xs : List X) (i : ℕ) (x : X) → i < length xs → x ≡ get_or xs i x → done ++ map f xs ≡ ((done ++ map f (take i xs)) ++ f x ∷ []) ++ map f (drop (suc i) xs)
+around_next f done xs i x l e =
+    ap (λ ys. done ++ map f ys) (around xs i x l e)
     ∙ ap (λ vs. done ++ vs) (map-append f (take i xs ++ x ∷ []) (drop (suc i) xs) ∙ ap (λ vs. vs ++ map f (drop (suc i) xs)) (map-append f (take i xs) (x ∷ [])))
     ∙ sym (append_assoc done (map f (take i xs) ++ f x ∷ []) (map f (drop (suc i) xs)))
-    ∙ ap (λ vs. vs ++ map f (drop (suc i) xs)) (sym (append_assoc done (map f (take i xs)) (f x ∷ []))))
-    can)
+    ∙ ap (λ vs. vs ++ map f (drop (suc i) xs)) (sym (append_assoc done (map f (take i xs)) (f x ∷ [])))
+
+-- a page that can be made of some versions and more can be made of them and the next
+pub pack_next : {X : Type 0} (f : X → Version) (done : List Version) (xs : List X) (i : ℕ) (x : X) → CanPack (done ++ map f xs) → i < length xs → x ≡ get_or xs i x → CanPack ((done ++ map f (take i xs)) ++ f x ∷ [])
+pack_next f done xs i x can l e = can_front ((done ++ map f (take i xs)) ++ f x ∷ []) (map f (drop (suc i) xs)) (subst CanPack (around_next f done xs i x l e) can)
+
+-- some versions and more rise, so they and the next do
+pub rise_next : {X : Type 0} (f : X → Version) (done : List Version) (xs : List X) (i : ℕ) (x : X) → VersionsRise (done ++ map f xs) → i < length xs → x ≡ get_or xs i x → VersionsRise ((done ++ map f (take i xs)) ++ f x ∷ [])
+rise_next f done xs i x rise l e = rises_front ((done ++ map f (take i xs)) ++ f x ∷ []) (map f (drop (suc i) xs)) (subst VersionsRise (around_next f done xs i x l e) rise)
 
 pub read_more : {X : Type 0} (f : X → List Version) (xs : List X) (i : ℕ) (x : X) → i < length xs → x ≡ get_or xs i x → read_in_order (map f (take (i + 1) xs)) ≡ read_in_order (map f (take i xs)) ++ f x
 read_more f xs i x l e =

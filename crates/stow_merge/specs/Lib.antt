@@ -7,3 +7,5 @@ pub mod Writing
 pub mod Mergeable
 pub mod FlushJobs
 pub mod Covering
+pub mod OneKey
+pub mod Parts

@@ -1,7 +1,10 @@
 //! How full the pages of a merge are to be.
 use crate::page_sizes::PageSizes;
+use std::alloc::Allocator;
+use stow_bytes::compare::compare;
+use stow_page::rows::Rows;
 use stow_tree_model::message::Message;
-use stow_tree_model::version::Version;
+use stow_tree_model::tenant_key::TenantKey;
 
 /// How full pages are to be, by where more keys are likely to come.
 #[derive(Clone, Copy)]
@@ -16,7 +19,7 @@ pub(crate) enum Filling {
 
 impl Filling {
     /// By where a batch stands beside a leaf's rows. Keys that came above or below all others come there again.
-    pub(crate) fn beside(rows: &[Version<'_>], batch: &[Message<'_>]) -> Filling {
+    pub(crate) fn beside<A: Allocator>(rows: &Rows<A>, batch: &[Message<'_>]) -> Filling {
         if is_above(rows, batch) {
             Filling::Upwards
         } else if is_below(rows, batch) {
@@ -37,18 +40,22 @@ impl Filling {
 }
 
 /// Whether there are messages, and all keys of rows are below theirs.
-fn is_above(rows: &[Version<'_>], batch: &[Message<'_>]) -> bool {
-    match (rows.last(), batch.first()) {
-        (_, None) => false,
-        (None, Some(_)) => true,
-        (Some(row), Some(message)) => row.key.bytes.cmp(message.key.bytes).is_lt(),
-    }
+fn is_above<A: Allocator>(rows: &Rows<A>, batch: &[Message<'_>]) -> bool {
+    let Some(first) = batch.first() else {
+        return false;
+    };
+    let len = rows.len();
+    len == 0 || is_lower(rows.get(len - 1).key, first.key)
 }
 
 /// Whether there are rows and messages, and all keys of rows are above those of messages.
-fn is_below(rows: &[Version<'_>], batch: &[Message<'_>]) -> bool {
-    match (rows.first(), batch.last()) {
-        (Some(row), Some(message)) => message.key.bytes.cmp(row.key.bytes).is_lt(),
-        _ => false,
-    }
+fn is_below<A: Allocator>(rows: &Rows<A>, batch: &[Message<'_>]) -> bool {
+    let Some(last) = batch.last() else {
+        return false;
+    };
+    !rows.is_empty() && is_lower(last.key, rows.get(0).key)
+}
+
+fn is_lower(low: TenantKey<'_>, high: TenantKey<'_>) -> bool {
+    compare(low.bytes, high.bytes).is_lt()
 }

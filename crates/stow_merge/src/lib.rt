@@ -22,6 +22,7 @@
 //! its contract: tests call each with ample memory. How full pages are (`Filling`) stands in no contract.
 #![tactic(auto)]
 
+mod by_keys;
 mod covering;
 pub mod cutting;
 mod filling;
@@ -35,7 +36,9 @@ pub mod kept_version;
 mod lending;
 mod measuring;
 pub mod merging;
+mod one_key;
 mod page_sizes;
+mod parts;
 pub mod pins;
 pub mod survey;
 mod writing;

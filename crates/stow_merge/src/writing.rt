@@ -51,7 +51,7 @@ fn run_length(key: TenantKey<'_>, kept: &[KeptVersion<'_>]) -> usize
 }
 
 /// Folds a version's value into the bytes where more than one message carries it.
-fn fold<B: Allocator + Copy, C: Allocator + Copy>(
+pub(crate) fn fold<B: Allocator + Copy, C: Allocator + Copy>(
     survey: &Survey<'_, B>,
     version: KeptVersion<'_>,
     bytes: &mut Vec<u8, C>,
@@ -67,8 +67,7 @@ fn fold<B: Allocator + Copy, C: Allocator + Copy>(
     Ok(())
 }
 
-/// Writes a kept version behind those of a page, its value lent by the one message that carries it, or by the bytes
-/// that more were folded into.
+/// Writes a kept version behind those of a page.
 fn write_version<'s, A: Allocator + Copy, B: Allocator + Copy>(
     packed: &mut PackedRows<A>,
     survey: &'s Survey<'s, B>,
@@ -80,11 +79,24 @@ fn write_version<'s, A: Allocator + Copy, B: Allocator + Copy>(
     requires folded { IsFolded survey.now version folded.now }
     ensures { OnOk result (packed.new ≡ packed.old ++ version_in survey.now version.entry ∷ []) }
 {
-    packed.push(Version {
+    packed.push(lent_version(survey, version, folded))
+}
+
+/// A kept version, its value lent by the one message that carries it, or by the bytes that more were folded into.
+pub(crate) fn lent_version<'s, B: Allocator + Copy>(
+    survey: &'s Survey<'s, B>,
+    version: KeptVersion<'s>,
+    folded: &'s [u8],
+) -> Version<'s>
+    requires value { IsValue (version_in survey.now version).value }
+    requires folded { IsFolded survey.now version folded.now }
+    ensures { version_of result ≡ version_in survey.now version.entry }
+{
+    Version {
         key: version.key,
         number: version.number,
         value: value_of(survey, version, folded),
-    })
+    }
 }
 
 /// A kept version's value, lent.
@@ -143,7 +155,7 @@ fn count_of(keys: &[&[KeptVersion<'_>]]) -> usize {
 }
 
 /// How many bytes a page has whose keys are those from one to before another.
-fn page_size(sizes: &[u32], from: usize, to: usize) -> usize {
+pub(crate) fn page_size(sizes: &[u32], from: usize, to: usize) -> usize {
     let sizes = between(sizes, from, to);
     let mut size = HEADER_SIZE as usize;
     for i in 0..sizes.len() {

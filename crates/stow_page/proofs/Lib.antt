@@ -13,3 +13,4 @@ pub mod OneField
 pub mod Joined
 pub mod Marked
 pub mod Noting
+pub mod Taken

@@ -1,5 +1,5 @@
 -- What a look-up in versions that rise finds.
-use Rattle.std.proofs.Common.{◌≡◌, ◌≢◌, ℕ, zero, suc, ◌+◌, ◌-◌, ◌<◌, ◌≤◌, Bool, true, false, cond, List, [], ◌∷◌, ◌++◌, length, get_or, map, filter, refl, sym, ◌∙◌, ap, subst, arith, ⊎_elim, ◌⊎◌, Some, None}
+use Rattle.std.proofs.Common.{◌≡◌, ◌≢◌, ℕ, zero, suc, ◌+◌, ◌-◌, ◌<◌, ◌≤◌, Bool, true, false, cond, List, [], ◌∷◌, ◌++◌, length, get_or, map, filter, refl, sym, ◌∙◌, ap, subst, arith, ⊎_elim, inl, inr, ◌⊎◌, Some, None}
 use Rattle.std.specs.Option.{unwrap_or, option_map}
 use Rattle.std.specs.List.{slice_get, AllByRecursion}
 use Rattle.std.specs.List.Sorted.{IsStrictlySortedBy}
@@ -19,16 +19,16 @@ use Rattle.stow_bytes.specs.Bytes.{bytes_cmp}
 use Rattle.stow_tree_model.specs.Version.{Version}
 use Rattle.stow_tree_model.specs.Order.{VersionPlace, place_cmp, version_place, VersionsRise}
 use Rattle.stow_tree_model.proofs.Orders.{place_total, less_than, same_number, more_than}
-use Rattle.stow_page.specs.Rows.{is_above, is_up_to, last_of, version_at, AreApart, IsCountUpTo}
+use Rattle.stow_page.specs.Rows.{is_above, is_up_to, last_of, version_at, AreAlone, IsCountBetween, IsCountFrom, IsCountUpTo}
 
 -- ---- versions by their index
 
-all_at : {X : Type 0} (P : X → Type 0) (xs : List X) (i : ℕ) (x : X) → AllByRecursion P xs → slice_get xs i ≡ Some x → P x
+pub all_at : {X : Type 0} (P : X → Type 0) (xs : List X) (i : ℕ) (x : X) → AllByRecursion P xs → slice_get xs i ≡ Some x → P x
 all_at P [] i x all e = let none = slice_get_within [] i x e in absurd (omega arith)
 all_at P (y ∷ ys) zero x all e = subst P (ap (λ o. unwrap_or o x) e) all.0
 all_at P (y ∷ ys) (suc i) x all e = all_at P ys i x all.1 e
 
-rise_at : (ps : List VersionPlace) (i j : ℕ) (a b : VersionPlace) → IsStrictlySortedBy place_cmp ps → i < j → slice_get ps i ≡ Some a → slice_get ps j ≡ Some b → place_cmp a b ≡ Less
+pub rise_at : (ps : List VersionPlace) (i j : ℕ) (a b : VersionPlace) → IsStrictlySortedBy place_cmp ps → i < j → slice_get ps i ≡ Some a → slice_get ps j ≡ Some b → place_cmp a b ≡ Less
 unfolding IsStrictlySortedBy
 rise_at [] i j a b rise low e f = let none = slice_get_within [] i a e in absurd (omega arith)
 rise_at (p ∷ ps) i zero a b rise low e f = absurd (omega arith)
@@ -122,7 +122,7 @@ other_key key number v ne = ⊎_elim
     (cases_Bool (bytes_eq key v.key))
 
 -- a version that isn't above the place and isn't the key's has a lower key
-lower_at : (key other : List ℕ) (o : Ordering) → is_lt (ordering_then (bytes_cmp key other) o) ≡ false → other ≢ key → bytes_cmp other key ≡ Less
+pub lower_at : (key other : List ℕ) (o : Ordering) → is_lt (ordering_then (bytes_cmp key other) o) ≡ false → other ≢ key → bytes_cmp other key ≡ Less
 lower_at key other o h ne = by (bytes_cmp key other) refl
   where
     by : (r : Ordering) → bytes_cmp key other ≡ r → bytes_cmp other key ≡ Less
@@ -173,30 +173,42 @@ found_other rows key number count i v rise h e f isnt = last_none (is_up_to key 
 
 -- ---- the search for a place
 
--- what is known of the places below the one bound and from the other on
-pub record IsNarrowed (rows : List Version) (place : VersionPlace) (low high : ℕ) : Type 0 where
+-- what is known of the places from the first on below the one bound, and from the other on before the last
+pub record IsNarrowed (rows : List Version) (place : VersionPlace) (from to low high : ℕ) : Type 0 where
+  pub first : from ≤ low
   pub ordered : low ≤ high
-  pub within : high ≤ length rows
-  pub up_to : (i : ℕ) (v : Version) → i < low → slice_get rows i ≡ Some v → is_above place v ≡ false
-  pub above : (i : ℕ) (v : Version) → high ≤ i → slice_get rows i ≡ Some v → is_above place v ≡ true
+  pub last : high ≤ to
+  pub within : to ≤ length rows
+  pub up_to : (i : ℕ) (v : Version) → from ≤ i → i < low → slice_get rows i ≡ Some v → is_above place v ≡ false
+  pub above : (i : ℕ) (v : Version) → high ≤ i → i < to → slice_get rows i ≡ Some v → is_above place v ≡ true
 
-pub narrowed_first : (rows : List Version) (place : VersionPlace) → IsNarrowed rows place 0 (length rows)
-narrowed_first rows place = record {
-  ordered = omega arith;
-  within = omega arith;
-  up_to = λ i v low e. absurd (omega arith);
-  above = λ i v past e. let within = slice_get_within rows i v e in absurd (omega arith);
+under_or_from : (i n : ℕ) → (i < n) ⊎ (n ≤ i)
+under_or_from i n = ⊎_elim
+    (λ (e : i ≡ n). inr (omega arith))
+    (λ (c : (i < n) ⊎ (n < i)). ⊎_elim (λ (l : i < n). inl l) (λ (l : n < i). inr (omega arith)) c)
+    (cases_order i n)
+
+pub narrowed_first : (rows : List Version) (place : VersionPlace) (from to : ℕ) → from ≤ to → to ≤ length rows → IsNarrowed rows place from to from to
+narrowed_first rows place from to order within = record {
+  first = omega arith;
+  ordered = order;
+  last = omega arith;
+  within = within;
+  up_to = λ i v above low e. absurd (omega (arith, above, low));
+  above = λ i v past before e. absurd (omega (arith, past, before));
 }
 
 same_at : (rows : List Version) (i : ℕ) (v w : Version) → slice_get rows i ≡ Some v → slice_get rows i ≡ Some w → v ≡ w
 same_at rows i v w e f = ap (λ o. unwrap_or o v) (sym e ∙ f)
 
-pub narrowed_down : (rows : List Version) (place : VersionPlace) (low high middle : ℕ) (v : Version) → VersionsRise rows → IsNarrowed rows place low high → low ≤ middle → middle < high → slice_get rows middle ≡ Some v → is_above place v ≡ true → IsNarrowed rows place low middle
-narrowed_down rows place low high middle v rise h a b e is = record {
+pub narrowed_down : (rows : List Version) (place : VersionPlace) (from to low high middle : ℕ) (v : Version) → VersionsRise rows → IsNarrowed rows place from to low high → low ≤ middle → middle < high → slice_get rows middle ≡ Some v → is_above place v ≡ true → IsNarrowed rows place from to low middle
+narrowed_down rows place from to low high middle v rise h a b e is = record {
+  first = h.first;
   ordered = a;
-  within = let within = h.within in omega arith;
+  last = let last = h.last in omega arith;
+  within = h.within;
   up_to = h.up_to;
-  above = λ i w past f. ⊎_elim
+  above = λ i w past before f. ⊎_elim
       (λ (same : i ≡ middle). subst (λ u. is_above place u ≡ true) (same_at rows middle v w e (subst (λ j. slice_get rows j ≡ Some w) same f)) is)
       (λ (c : (i < middle) ⊎ (middle < i)). ⊎_elim
       (λ (l : i < middle). absurd (omega arith))
@@ -205,12 +217,14 @@ narrowed_down rows place low high middle v rise h a b e is = record {
       (cases_order i middle);
 }
 
-pub narrowed_up : (rows : List Version) (place : VersionPlace) (low high middle : ℕ) (v : Version) → VersionsRise rows → IsNarrowed rows place low high → low ≤ middle → middle < high → slice_get rows middle ≡ Some v → is_above place v ≡ false → IsNarrowed rows place (middle + 1) high
-narrowed_up rows place low high middle v rise h a b e is = record {
+pub narrowed_up : (rows : List Version) (place : VersionPlace) (from to low high middle : ℕ) (v : Version) → VersionsRise rows → IsNarrowed rows place from to low high → low ≤ middle → middle < high → slice_get rows middle ≡ Some v → is_above place v ≡ false → IsNarrowed rows place from to (middle + 1) high
+narrowed_up rows place from to low high middle v rise h a b e is = record {
+  first = let first = h.first in omega arith;
   ordered = omega arith;
+  last = h.last;
   within = h.within;
   above = h.above;
-  up_to = λ i w below f. ⊎_elim
+  up_to = λ i w from_there below f. ⊎_elim
       (λ (same : i ≡ middle). subst (λ u. is_above place u ≡ false) (same_at rows middle v w e (subst (λ j. slice_get rows j ≡ Some w) same f)) is)
       (λ (c : (i < middle) ⊎ (middle < i)). ⊎_elim
       (λ (l : i < middle). not_above_earlier place (version_place w) (version_place v) is (versions_rise_at rows i middle w v rise l f e))
@@ -219,28 +233,52 @@ narrowed_up rows place low high middle v rise h a b e is = record {
       (cases_order i middle);
 }
 
-pub narrowed_last : (rows : List Version) (place : VersionPlace) (low high : ℕ) → IsNarrowed rows place low high → high ≤ low → IsCountUpTo rows place low
-narrowed_last rows place low high h e =
+pub narrowed_last : (rows : List Version) (place : VersionPlace) (from to low high : ℕ) → IsNarrowed rows place from to low high → high ≤ low → IsCountBetween rows place from to low
+narrowed_last rows place from to low high h e =
     let ordered = h.ordered in
-    let within = h.within in
-    record { within = omega arith; up_to = h.up_to; above = λ i v past f. h.above i v (omega arith) f }
+    let last = h.last in
+    record { order = h.first; within = omega arith; up_to = h.up_to; above = λ i v past before f. h.above i v (omega arith) before f }
+
+-- what was counted between the first version and the end
+pub counted_whole : (rows : List Version) (place : VersionPlace) (to count : ℕ) → to ≡ length rows → IsCountBetween rows place 0 to count → IsCountUpTo rows place count
+counted_whole rows place to count e h = record {
+  within = let within = h.within in omega arith;
+  up_to = λ i v low f. h.up_to i v (omega arith) low f;
+  above = λ i v past f. h.above i v past (let within = slice_get_within rows i v f in omega arith) f;
+}
+
+-- what was counted between the two bounds of what is known
+pub counted_narrowed : (rows : List Version) (place : VersionPlace) (from to low high count : ℕ) → to ≡ length rows → IsNarrowed rows place from to low high → IsCountBetween rows place low high count → IsCountFrom rows place from count
+counted_narrowed rows place from to low high count e n h = record {
+  order = let first = n.first in let order = h.order in omega arith;
+  within = let last = n.last in let within = h.within in omega arith;
+  up_to = λ i v from_there below f. ⊎_elim
+      (λ (l : i < low). n.up_to i v from_there l f)
+      (λ (l : low ≤ i). h.up_to i v l below f)
+      (under_or_from i low);
+  above = λ i v past f. ⊎_elim
+      (λ (l : i < high). h.above i v past l f)
+      (λ (l : high ≤ i). n.above i v l (let within = slice_get_within rows i v f in omega arith) f)
+      (under_or_from i high);
+}
 
 -- with the version before a count not above the place, and the one at it above, it is how many stand up to it
-pub counted_from : (rows : List Version) (place : VersionPlace) (count : ℕ) → count ≤ length rows → count ≡ 0 → IsNarrowed rows place count (length rows)
-counted_from rows place count within e = subst (λ n. IsNarrowed rows place n (length rows)) (sym e) (narrowed_first rows place)
+pub counted_from : (rows : List Version) (place : VersionPlace) (count : ℕ) → count ≤ length rows → count ≡ 0 → IsNarrowed rows place 0 (length rows) count (length rows)
+counted_from rows place count within e = subst (λ n. IsNarrowed rows place 0 (length rows) n (length rows)) (sym e) (narrowed_first rows place 0 (length rows) (omega arith) (omega arith))
 
-pub counted_up : (rows : List Version) (place : VersionPlace) (count : ℕ) (v : Version) → VersionsRise rows → count ≤ length rows → 0 < count → slice_get rows (count - 1) ≡ Some v → is_above place v ≡ false → IsNarrowed rows place count (length rows)
+pub counted_up : (rows : List Version) (place : VersionPlace) (count : ℕ) (v : Version) → VersionsRise rows → count ≤ length rows → 0 < count → slice_get rows (count - 1) ≡ Some v → is_above place v ≡ false → IsNarrowed rows place 0 (length rows) count (length rows)
 counted_up rows place count v rise within some e is =
     let same : count - 1 + 1 ≡ count = omega arith in
-    subst (λ n. IsNarrowed rows place n (length rows)) same
-    (narrowed_up rows place 0 (length rows) (count - 1) v rise (narrowed_first rows place) (omega arith) (omega arith) e is)
+    subst (λ n. IsNarrowed rows place 0 (length rows) n (length rows)) same
+    (narrowed_up rows place 0 (length rows) 0 (length rows) (count - 1) v rise (narrowed_first rows place 0 (length rows) (omega arith) (omega arith)) (omega arith) (omega arith) e is)
 
-pub counted_all : (rows : List Version) (place : VersionPlace) (count : ℕ) → IsNarrowed rows place count (length rows) → count ≡ length rows → IsCountUpTo rows place count
-counted_all rows place count h e = narrowed_last rows place count (length rows) h (omega arith)
+pub counted_all : (rows : List Version) (place : VersionPlace) (count : ℕ) → IsNarrowed rows place 0 (length rows) count (length rows) → count ≡ length rows → IsCountUpTo rows place count
+counted_all rows place count h e = counted_whole rows place (length rows) count refl (narrowed_last rows place 0 (length rows) count (length rows) h (omega arith))
 
-pub counted_here : (rows : List Version) (place : VersionPlace) (count : ℕ) (v : Version) → VersionsRise rows → IsNarrowed rows place count (length rows) → slice_get rows count ≡ Some v → is_above place v ≡ true → IsCountUpTo rows place count
+pub counted_here : (rows : List Version) (place : VersionPlace) (count : ℕ) (v : Version) → VersionsRise rows → IsNarrowed rows place 0 (length rows) count (length rows) → slice_get rows count ≡ Some v → is_above place v ≡ true → IsCountUpTo rows place count
 counted_here rows place count v rise h e is =
-    narrowed_last rows place count count (narrowed_down rows place count (length rows) count v rise h (omega arith) (slice_get_within rows count v e) e is) (omega arith)
+    counted_whole rows place (length rows) count refl
+    (narrowed_last rows place 0 (length rows) count count (narrowed_down rows place 0 (length rows) count (length rows) count v rise h (omega arith) (slice_get_within rows count v e) e is) (omega arith))
 
 -- ---- a version where a hint says
 
@@ -349,6 +387,6 @@ of_key key number v is = (bytes_decides key v.key).0 (⊎_elim
     (cases_Bool (bytes_eq key v.key)))
 
 -- .. where versions beside each other are of different keys it is any that is the key's
-pub newest_apart : (rows : List Version) (key : List ℕ) (number i : ℕ) (v : Version) → VersionsRise rows → AreApart rows → slice_get rows i ≡ Some v → is_up_to key number v ≡ true → slice_get rows i ≡ version_at rows key number
-newest_apart rows key number i v rise apart e is = newest rows key number i v rise e is
-    (λ w f. other_key key number w (λ same. apart.apart i v w e f (sym (of_key key number v is) ∙ sym same)))
+pub newest_alone : (rows : List Version) (key : List ℕ) (number i : ℕ) (v : Version) → VersionsRise rows → AreAlone rows → slice_get rows i ≡ Some v → is_up_to key number v ≡ true → slice_get rows i ≡ version_at rows key number
+newest_alone rows key number i v rise alone e is = newest rows key number i v rise e is
+    (λ w f. other_key key number w (λ same. alone.apart i v w e f (sym (of_key key number v is) ∙ sym same)))

@@ -1,5 +1,5 @@
 -- A leaf's versions in one block, with the place of each.
-use Rattle.std.specs.Prelude.{◌≡◌, ◌≢◌, ℕ, zero, suc, ◌+◌, ◌<◌, ◌≤◌, ◌^◌, Bool, true, false, List, slice_get, [], ◌∷◌, ◌++◌, length, map, filter, Option, Some, None, take, drop, nat_le, ◌&&◌}
+use Rattle.std.specs.Prelude.{◌≡◌, ◌≢◌, ℕ, zero, suc, ◌+◌, ◌<◌, ◌≤◌, ◌^◌, Bool, true, false, List, slice_get, [], ◌∷◌, ◌++◌, length, map, filter, Option, Some, None, IsSome, take, drop, nat_le, ◌&&◌}
 use Rattle.std.specs.Int.{from_be_bytes, to_be_bytes, w16, w32, w64}
 use Rattle.std.specs.Ordering.{is_lt}
 use Rattle.std.specs.Str.{bytes_eq}
@@ -72,17 +72,19 @@ IsBlock format bytes places = ArePacked format bytes places (rows_in format byte
 abbrev pub CoversRows : List ℕ → List Version → Type 0
 CoversRows marks rows = CoversBy (λ v. v.key) marks rows
 
--- versions beside each other are of different keys
-pub record AreApart (rows : List Version) : Type 0 where
+-- each version is a value, and the only one of its key
+pub record AreAlone (rows : List Version) : Type 0 where
+  -- those beside each other are of different keys
   pub apart : (i : ℕ) (v w : Version) → slice_get rows i ≡ Some v → slice_get rows (i + 1) ≡ Some w
       → v.key ≢ w.key
+  pub values : (i : ℕ) (v : Version) → slice_get rows i ≡ Some v → IsSome v.value
 
--- the block stands for the versions that are in it, and marks tell their keys; they are known to be
--- of different keys, or nothing is known of it
+-- the block stands for the versions that are in it, and marks tell their keys; each is known to be
+-- a value, and the only one of its key, or nothing is known of it
 pub record IsNoted (format : Format) (bytes places marks : List ℕ) (known : Bool) : Type 0 where
   pub block : IsBlock format bytes places
   pub covers : CoversRows marks (rows_in format bytes places)
-  pub apart : known ≡ true → AreApart (rows_in format bytes places)
+  pub alone : known ≡ true → AreAlone (rows_in format bytes places)
 
 -- the format of versions, some of which have the one alone, and the others the other
 abbrev pub wider : Format → Format → Format
@@ -92,6 +94,11 @@ wider Two other = Two
 -- with this version behind them the page still has fewer than 2^32 bytes
 abbrev pub HasRoomFor : List Version → Version → Type 0
 HasRoomFor rows v = length (packed_page (rows ++ v ∷ [])) < 2 ^ 32
+
+-- rows of another block, from one place to before another, can be added as they stand
+pub record CanTake (packed rows : List Version) (from to : ℕ) : Type 0 where
+  pub alike : format_of packed ≡ format_of rows
+  pub room : length (packed_page (packed ++ drop from (take to rows))) < 2 ^ 32
 
 -- a lent version's entry
 abbrev pub entry_of : Format → lent.Version → List ℕ
@@ -111,6 +118,27 @@ is_above place v = is_lt (place_cmp place (version_place v))
 pub record IsCountUpTo (rows : List Version) (place : VersionPlace) (count : ℕ) : Type 0 where
   pub within : count ≤ length rows
   pub up_to : (i : ℕ) (v : Version) → i < count → slice_get rows i ≡ Some v
+      → is_above place v ≡ false
+  pub above : (i : ℕ) (v : Version) → count ≤ i → slice_get rows i ≡ Some v
+      → is_above place v ≡ true
+
+-- before the place `high`, so many versions stand at this place or below it and all others above it,
+-- those before `low` counted without a look at them
+pub record IsCountBetween (rows : List Version) (place : VersionPlace) (low high count : ℕ)
+    : Type 0 where
+  pub order : low ≤ count
+  pub within : count ≤ high
+  pub up_to : (i : ℕ) (v : Version) → low ≤ i → i < count → slice_get rows i ≡ Some v
+      → is_above place v ≡ false
+  pub above : (i : ℕ) (v : Version) → count ≤ i → i < high → slice_get rows i ≡ Some v
+      → is_above place v ≡ true
+
+-- from the one place on up to before the other, versions stand at this place or below it, and behind
+-- that above it
+pub record IsCountFrom (rows : List Version) (place : VersionPlace) (from count : ℕ) : Type 0 where
+  pub order : from ≤ count
+  pub within : count ≤ length rows
+  pub up_to : (i : ℕ) (v : Version) → from ≤ i → i < count → slice_get rows i ≡ Some v
       → is_above place v ≡ false
   pub above : (i : ℕ) (v : Version) → count ≤ i → slice_get rows i ≡ Some v
       → is_above place v ≡ true

@@ -34,7 +34,8 @@ impl<A: Allocator> Hint<A> {
         if rows < FEWEST || rows > MOST {
             return Ok(());
         }
-        self.cells.resize(rows + rows / 2 + PROBES, HintCell::free())
+        self.cells
+            .resize(rows + rows / 2 + PROBES, HintCell::free())
     }
 
     /// The number of the first cell that may be a key's of this hash.

@@ -7,6 +7,6 @@ use stow_filter::filter::Filter;
 pub(crate) struct Notes<A: Allocator = Global> {
     /// Marks of their keys.
     pub(crate) filter: Filter<A>,
-    /// Whether those beside each other are of different keys.
-    pub(crate) apart: bool,
+    /// Whether each is a value, and the only one of its key.
+    pub(crate) alone: bool,
 }

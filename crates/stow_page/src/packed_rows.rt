@@ -1,11 +1,11 @@
 //! Versions of a leaf in one block.
-ghost use Rattle.std.specs.Prelude.{◌≡◌, ◌==◌, ◌↔◌, IsTrue, ◌+◌, ◌<◌, ◌≤◌, ◌^◌, [], ◌∷◌, ◌++◌, length, map, slice_get, Some, option_map, true, IfOk, IfSome, OnOk, OnErr};
+ghost use Rattle.std.specs.Prelude.{◌≡◌, ◌==◌, ◌↔◌, IsTrue, ◌+◌, ◌-◌, ◌<◌, ◌≤◌, ◌^◌, [], ◌∷◌, ◌++◌, length, map, take, drop, slice_get, Some, option_map, true, IfOk, IfSome, OnOk, OnErr};
 ghost use Rattle.std.specs.List.{All};
 ghost use Rattle.stow_tree_model.specs.Version.{version_of};
 ghost use Rattle.stow_tree_model.specs.Order.{VersionsRise};
 ghost use Rattle.stow_tree_model.specs.Value.{bytes_at};
 ghost use Rattle.stow_page.specs.Format.{entries, packed_in, packed_page, format_of, places_from, IsTold, AreVersions};
-ghost use Rattle.stow_page.specs.Rows.{AreApart, CoversRows, HasRoomFor, IsBlock, rows_in, entry_of, wider, with_count, is_above, is_up_to, IsCountUpTo, version_at};
+ghost use Rattle.stow_page.specs.Rows.{AreAlone, CanTake, CoversRows, HasRoomFor, IsBlock, rows_in, entry_of, wider, with_count, is_above, is_up_to, IsCountBetween, IsCountFrom, IsCountUpTo, version_at};
 ghost use Rattle.stow_page.specs.declared.format.Format.TheVariants.{Two};
 
 use crate::entry::{append_entry, entry_size, format_of, lent_version};
@@ -31,8 +31,8 @@ pub struct PackedRows<A: Allocator = Global> {
     places: Vec<u32, A>,
     hint: Hint<A>,
     filter: Filter<A>,
-    /// Whether versions beside each other are known to be of different keys.
-    apart: bool,
+    /// Whether each version is known to be a value, and the only one of its key.
+    alone: bool,
 }
 
 impl<A: Allocator> Model for PackedRows<A> {
@@ -44,7 +44,7 @@ impl<A: Allocator> Model for PackedRows<A> {
 
     ghost view = { λ r. rows_in r.format r.bytes.items r.places.items };
 
-    ghost invariant = { λ r. IsNoted r.format r.bytes.items r.places.items r.filter r.apart };
+    ghost invariant = { λ r. IsNoted r.format r.bytes.items r.places.items r.filter r.alone };
 }
 
 impl<A: Allocator + Copy> PackedRows<A> {
@@ -59,7 +59,7 @@ impl<A: Allocator + Copy> PackedRows<A> {
             places,
             hint: Hint::new(alloc),
             filter: Filter::none(alloc),
-            apart: false,
+            alone: false,
         }
     }
 
@@ -174,8 +174,17 @@ impl<A: Allocator + Copy> PackedRows<A> {
         append_placed(&mut self.bytes, &mut self.places, self.format, version)?;
         write_count(&mut self.bytes, self.places.len() as u32);
         self.filter.forget();
-        self.apart = false;
+        self.alone = false;
         Ok(())
+    }
+
+    /// The same versions in a block of just their size.
+    pub fn exact<B: Allocator + Copy>(&self, alloc: B) -> Result<PackedRows<B>, AllocError>
+        ensures { IfOk result (λ r. r ≡ self.now) }
+    {
+        let bytes = Vec::from_slice(alloc, self.bytes.as_slice())?;
+        let places = Vec::from_slice(alloc, self.places.as_slice())?;
+        Ok(PackedRows::from_block(alloc, self.format, bytes, places))
     }
 
     /// These versions and one above them, written anew in format 2, in a block that is no smaller.
@@ -211,7 +220,7 @@ impl<A: Allocator> PackedRows<A> {
             self.places.as_slice(),
         )?;
         self.filter = notes.filter;
-        self.apart = notes.apart;
+        self.alone = notes.alone;
         Ok(())
     }
 
@@ -230,6 +239,13 @@ impl<A: Allocator> PackedRows<A> {
         self.places.is_empty()
     }
 
+    /// Whether each version is known to be a value, and the only one of its key.
+    pub fn are_alone(&self) -> bool
+        ensures { IsTrue result → AreAlone self.now }
+    {
+        self.alone
+    }
+
     /// The bytes of the page of these versions.
     pub fn as_bytes(&self) -> &[u8]
         ensures page { result.now ≡ packed_page self.now }
@@ -239,7 +255,7 @@ impl<A: Allocator> PackedRows<A> {
     }
 
     /// The format of the page of these versions.
-    pub(crate) fn format(&self) -> Format
+    pub fn format(&self) -> Format
         ensures { result ≡ format_of self.now }
     {
         self.format
@@ -309,12 +325,98 @@ impl<A: Allocator> PackedRows<A> {
         self.len_in(format) + entry_size(format, version) < 4_294_967_296
     }
 
+    /// Where the entry with this index begins, or where the entries end, if the index is behind the last one.
+    fn place_of(&self, index: usize) -> usize
+        requires { index ≤ length self.now }
+        ensures place { result ≡ 5 + length (entries (format_of self.now) (take index self.now)) }
+        ensures few { result < 2 ^ 32 }
+    {
+        if index == self.places.len() {
+            self.bytes.len()
+        } else {
+            self.places[index] as usize
+        }
+    }
+
+    /// Whether `push_rows` can add these rows.
+    pub fn can_take<B: Allocator>(&self, other: &PackedRows<B>, from: usize, to: usize) -> bool
+        requires order { from ≤ to }
+        requires within { to ≤ length other.now }
+        ensures { IsTrue result → CanTake self.now other.now from to }
+    {
+        if !self.format.is_same(other.format()) {
+            return false;
+        }
+        let more = other.place_of(to) - other.place_of(from);
+        self.bytes.len() + more < 4_294_967_296
+    }
+
+    /// Adds rows of another block, from one place to before another, above all versions. Their entries are copied as they stand. An `Err`
+    /// changes nothing.
+    pub fn push_rows<B: Allocator>(
+        &mut self,
+        other: &PackedRows<B>,
+        from: usize,
+        to: usize,
+    ) -> Result<(), AllocError>
+        requires order { from ≤ to }
+        requires within { to ≤ length other.now }
+        requires rise { VersionsRise (self.old ++ drop from (take to other.now)) }
+        requires can { CanTake self.old other.now from to }
+        ensures ok { OnOk result (self.new ≡ self.old ++ drop from (take to other.now)) }
+        ensures err { OnErr result (self.new ≡ self.old) }
+    {
+        let first = other.place_of(from);
+        let end = other.place_of(to);
+        let entries = &other.bytes.as_slice()[first..end];
+        let places = &other.places.as_slice()[from..to];
+        append_moved(
+            &mut self.bytes,
+            &mut self.places,
+            entries,
+            places,
+            first as u32,
+        )?;
+        write_count(&mut self.bytes, self.places.len() as u32);
+        self.filter.forget();
+        self.alone = false;
+        Ok(())
+    }
+
     /// How many versions stand at the key and number or below.
     pub fn count_up_to(&self, key: TenantKey<'_>, number: u64) -> usize
         ensures { IsCountUpTo self.now (key.entry.bytes.now, number) result }
     {
-        let mut low = 0;
-        let mut high = self.len();
+        self.count_between(key, number, 0, self.len())
+    }
+
+    /// How many versions stand at the key and number or below, those before `from` counted without a look at them. It is found the faster
+    /// the fewer stand between (exponential search: Bentley and Yao 1976).
+    pub fn count_from(&self, key: TenantKey<'_>, number: u64, from: usize) -> usize
+        requires { from ≤ length self.now }
+        ensures { IsCountFrom self.now (key.entry.bytes.now, number) from result }
+    {
+        let len = self.places.len();
+        let mut low = from;
+        let mut next = from;
+        while next < len {
+            if stands_above(self.get(next), key, number) {
+                return self.count_between(key, number, low, next);
+            }
+            low = next + 1;
+            next += low - from;
+        }
+        self.count_between(key, number, low, len)
+    }
+
+    /// How many versions before the place `high` stand at the key and number or below, those before `low` counted without a look at
+    /// them.
+    fn count_between(&self, key: TenantKey<'_>, number: u64, low: usize, high: usize) -> usize
+        requires order { low ≤ high }
+        requires within { high ≤ length self.now }
+        ensures { IsCountBetween self.now (key.entry.bytes.now, number) low high result }
+    {
+        let (mut low, mut high) = (low, high);
         while low < high {
             let middle = low + (high - low) / 2;
             if stands_above(self.get(middle), key, number) {
@@ -407,7 +509,7 @@ impl<A: Allocator> PackedRows<A> {
         if !is_up_to(version, key, number) {
             return None;
         }
-        if self.apart {
+        if self.alone {
             return Some(version);
         }
         let len = self.len();
@@ -460,23 +562,25 @@ fn noted<A: Allocator>(
     requires { IsBlock format bytes.now places.now }
     ensures marks { IfOk result (λ notes.
         CoversRows notes.filter (rows_in format bytes.now places.now)) }
-    ensures apart { IfOk result (λ notes. notes.apart ≡ true
-        → AreApart (rows_in format bytes.now places.now)) }
+    ensures alone { IfOk result (λ notes. notes.alone ≡ true
+        → AreAlone (rows_in format bytes.now places.now)) }
 {
     let mut filter = Filter::for_keys(alloc, places.len())?;
-    let (mut last, mut apart) = (None, true);
+    let (mut last, mut alone) = (None, true);
     for index in 0..places.len() {
-        let key = HashedKey::new(lent_at(format, bytes, places, index).key.bytes);
+        let version = lent_at(format, bytes, places, index);
+        let key = HashedKey::new(version.key.bytes);
         filter.add_hashed(key.bytes, key.hash);
         if key.is_same(last) {
-            apart = false;
+            alone = false;
         } else {
             note_before(hint, places, index, last);
+            alone = alone && version.value.is_some();
         }
         last = Some(key);
     }
     note_before(hint, places, places.len(), last);
-    Ok(Notes { filter, apart })
+    Ok(Notes { filter, alone })
 }
 
 /// Notes the last row before one with this index, the newest of its key.
@@ -538,6 +642,45 @@ fn append_placed<A: Allocator>(
         return Err(AllocError);
     }
     Ok(())
+}
+
+/// Writes entries behind the bytes, and behind the places where they stand then, of those where they stood from `first` on.
+fn append_moved<A: Allocator>(
+    bytes: &mut Vec<u8, A>,
+    places: &mut Vec<u32, A>,
+    entries: &[u8],
+    stood: &[u32],
+    first: u32,
+) -> Result<(), AllocError>
+    requires low { length bytes.old.items < 2 ^ 32 }
+    requires above { All (λ place. first ≤ place) stood.now }
+    requires fit { All (λ place. place - first + length bytes.old.items < 2 ^ 32) stood.now }
+    ensures bytes { OnOk result (bytes.new.items ≡ bytes.old.items ++ entries.now) }
+    ensures places { OnOk result (places.new.items ≡ places.old.items
+        ++ map (λ place. place - first + length bytes.old.items) stood.now) }
+    ensures bytes_stay { OnErr result (bytes.new.items ≡ bytes.old.items) }
+    ensures places_stay { OnErr result (places.new.items ≡ places.old.items) }
+{
+    let start = bytes.len();
+    let len = places.len();
+    bytes.extend_from_slice(entries)?;
+    if places.extend_from_slice(stood).is_err() {
+        bytes.truncate(start);
+        return Err(AllocError);
+    }
+    move_places(&mut places[len..], first, start as u32);
+    Ok(())
+}
+
+/// Moves places that stand from `first` on, so that they stand from `start` on.
+fn move_places(places: &mut [u32], first: u32, start: u32)
+    requires above { All (λ place. first ≤ place) places.old }
+    requires fit { All (λ place. place - first + start < 2 ^ 32) places.old }
+    ensures { places.new ≡ map (λ place. place - first + start) places.old }
+{
+    for place in places.iter_mut() {
+        *place = *place - first + start;
+    }
 }
 
 /// Writes the entries of versions in format 2 behind the bytes, and their places behind the places.

@@ -1,11 +1,11 @@
 //! The versions of one leaf, unpacked and shared.
-ghost use Rattle.std.specs.Prelude.{◌≡◌, ◌==◌, ◌<◌, ◌^◌, ◌++◌, length, slice_get, Some, option_map, IfOk};
+ghost use Rattle.std.specs.Prelude.{◌≡◌, ◌==◌, IsTrue, ◌<◌, ◌≤◌, ◌^◌, ◌++◌, length, slice_get, Some, option_map, IfOk};
 ghost use Rattle.std.specs.Arc.{arc_value};
 ghost use Rattle.stow_tree_model.specs.Order.{VersionsRise};
 ghost use Rattle.stow_tree_model.specs.Value.{bytes_at};
 ghost use Rattle.stow_tree_model.specs.Version.{version_of};
 ghost use Rattle.stow_page.specs.Format.{AreVersions, packed_page};
-ghost use Rattle.stow_page.specs.Rows.{IsCountUpTo, version_at, value_at};
+ghost use Rattle.stow_page.specs.Rows.{AreAlone, IsCountFrom, IsCountUpTo, version_at, value_at};
 
 use crate::packed_rows::PackedRows;
 use std::alloc::{AllocError, Allocator, Global};
@@ -72,6 +72,13 @@ impl<A: Allocator> Rows<A> {
         })
     }
 
+    /// The block that they stand in.
+    pub fn packed(&self) -> &PackedRows<A>
+        ensures { result.now ≡ self.now }
+    {
+        &self.packed
+    }
+
     /// The block that they stand in, shared.
     pub(crate) fn shared(&self) -> Result<Arc<PackedRows<A>, A>, AllocError>
         ensures same { IfOk result (λ p. arc_value p ≡ self.now) }
@@ -94,6 +101,13 @@ impl<A: Allocator> Rows<A> {
         ensures { result ≡ (length self.now == 0) }
     {
         self.packed.is_empty()
+    }
+
+    /// Whether each version is known to be a value, and the only one of its key.
+    pub fn are_alone(&self) -> bool
+        ensures { IsTrue result → AreAlone self.now }
+    {
+        self.packed.are_alone()
     }
 
     /// How many bytes their page has.
@@ -125,6 +139,15 @@ impl<A: Allocator> Rows<A> {
         ensures { IsCountUpTo self.now (key.entry.bytes.now, number) result }
     {
         self.packed.count_up_to(key, number)
+    }
+
+    /// How many versions stand at the key and number or below, those before `from` counted without a look at them. It is found the faster
+    /// the fewer stand between (exponential search: Bentley and Yao 1976).
+    pub fn count_from(&self, key: TenantKey<'_>, number: u64, from: usize) -> usize
+        requires { from ≤ length self.now }
+        ensures { IsCountFrom self.now (key.entry.bytes.now, number) from result }
+    {
+        self.packed.count_from(key, number, from)
     }
 
     /// How many versions stand at the key and number or below. It is found at once where it is the guess or one more.

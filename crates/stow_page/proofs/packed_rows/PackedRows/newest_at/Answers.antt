@@ -2,8 +2,8 @@ use Rattle.std.proofs.Common.{sym, subst, ◌∙◌, arith}
 use Rattle.std.proofs.lemmas.Option.{slice_get_within}
 use Rattle.stow_tree_model.specs.Order.{VersionsRise}
 use Rattle.stow_tree_model.specs.Version.{version_of}
-use Rattle.stow_page.specs.Rows.{AreApart}
-use Rattle.stow_page.proofs.Looked.{newest_apart, newest_last, newest_before}
+use Rattle.stow_page.specs.Rows.{AreAlone}
+use Rattle.stow_page.proofs.Looked.{newest_alone, newest_last, newest_before}
 use Rattle.stow_page.proofs.packed_rows.PackedRows.newest_at.Goals as goal
 
 pub overflow_add-next : goal.overflow_add-next
@@ -14,7 +14,7 @@ get-requires g c = let low = slice_get_within c.args.self.now c.args.guess.index
 
 pub returns-then-self : goal.returns-then-self
 returns-then-self g c =
-    sym c.in_ok-version.ensures ∙ newest_apart _ _ _ _ _ (subst VersionsRise c.self.view_is c.self.invariant.block.rise) (subst AreApart c.self.view_is (c.self.invariant.apart c.if-self.true)) c.in_ok-version.ensures (sym c.is_up_to.ensures ∙ c.if-not-is_up_to.false)
+    sym c.in_ok-version.ensures ∙ newest_alone _ _ _ _ _ (subst VersionsRise c.self.view_is c.self.invariant.block.rise) (subst AreAlone c.self.view_is (c.self.invariant.alone c.if-self.true)) c.in_ok-version.ensures (sym c.is_up_to.ensures ∙ c.if-not-is_up_to.false)
 
 pub returns-then-next-len : goal.returns-then-next-len
 returns-then-next-len g c =

@@ -28,7 +28,7 @@ write_count-requires g c =
 pub invariant_of-self-2 : goal.invariant_of-self-2
 invariant_of-self-2 g c = record {
   covers = none_marked _ _ (ap length c.forget.ensures);
-  apart = not_known;
+  alone = not_known;
   block =
       (pushed c.self.inside.format c.self.inside.bytes.items c.self.inside.places.items c.append_placed.new.places.items c.write_count.new.bytes.items c.args.self.now (version_of c.args.version) (block_of _ _ _ _ c.self.invariant.block c.self.view_is) (is_version c.args.version)
       c.requires.above c.requires.room c.requires.alike
