@@ -2,9 +2,14 @@
 //!
 //! `merge_into_pages` merges a leaf's rows with messages that a buffer lends, and writes what stays into pages. Read in
 //! order these hold exactly what the definition of a merge keeps; no key stands in two of them, one above the leaf
-//! target holds one key, there is one alone where all fits the target, and one is empty only where nothing stays (`specs/Pages.antt`). One walk over rows and
-//! messages finds what stays (`survey_of`), two over what stays find its format, its sizes and the cuts, and one writes: a
-//! value that one message carries goes from there into the page, and only appends are folded before. A caller knows that
+//! target holds one key, there is one alone where all fits the target, and one is empty only where nothing stays (`specs/Pages.antt`).
+//!
+//! Where each row is a value and alone of its key, the merge goes from one message's key to the next (`merged_by_keys`): rows of keys without
+//! messages are copied in runs, as they stand, each other key is merged for itself, and pages are cut of the block in which all stands then
+//! (`cut_block`). Else one walk over rows and messages finds what stays (`survey_of`), two over what stays find its format, its sizes and the
+//! cuts, and one writes: a value that one message carries goes from there into the page, and only appends are folded before.
+//!
+//! A caller knows that
 //! the merged values are within the limit, or asks `has_short_values`.
 //!
 //! A page with a long value has format 2, which takes two bytes more to tell the length of a value (`stow_page`). What
