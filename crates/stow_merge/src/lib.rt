@@ -9,6 +9,8 @@
 //! (`cut_block`). Else one walk over rows and messages finds what stays (`survey_of`), two over what stays find its format, its sizes and the
 //! cuts, and one writes: a value that one message carries goes from there into the page, and only appends are folded before.
 //!
+//! A body of `merged_by_keys` that always answers `None` meets its contract: that costs time alone.
+//!
 //! A caller knows that the merged values are within the limit, or asks `has_short_values`.
 //!
 //! A page with a long value has format 2, which takes two bytes more to tell the length of a value (`stow_page`). What
