@@ -10,6 +10,7 @@ use Rattle.std.proofs.lemmas.List.{append-nil, map-append, take-map, drop-map, t
 use Rattle.std.proofs.lemmas.Option.{slice_get_within, get_or_from_slice_get}
 use Rattle.stow_bytes.specs.Bytes.{bytes_cmp}
 use Rattle.stow_page.specs.Format.{entry, entries, format_of, packed_page, AreVersions}
+use Rattle.stow_page.specs.Rows.{AreApart}
 use Rattle.stow_page.specs.declared.format.Format.{Format}
 use Rattle.stow_tree_model.specs.Merged.{same_key}
 use Rattle.stow_tree_model.specs.Order.{version_place, VersionsRise}
@@ -19,7 +20,7 @@ use Rattle.stow_tree_model.proofs.Latest.{contains_cases}
 use Rattle.stow_tree_model.proofs.Pruning.{none_in_nothing}
 use Rattle.stow_merge.specs.Cuts.{size_between, ArePages}
 use Rattle.stow_merge.specs.Pages.{read_in_order, ArePagesOf, HaveShortValues, KeysBelow}
-use Rattle.stow_merge.specs.Parts.{AreOfOtherKeys, alone, parts_at}
+use Rattle.stow_merge.specs.Parts.{alone, parts_at}
 use Rattle.stow_merge.specs.Writing.{AreSizes, CanPack, at_least_one_page, pages_at}
 use Rattle.stow_merge.proofs.KeyLemmas.{KeysRise}
 use Rattle.stow_merge.proofs.Lists.{all_join, all_member, split_at}
@@ -46,10 +47,10 @@ pack_more vs from i to v l m e can =
 
 -- ---- keys of versions beside each other
 
-pub other_keys_more : (vs : List Version) (i : ℕ) (a b : Version) → 1 ≤ i → slice_get vs (i - 1) ≡ Some a → slice_get vs i ≡ Some b → same_key a.key b.key ≡ false
+pub apart_more : (vs : List Version) (i : ℕ) (a b : Version) → 1 ≤ i → slice_get vs (i - 1) ≡ Some a → slice_get vs i ≡ Some b → same_key a.key b.key ≡ false
     → ((k : ℕ) (v w : Version) → k + 1 < i → slice_get vs k ≡ Some v → slice_get vs (k + 1) ≡ Some w → v.key ≢ w.key)
     → (k : ℕ) (v w : Version) → k + 1 < i + 1 → slice_get vs k ≡ Some v → slice_get vs (k + 1) ≡ Some w → v.key ≢ w.key
-other_keys_more vs i a b one ea eb other before k v w low e f = ⊎_elim
+apart_more vs i a b one ea eb other before k v w low e f = ⊎_elim
     (λ (lower : k + 1 < i). before k v w lower e f)
     (λ (same : i ≤ k + 1).
     let at : k ≡ i - 1 = omega (arith, same, low) in
@@ -108,16 +109,16 @@ all_over : (key next : List ℕ) (vs : List Version) → bytes_cmp key next ≡ 
 all_over key next [] l h = tt
 all_over key next (w ∷ vs) l h = (nat_list_cmp_total.trans key next w.key l h.0, all_over key next vs l h.1)
 
-later_apart : (v : Version) (vs : List Version) → AreOfOtherKeys (v ∷ vs) → AreOfOtherKeys vs
-later_apart v vs h = record { are_apart = λ i a b e f. h.are_apart (i + 1) a b (let n : suc i ≡ i + 1 = omega arith in ap (slice_get (v ∷ vs)) (sym n) ∙ e) (let n : suc (i + 1) ≡ (i + 1) + 1 = omega arith in ap (slice_get (v ∷ vs)) (sym n) ∙ f) }
+later_apart : (v : Version) (vs : List Version) → AreApart (v ∷ vs) → AreApart vs
+later_apart v vs h = record { apart = λ i a b e f. h.apart (i + 1) a b (let n : suc i ≡ i + 1 = omega arith in ap (slice_get (v ∷ vs)) (sym n) ∙ e) (let n : suc (i + 1) ≡ (i + 1) + 1 = omega arith in ap (slice_get (v ∷ vs)) (sym n) ∙ f) }
 
-climb : (vs : List Version) → VersionsRise vs → AreOfOtherKeys vs → KeysClimb vs
+climb : (vs : List Version) → VersionsRise vs → AreApart vs → KeysClimb vs
 unfolding IsStrictlySortedBy
 climb [] rise apart = tt
 climb (v ∷ []) rise apart = (tt, tt)
 climb (v ∷ w ∷ vs) rise apart =
     let rest : KeysClimb (w ∷ vs) = climb (w ∷ vs) rise.1 (later_apart v (w ∷ vs) apart) in
-    let first : bytes_cmp v.key w.key ≡ Less = falls_key (version_place v) (version_place w) rise.0.0 (λ e. apart.are_apart 0 v w refl refl (sym e)) in
+    let first : bytes_cmp v.key w.key ≡ Less = falls_key (version_place v) (version_place w) rise.0.0 (λ e. apart.apart 0 v w refl refl (sym e)) in
     ((first, all_over v.key w.key vs first rest.0), rest)
 
 only_one : (v w : Version) → Contains (v ∷ []) w → v ≡ w
@@ -134,7 +135,7 @@ keys_climb (v ∷ vs) h = (
   keys_climb vs h.1,
 )
 
-keys_alone : (vs : List Version) → VersionsRise vs → AreOfOtherKeys vs → AreKeys vs (map alone vs)
+keys_alone : (vs : List Version) → VersionsRise vs → AreApart vs → AreKeys vs (map alone vs)
 keys_alone vs rise apart = record { rise = keys_climb vs (climb vs rise apart); are = read_alone vs }
 
 short_values : (vs : List Version) → AreVersions vs → HaveShortValues vs
@@ -149,7 +150,7 @@ pub record IsCut (target room : ℕ) (vs : List Version) (sizes ends : List ℕ)
   pub is_room : room ≡ target - 5
   pub rise : VersionsRise vs
   pub are_versions : AreVersions vs
-  pub are_apart : AreOfOtherKeys vs
+  pub are_apart : AreApart vs
   pub are_sizes : AreSizes (format_of vs) (map alone vs) sizes
   pub are_ends : ArePages sizes room 0 ends (length sizes)
 

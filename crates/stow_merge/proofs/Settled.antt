@@ -9,6 +9,7 @@ use Rattle.std.proofs.lemmas.List.{take-append-drop}
 use Rattle.std.specs.Option.{unwrap_or}
 use Rattle.std.proofs.lemmas.Option.{slice_get_within}
 use Rattle.stow_bytes.specs.Bytes.{bytes_cmp}
+use Rattle.stow_page.specs.Rows.{AreAlone}
 use Rattle.stow_page.proofs.Looked.{all_at}
 use Rattle.stow_tree_model.specs.Agreement.{TenantPins}
 use Rattle.stow_tree_model.specs.Merged.{op_of_value, row_message, rows_set, merged}
@@ -26,8 +27,7 @@ use Rattle.stow_merge.proofs.Lists.{all_member}
 -- rows that rise, next ones of different keys, each with a value
 pub record AreSettled (rows : List Version) : Type 0 where
   pub rise : VersionsRise rows
-  pub are_apart : (i : ℕ) (v w : Version) → slice_get rows i ≡ Some v → slice_get rows (i + 1) ≡ Some w → v.key ≢ w.key
-  pub have_values : (i : ℕ) (v : Version) → slice_get rows i ≡ Some v → IsSome v.value
+  pub alone : AreAlone rows
 
 -- ---- parts of settled rows
 
@@ -43,16 +43,22 @@ slice_get-behind (x ∷ xs) ys i = let e : suc (length xs) + i ≡ suc (length x
 pub settled_front : (rows more : List Version) → AreSettled (rows ++ more) → AreSettled rows
 settled_front rows more h = record {
   rise = rises_front rows more h.rise;
-  are_apart = λ i v w e f. h.are_apart i v w (slice_get-front rows more i v e) (slice_get-front rows more (i + 1) w f);
-  have_values = λ i v e. h.have_values i v (slice_get-front rows more i v e);
+  alone = record {
+    are_apart = record { apart = λ i v w e f. h.alone.are_apart.apart i v w (slice_get-front rows more i v e) (slice_get-front rows more (i + 1) w f) };
+    values = λ i v e. h.alone.values i v (slice_get-front rows more i v e);
+  };
 }
 
 pub settled_after : (rows more : List Version) → AreSettled (rows ++ more) → AreSettled more
 settled_after rows more h = record {
   rise = rises_after rows more h.rise;
-  are_apart = λ i v w e f. h.are_apart (length rows + i) v w (slice_get-behind rows more i ∙ e)
-      (let n : length rows + i + 1 ≡ length rows + (i + 1) = omega arith in ap (slice_get (rows ++ more)) n ∙ slice_get-behind rows more (i + 1) ∙ f);
-  have_values = λ i v e. h.have_values (length rows + i) v (slice_get-behind rows more i ∙ e);
+  alone = record {
+    are_apart = record {
+      apart = λ i v w e f. h.alone.are_apart.apart (length rows + i) v w (slice_get-behind rows more i ∙ e)
+          (let n : length rows + i + 1 ≡ length rows + (i + 1) = omega arith in ap (slice_get (rows ++ more)) n ∙ slice_get-behind rows more (i + 1) ∙ f);
+    };
+    values = λ i v e. h.alone.values (length rows + i) v (slice_get-behind rows more i ∙ e);
+  };
 }
 
 pub settled_take : (n : ℕ) (rows : List Version) → AreSettled rows → AreSettled (take n rows)
@@ -75,11 +81,11 @@ all_over key next (w ∷ rows) l h = (nat_list_cmp_total.trans key next w.key l 
 climb : (rows : List Version) → AreSettled rows → KeysClimb rows
 unfolding IsStrictlySortedBy
 climb [] h = tt
-climb (v ∷ []) h = (tt, h.have_values 0 v refl, tt)
+climb (v ∷ []) h = (tt, h.alone.values 0 v refl, tt)
 climb (v ∷ w ∷ rows) h =
     let rest : KeysClimb (w ∷ rows) = climb (w ∷ rows) (settled_after (v ∷ []) (w ∷ rows) h) in
-    let first : bytes_cmp v.key w.key ≡ Less = falls_key (version_place v) (version_place w) h.rise.0.0 (λ e. h.are_apart 0 v w refl refl (sym e)) in
-    ((first, all_over v.key w.key rows first rest.0), h.have_values 0 v refl, rest)
+    let first : bytes_cmp v.key w.key ≡ Less = falls_key (version_place v) (version_place w) h.rise.0.0 (λ e. h.alone.are_apart.apart 0 v w refl refl (sym e)) in
+    ((first, all_over v.key w.key rows first rest.0), h.alone.values 0 v refl, rest)
 
 climb_at : (rows : List Version) (i j : ℕ) (v w : Version) → KeysClimb rows → i < j → slice_get rows i ≡ Some v → slice_get rows j ≡ Some w → bytes_cmp v.key w.key ≡ Less
 climb_at [] i j v w h low e f = let none = slice_get_within [] i v e in absurd (omega arith)

@@ -1,11 +1,6 @@
 -- Parts of the versions that stand in one block.
-use Rattle.std.specs.Prelude.{◌≡◌, ◌≢◌, ℕ, ◌+◌, List, [], ◌∷◌, Some, slice_get, take, drop}
+use Rattle.std.specs.Prelude.{ℕ, List, [], ◌∷◌, take, drop}
 use Rattle.stow_tree_model.specs.Version.{Version}
-
--- versions beside each other are of different keys
-pub record AreOfOtherKeys (versions : List Version) : Type 0 where
-  pub are_apart : (i : ℕ) (v w : Version) → slice_get versions i ≡ Some v
-      → slice_get versions (i + 1) ≡ Some w → v.key ≢ w.key
 
 -- a version that is its key's only one
 abbrev pub alone : Version → List Version

@@ -3,9 +3,10 @@ ghost use Rattle.std.specs.Prelude.{◌≡◌, ◌<◌, ◌≤◌, IfOk, IfSome,
 ghost use Rattle.std.specs.List.{AllByRecursion};
 ghost use Rattle.stow_merge.specs.Cuts.{ArePages};
 ghost use Rattle.stow_merge.specs.Pages.{ArePagesOf};
-ghost use Rattle.stow_merge.specs.Parts.{AreOfOtherKeys, alone, parts_at};
+ghost use Rattle.stow_merge.specs.Parts.{alone, parts_at};
 ghost use Rattle.stow_merge.specs.Writing.{AreSizes, CanPack};
 ghost use Rattle.stow_page.specs.Format.{format_of};
+ghost use Rattle.stow_page.specs.Rows.{AreApart};
 
 use crate::cutting::cut_by;
 use crate::filling::Filling;
@@ -26,7 +27,7 @@ pub(crate) fn cut_block<A: Allocator + Copy>(
     ensures { IfOk result (λ cut. IfSome cut (λ pages. ArePagesOf block.now target pages.items)) }
 {
     let _known = block.len();
-    if !are_of_other_keys(block) {
+    if !are_apart(block) {
         return Ok(None);
     }
     let sizes = entry_sizes(alloc, block)?;
@@ -37,8 +38,8 @@ pub(crate) fn cut_block<A: Allocator + Copy>(
 }
 
 /// Whether versions beside each other are of different keys.
-fn are_of_other_keys<A: Allocator>(block: &PackedRows<A>) -> bool
-    ensures { IsTrue result → AreOfOtherKeys block.now }
+fn are_apart<A: Allocator>(block: &PackedRows<A>) -> bool
+    ensures { IsTrue result → AreApart block.now }
 {
     for i in 1..block.len() {
         if block.get(i - 1).key.is_same(block.get(i).key) {

@@ -389,4 +389,4 @@ of_key key number v is = (bytes_decides key v.key).0 (⊎_elim
 -- .. where versions beside each other are of different keys it is any that is the key's
 pub newest_alone : (rows : List Version) (key : List ℕ) (number i : ℕ) (v : Version) → VersionsRise rows → AreAlone rows → slice_get rows i ≡ Some v → is_up_to key number v ≡ true → slice_get rows i ≡ version_at rows key number
 newest_alone rows key number i v rise alone e is = newest rows key number i v rise e is
-    (λ w f. other_key key number w (λ same. alone.apart i v w e f (sym (of_key key number v is) ∙ sym same)))
+    (λ w f. other_key key number w (λ same. alone.are_apart.apart i v w e f (sym (of_key key number v is) ∙ sym same)))

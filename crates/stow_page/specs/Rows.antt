@@ -72,11 +72,14 @@ IsBlock format bytes places = ArePacked format bytes places (rows_in format byte
 abbrev pub CoversRows : List ℕ → List Version → Type 0
 CoversRows marks rows = CoversBy (λ v. v.key) marks rows
 
--- each version is a value, and the only one of its key
-pub record AreAlone (rows : List Version) : Type 0 where
-  -- those beside each other are of different keys
+-- versions beside each other are of different keys
+pub record AreApart (rows : List Version) : Type 0 where
   pub apart : (i : ℕ) (v w : Version) → slice_get rows i ≡ Some v → slice_get rows (i + 1) ≡ Some w
       → v.key ≢ w.key
+
+-- each version is a value, and the only one of its key
+pub record AreAlone (rows : List Version) : Type 0 where
+  pub are_apart : AreApart rows
   pub values : (i : ℕ) (v : Version) → slice_get rows i ≡ Some v → IsSome v.value
 
 -- the block stands for the versions that are in it, and marks tell their keys; each is known to be

@@ -16,8 +16,7 @@ use Rattle.stow_merge.proofs.by_keys.merged_by_keys.Goals.{After-len-len, After-
 
 are_rows : (g : given.Over) (c : After-len-len g) → AreRows c.args.rows.now
 are_rows g c =
-    let alone = c.are_alone.ensures c.if-not-are_alone.false in
-    record { settled = record { rise = c.len-len.ensures.rise; are_apart = alone.apart; have_values = alone.values }; are = c.len-len.ensures.versions }
+    record { settled = record { rise = c.len-len.ensures.rise; alone = c.are_alone.ensures c.if-not-are_alone.false }; are = c.len-len.ensures.versions }
 
 is_next : (g : given.Over) (c : After-count_of_key-count g) → IsNext c.args.rows.now (drop c.loop-next.next (map message_of c.args.batch.now)) c.loop-next.from c.count_from-to.result (rows_of c.row_of-row.result) c.count_of_key-count.result
 is_next g c =

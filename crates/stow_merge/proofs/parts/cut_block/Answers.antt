@@ -15,7 +15,7 @@ is_cut g c = record {
   is_room = c.saturating_sub-room.ensures;
   rise = c.len-known.ensures.rise;
   are_versions = c.len-known.ensures.versions;
-  are_apart = c.are_of_other_keys.ensures c.if-not-are_of_other_keys.false;
+  are_apart = c.are_apart.ensures c.if-not-are_apart.false;
   are_sizes = c.in_ok-sizes.ensures;
   are_ends = subst (λ ss. ArePages ss c.saturating_sub-room.result 0 c.in_ok-ends.ends.items (length ss)) c.as_slice.ensures.value c.in_ok-ends.ensures.pages;
 }

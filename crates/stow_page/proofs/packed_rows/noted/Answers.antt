@@ -30,10 +30,12 @@ loop-index-preserved g c =
 
 pub returns-clause-alone : goal.returns-clause-alone
 returns-clause-alone g c = λ known. record {
-  apart = λ i v w e f. c.loop-index.invariant.seen known i v w
-      (let low = slice_get_within (rows_in c.args.format c.args.bytes.now c.args.places.now) (i + 1) w f in
-      let end = c.loop-index-test.false in
-      omega (arith, low, end, length-map c.args.places.now (λ p. version_in c.args.format (drop p c.args.bytes.now)))) e f;
+  are_apart = record {
+    apart = λ i v w e f. c.loop-index.invariant.seen known i v w
+        (let low = slice_get_within (rows_in c.args.format c.args.bytes.now c.args.places.now) (i + 1) w f in
+        let end = c.loop-index-test.false in
+        omega (arith, low, end, length-map c.args.places.now (λ p. version_in c.args.format (drop p c.args.bytes.now)))) e f;
+  };
   values = λ i v e. c.loop-index.invariant.values known i v
       (let low = slice_get_within (rows_in c.args.format c.args.bytes.now c.args.places.now) i v e in
       let end = c.loop-index-test.false in
