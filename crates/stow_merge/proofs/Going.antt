@@ -81,7 +81,7 @@ row_above rows key from to row settled counted of at v low e = ⊎_elim
     (λ (here : at ≡ to).
     let f : slice_get rows to ≡ Some v = ap (slice_get rows) (sym here) ∙ e in
     let none : row ≡ [] = empty row (omega (arith, low, here)) in
-    above_key key v (counted.above to v (omega arith) f) (of.is_found v none f))
+    above_key key v (counted.above to v (omega arith) (slice_get_within rows to v f) f) (of.is_found v none f))
     (λ c. ⊎_elim
     (λ (wrong : at < to). absurd (omega (arith, low, wrong)))
     (λ (behind : to < at).
@@ -90,7 +90,7 @@ row_above rows key from to row settled counted of at v low e = ⊎_elim
     let less : bytes_cmp w.key v.key ≡ Less = settled_at rows to at w v settled behind f e in
     ⊎_elim
     (λ s. subst (λ k. bytes_cmp k v.key ≡ Less) (sym s.0) less)
-    (λ o. nat_list_cmp_total.trans key w.key v.key (above_key key w (counted.above to w (omega arith) f) (λ g. o.0 (sym g))) less)
+    (λ o. nat_list_cmp_total.trans key w.key v.key (above_key key w (counted.above to w (omega arith) (slice_get_within rows to w f) f) (λ g. o.0 (sym g))) less)
     (key_cases key w.key))
     c)
     (cases_order at to)

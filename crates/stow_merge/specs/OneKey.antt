@@ -16,7 +16,8 @@ rows_of None = []
 rows_of (Some v) = version_of v ∷ []
 
 -- rows and messages of one key, the messages in order
-pub record AreOfOneKey (key : List ℕ) (rows : List Version) (batch : List TreeMessage) : Type 0 where
+pub record AreOfOneKey (key : List ℕ) (rows : List Version) (batch : List TreeMessage)
+    : Type 0 where
   pub rows_are : AllByRecursion (λ (v : Version). v.key ≡ key) rows
   pub messages_are : (m : TreeMessage) → Contains batch m → m.key ≡ key
   pub rise : MessagesRise batch

@@ -256,9 +256,9 @@ counted_narrowed rows place from to low high count e n h = record {
       (λ (l : i < low). n.up_to i v from_there l f)
       (λ (l : low ≤ i). h.up_to i v l below f)
       (under_or_from i low);
-  above = λ i v past f. ⊎_elim
+  above = λ i v past before f. ⊎_elim
       (λ (l : i < high). h.above i v past l f)
-      (λ (l : high ≤ i). n.above i v l (let within = slice_get_within rows i v f in omega arith) f)
+      (λ (l : high ≤ i). n.above i v l (omega arith) f)
       (under_or_from i high);
 }
 

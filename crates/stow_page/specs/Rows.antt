@@ -125,8 +125,8 @@ pub record IsCountUpTo (rows : List Version) (place : VersionPlace) (count : ℕ
   pub above : (i : ℕ) (v : Version) → count ≤ i → slice_get rows i ≡ Some v
       → is_above place v ≡ true
 
--- before the place `high`, so many versions stand at this place or below it and all others above it,
--- those before `low` counted without a look at them
+-- before the place `high`, so many versions stand at this place or below it and all others above
+-- it, those before `low` counted without a look at them
 pub record IsCountBetween (rows : List Version) (place : VersionPlace) (low high count : ℕ)
     : Type 0 where
   pub order : low ≤ count
@@ -136,15 +136,10 @@ pub record IsCountBetween (rows : List Version) (place : VersionPlace) (low high
   pub above : (i : ℕ) (v : Version) → count ≤ i → i < high → slice_get rows i ≡ Some v
       → is_above place v ≡ true
 
--- from the one place on up to before the other, versions stand at this place or below it, and behind
--- that above it
-pub record IsCountFrom (rows : List Version) (place : VersionPlace) (from count : ℕ) : Type 0 where
-  pub order : from ≤ count
-  pub within : count ≤ length rows
-  pub up_to : (i : ℕ) (v : Version) → from ≤ i → i < count → slice_get rows i ≡ Some v
-      → is_above place v ≡ false
-  pub above : (i : ℕ) (v : Version) → count ≤ i → slice_get rows i ≡ Some v
-      → is_above place v ≡ true
+-- so many versions stand at this place or below it and all others above it, those before `from`
+-- counted without a look at them
+abbrev pub IsCountFrom : List Version → VersionPlace → ℕ → ℕ → Type 0
+IsCountFrom rows place from count = IsCountBetween rows place from (length rows) count
 
 -- the version is the key's, and numbered at most this
 abbrev pub is_up_to : List ℕ → ℕ → Version → Bool
