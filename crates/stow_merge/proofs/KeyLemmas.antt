@@ -9,7 +9,7 @@ use Rattle.std.proofs.lemmas.List.{map-append, take-append-drop}
 use Rattle.std.proofs.lemmas.List.Elements.{Contains-append_right}
 use Rattle.stow_bytes.specs.Bytes.{bytes_cmp}
 use Rattle.stow_tree_model.specs.Merged.{same_key}
-use Rattle.stow_tree_model.specs.Order.{place_cmp, version_place, VersionsRise}
+use Rattle.stow_tree_model.specs.Order.{VersionPlace, place_cmp, version_place, VersionsRise}
 use Rattle.stow_tree_model.specs.Version.{Version}
 use Rattle.stow_tree_model.proofs.Histories.{falls_key}
 use Rattle.stow_tree_model.proofs.Latest.{contains_cases}
@@ -21,17 +21,26 @@ use Rattle.stow_merge.specs.declared.kept_version.KeptVersion as coded
 use Rattle.stow_merge.specs.declared.survey.Survey.{Survey}
 use Rattle.stow_merge.proofs.Lists.{all_member, all_front, all_mapped_member, map_filled}
 
+-- ---- parts of what rises
+
+module _ {X : Type 0} (place : X → VersionPlace) where
+  pub rise_front : (xs more : List X) → IsStrictlySortedBy place_cmp (map place (xs ++ more)) → IsStrictlySortedBy place_cmp (map place xs)
+  unfolding IsStrictlySortedBy
+  rise_front [] more h = tt
+  rise_front (x ∷ xs) more h = (all_front (λ q. place_cmp (place x) q ≡ Less) place xs more h.0, rise_front xs more h.1)
+
+  pub rise_after : (xs more : List X) → IsStrictlySortedBy place_cmp (map place (xs ++ more)) → IsStrictlySortedBy place_cmp (map place more)
+  unfolding IsStrictlySortedBy
+  rise_after [] more h = h
+  rise_after (x ∷ xs) more h = rise_after xs more h.1
+
 -- ---- versions that rise
 
 pub rises_front : (vs ws : List Version) → VersionsRise (vs ++ ws) → VersionsRise vs
-unfolding IsStrictlySortedBy
-rises_front [] ws h = tt
-rises_front (v ∷ vs) ws h = (all_front (λ q. place_cmp (version_place v) q ≡ Less) version_place vs ws h.0, rises_front vs ws h.1)
+rises_front = rise_front version_place
 
 pub rises_after : (vs ws : List Version) → VersionsRise (vs ++ ws) → VersionsRise ws
-unfolding IsStrictlySortedBy
-rises_after [] ws h = h
-rises_after (v ∷ vs) ws h = rises_after vs ws h.1
+rises_after = rise_after version_place
 
 pub rises_between : (vs ws : List Version) (v w : Version) → VersionsRise (vs ++ ws) → Contains vs v → Contains ws w → place_cmp (version_place v) (version_place w) ≡ Less
 unfolding IsStrictlySortedBy
