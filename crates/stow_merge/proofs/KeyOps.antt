@@ -31,9 +31,6 @@ or_nothing (Some op) b e = refl
 pub nothing_or : (a b : Option Op) → a ≡ None → or_else a b ≡ b
 nothing_or a b e = ap (λ o. or_else o b) e
 
-pub none_not_some : (o : Option Op) → o ≡ None → IsSome o → ⊥
-none_not_some o e s = cc
-
 pub none_if_not : (o : Option Op) → (IsSome o → ⊥) → o ≡ None
 none_if_not None f = refl
 none_if_not (Some op) f = absurd (f refl)
