@@ -1,5 +1,5 @@
 -- Rows of another block that are added as they stand.
-use Rattle.std.proofs.Common.{◌≡◌, ℕ, zero, suc, ◌+◌, ◌-◌, ◌<◌, ◌≤◌, ◌^◌, List, [], ◌∷◌, ◌++◌, length, map, take, drop, get_or, refl, sym, ◌∙◌, ap, subst, arith, length-append, append_assoc, add_assoc}
+use Rattle.std.proofs.Common.{◌≡◌, ◌↔◌, ℕ, zero, suc, ◌+◌, ◌-◌, ◌<◌, ◌≤◌, ◌^◌, List, [], ◌∷◌, ◌++◌, length, map, take, drop, get_or, refl, sym, ◌∙◌, ap, subst, arith, length-append, append_assoc, add_assoc}
 use Rattle.std.proofs.Math.Seq.{drop-append_seam, take-append_seam}
 use Rattle.std.proofs.lemmas.List.{take-append-drop, take-take, take_all, length-take-le}
 use Rattle.std.specs.List.{All}
@@ -94,15 +94,18 @@ bounds_apart rows from to first end h =
     let high = h.end_is in
     omega (arith, both, low, high)
 
-pub can_be_taken : (format : Format) (bytes places : List ℕ) (packed rows : List Version) (from to first end : ℕ) → ArePacked format bytes places packed → format ≡ format_of rows → AreBounds rows from to first end → length bytes + (end - first) < 2 ^ 32 → CanTake packed rows from to
-can_be_taken format bytes places packed rows from to first end h same bounds low =
+-- where these rows have the packed ones' format, they can be taken just where the bytes of both are few enough
+pub can_be_taken : (format : Format) (bytes places : List ℕ) (packed rows : List Version) (from to first end : ℕ) → ArePacked format bytes places packed → format ≡ format_of rows → AreBounds rows from to first end → (length bytes + (end - first) < 2 ^ 32) ↔ CanTake packed rows from to
+can_be_taken format bytes places packed rows from to first end h same bounds =
     let alike : format_of packed ≡ format_of rows = sym h.is_format ∙ same in
     let own : format_of (packed ++ some_of rows from to) ≡ format_of rows = sym (some_format packed rows from to bounds.order alike) ∙ alike in
     let page = length-packed_page (packed ++ some_of rows from to) ∙ ap (λ f. 5 + length (entries f (packed ++ some_of rows from to))) own in
     let both = length-entries (format_of rows) packed (some_of rows from to) in
     let front = length-block format bytes places packed h ∙ ap (λ f. 5 + length (entries f packed)) same in
-    let apart = bounds_apart rows from to first end bounds in
-    record { alike = alike; room = omega (arith, page, both, front, apart, low) }
+    let apart = bounds_apart rows from to first end bounds in (
+      λ low. record { alike = alike; room = omega (arith, page, both, front, apart, low) },
+      λ can. let room = can.room in omega (arith, page, both, front, apart, room),
+    )
 
 -- ---- the rows, added
 

@@ -342,7 +342,7 @@ impl<A: Allocator> PackedRows<A> {
     pub fn can_take<B: Allocator>(&self, other: &PackedRows<B>, from: usize, to: usize) -> bool
         requires order { from ≤ to }
         requires within { to ≤ length other.now }
-        ensures { IsTrue result → CanTake self.now other.now from to }
+        ensures { IsTrue result ↔ CanTake self.now other.now from to }
     {
         if !self.format.is_same(other.format()) {
             return false;
