@@ -11,6 +11,7 @@ pub mod FewLemmas
 pub mod Places
 pub mod KeyOps
 pub mod KeyByKey
+pub mod Climbing
 pub mod Settled
 pub mod Steps
 pub mod RisingMessages

@@ -1,10 +1,8 @@
 -- Parts of the versions of one block, each alone of its key.
-use Rattle.std.proofs.Common.{◌≡◌, ◌≢◌, ℕ, suc, ◌+◌, ◌-◌, ◌<◌, ◌≤◌, ◌^◌, List, [], ◌∷◌, ◌++◌, Some, length, take, drop, map, refl, ap, ◌∙◌, sym, subst, arith, ⊎_elim}
+use Rattle.std.proofs.Common.{◌≡◌, ◌≢◌, ℕ, ◌+◌, ◌-◌, ◌<◌, ◌≤◌, ◌^◌, List, [], ◌∷◌, ◌++◌, Some, length, take, drop, map, refl, ap, ◌∙◌, sym, subst, arith, ⊎_elim}
 use Rattle.std.specs.Prelude.{Contains, slice_get, false}
 use Rattle.std.specs.List.{AllByRecursion}
-use Rattle.std.specs.List.Sorted.{IsStrictlySortedBy}
 use Rattle.std.specs.declared.cmp.Ordering.TheVariants.{Less}
-use Rattle.std.specs.Cmp.Lexicographic.{nat_list_cmp_total}
 use Rattle.std.proofs.lemmas.Bool.{cases_lt}
 use Rattle.std.proofs.lemmas.List.{append-nil, map-append, take-map, drop-map, take_more, take-take, drop-append-le, length-take-le, length-map}
 use Rattle.std.proofs.lemmas.Option.{slice_get_within, get_or_from_slice_get}
@@ -13,15 +11,15 @@ use Rattle.stow_page.specs.Format.{entry, entries, format_of, packed_page, AreVe
 use Rattle.stow_page.specs.Rows.{AreApart}
 use Rattle.stow_page.specs.declared.format.Format.{Format}
 use Rattle.stow_tree_model.specs.Merged.{same_key}
-use Rattle.stow_tree_model.specs.Order.{version_place, VersionsRise}
+use Rattle.stow_tree_model.specs.Order.{VersionsRise}
 use Rattle.stow_tree_model.specs.Version.{Version}
-use Rattle.stow_tree_model.proofs.Histories.{falls_key}
 use Rattle.stow_tree_model.proofs.Latest.{contains_cases}
 use Rattle.stow_tree_model.proofs.Pruning.{none_in_nothing}
 use Rattle.stow_merge.specs.Cuts.{size_between, ArePages}
 use Rattle.stow_merge.specs.Pages.{read_in_order, ArePagesOf, HaveShortValues, KeysBelow}
 use Rattle.stow_merge.specs.Parts.{alone, parts_at}
 use Rattle.stow_merge.specs.Writing.{AreSizes, CanPack, at_least_one_page, pages_at}
+use Rattle.stow_merge.proofs.Climbing.{KeysClimb, climb}
 use Rattle.stow_merge.proofs.KeyLemmas.{KeysRise}
 use Rattle.stow_merge.proofs.Lists.{all_join, all_member, split_at}
 use Rattle.stow_merge.proofs.PageLemmas.{AreWritten, can_front, can_pack}
@@ -99,27 +97,6 @@ pages_alone : (vs : List Version) (from : ℕ) (ends : List ℕ) → pages_at (m
 pages_alone vs from [] = refl
 pages_alone vs from (next ∷ ends) = λ i.
     (ap read_in_order (ap (drop from) (take-map alone next vs) ∙ drop-map alone from (take next vs)) ∙ read_alone (drop from (take next vs))) i ∷ pages_alone vs next ends i
-
--- each key is below those after it
-abbrev KeysClimb : List Version → Type 0
-KeysClimb [] = Unit {0}
-KeysClimb (v ∷ vs) = AllByRecursion (λ (w : Version). bytes_cmp v.key w.key ≡ Less) vs × KeysClimb vs
-
-all_over : (key next : List ℕ) (vs : List Version) → bytes_cmp key next ≡ Less → AllByRecursion (λ (w : Version). bytes_cmp next w.key ≡ Less) vs → AllByRecursion (λ (w : Version). bytes_cmp key w.key ≡ Less) vs
-all_over key next [] l h = tt
-all_over key next (w ∷ vs) l h = (nat_list_cmp_total.trans key next w.key l h.0, all_over key next vs l h.1)
-
-later_apart : (v : Version) (vs : List Version) → AreApart (v ∷ vs) → AreApart vs
-later_apart v vs h = record { apart = λ i a b e f. h.apart (i + 1) a b (let n : suc i ≡ i + 1 = omega arith in ap (slice_get (v ∷ vs)) (sym n) ∙ e) (let n : suc (i + 1) ≡ (i + 1) + 1 = omega arith in ap (slice_get (v ∷ vs)) (sym n) ∙ f) }
-
-climb : (vs : List Version) → VersionsRise vs → AreApart vs → KeysClimb vs
-unfolding IsStrictlySortedBy
-climb [] rise apart = tt
-climb (v ∷ []) rise apart = (tt, tt)
-climb (v ∷ w ∷ vs) rise apart =
-    let rest : KeysClimb (w ∷ vs) = climb (w ∷ vs) rise.1 (later_apart v (w ∷ vs) apart) in
-    let first : bytes_cmp v.key w.key ≡ Less = falls_key (version_place v) (version_place w) rise.0.0 (λ e. apart.apart 0 v w refl refl (sym e)) in
-    ((first, all_over v.key w.key vs first rest.0), rest)
 
 only_one : (v w : Version) → Contains (v ∷ []) w → v ≡ w
 only_one v w c = ⊎_elim (λ (e : v ≡ w). e) (λ (t : Contains [] w). absurd (none_in_nothing w t)) (contains_cases v w [] c)

@@ -1,25 +1,20 @@
 -- Rows that a merge with nothing leaves as they are: one of each key, with a value.
 use Rattle.std.proofs.Common.{◌≡◌, ◌≢◌, ℕ, zero, suc, ◌+◌, ◌<◌, List, [], ◌∷◌, ◌++◌, length, take, drop, map, Option, Some, None, refl, ap, ◌∙◌, sym, subst, arith, ⊎_elim, inl}
 use Rattle.std.specs.Prelude.{Contains, IsSome, slice_get}
-use Rattle.std.specs.List.{AllByRecursion}
-use Rattle.std.specs.List.Sorted.{IsStrictlySortedBy}
 use Rattle.std.specs.declared.cmp.Ordering.TheVariants.{Less}
-use Rattle.std.specs.Cmp.Lexicographic.{nat_list_cmp_total}
 use Rattle.std.proofs.lemmas.List.{take-append-drop}
-use Rattle.std.specs.Option.{unwrap_or}
-use Rattle.std.proofs.lemmas.Option.{slice_get_within}
 use Rattle.stow_bytes.specs.Bytes.{bytes_cmp}
 use Rattle.stow_page.specs.Rows.{AreAlone}
-use Rattle.stow_page.proofs.Looked.{all_at}
 use Rattle.stow_tree_model.specs.Agreement.{TenantPins}
 use Rattle.stow_tree_model.specs.Merged.{op_of_value, row_message, rows_set, merged}
 use Rattle.stow_tree_model.specs.Messages.{ops_in, with_all}
 use Rattle.stow_tree_model.specs.Operations.{Operations, latest, value_in}
-use Rattle.stow_tree_model.specs.Order.{VersionPlace, version_place, VersionsRise}
+use Rattle.stow_tree_model.specs.Order.{VersionPlace, VersionsRise}
 use Rattle.stow_tree_model.specs.Version.{Version}
-use Rattle.stow_tree_model.proofs.Histories.{falls_key, ops_in-at, ops_in-skip}
+use Rattle.stow_tree_model.proofs.Histories.{ops_in-at, ops_in-skip}
 use Rattle.stow_tree_model.proofs.Latest.{contains_cases}
 use Rattle.stow_tree_model.proofs.Pruning.{pruned_exactly_law, none_in_nothing}
+use Rattle.stow_merge.proofs.Climbing.{KeysClimb, climb, climb_at, one_each}
 use Rattle.stow_merge.proofs.KeyLemmas.{rises_front, rises_after}
 use Rattle.stow_merge.proofs.KeyOps.{not_below, is_there, ops_over, ops-merged, by_ops, from_ops, StaysBy, none_if_not, row_found, put_last}
 use Rattle.stow_merge.proofs.Lists.{all_member}
@@ -69,53 +64,18 @@ settled_drop n rows h = settled_after (take n rows) (drop n rows) (subst AreSett
 
 -- ---- keys that rise
 
--- each row has a value, and its key is below those after it
-abbrev KeysClimb : List Version → Type 0
-KeysClimb [] = Unit {0}
-KeysClimb (v ∷ rows) = AllByRecursion (λ (w : Version). bytes_cmp v.key w.key ≡ Less) rows × IsSome v.value × KeysClimb rows
-
-all_over : (key next : List ℕ) (rows : List Version) → bytes_cmp key next ≡ Less → AllByRecursion (λ (w : Version). bytes_cmp next w.key ≡ Less) rows → AllByRecursion (λ (w : Version). bytes_cmp key w.key ≡ Less) rows
-all_over key next [] l h = tt
-all_over key next (w ∷ rows) l h = (nat_list_cmp_total.trans key next w.key l h.0, all_over key next rows l h.1)
-
-climb : (rows : List Version) → AreSettled rows → KeysClimb rows
-unfolding IsStrictlySortedBy
-climb [] h = tt
-climb (v ∷ []) h = (tt, h.alone.values 0 v refl, tt)
-climb (v ∷ w ∷ rows) h =
-    let rest : KeysClimb (w ∷ rows) = climb (w ∷ rows) (settled_after (v ∷ []) (w ∷ rows) h) in
-    let first : bytes_cmp v.key w.key ≡ Less = falls_key (version_place v) (version_place w) h.rise.0.0 (λ e. h.alone.are_apart.apart 0 v w refl refl (sym e)) in
-    ((first, all_over v.key w.key rows first rest.0), h.alone.values 0 v refl, rest)
-
-climb_at : (rows : List Version) (i j : ℕ) (v w : Version) → KeysClimb rows → i < j → slice_get rows i ≡ Some v → slice_get rows j ≡ Some w → bytes_cmp v.key w.key ≡ Less
-climb_at [] i j v w h low e f = let none = slice_get_within [] i v e in absurd (omega arith)
-climb_at (x ∷ rows) i zero v w h low e f = absurd (omega arith)
-climb_at (x ∷ rows) zero (suc j) v w h low e f = all_at (λ (u : Version). bytes_cmp v.key u.key ≡ Less) rows j w
-    (subst (λ (y : Version). AllByRecursion (λ (u : Version). bytes_cmp y.key u.key ≡ Less) rows) (ap (λ o. unwrap_or o v) e) h.0) f
-climb_at (x ∷ rows) (suc i) (suc j) v w h low e f = climb_at rows i j v w h.2 (omega arith) e f
+climb_settled : (rows : List Version) → AreSettled rows → KeysClimb rows
+climb_settled rows h = climb rows h.rise h.alone.are_apart
 
 -- a later row has a higher key
 pub settled_at : (rows : List Version) (i j : ℕ) (v w : Version) → AreSettled rows → i < j → slice_get rows i ≡ Some v → slice_get rows j ≡ Some w → bytes_cmp v.key w.key ≡ Less
-settled_at rows i j v w h = climb_at rows i j v w (climb rows h)
+settled_at rows i j v w h = climb_at rows i j v w (climb_settled rows h)
 
-one_each : (rows : List Version) (v w : Version) → KeysClimb rows → Contains rows v → Contains rows w → v.key ≡ w.key → v ≡ w
-one_each [] v w h c d k = absurd (none_in_nothing v c)
-one_each (x ∷ rows) v w h c d k = ⊎_elim
-    (λ (e : x ≡ v). ⊎_elim
-    (λ (f : x ≡ w). sym e ∙ f)
-    (λ (t : Contains rows w). absurd (not_below v.key ((λ i. bytes_cmp (sym (ap (λ (u : Version). u.key) e) i) (k i)) ∙ all_member (λ (u : Version). bytes_cmp x.key u.key ≡ Less) rows w h.0 t)))
-    (contains_cases x w rows d))
-    (λ (s : Contains rows v). ⊎_elim
-    (λ (f : x ≡ w). absurd (not_below w.key ((λ i. bytes_cmp (sym (ap (λ (u : Version). u.key) f) i) (sym k i)) ∙ all_member (λ (u : Version). bytes_cmp x.key u.key ≡ Less) rows v h.0 s)))
-    (λ (t : Contains rows w). one_each rows v w h.2 s t k)
-    (contains_cases x w rows d))
-    (contains_cases x v rows c)
-
-has_value : (rows : List Version) (v : Version) → KeysClimb rows → Contains rows v → IsSome v.value
+has_value : (rows : List Version) (v : Version) → ((i : ℕ) (w : Version) → slice_get rows i ≡ Some w → IsSome w.value) → Contains rows v → IsSome v.value
 has_value [] v h c = absurd (none_in_nothing v c)
 has_value (x ∷ rows) v h c = ⊎_elim
-    (λ (e : x ≡ v). subst (λ (u : Version). IsSome u.value) e h.1)
-    (λ (t : Contains rows v). has_value rows v h.2 t)
+    (λ (e : x ≡ v). subst (λ (u : Version). IsSome u.value) e (h 0 x refl))
+    (λ (t : Contains rows v). has_value rows v (λ i w f. h (suc i) w f) t)
     (contains_cases x v rows c)
 
 -- ---- a row's operation
@@ -126,7 +86,7 @@ row_op (x ∷ rows) v h c = ⊎_elim
     (λ (e : x ≡ v). subst (λ (u : Version). ops_in (map row_message (x ∷ rows)) u.key u.number ≡ Some (op_of_value u.value)) e (ops_in-at (row_message x) (map row_message rows)))
     (λ (t : Contains rows v).
     ops_in-skip (row_message x) (map row_message rows) v.key v.number (λ e. not_below x.key (subst (λ k. bytes_cmp x.key k ≡ Less) (ap (λ (p : VersionPlace). p.0) e) (all_member (λ (u : Version). bytes_cmp x.key u.key ≡ Less) rows v h.0 t)))
-    ∙ row_op rows v h.2 t)
+    ∙ row_op rows v h.1 t)
     (contains_cases x v rows c)
 
 value_op : (value : Option (List ℕ)) (f : Operations) (n : ℕ) → IsSome value → f n ≡ Some (op_of_value value) → value ≡ value_in (latest f n)
@@ -137,22 +97,22 @@ not_none : (value : Option (List ℕ)) → IsSome value → value ≢ None
 not_none None s e = absurd cc
 not_none (Some bytes) s e = cc
 
-row_stays : (pins : TenantPins) (rows : List Version) (v : Version) → KeysClimb rows → Contains rows v → StaysBy pins (ops_over rows [] v.key) v
+row_stays : (pins : TenantPins) (rows : List Version) (v : Version) → AreSettled rows → Contains rows v → StaysBy pins (ops_over rows [] v.key) v
 row_stays pins rows v h c = record {
   is_kept = (
-    is_there (ops_over rows [] v.key v.number) (op_of_value v.value) (row_op rows v h c),
+    is_there (ops_over rows [] v.key v.number) (op_of_value v.value) (row_op rows v (climb_settled rows h) c),
     inl (λ n l. none_if_not (ops_over rows [] v.key n) (λ s.
         let w = row_found rows v.key n s in
-        let e : w.0 ≡ v = one_each rows w.0 v h w.1 c w.2 in
+        let e : w.0 ≡ v = one_each rows w.0 v (climb_settled rows h) w.1 c w.2 in
         let m : w.0.number ≡ v.number = ap (λ (u : Version). u.number) e in
         let k : w.0.number ≡ n = w.3 in
         absurd (omega arith))),
   );
-  is_value = value_op v.value (ops_over rows [] v.key) v.number (has_value rows v h c) (row_op rows v h c);
-  is_wanted = inl (not_none v.value (has_value rows v h c));
+  is_value = value_op v.value (ops_over rows [] v.key) v.number (has_value rows v h.alone.values c) (row_op rows v (climb_settled rows h) c);
+  is_wanted = inl (not_none v.value (has_value rows v h.alone.values c));
 }
 
-stays_there : (pins : TenantPins) (rows : List Version) (v : Version) → KeysClimb rows → StaysBy pins (ops_over rows [] v.key) v → Contains rows v
+stays_there : (pins : TenantPins) (rows : List Version) (v : Version) → AreSettled rows → StaysBy pins (ops_over rows [] v.key) v → Contains rows v
 stays_there pins rows v h s =
     let w = row_found rows v.key v.number s.is_kept.0 in
     let value : w.0.value ≡ v.value = (row_stays pins rows w.0 h w.1).is_value ∙ (λ i. value_in (latest (ops_over rows [] (w.2 i)) (w.3 i))) ∙ sym s.is_value in
@@ -163,6 +123,6 @@ stays_there pins rows v h s =
 pub merged_settled : (rows : List Version) (pins : TenantPins) → AreSettled rows → merged rows [] pins ≡ rows
 merged_settled rows pins h = sym ((pruned_exactly_law pins (with_all (rows_set rows) []) rows).1 (record {
   rises = h.rise;
-  only_these = λ v c. from_ops pins (with_all (rows_set rows) []) v (subst (λ (f : Operations). StaysBy pins f v) (sym (ops-merged rows [] v.key)) (row_stays pins rows v (climb rows h) c));
-  all_these = λ v s. stays_there pins rows v (climb rows h) (subst (λ (f : Operations). StaysBy pins f v) (ops-merged rows [] v.key) (by_ops pins (with_all (rows_set rows) []) v s));
+  only_these = λ v c. from_ops pins (with_all (rows_set rows) []) v (subst (λ (f : Operations). StaysBy pins f v) (sym (ops-merged rows [] v.key)) (row_stays pins rows v h c));
+  all_these = λ v s. stays_there pins rows v h (subst (λ (f : Operations). StaysBy pins f v) (ops-merged rows [] v.key) (by_ops pins (with_all (rows_set rows) []) v s));
 }))
