@@ -1,4 +1,4 @@
--- KeptVersion versions key by key.
+-- Kept versions, key by key.
 use Rattle.std.proofs.Common.{◌≡◌, ◌≢◌, ◌+◌, List, [], ◌∷◌, ◌++◌, take, drop, map, ℕ, suc, refl, ap, ◌∙◌, sym, subst, ⊎_elim, arith}
 use Rattle.std.specs.Prelude.{Contains, false, true}
 use Rattle.std.specs.declared.cmp.Ordering.TheVariants.{Less}
