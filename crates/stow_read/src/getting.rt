@@ -108,6 +108,6 @@ pub fn get<'a, A: Allocator + Copy>(
     Ok(Lookup {
         found: suffixes.on(alloc, end.base)?,
         leaf: end.leaf,
-        place: suffixes.place,
+        place: suffixes.place.unwrap_or(Place::none()),
     })
 }

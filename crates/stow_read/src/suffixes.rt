@@ -26,8 +26,8 @@ pub(crate) struct Suffixes<'a, A: Allocator> {
     /// The newest append's number.
     pub(crate) number: u64,
     pub(crate) suffixes: Vec<&'a [u8], A>,
-    /// Where the key's next message may come to stand in the first buffer.
-    pub(crate) place: Place,
+    /// Where the key's next message may come to stand in the buffer that was searched first, if one was.
+    pub(crate) place: Option<Place>,
 }
 
 /// What a key's messages in one buffer come to.
@@ -47,7 +47,7 @@ impl<'a, A: Allocator + Copy> Suffixes<'a, A> {
         Suffixes {
             number: 0,
             suffixes: Vec::new(alloc),
-            place: Place::none(),
+            place: None,
         }
     }
 
@@ -56,7 +56,7 @@ impl<'a, A: Allocator + Copy> Suffixes<'a, A> {
         ensures { suffixes_of self.new ≡ suffixes_of self.old }
     {
         if self.place.is_none() {
-            self.place = place;
+            self.place = Some(place);
         }
     }
 
