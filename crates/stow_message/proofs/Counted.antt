@@ -1,5 +1,6 @@
 -- The bytes of a buffer's messages, which are counted.
-use Rattle.std.proofs.Common.{◌≡◌, ℕ, ◌+◌, ◌-◌, ◌∙◌, List, [], ◌∷◌, Bool, true, false, take, drop, refl, sym, ap, arith, drop-drop}
+use Rattle.std.proofs.Common.{◌≡◌, ℕ, ◌+◌, ◌-◌, ◌≤◌, ◌∙◌, List, [], ◌∷◌, Bool, true, false, length, take, drop, refl, sym, ap, arith, drop-drop, take_all}
+use Rattle.std.proofs.lemmas.List.{length-drop}
 use Rattle.std.specs.Prelude.{if◌then◌else◌}
 use Rattle.std.specs.List.{sum_by, remove_range}
 use Rattle.std.proofs.lemmas.List.Sums.{sum_by-cons, sum_by-append, sum_by-take-drop}
@@ -24,6 +25,21 @@ rest_counted ms i k = omega (
   sum_by-take-drop message_size (drop i ms) k,
   ap (sum_by message_size) (drop-drop k i ms),
 )
+
+-- a run of messages, and the others on both sides of it
+pub others_counted : (ms : List TreeMessage) (from to n : ℕ) → from ≤ to → to ≤ n → n ≡ length ms
+    → sum_by message_size (take from ms) + (sum_by message_size (take (to - from) (drop from ms)) + sum_by message_size (take (n - to) (drop to ms))) ≡ sum_by message_size ms
+others_counted ms from to n order within is =
+    let end : from + (to - from) ≡ to = omega (arith, order) in
+    let rest : length (drop to ms) ≤ n - to = omega (arith, is, length-drop to ms) in
+    omega (
+      arith,
+      sum_by-take-drop message_size ms from,
+      sum_by-take-drop message_size (drop from ms) (to - from),
+      ap (sum_by message_size) (drop-drop (to - from) from ms),
+      ap (λ k. sum_by message_size (drop k ms)) end,
+      ap (sum_by message_size) (take_all (n - to) (drop to ms) rest),
+    )
 
 -- what a walk keeps of messages of which a batch goes
 pub kept_counted : (bs ms : List TreeMessage) → sum_by message_size (kept itself bs ms) + sum_by message_size bs ≡ sum_by message_size ms + sum_by message_size (unfound bs ms)

@@ -1,8 +1,8 @@
 //! Messages on their way to a leaf, packed in one block: a buffer of an inner node of the tree.
 //!
 //! A `MessageBuf` is seen as a list of messages that rises by key and number, with its capacity and the bytes in use.
-//! Messages are lent out of the block and not copied. Every call but `with_capacity` and `widen` takes no memory, and `widen` changes
-//! nothing where it is refused.
+//! Messages are lent out of the block and not copied. Every call but `with_capacity`, `widen` and `move_range` takes no memory; the last two
+//! ask for room for words of keys alone, and do the same where it is refused.
 //! A filter of the keys that were put in (Bloom 1970, in blocks of one word: Putze, Sanders and Singler 2007) spares most
 //! searches for a key that has no message; that each held key is in it is kept by the type. Beside the slots stand words of the keys,
 //! by which a search begins: a hint, of which no contract speaks (`key_words`).

@@ -71,8 +71,8 @@ pub(crate) fn packed_at<A: Allocator>(raw: &SlotBuf<A>, at: usize) -> &[u8]
     raw.bytes(at, HEAD + head.key_len + head.value_len)
 }
 
-/// How many bytes the messages of a run take, their slots among them.
-pub(crate) fn bytes_in<A: Allocator>(run: &Run<'_, A>) -> usize
+/// How many bytes the messages of a run take, their slots among them: each is looked at.
+fn sum_of<A: Allocator>(run: &Run<'_, A>) -> usize
     requires { length run.now < 4294967296 }
     ensures { result ≡ sum_by message_size run.now }
 {
@@ -82,6 +82,29 @@ pub(crate) fn bytes_in<A: Allocator>(run: &Run<'_, A>) -> usize
         total += run.packed(i).len() + SLOT;
     }
     total
+}
+
+/// How many bytes the messages of a run take, their slots among them: each is looked at, or each of the others where those are
+/// fewer.
+pub(crate) fn bytes_in<A: Allocator>(run: &Run<'_, A>) -> usize
+    ensures { result ≡ sum_by message_size run.now }
+{
+    let (buf, count) = (run.buf, run.buf.len());
+    if run.len() <= count / 2 {
+        return sum_of(run);
+    }
+    let (from, to) = (run.from, run.to);
+    let before = sum_of(&Run {
+        buf,
+        from: 0,
+        to: from,
+    });
+    let after = sum_of(&Run {
+        buf,
+        from: to,
+        to: count,
+    });
+    buf.live() - before - after
 }
 
 impl<A: Allocator + Copy> MessageBuf<A> {

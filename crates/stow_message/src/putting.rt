@@ -95,6 +95,16 @@ impl<A: Allocator> MessageBuf<A> {
             .widen(&self.raw, self.raw.capacity() / each.max(SHORT));
     }
 
+    /// Sees that there is room for words of so many messages more, where memory isn't refused.
+    fn widen_by(&mut self, count: usize)
+        ensures { self.new ≡ self.old }
+    {
+        let most = self.raw.slot_count().saturating_add(count);
+        if self.raw.young_most() > 0 && most > self.words.room() {
+            self.words.widen(&self.raw, most);
+        }
+    }
+
     /// Whether there is room for the message, its slot among it.
     pub fn fits(&self, message: Message<'_>) -> bool
         ensures { IsTrue result ↔ Fits self.now (message_of message.entry) }
@@ -210,7 +220,8 @@ impl<A: Allocator> MessageBuf<A> {
         self.live += bytes;
     }
 
-    /// Moves the messages of the keys from `from` on and below `to` into another buffer. Their bytes here are dead.
+    /// Moves the messages of the keys from `from` on and below `to` into another buffer. Their bytes here are dead. Room for words of them is
+    /// asked for there: an empty buffer doesn't tell how long its messages will be.
     pub fn move_range(&mut self, from: TenantKey<'_>, to: TenantKey<'_>, into: &mut MessageBuf<A>)
         requires room { into.old.used + sum_by message_size
             (in_range from.bytes.now to.bytes.now self.old.messages) ≤ into.old.capacity }
@@ -222,6 +233,7 @@ impl<A: Allocator> MessageBuf<A> {
     {
         let low = self.search(from.bytes, 0);
         let high = self.search_from(low, to.bytes, 0);
+        into.widen_by(high - low);
         into.push_all(&Run {
             buf: self,
             from: low,

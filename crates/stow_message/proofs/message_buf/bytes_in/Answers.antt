@@ -1,35 +1,24 @@
-use Rattle.std.proofs.Common.{◌≡◌, ◌+◌, ◌-◌, ◌<◌, ◌≤◌, ◌∙◌, [], length, drop, ap, subst, arith}
+use Rattle.std.proofs.Common.{◌≡◌, ◌+◌, ◌-◌, ◌≤◌, ◌∙◌, take, drop, ap, arith}
 use Rattle.std.specs.List.{sum_by}
-use Rattle.std.specs.Prelude.{slice_index_or}
-use Rattle.std.proofs.lemmas.List.Sums.{sum_by_more, sum_by_more_le, sum_by-take-le, sum_by-take-drop}
-use Rattle.stow_tree_model.specs.TreeMessage.{TreeMessage}
-use Rattle.stow_tree_model.specs.Op.{Gone}
 use Rattle.stow_message.specs.Packed.{message_size}
-use Rattle.stow_message.proofs.Reading.{length-message_bytes}
+use Rattle.stow_message.proofs.Counted.{others_counted}
 use Rattle.stow_message.proofs.message_buf.bytes_in.Given as given
 use Rattle.stow_message.proofs.message_buf.bytes_in.Goals as goal
-use Rattle.stow_message.proofs.message_buf.bytes_in.Goals.{After-packed}
+use Rattle.stow_message.proofs.message_buf.bytes_in.Goals.{After-live}
 
-none : TreeMessage
-none = record { key = []; number = 0; op = Gone }
+-- those of the run and of the others are all that are counted
+all_counted : (g : given.Over) (c : After-live g) → c.sum_of-before.result + (sum_by message_size c.args.run.now + c.sum_of-after.result) ≡ c.live.result
+all_counted g c =
+    let r = c.run.inside in let ms = r.buf.now.messages in
+    let all : r.from - 0 ≡ r.from = omega arith in
+    let before : c.sum_of-before.result ≡ sum_by message_size (take r.from ms) = c.sum_of-before.ensures ∙ ap (λ k. sum_by message_size (take k ms)) all in
+    let after : c.sum_of-after.result ≡ sum_by message_size (take (c.len-count.result - r.to) (drop r.to ms)) = c.sum_of-after.ensures in
+    let run : sum_by message_size (take (r.to - r.from) (drop r.from ms)) ≡ sum_by message_size c.args.run.now = ap (sum_by message_size) c.run.view_is in
+    let within : r.to ≤ c.len-count.result = omega (arith, c.run.invariant.1, c.len-count.ensures.len) in
+    omega (arith, before, after, run, c.live.ensures, others_counted ms r.from r.to c.len-count.result c.run.invariant.0 within c.len-count.ensures.len)
 
-size_is : (g : given.Over) (c : After-packed g) → length c.packed.result.now + 4 ≡ message_size (slice_index_or c.args.run.now c.loop-i.i none)
-size_is g c = ap (λ bs. length bs + 4) (c.packed.ensures none) ∙ length-message_bytes (slice_index_or c.args.run.now c.loop-i.i none)
+pub overflow_sub-result-2 : goal.overflow_sub-result-2
+overflow_sub-result-2 g c = omega (arith, all_counted g c)
 
-within : (g : given.Over) (c : After-packed g) → c.loop-i.i < length c.args.run.now
-within g c = omega (arith, c.len-i-end.ensures, c.loop-i-test.true)
-
--- all of them take no more than the buffer has in use
-in_use : (g : given.Over) (c : After-packed g) → sum_by message_size c.args.run.now ≤ c.used-known.result
-in_use g c =
-    let r = c.run.inside in
-    let rest = drop r.from r.buf.now.messages in
-    subst (λ ms. sum_by message_size ms ≤ c.used-known.result) c.run.view_is
-    (omega (arith, sum_by-take-le message_size rest (r.to - r.from), sum_by-take-drop message_size r.buf.now.messages r.from, c.used-known.ensures.live))
-
-pub overflow_add-total-in-loop-i : goal.overflow_add-total-in-loop-i
-overflow_add-total-in-loop-i g c =
-    record { fits = omega (arith, size_is g c, c.loop-i.invariant, sum_by_more_le message_size c.args.run.now c.loop-i.i none (within g c), in_use g c, c.used-known.type_inv) }
-
-pub loop-i-preserved : goal.loop-i-preserved
-loop-i-preserved g c = omega (arith, sum_by_more message_size c.args.run.now c.loop-i.i none (within g c), c.loop-i.invariant, size_is g c)
+pub returns : goal.returns
+returns g c = omega (arith, all_counted g c)

@@ -1,9 +1,9 @@
-use Rattle.std.proofs.Common.{◌≡◌, ◌+◌, ◌-◌, ◌*◌, ◌≤◌, List, length, ap, sym, subst, ◌∙◌, arith}
+use Rattle.std.proofs.Common.{◌≡◌, ◌+◌, ◌-◌, ◌*◌, ◌≤◌, List, length, take, drop, ap, sym, subst, ◌∙◌, arith}
 use Rattle.std.specs.List.{sum_by, remove_range}
 use Rattle.stow_tree_model.specs.TreeMessage.{TreeMessage}
 use Rattle.stow_tree_model.specs.Order.{MessagesRise}
 use Rattle.stow_message.specs.Packed.{message_size}
-use Rattle.stow_message.specs.MessageBuf.{message_list}
+use Rattle.stow_message.specs.MessageBuf.{MessageList, message_list, with_messages}
 use Rattle.stow_message.specs.Rising.{all_placed, AreNew, in_range, is_between}
 use Rattle.stow_message.proofs.RisingLists.{below_within}
 use Rattle.stow_message.proofs.Ranges.{range_is, rest_is, filter_rises, range_ends, range_length}
@@ -22,7 +22,8 @@ pub push_all-requires-clause-room : goal.push_all-requires-clause-room
 push_all-requires-clause-room g c =
     let ms = c.args.self.now.messages in let f = c.search_from-high.ensures in
     let is = range_is c.args.from.bytes.now c.args.to.bytes.now ms c.search-low.result c.search_from-high.result c.search-low.ensures.count f c.search-low.ensures.rising in
-    subst (λ (run : List TreeMessage). c.args.into.now.used + sum_by message_size run ≤ c.args.into.now.capacity) (sym is) c.requires.room
+    subst (λ (into : MessageList). into.used + sum_by message_size (take (c.search_from-high.result - c.search-low.result) (drop c.search-low.result ms)) ≤ into.capacity) (sym c.widen_by.ensures)
+    (subst (λ (run : List TreeMessage). c.args.into.now.used + sum_by message_size run ≤ c.args.into.now.capacity) (sym is) c.requires.room)
 
 pub push_all-requires-clause-rising : goal.push_all-requires-clause-rising
 push_all-requires-clause-rising g c =
@@ -34,7 +35,8 @@ pub push_all-requires-clause-new : goal.push_all-requires-clause-new
 push_all-requires-clause-new g c =
     let ms = c.args.self.now.messages in let f = c.search_from-high.ensures in
     let is = range_is c.args.from.bytes.now c.args.to.bytes.now ms c.search-low.result c.search_from-high.result c.search-low.ensures.count f c.search-low.ensures.rising in
-    subst (λ (run : List TreeMessage). AreNew run c.args.into.now.messages) (sym is) c.requires.new
+    subst (λ (into : MessageList). AreNew (take (c.search_from-high.result - c.search-low.result) (drop c.search-low.result ms)) into.messages) (sym c.widen_by.ensures)
+    (subst (λ (run : List TreeMessage). AreNew run c.args.into.now.messages) (sym is) c.requires.new)
 
 pub remove-requires : goal.remove-requires
 remove-requires g c =
@@ -53,4 +55,5 @@ pub returns-clause-moved : goal.returns-clause-moved
 returns-clause-moved g c =
     let ms = c.args.self.now.messages in let f = c.search_from-high.ensures in
     let is = range_is c.args.from.bytes.now c.args.to.bytes.now ms c.search-low.result c.search_from-high.result c.search-low.ensures.count f c.search-low.ensures.rising in
-    c.push_all.ensures ∙ ap (λ run. message_list (all_placed run c.args.into.now.messages) (c.args.into.now.used + sum_by message_size run) c.args.into.now.capacity) is
+    c.push_all.ensures ∙ ap (with_messages (take (c.search_from-high.result - c.search-low.result) (drop c.search-low.result ms))) c.widen_by.ensures
+    ∙ ap (λ run. message_list (all_placed run c.args.into.now.messages) (c.args.into.now.used + sum_by message_size run) c.args.into.now.capacity) is
