@@ -67,10 +67,10 @@ LacksRoom bytes t =
 abbrev pub page_bytes : List LeafRows → ℕ
 page_bytes leaves = sum_by (λ l. length (packed_page l.1)) leaves
 
--- it stands right above leaves, and with so many bytes more its buffer holds a quarter of their
+-- it stands right above leaves, and with so many bytes more its buffer holds an eighth of their
 -- pages' bytes or more, dead bytes among what it holds
 abbrev pub IsLaden : ℕ → Subtree → Type 0
-IsLaden bytes t = (t.height ≡ 1) × (page_bytes t.leaves ≤ 4 * (t.buffer.used + bytes))
+IsLaden bytes t = (t.height ≡ 1) × (page_bytes t.leaves ≤ 8 * (t.buffer.used + bytes))
 
 -- the bytes of a child's messages in the buffer above it
 abbrev pub bytes_for : List Part → MessageList → ℕ → Part → ℕ

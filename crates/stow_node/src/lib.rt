@@ -7,7 +7,7 @@
 //!
 //! `step` moves messages one edge towards the leaves, or merges all messages for a leaf into it, which gives way to any
 //! number of leaves; neighbours of which one page is below a quarter of the leaf target become one leaf, where both fit
-//! it (`stow_leaves`). A child right above leaves that holds a quarter of their bytes once messages moved into it (`IsLaden`)
+//! it (`stow_leaves`). A child right above leaves that holds an eighth of their bytes once messages moved into it (`IsLaden`)
 //! merges all that it has into them in the same step; where it had none before, straight from the buffer above it
 //! (`take_down`), so that nothing is written to its block. A node below a root has a block while it holds messages: it gets it before
 //! any come in (`gets_room`), and gives it back when its parent settles (`close_children`). Then nodes regroup, level by level up to new roots: a node that has

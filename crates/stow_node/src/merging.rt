@@ -153,7 +153,7 @@ impl<A: Allocator + Copy> Node<A> {
         Ok(room)
     }
 
-    /// Whether it stands right above leaves, and with so many bytes more its buffer holds a quarter of their pages' bytes or
+    /// Whether it stands right above leaves, and with so many bytes more its buffer holds an eighth of their pages' bytes or
     /// more, dead bytes among what it holds.
     pub(crate) fn is_laden(&self, bytes: usize) -> bool
         requires { self.now.buffer.used + bytes ≤ self.now.buffer.capacity }
@@ -161,6 +161,6 @@ impl<A: Allocator + Copy> Node<A> {
     {
         let _known = self.shape();
         let held = self.buffer.used() + bytes;
-        self.height == 1 && are_within(self.children.as_slice(), 4 * held)
+        self.height == 1 && are_within(self.children.as_slice(), 8 * held)
     }
 }
