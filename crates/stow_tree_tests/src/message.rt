@@ -106,7 +106,7 @@ fn put<A: Allocator, B: Allocator + Copy>(
 }
 
 /// Moves the interval, where that may be.
-fn moves<A: Allocator>(
+pub(crate) fn moves<A: Allocator>(
     buf: &mut MessageBuf<A>,
     (from, to): (TenantKey<'_>, TenantKey<'_>),
     into: &mut MessageBuf<A>,

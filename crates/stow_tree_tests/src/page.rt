@@ -24,6 +24,10 @@ const REMOVED: &[u8] =
 /// A tombstone by write 2 behind it.
 const GONE: &[u8] = b"\x00\x05\x00\x00\x00\x01a\x00\x00\x00\x00\x00\x00\x00\x02\x01";
 
+/// The page of the second one alone.
+const SECOND: &[u8] =
+    b"\x01\x00\x00\x00\x01\x00\x05\x00\x00\x00\x01a\x00\x00\x00\x00\x00\x00\x00\x02\x01";
+
 /// A page in format 2, up to the length of a put's value.
 const TWO: &[u8] =
     b"\x02\x00\x00\x00\x01\x00\x05\x00\x00\x00\x01a\x00\x00\x00\x00\x00\x00\x00\x01\x00";
@@ -249,6 +253,36 @@ fn is_pushed<A: Allocator + Copy>(
     Ok(packed.as_bytes() == bytes && !packed.is_empty() && packed.len() == rows.len())
 }
 
+/// The page of the last rows, after so many, taken over as they stand, in a block of just its size: of none where they can't be.
+fn taken<A: Allocator + Copy>(
+    alloc: A,
+    packed: &PackedRows<A>,
+    from: usize,
+) -> Result<PackedRows<A>, AllocError> {
+    let mut into = PackedRows::new(alloc)?;
+    let to = packed.len();
+    if from <= to && into.can_take(packed, from, to) {
+        into.push_rows(packed, from, to)?;
+    }
+    into.exact(alloc)
+}
+
+/// Whether the worked page is known to be of one value alone and is taken over, and the second of two versions of a key is, which aren't.
+fn are_taken<A: Allocator + Copy>(alloc: A) -> Result<bool, AllocError> {
+    let one = rows_of(alloc, 1)?;
+    let Ok(two) = read(alloc, Vec::from_slice(alloc, REMOVED)?) else {
+        return Ok(false);
+    };
+    let whole = taken(alloc, one.packed(), 0)?;
+    let second = taken(alloc, two.packed(), 1)?;
+    Ok(
+        one.are_alone()
+            && !two.are_alone()
+            && whole.as_bytes() == WORKED
+            && second.as_bytes() == SECOND,
+    )
+}
+
 /// Whether the rows of a removed key have a value at 1, and nothing before and after it.
 fn is_looked_up<A: Allocator>(rows: &Rows<A>, key: TenantKey<'_>) -> bool {
     at(rows, key, 0).is_none()
@@ -289,6 +323,7 @@ fn worked_pages(rt: HostRuntime) -> Result<(), Fail> {
     let heap = Refusing::new(rt.alloc());
     assert!(rt; are_all_told(&heap)?);
     assert!(rt; is_long_pushed(&heap)?);
+    assert!(rt; are_taken(&heap)?);
     assert!(rt; are_looked_up(&heap, &heap)?);
     Ok(())
 }

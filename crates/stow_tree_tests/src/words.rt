@@ -1,5 +1,6 @@
 //! Words of keys where messages are short, with memory for more of them and without.
 use crate::keys::Keys;
+use crate::message::moves;
 use std::alloc::{AllocError, Allocator};
 use std::test::Fail;
 use stow_message::message_buf::MessageBuf;
@@ -47,11 +48,30 @@ fn counts<A: Allocator, B: Allocator + Copy>(
     Ok((len, used, below, heap.asked()))
 }
 
+/// Whether all messages of a buffer move into an empty one, how many there are then, how many stand below one in their middle, and
+/// how many requests were made.
+fn moved<A: Allocator, B: Allocator + Copy>(
+    heap: &Refusing<A>,
+    alloc: B,
+    plan: Plan,
+) -> Result<(bool, usize, usize, u64), AllocError> {
+    heap.set(Plan::Grant);
+    let keys = Keys::new(alloc, b"a")?;
+    let mut buffer = MessageBuf::with_capacity(alloc, BYTES)?;
+    let mut into = MessageBuf::with_capacity(alloc, BYTES)?;
+    fill(&mut buffer, &keys);
+    heap.set(plan);
+    let is_moved = moves(&mut buffer, (keys.low(0), keys.low(2)), &mut into);
+    let below = into.count_below(keys.at(0), 601, usize::MAX);
+    Ok((is_moved, into.len(), below, heap.asked()))
+}
+
 #[test]
 fn short_messages_have_words(rt: HostRuntime) -> Result<(), Fail> {
     let heap = Refusing::new(rt.alloc());
     for (plan, asked) in PLANS {
         assert_eq!(rt; counts(&heap, &heap, plan)?, (1_200, 30_000, 600, asked));
+        assert_eq!(rt; moved(&heap, &heap, plan)?, (true, 1_200, 600, 1));
     }
     Ok(())
 }
