@@ -17,11 +17,6 @@ impl Place {
         }
     }
 
-    /// Whether it is no guess.
-    pub fn is_none(&self) -> bool {
-        self.count == usize::MAX
-    }
-
     /// The same once a young message before it is gone.
     pub fn one_fewer(&self) -> Place {
         Place {
