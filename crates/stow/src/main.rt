@@ -2,14 +2,21 @@
 #![tactic(auto)]
 
 use std::alloc::Global;
+use std::io::BufReader;
 use std::process::ExitCode;
 use stow_program::program::program;
 use stow_run::failure::MEMORY;
 use stow_run::folder::System;
 use stow_workers::counted::Counted;
 
+/// The most bytes of the input that the system is asked for at once. What serves them takes smaller pieces of these.
+const READ_AHEAD: usize = 65_536;
+
 fn main(rt: HostRuntime) -> ExitCode {
-    let (mut input, mut output) = (rt.stdin(), rt.stdout());
+    let mut output = rt.stdout();
+    let Ok(mut input) = BufReader::with_capacity(rt.alloc(), READ_AHEAD, rt.stdin()) else {
+        return ExitCode::from(MEMORY);
+    };
     match words(&rt) {
         Ok(words) => ExitCode::from(program(
             &rt,
