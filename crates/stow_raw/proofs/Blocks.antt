@@ -1,7 +1,7 @@
 -- The lists of a block after a step on its bytes.
 use Rattle.std.proofs.Common.{◌≡◌, ℕ, suc, ◌+◌, ◌-◌, ◌*◌, ◌^◌, ◌<◌, ◌≤◌, List, [], ◌∷◌, ◌++◌, length, take, drop, set, map, Option, Some, None, MatchOption, replicate, refl, sym, subst, ap, ◌∙◌, arith, length-take, length-drop, length-append, append_assoc, take-take, drop-drop}
 use Rattle.std.proofs.Math.Seq.{take-append_seam, drop-append_seam, drop-length}
-use Rattle.std.proofs.lemmas.List.{drop-take, take_all, take-append-le, length-take-le, length-map, length-replicate, map-append, set_split}
+use Rattle.std.proofs.lemmas.List.{drop-take, take_all, take-append-le, length-take-le, length-map, length-replicate, map-append, set_split, append-nil}
 use Rattle.std.specs.Int.{w32, to_be_bytes}
 use Rattle.stow_raw.specs.Cells.{run, written, IsWritten}
 use Rattle.stow_raw.specs.Frees.{Frees}
@@ -237,18 +237,35 @@ module _ {A : Type 0} where
         let begins : slots_start c ≡ length c.cells.bytes = omega arith in
         becomes [] [] [] all (omega arith) (ap (λ n. take n c.cells.bytes) front) (ap (λ n. drop n c.cells.bytes) begins ∙ drop-length c.cells.bytes) (ap (λ n. words n []) slots)
 
+    -- the bytes from the slots' start on are a row
+    row_laid : (start : ℕ) (row slots : List ℕ) → b.front + 4 * c.slots ≤ b.capacity → start ≡ b.capacity - 4 * c.slots → c.front ≡ b.front → length row ≡ 4 * c.slots
+        → c.cells.bytes ≡ take start b.cells.bytes ++ map Some row → words c.slots row ≡ slots → Becomes b c (front_of b) slots
+    row_laid start row slots room here front long e are =
+        let bytes = b.cells.bytes in let places = h.places in let capacity = s.capacity in
+        let before : length (take start bytes) ≡ start = length-take-le start bytes (omega arith) in
+        let begins : slots_start c ≡ length (take start bytes) = omega (arith, before, here, capacity) in
+        becomes (front_of b) row slots
+        (ap length e ∙ length-append (take start bytes) (map Some row) ∙ omega (arith, before, long, length-map row Some)) (omega arith)
+        ((λ i. take (front i) (e i)) ∙ take-append-le b.front (take start bytes) (map Some row) (omega arith) ∙ take-take b.front start bytes (omega arith) ∙ h.front)
+        ((λ i. drop (begins i) (e i)) ∙ drop-append_seam (take start bytes) (map Some row))
+        are
+
     -- the slots' bytes are written over
     pub row_becomes : (start : ℕ) (row : List ℕ) → start ≡ slots_start b → c.front ≡ b.front → c.slots ≡ b.slots → length row ≡ 4 * b.slots
         → c.cells.bytes ≡ take start b.cells.bytes ++ map Some row → Becomes b c (front_of b) (words b.slots row)
     row_becomes start row here front slots long e =
-        let bytes = b.cells.bytes in let places = h.places in let within = h.within in let capacity = s.capacity in
-        let before : length (take start bytes) ≡ start = length-take-le start bytes (omega arith) in
-        let begins : slots_start c ≡ length (take start bytes) = omega (arith, before, here, capacity, slots) in
-        becomes (front_of b) row (words b.slots row)
-        (ap length e ∙ length-append (take start bytes) (map Some row) ∙ omega (arith, before, long, length-map row Some)) (omega arith)
-        ((λ i. take (front i) (e i)) ∙ take-append-le b.front (take start bytes) (map Some row) (omega arith) ∙ take-take b.front start bytes (omega arith) ∙ h.front)
-        ((λ i. drop (begins i) (e i)) ∙ drop-append_seam (take start bytes) (map Some row))
-        (ap (λ n. words n row) slots)
+        let within = h.within in
+        row_laid start row (words b.slots row) (omega arith) (omega arith) front (omega arith) e (ap (λ n. words n row) slots)
+
+    -- other slots' bytes are written
+    pub row_put : (row : List ℕ) → b.front + 4 * c.slots ≤ b.capacity → c.front ≡ b.front → length row ≡ 4 * c.slots
+        → c.cells.bytes ≡ take (b.capacity - length row) b.cells.bytes ++ (map Some row ++ drop (b.capacity - length row + length row) b.cells.bytes) → Becomes b c (front_of b) (words c.slots row)
+    row_put row room front long e =
+        let bytes = b.cells.bytes in let places = h.places in let start = b.capacity - length row in
+        let end : start + length row ≡ length bytes = omega arith in
+        let none : drop (start + length row) bytes ≡ [] = ap (λ n. drop n bytes) end ∙ drop-length bytes in
+        row_laid start row (words c.slots row) room (omega arith) front long
+        (e ∙ ap (λ l. take start bytes ++ (map Some row ++ l)) none ∙ ap (λ l. take start bytes ++ l) (append-nil (map Some row))) refl
 
   pub made_empty : (b : Block A) → b.cells.bytes ≡ replicate b.capacity None → b.front ≡ 0 → b.slots ≡ 0 → MatchOption b.lease (b.capacity ≡ 0) (λ l. Frees l b.cells.ptr b.capacity b.alloc) → IsLaid b × (front_of b ≡ []) × (slots_of b ≡ [])
   unfolding words

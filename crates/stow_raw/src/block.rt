@@ -120,6 +120,17 @@ impl<A: Allocator> Block<A> {
         write_all(&mut self.cells, start, &[0; WORD]);
     }
 
+    /// Puts the `count` slots that these bytes spell in the place of its own.
+    pub(crate) fn put_slots(&mut self, row: &[u8], count: usize)
+        requires { IsLaid self.old × (length row.now ≡ 4 * count)
+            × (self.old.front + 4 * count ≤ self.old.capacity) }
+        ensures { Becomes self.old self.new (front_of self.old) (words count row.now) }
+    {
+        let start = self.capacity - row.len();
+        write_all(&mut self.cells, start, row);
+        self.slots = count;
+    }
+
     /// Lets the first `count` slots go.
     pub(crate) fn drop_slots(&mut self, count: usize)
         requires { IsLaid self.old × (count ≤ self.old.slots) }

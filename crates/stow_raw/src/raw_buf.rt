@@ -128,6 +128,15 @@ impl<A: Allocator> RawBuf<A> {
         }
     }
 
+    /// Takes the slots of another block in the place of its own, by one copy of their bytes.
+    pub fn take_slots(&mut self, from: &RawBuf<A>)
+        requires { length self.old.front + 4 * length from.now.slots ≤ self.old.capacity }
+        ensures { self.new ≡ raw_lists self.old.front from.now.slots self.old.capacity }
+    {
+        self.block
+            .put_slots(from.block.slot_row(), from.block.slots);
+    }
+
     /// Takes the slot at `index` out, by one move of the slots before it.
     pub fn remove_slot(&mut self, index: usize)
         requires { index < length self.old.slots }
