@@ -9,6 +9,7 @@ use crate::settling::settle;
 use crate::young_slot::YoungSlot;
 use std::alloc::{AllocError, Allocator, Global};
 use std::marker::Model;
+use std::mem;
 use stow_raw::raw_buf::RawBuf;
 
 /// The most young slots.
@@ -226,6 +227,20 @@ impl<A: Allocator> SlotBuf<A> {
         ensures { self.new ≡ raw_lists [] self.old.slots self.old.capacity }
     {
         self.raw.clear_front();
+    }
+
+    /// Takes the front of another block of as many bytes in the place of its own, with its own slots: the blocks change places,
+    /// and nothing but the slots is copied.
+    pub fn exchange(&mut self, other: &mut RawBuf<A>)
+        requires same { other.old.capacity ≡ self.old.capacity }
+        requires room { length other.old.front + 4 * length self.old.slots ≤ self.old.capacity }
+        ensures exchanged { self.new
+            ≡ raw_lists other.old.front self.old.slots self.old.capacity }
+        ensures other { other.new.capacity ≡ other.old.capacity }
+    {
+        settle(&mut self.raw, &mut self.young);
+        other.take_slots(&self.raw);
+        mem::swap(&mut self.raw, other);
     }
 
     /// Empties both lists.
