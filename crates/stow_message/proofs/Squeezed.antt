@@ -132,11 +132,11 @@ pub record Turn (raw now spare : RawLists) (v : MessageList) (k size : ℕ) : Ty
   pub slots : (place : ℕ) → place ≡ length spare.front → (next : RawLists) → next ≡ raw_lists now.front (set now.slots k place) now.capacity
       → next ≡ raw_lists raw.front (take (k + 1) (places_from 0 v.messages) ++ drop (k + 1) raw.slots) raw.capacity
 
--- the end of a squeeze: the front is empty, and the spare block's bytes go there
-pub record End (cleared : RawLists) (v : MessageList) (bytes : List ℕ) : Type 0 where
-  pub room : raw_used cleared + length bytes ≤ cleared.capacity
-  pub filled : (last : RawLists) → last ≡ raw_lists (cleared.front ++ bytes) cleared.slots cleared.capacity → IsPackedBuffer last
-  pub is : (last : RawLists) → last ≡ raw_lists (cleared.front ++ bytes) cleared.slots cleared.capacity
+-- the end of a squeeze: the front of the spare block comes to the slots
+pub record End (now spare : RawLists) (v : MessageList) : Type 0 where
+  pub room : length spare.front + 4 * length now.slots ≤ now.capacity
+  pub filled : (last : RawLists) → last ≡ raw_lists spare.front now.slots now.capacity → IsPackedBuffer last
+  pub is : (last : RawLists) → last ≡ raw_lists spare.front now.slots now.capacity
       → message_list (messages_in last) (raw_used last) last.capacity ≡ message_list v.messages (sum_by message_size v.messages) v.capacity
 
 module _ (raw : RawLists) (h : IsPackedBuffer raw) (v : MessageList) (view : message_list (messages_in raw) (raw_used raw) raw.capacity ≡ v) where
@@ -164,15 +164,12 @@ module _ (raw : RawLists) (h : IsPackedBuffer raw) (v : MessageList) (view : mes
           slots = λ place f next i. more_slots raw h ms are k now e lt next place i (f ∙ ap (λ (r : RawLists). length r.front) s);
         }
 
-    module _ (past : length raw.slots ≤ k) (n : ℕ) (whole : n ≡ length spare.front) (bytes : List ℕ) (f : bytes ≡ take n spare.front) (cleared : RawLists) (g : cleared ≡ raw_lists [] now.slots now.capacity) where
-      cleared_is : cleared ≡ raw_lists [] (places_from 0 ms) raw.capacity
-      cleared_is = g ∙ (λ j. raw_lists [] (all_moved raw h ms are k now e past j) (e j).capacity)
+    module _ (past : length raw.slots ≤ k) where
+      front_is : spare.front ≡ all_bytes ms
+      front_is = ap (λ (r : RawLists). r.front) s ∙ ap all_bytes (take_all k ms (omega (arith, past, ap length are, slots_of_messages raw)))
 
-      bytes_are : bytes ≡ all_bytes ms
-      bytes_are = f ∙ take_all n spare.front (omega (arith, whole)) ∙ ap (λ (r : RawLists). r.front) s ∙ ap all_bytes (take_all k ms (omega (arith, past, ap length are, slots_of_messages raw)))
-
-      last_is : (last : RawLists) → last ≡ raw_lists (cleared.front ++ bytes) cleared.slots cleared.capacity → last ≡ squeezed ms raw.capacity
-      last_is last i = i ∙ (λ j. raw_lists ((cleared_is j).front ++ bytes_are j) (cleared_is j).slots (cleared_is j).capacity)
+      last_is : (last : RawLists) → last ≡ raw_lists spare.front now.slots now.capacity → last ≡ squeezed ms raw.capacity
+      last_is last i = i ∙ (λ j. raw_lists (front_is j) (all_moved raw h ms are k now e past j) (e j).capacity)
 
       valid : AllByRecursion IsMessage ms
       valid = all_by IsMessage ms (subst (All IsMessage) are (filled_valid raw h))
@@ -180,9 +177,9 @@ module _ (raw : RawLists) (h : IsPackedBuffer raw) (v : MessageList) (view : mes
       squeezed_whole : IsPackedBuffer (squeezed ms raw.capacity)
       squeezed_whole = squeezed_filled ms raw.capacity valid (subst MessagesRise are h.rising) (omega (arith, h.live, ap (sum_by message_size) are, h.within)) h.within.1
 
-      pub end : End cleared v bytes
+      pub end : End now spare v
       end = record {
-        room = omega (arith, ap raw_used cleared_is, ap (λ (r : RawLists). r.capacity) cleared_is, ap length bytes_are, length-places 0 ms, bytes_fit raw h ms are k);
+        room = omega (arith, ap length front_is, ap length (all_moved raw h ms are k now e past), length-places 0 ms, ap (λ (r : RawLists). r.capacity) e, bytes_fit raw h ms are k);
         filled = λ last i. subst IsPackedBuffer (sym (last_is last i)) squeezed_whole;
         is = λ last i. ap (λ (r : RawLists). message_list (messages_in r) (raw_used r) r.capacity) (last_is last i)
             ∙ (λ j. message_list (squeezed_messages ms raw.capacity valid j) (squeezed_used ms raw.capacity j) (capacity_is j));

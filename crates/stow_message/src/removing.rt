@@ -1,5 +1,6 @@
 //! Messages that leave a buffer, and dead bytes that are dropped.
 ghost use Rattle.std.specs.Prelude.{◌≡◌, ◌+◌, ◌-◌, ◌*◌, ◌<◌, ◌≤◌, [], length, IsTrue, Some, false};
+ghost use Rattle.stow_raw.specs.RawBuf.{raw_lists};
 ghost use Rattle.stow_message.specs.Filter.{Covers};
 ghost use Rattle.stow_message.specs.MessageBuf.{message_list, messages_in, IsPackedBuffer, without_range};
 ghost use Rattle.stow_message.specs.Packed.{message_size};
@@ -17,6 +18,21 @@ use stow_filter::filter::Filter;
 use stow_raw::raw_buf::RawBuf;
 use stow_slots::slot_buf::SlotBuf;
 use stow_tree_model::tenant_key::TenantKey;
+
+/// Brings the front of a spare block in the place of the block's own. Where the two have as many bytes they change places, so
+/// that nothing but the slots is copied.
+fn bring_front<A: Allocator>(raw: &mut SlotBuf<A>, spare: &mut RawBuf<A>)
+    requires { length spare.old.front + 4 * length raw.old.slots ≤ raw.old.capacity }
+    ensures brought { raw.new ≡ raw_lists spare.old.front raw.old.slots raw.old.capacity }
+    ensures spare { spare.new.capacity ≡ spare.old.capacity }
+{
+    if spare.capacity() == raw.capacity() {
+        raw.exchange(spare);
+    } else {
+        raw.clear_front();
+        raw.push_front(spare.bytes(0, spare.front_len()));
+    }
+}
 
 /// Adds the key of each message to the filter.
 fn mark_all<A: Allocator>(raw: &SlotBuf<A>, filter: &mut Filter<A>)
@@ -95,7 +111,8 @@ impl<A: Allocator> MessageBuf<A> {
         self.remove(low, end - low);
     }
 
-    /// Drops the dead bytes, with the help of a block that is at least as large. What that block held is lost.
+    /// Drops the dead bytes, with the help of a block that is at least as large. What that block held is lost: where it has as
+    /// many bytes as the buffer's own, the two change places.
     pub fn squeeze(&mut self, spare: &mut RawBuf<A>)
         requires { self.old.capacity ≤ spare.old.capacity }
         ensures squeezed { self.new
@@ -122,8 +139,7 @@ impl<A: Allocator> MessageBuf<A> {
             spare.push_front(packed_at(&self.raw, self.raw.slot(i) as usize));
             self.raw.set_slot(i, at);
         }
-        self.raw.clear_front();
-        self.raw.push_front(spare.bytes(0, spare.front_len()));
+        bring_front(&mut self.raw, spare);
         renew_marks(&self.raw, &mut self.filter);
     }
 

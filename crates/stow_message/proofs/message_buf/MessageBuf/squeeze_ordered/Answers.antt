@@ -41,26 +41,26 @@ loop-i-preserved g c =
       spare = t.bytes c.slot.result c.slot.ensures _ refl _ (c.push_front.ensures ∙ ap (λ l. raw_lists (spare.front ++ l) spare.slots spare.capacity) c.packed_at.ensures);
     }
 
-pub push_front-requires-2 : goal.push_front-requires-2
-push_front-requires-2 g c = (end c.self.inside.raw c.self.invariant.filled c.args.self.now c.self.view_is c.loop-i.i c.loop-i.self-inside.raw c.loop-i.invariant.raw c.loop-i.spare _ c.loop-i.invariant.spare (omega (arith, c.loop-i-test.false, c.slot_count-i-end.ensures)) _ c.front_len.ensures _ c.bytes.ensures _ c.clear_front.ensures).room
+pub bring_front-requires : goal.bring_front-requires
+bring_front-requires g c = (end c.self.inside.raw c.self.invariant.filled c.args.self.now c.self.view_is c.loop-i.i c.loop-i.self-inside.raw c.loop-i.invariant.raw c.loop-i.spare _ c.loop-i.invariant.spare (omega (arith, c.loop-i-test.false, c.slot_count-i-end.ensures))).room
 
 pub renew_marks-requires : goal.renew_marks-requires
 renew_marks-requires g c =
-    let e = (end c.self.inside.raw c.self.invariant.filled c.args.self.now c.self.view_is c.loop-i.i c.loop-i.self-inside.raw c.loop-i.invariant.raw c.loop-i.spare _ c.loop-i.invariant.spare (omega (arith, c.loop-i-test.false, c.slot_count-i-end.ensures)) _ c.front_len.ensures _ c.bytes.ensures _ c.clear_front.ensures) in
+    let e = (end c.self.inside.raw c.self.invariant.filled c.args.self.now c.self.view_is c.loop-i.i c.loop-i.self-inside.raw c.loop-i.invariant.raw c.loop-i.spare _ c.loop-i.invariant.spare (omega (arith, c.loop-i-test.false, c.slot_count-i-end.ensures))) in
     let marks = c.self.inside.filter in
     record {
-      filled = e.filled _ c.push_front-2.ensures;
-      covers = subst (Covers c.loop-i.self-inside.filter) (sym (ap (λ (w : MessageList). w.messages) (e.is _ c.push_front-2.ensures)))
+      filled = e.filled _ c.bring_front.ensures.brought;
+      covers = subst (Covers c.loop-i.self-inside.filter) (sym (ap (λ (w : MessageList). w.messages) (e.is _ c.bring_front.ensures.brought)))
           (subst (λ (bits : List ℕ). Covers bits c.args.self.now.messages) (sym c.loop-i.invariant.marks)
           (covered c.self.inside.raw marks c.args.self.now c.self.view_is c.self.invariant.covers));
     }
 
 pub invariant_of-self : goal.invariant_of-self
-invariant_of-self g c = let e = (end c.self.inside.raw c.self.invariant.filled c.args.self.now c.self.view_is c.loop-i.i c.loop-i.self-inside.raw c.loop-i.invariant.raw c.loop-i.spare _ c.loop-i.invariant.spare (omega (arith, c.loop-i-test.false, c.slot_count-i-end.ensures)) _ c.front_len.ensures _ c.bytes.ensures _ c.clear_front.ensures) in record {
-  filled = e.filled _ c.push_front-2.ensures;
+invariant_of-self g c = let e = (end c.self.inside.raw c.self.invariant.filled c.args.self.now c.self.view_is c.loop-i.i c.loop-i.self-inside.raw c.loop-i.invariant.raw c.loop-i.spare _ c.loop-i.invariant.spare (omega (arith, c.loop-i-test.false, c.slot_count-i-end.ensures))) in record {
+  filled = e.filled _ c.bring_front.ensures.brought;
   covers = c.renew_marks.ensures;
-  counted = c.loop-i.invariant.live ∙ is_counted c.self.inside.raw c.self.inside.live c.args.self.now c.self.view_is c.self.invariant.counted ∙ sym (ap (λ (w : MessageList). sum_by message_size w.messages) (e.is _ c.push_front-2.ensures));
+  counted = c.loop-i.invariant.live ∙ is_counted c.self.inside.raw c.self.inside.live c.args.self.now c.self.view_is c.self.invariant.counted ∙ sym (ap (λ (w : MessageList). sum_by message_size w.messages) (e.is _ c.bring_front.ensures.brought));
 }
 
 pub returns-clause-squeezed : goal.returns-clause-squeezed
-returns-clause-squeezed g c = (end c.self.inside.raw c.self.invariant.filled c.args.self.now c.self.view_is c.loop-i.i c.loop-i.self-inside.raw c.loop-i.invariant.raw c.loop-i.spare _ c.loop-i.invariant.spare (omega (arith, c.loop-i-test.false, c.slot_count-i-end.ensures)) _ c.front_len.ensures _ c.bytes.ensures _ c.clear_front.ensures).is _ c.push_front-2.ensures
+returns-clause-squeezed g c = (end c.self.inside.raw c.self.invariant.filled c.args.self.now c.self.view_is c.loop-i.i c.loop-i.self-inside.raw c.loop-i.invariant.raw c.loop-i.spare _ c.loop-i.invariant.spare (omega (arith, c.loop-i-test.false, c.slot_count-i-end.ensures))).is _ c.bring_front.ensures.brought
