@@ -67,6 +67,14 @@ high_at_last cs i h = end_of-last top_key (parts_of cs) i (omega (arith, length-
 pub low_at : {A : Type 0} (cs : List (Child A)) (i : ℕ) (c : Child A) → i < length cs → c ≡ get_or cs i c → (d : Part) → (get_or (parts_of cs) i d).low ≡ (part_of c).low
 low_at cs i c h e d = ap (λ (p : Part). p.low) (get_or-map part_of cs i c d h ∙ ap part_of (sym e))
 
+pub low_of_first : {A : Type 0} (cs : List (Child A)) (c : Child A) → 0 < length cs → c ≡ get_or cs 0 c → (part_of c).low ≡ low_or top_key (parts_of cs)
+low_of_first [] c some e = absurd (omega arith)
+low_of_first (x ∷ cs) c some e = ap (λ d. (part_of d).low) e
+
+pub low_of_none : {A : Type 0} (cs : List (Child A)) → length cs ≤ 0 → top_key ≡ low_or top_key (parts_of cs)
+low_of_none [] none = refl
+low_of_none (x ∷ cs) none = absurd (omega arith)
+
 -- the part is from the middle on
 pub upper_half : {A : Type 0} (cs : List (Child A)) (key : List ℕ) (at end middle : ℕ) (c : Child A) → LiesBetween (parts_of cs) key at end → middle < end → c ≡ get_or cs middle c → lt key (part_of c).low ≡ false → LiesBetween (parts_of cs) key middle end
 upper_half cs key at end middle c b less e l = record {
