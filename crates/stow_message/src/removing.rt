@@ -151,6 +151,5 @@ impl<A: Allocator> MessageBuf<A> {
         self.filter.clear();
         self.words.clear();
         self.live = 0;
-        self.newcomers = 0;
     }
 }
