@@ -30,6 +30,8 @@ pub struct MessageBuf<A: Allocator = Global> {
     pub(crate) words: KeyWords<A>,
     /// How many bytes the messages take, their slots among them.
     pub(crate) live: usize,
+    /// How many messages were put since all slots were ordered of which nothing told that their key has others: a hint.
+    pub(crate) newcomers: usize,
 }
 
 impl<A: Allocator> Model for MessageBuf<A> {
@@ -121,6 +123,7 @@ impl<A: Allocator + Copy> MessageBuf<A> {
             filter,
             words,
             live: 0,
+            newcomers: 0,
         })
     }
 }
@@ -155,6 +158,7 @@ impl<A: Allocator> MessageBuf<A> {
     {
         self.words.settle(&self.raw);
         self.raw.settle();
+        self.newcomers = 0;
     }
 
     /// How many messages there are.

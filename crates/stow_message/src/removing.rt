@@ -151,5 +151,6 @@ impl<A: Allocator> MessageBuf<A> {
         self.filter.clear();
         self.words.clear();
         self.live = 0;
+        self.newcomers = 0;
     }
 }
