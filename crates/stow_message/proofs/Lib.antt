@@ -5,7 +5,9 @@ pub mod Placed
 pub mod Pushed
 pub mod Copied
 pub mod Counted
+pub mod Bounded
 pub mod Covered
+pub mod Each
 pub mod Ranges
 pub mod Reading
 pub mod Removed

@@ -129,6 +129,8 @@ pub record Turn (raw now spare : RawLists) (v : MessageList) (k size : ℕ) : Ty
       → raw_used spare + length (message_bytes m) ≤ spare.capacity
   pub bytes : (at : ℕ) → at ≡ get_or now.slots k 0 → (m : TreeMessage) → m ≡ message_at (drop at now.front) → (next : RawLists)
       → next ≡ raw_lists (spare.front ++ message_bytes m) spare.slots spare.capacity → next ≡ raw_lists (all_bytes (take (k + 1) v.messages)) [] size
+  pub more : k < length v.messages
+  pub there : (at : ℕ) → at ≡ get_or now.slots k 0 → (m : TreeMessage) → m ≡ message_at (drop at now.front) → m ≡ get_or v.messages k m
   pub slots : (place : ℕ) → place ≡ length spare.front → (next : RawLists) → next ≡ raw_lists now.front (set now.slots k place) now.capacity
       → next ≡ raw_lists raw.front (take (k + 1) (places_from 0 v.messages) ++ drop (k + 1) raw.slots) raw.capacity
 
@@ -161,6 +163,8 @@ module _ (raw : RawLists) (h : IsPackedBuffer raw) (v : MessageList) (view : mes
           begins = λ at f. next_begins raw h ms are k now e lt at f;
           room = λ at f m g more. omega (arith, ap raw_used s, ap (λ (r : RawLists). r.capacity) s, length-append (all_bytes (take k ms)) (message_bytes m), ap length (reads at f m g), taken_within ms (k + 1), fit, capacity_is, more);
           bytes = λ at f m g next i. i ∙ (λ j. raw_lists ((s j).front ++ message_bytes m) (s j).slots (s j).capacity) ∙ ap (λ l. raw_lists l [] size) (reads at f m g);
+          more = omega (arith, lt, counts raw h ms are k);
+          there = next_message raw h ms are k now e lt;
           slots = λ place f next i. more_slots raw h ms are k now e lt next place i (f ∙ ap (λ (r : RawLists). length r.front) s);
         }
 

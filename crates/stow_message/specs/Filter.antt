@@ -4,6 +4,10 @@ use Rattle.std.specs.List.{AllByRecursion}
 use Rattle.stow_filter.specs.Filter.{may_have}
 use Rattle.stow_tree_model.specs.TreeMessage.{TreeMessage}
 
--- each message's key has its marks
+-- the message's key has its marks
+abbrev pub IsCovered : List ℕ → TreeMessage → Type 0
+IsCovered words m = may_have words m.key ≡ true
+
+-- each message's key has them
 abbrev pub Covers : List ℕ → List TreeMessage → Type 0
-Covers words ms = AllByRecursion (λ m. may_have words m.key ≡ true) ms
+Covers words ms = AllByRecursion (IsCovered words) ms

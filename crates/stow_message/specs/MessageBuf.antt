@@ -6,7 +6,7 @@ use Rattle.stow_tree_model.specs.Op.{Op, Put, Gone, Append, bytes_in}
 use Rattle.stow_tree_model.specs.TreeMessage.{TreeMessage}
 use Rattle.stow_tree_model.specs.Order.{MessagesRise}
 use Rattle.stow_message.specs.Filter.{Covers}
-use Rattle.stow_message.specs.Packed.{kind_of, op_by, message_at, message_size, BeginsWith}
+use Rattle.stow_message.specs.Packed.{kind_of, op_by, message_at, message_size, BeginsWith, IsUpTo}
 use Rattle.stow_message.specs.Rising.{placed, all_placed, in_range, out_of_range, without}
 use Rattle.std.specs.List.{AllByRecursion, sum_by}
 
@@ -66,6 +66,10 @@ message_list_code =
     code_by (List TreeMessage × (ℕ × ℕ)) (coded× (coded_list message_code) (coded× coded_ℕ coded_ℕ))
     (λ b. (b.messages, (b.used, b.capacity))) (λ p. message_list p.0 p.1.0 p.1.1) (λ _. refl)
 
+-- each message takes no more than so many bytes
+abbrev pub AreUpTo : ℕ → List TreeMessage → Type 0
+AreUpTo most ms = AllByRecursion (IsUpTo most) ms
+
 -- the messages at the slots' places
 abbrev pub messages_in : RawLists → List TreeMessage
 messages_in raw = map (λ slot. message_at (drop slot raw.front)) raw.slots
@@ -91,8 +95,9 @@ pub record IsPackedBuffer (raw : RawLists) : Type 0 where
   pub live : sum_by message_size (messages_in raw) ≤ raw_used raw
   pub within : (raw_used raw ≤ raw.capacity) × (raw.capacity < 4294967296)
 
--- .. each one's key has its marks, and the bytes of all are counted
-pub record IsMarked (raw : RawLists) (words : List ℕ) (live : ℕ) : Type 0 where
+-- .. each one's key has its marks, the bytes of all are counted, and those of each are bounded
+pub record IsMarked (raw : RawLists) (words : List ℕ) (live largest : ℕ) : Type 0 where
   pub filled : IsPackedBuffer raw
   pub covers : Covers words (messages_in raw)
   pub counted : live ≡ sum_by message_size (messages_in raw)
+  pub bounded : AreUpTo largest (messages_in raw)

@@ -1,8 +1,8 @@
 //! A buffer of packed messages.
-ghost use Rattle.std.specs.Prelude.{◌≡◌, ◌+◌, ◌-◌, ◌^◌, ◌<◌, ◌≤◌, [], length, take, drop, reverse, slice_get, slice_index_or, IfOk, IfSome, IsSome, Some, false};
+ghost use Rattle.std.specs.Prelude.{◌≡◌, ◌+◌, ◌-◌, ◌^◌, ◌<◌, ◌≤◌, [], length, take, drop, reverse, slice_get, slice_index_or, IfOk, IfSome, IsSome, None, Some, false};
 ghost use Rattle.stow_tree_model.specs.TreeMessage.{TreeMessage, message_of};
 ghost use Rattle.stow_tree_model.specs.Order.{MessagesRise};
-ghost use Rattle.stow_message.specs.MessageBuf.{message_list, messages_in};
+ghost use Rattle.stow_message.specs.MessageBuf.{message_list, messages_in, AreUpTo};
 ghost use Rattle.stow_message.specs.Packed.{message_bytes, message_size, message_at, IsMessage, BeginsWith};
 ghost use Rattle.stow_message.specs.Rising.{below, of_key, in_range};
 ghost use Rattle.std.specs.List.{All, sum_by};
@@ -30,6 +30,8 @@ pub struct MessageBuf<A: Allocator = Global> {
     pub(crate) words: KeyWords<A>,
     /// How many bytes the messages take, their slots among them.
     pub(crate) live: usize,
+    /// How many bytes each of them takes at most, its slot among them.
+    pub(crate) largest: usize,
     /// How many messages were put since all slots were ordered of which nothing told that their key has others: a hint.
     pub(crate) newcomers: usize,
 }
@@ -44,7 +46,7 @@ impl<A: Allocator> Model for MessageBuf<A> {
 
     ghost view = { λ b. message_list (messages_in b.raw) (raw_used b.raw) b.raw.capacity };
 
-    ghost invariant = { λ b. IsMarked b.raw b.filter b.live };
+    ghost invariant = { λ b. IsMarked b.raw b.filter b.live b.largest };
 }
 
 /// The message that begins `at` bytes into the front.
@@ -123,6 +125,7 @@ impl<A: Allocator + Copy> MessageBuf<A> {
             filter,
             words,
             live: 0,
+            largest: 0,
             newcomers: 0,
         })
     }
@@ -150,6 +153,13 @@ impl<A: Allocator> MessageBuf<A> {
         ensures { result ≡ sum_by message_size self.now.messages }
     {
         self.live
+    }
+
+    /// How many bytes each message takes at most, its slot among them.
+    pub(crate) fn largest(&self) -> usize
+        ensures { AreUpTo result self.now.messages }
+    {
+        self.largest
     }
 
     /// Orders what was put last among the others, so that reads of many are fast. No message moves.
@@ -278,5 +288,25 @@ impl<A: Allocator> MessageBuf<A> {
             (in_range from.entry.bytes.now to.entry.bytes.now self.now.messages) }
     {
         bytes_in(&self.in_range(from, to))
+    }
+
+    /// The same, if it is more than so many: no message is looked at where their count tells that it isn't.
+    pub fn range_bytes_above(
+        &self,
+        from: TenantKey<'_>,
+        to: TenantKey<'_>,
+        bytes: usize,
+    ) -> Option<usize>
+        ensures more { IfSome result (λ found. (bytes < found) × (found ≡ sum_by message_size
+            (in_range from.entry.bytes.now to.entry.bytes.now self.now.messages))) }
+        ensures none { result ≡ None → sum_by message_size
+            (in_range from.entry.bytes.now to.entry.bytes.now self.now.messages) ≤ bytes }
+    {
+        let run = self.in_range(from, to);
+        if run.most_bytes() <= bytes {
+            return None;
+        }
+        let found = bytes_in(&run);
+        if found > bytes { Some(found) } else { None }
     }
 }

@@ -178,6 +178,7 @@ impl<A: Allocator> MessageBuf<A> {
         self.raw.insert_slot_near(place.count, place.young, at);
         self.filter.add(message.key.bytes);
         self.live += size(message);
+        self.largest = self.largest.max(size(message));
     }
 
     /// Puts a message below which none stands before the others. No slot is moved.
@@ -196,6 +197,7 @@ impl<A: Allocator> MessageBuf<A> {
         self.filter.add(key);
         self.words.clear();
         self.live += size(message);
+        self.largest = self.largest.max(size(message));
     }
 
     /// Puts the messages of a run to their places. Each is searched from the place of the one before on, and the slots between are
@@ -228,6 +230,7 @@ impl<A: Allocator> MessageBuf<A> {
             old = end;
         }
         self.live += bytes;
+        self.largest = self.largest.max(run.largest());
     }
 
     /// Moves the messages of the keys from `from` on and below `to` into another buffer. Their bytes here are dead. Room for words of them is

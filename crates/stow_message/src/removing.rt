@@ -134,11 +134,15 @@ impl<A: Allocator> MessageBuf<A> {
         ensures spare { spare.new.capacity ≡ spare.old.capacity }
     {
         spare.reset();
+        let mut largest = 0;
         for i in 0..self.raw.slot_count() {
             let at = spare.front_len() as u32;
-            spare.push_front(packed_at(&self.raw, self.raw.slot(i) as usize));
+            let message = packed_at(&self.raw, self.raw.slot(i) as usize);
+            largest = (message.len() + SLOT).max(largest);
+            spare.push_front(message);
             self.raw.set_slot(i, at);
         }
+        self.largest = largest;
         bring_front(&mut self.raw, spare);
         renew_marks(&self.raw, &mut self.filter);
     }
@@ -151,6 +155,7 @@ impl<A: Allocator> MessageBuf<A> {
         self.filter.clear();
         self.words.clear();
         self.live = 0;
+        self.largest = 0;
         self.newcomers = 0;
     }
 }

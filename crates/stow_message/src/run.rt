@@ -1,7 +1,9 @@
 //! Messages of a buffer, lent.
-ghost use Rattle.std.specs.Prelude.{◌≡◌, ◌<◌, length, slice_index_or};
+ghost use Rattle.std.specs.Prelude.{◌≡◌, ◌<◌, ◌≤◌, length, slice_index_or};
+ghost use Rattle.std.specs.List.{sum_by};
 ghost use Rattle.stow_tree_model.specs.TreeMessage.{TreeMessage, message_of};
-ghost use Rattle.stow_message.specs.Packed.{message_bytes};
+ghost use Rattle.stow_message.specs.MessageBuf.{AreUpTo};
+ghost use Rattle.stow_message.specs.Packed.{message_bytes, message_size};
 
 use crate::message_buf::MessageBuf;
 use std::alloc::{Allocator, Global};
@@ -46,6 +48,21 @@ impl<'a, A: Allocator> Run<'a, A> {
         ensures { message_of result ≡ slice_index_or self.now index (message_of result) }
     {
         self.buf.message(self.from + index)
+    }
+
+    /// How many bytes each message takes at most, its slot among them.
+    pub(crate) fn largest(&self) -> usize
+        ensures { AreUpTo result self.now }
+    {
+        self.buf.largest()
+    }
+
+    /// How many bytes all take at most, their slots among them, as their count tells.
+    pub(crate) fn most_bytes(&self) -> usize
+        ensures { sum_by message_size self.now ≤ result }
+    {
+        let _known = self.buf.used();
+        self.len().saturating_mul(self.largest())
     }
 
     /// The bytes of the packed message at `index`, lent.

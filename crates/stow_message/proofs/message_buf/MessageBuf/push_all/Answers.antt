@@ -2,12 +2,14 @@ use Rattle.std.proofs.Common.{ℕ, List, ◌≡◌, ◌+◌, ◌-◌, ◌*◌, �
 use Rattle.std.specs.List.{sum_by}
 use Rattle.stow_raw.specs.RawBuf.{RawLists, raw_used}
 use Rattle.stow_tree_model.specs.TreeMessage.{TreeMessage, message_of}
-use Rattle.stow_message.specs.Packed.{all_bytes, message_size}
-use Rattle.stow_message.specs.Filter.{Covers}
-use Rattle.stow_message.specs.MessageBuf.{MessageList, messages_in}
+use Rattle.stow_message.specs.Packed.{all_bytes, message_size, IsUpTo}
+use Rattle.stow_message.specs.Filter.{Covers, IsCovered}
+use Rattle.stow_message.specs.MessageBuf.{MessageList, messages_in, AreUpTo}
 use Rattle.stow_message.proofs.Counted.{is_counted}
 use Rattle.stow_message.proofs.Placed.{sum-all_placed}
-use Rattle.stow_message.proofs.Covered.{covered, covers_more, covers_all_placed}
+use Rattle.stow_message.proofs.Covered.{covered, covers_more}
+use Rattle.stow_message.proofs.Bounded.{still_up_to, up_to}
+use Rattle.stow_message.proofs.Each.{each_all_placed}
 use Rattle.stow_message.proofs.Squeezed.{all_sizes}
 use Rattle.stow_message.proofs.Merged.{Filling, filling, filled_here, here_small, old_within, place_here, end_within, next, now_filled, now_seen}
 use Rattle.stow_slots.proofs.Moved.{length-moved}
@@ -54,6 +56,7 @@ loop-new-init g c = let count = c.len-count.result in
           c.add_slots.ensures c.front_len-at.result c.front_len-at.ensures);
       marks = refl;
       live = refl;
+      largest = refl;
     }
 
 pub search_from-end-requires-clause-within : goal.search_from-end-requires-clause-within
@@ -104,6 +107,7 @@ loop-new-preserved g c =
           c.move_slots.new.self c.move_slots.ensures _ (omega (arith, counts, c.len-count.ensures, lt)) c.set_slot.new.self c.set_slot.ensures _ (omega (arith, c.size.ensures)) _ (omega (arith, counts));
       marks = l.invariant.marks;
       live = l.invariant.live;
+      largest = l.invariant.largest;
     }
 
 pub invariant_of-self : goal.invariant_of-self
@@ -113,7 +117,7 @@ invariant_of-self g c = let l = c.loop-new in
       filled = now_filled c.args.self.now c.args.run.now c.requires.room c.requires.valid l.self-inside.raw l.new l.old (l.old + l.new - length c.args.run.now) l.at l.invariant.filling c.requires.rising c.requires.new (omega (arith, c.loop-new-test.false, c.len-count.ensures));
       covers = subst (λ (bits : List ℕ). Covers bits (messages_in l.self-inside.raw)) (sym l.invariant.marks) (subst (Covers marks)
           (sym (ap (λ (w : MessageList). w.messages) (now_seen c.args.self.now c.args.run.now c.requires.room c.requires.valid l.self-inside.raw l.new l.old (l.old + l.new - length c.args.run.now) l.at l.invariant.filling c.requires.rising c.requires.new (omega (arith, c.loop-new-test.false, c.len-count.ensures)))))
-          (covers_all_placed marks c.args.run.now c.args.self.now.messages c.mark_run.ensures.added
+          (each_all_placed (IsCovered marks) c.args.run.now c.args.self.now.messages c.mark_run.ensures.added
           (covers_more c.self.inside.filter marks c.args.self.now.messages c.mark_run.ensures.stay
           (covered c.self.inside.raw c.self.inside.filter c.args.self.now c.self.view_is c.self.invariant.covers))));
       counted = omega (
@@ -124,6 +128,12 @@ invariant_of-self g c = let l = c.loop-new in
         sum-all_placed c.args.run.now c.args.self.now.messages,
         ap (λ (w : MessageList). sum_by message_size w.messages) (now_seen c.args.self.now c.args.run.now c.requires.room c.requires.valid l.self-inside.raw l.new l.old (l.old + l.new - length c.args.run.now) l.at l.invariant.filling c.requires.rising c.requires.new (omega (arith, c.loop-new-test.false, c.len-count.ensures))),
       );
+      bounded = let most = c.max-self-inside.result in subst (AreUpTo most)
+          (sym (ap (λ (w : MessageList). w.messages) (now_seen c.args.self.now c.args.run.now c.requires.room c.requires.valid l.self-inside.raw l.new l.old (l.old + l.new - length c.args.run.now) l.at l.invariant.filling c.requires.rising c.requires.new (omega (arith, c.loop-new-test.false, c.len-count.ensures)))))
+          (each_all_placed (IsUpTo most) c.args.run.now c.args.self.now.messages
+          (still_up_to c.largest.result most c.args.run.now (omega (arith, c.max-self-inside.ensures)) c.largest.ensures)
+          (still_up_to c.self.inside.largest most c.args.self.now.messages (omega (arith, c.max-self-inside.ensures, l.invariant.largest))
+          (up_to c.self.inside.raw c.self.inside.largest c.args.self.now c.self.view_is c.self.invariant.bounded)));
     }
 
 pub returns : goal.returns

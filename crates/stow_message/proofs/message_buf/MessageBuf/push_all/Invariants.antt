@@ -7,4 +7,5 @@ invariant-loop-new g l = record {
   filling : Filling l.fn.self l.run l.self-inside.raw l.new l.old (l.old + l.new - length l.run) l.at;
   marks : l.self-inside.filter ≡ l.initial.self-inside.filter;
   live : l.self-inside.live ≡ l.initial.self-inside.live;
+  largest : l.self-inside.largest ≡ l.initial.self-inside.largest;
 }

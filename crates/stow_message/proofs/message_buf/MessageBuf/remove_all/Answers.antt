@@ -3,12 +3,12 @@ use Rattle.std.specs.List.{Contains, sum_by}
 use Rattle.stow_raw.specs.RawBuf.{RawLists, raw_used}
 use Rattle.stow_tree_model.specs.TreeMessage.{TreeMessage, message_of}
 use Rattle.stow_tree_model.specs.Order.{MessagesRise}
-use Rattle.stow_message.specs.Filter.{Covers}
-use Rattle.stow_message.specs.MessageBuf.{MessageList, message_list, messages_in, IsPackedBuffer}
-use Rattle.stow_message.specs.Packed.{message_size}
+use Rattle.stow_message.specs.Filter.{Covers, IsCovered}
+use Rattle.stow_message.specs.MessageBuf.{MessageList, message_list, messages_in, AreUpTo, IsPackedBuffer}
+use Rattle.stow_message.specs.Packed.{message_size, IsUpTo}
 use Rattle.stow_message.specs.Rising.{AreHeld, without}
 use Rattle.stow_message.proofs.Counted.{kept_counted}
-use Rattle.stow_message.proofs.Covered.{covers_without}
+use Rattle.stow_message.proofs.Each.{each_without}
 use Rattle.stow_message.proofs.RisingLists.{all_by}
 use Rattle.stow_message.proofs.Taken.{taken, unfound, held_found, kept_without, taken_messages, taken_filled, taken_used}
 use Rattle.stow_message.proofs.TakenOut.{begun, filled_now, slots_stay, end_within, next, taken_is}
@@ -23,6 +23,7 @@ loop-i-init g c = let raw = c.self.inside.raw in let bs = c.args.batch.now.messa
   taking = begun raw bs (all_found raw bs c.self.invariant.filled c.len-i-end.ensures.rising (subst (λ (w : MessageList). AreHeld bs w.messages) (sym c.self.view_is) c.requires));
   marks = refl;
   live = refl;
+  largest = refl;
 }
 
 pub search_from-at-requires-clause-filled : goal.search_from-at-requires-clause-filled
@@ -48,6 +49,7 @@ loop-i-preserved g c = let l = c.loop-i in let raw = c.self.inside.raw in let bs
           _ refl c.move_slots.new.self c.move_slots.ensures _ refl _ refl;
       marks = l.invariant.marks;
       live = l.invariant.live;
+      largest = l.invariant.largest;
     }
 
 pub invariant_of-self : goal.invariant_of-self
@@ -58,7 +60,9 @@ invariant_of-self g c = let l = c.loop-i in let raw = c.self.inside.raw in let b
     record {
       filled = subst IsPackedBuffer (sym is) (taken_filled raw h bs all);
       covers = subst (λ (bits : List ℕ). Covers bits (messages_in c.remove_slots.new.self)) (sym l.invariant.marks) (subst (λ (r : RawLists). Covers marks (messages_in r)) (sym is)
-          (subst (Covers marks) (sym (taken_messages raw h bs all)) (covers_without marks bs (messages_in raw) c.self.invariant.covers)));
+          (subst (Covers marks) (sym (taken_messages raw h bs all)) (each_without (IsCovered marks) bs (messages_in raw) c.self.invariant.covers)));
+      bounded = let most = c.self.inside.largest in subst (λ most. AreUpTo most (messages_in c.remove_slots.new.self)) (sym l.invariant.largest) (subst (λ (r : RawLists). AreUpTo most (messages_in r)) (sym is)
+          (subst (AreUpTo most) (sym (taken_messages raw h bs all)) (each_without (IsUpTo most) bs (messages_in raw) c.self.invariant.bounded)));
       counted = omega (
         arith,
         l.invariant.live,

@@ -7,4 +7,5 @@ invariant-loop-i g l = record {
   taking : Taking l.initial.self-inside.raw l.batch.messages l.self-inside.raw l.kept l.i l.from;
   marks : l.self-inside.filter ≡ l.initial.self-inside.filter;
   live : l.self-inside.live ≡ l.initial.self-inside.live;
+  largest : l.self-inside.largest ≡ l.initial.self-inside.largest;
 }

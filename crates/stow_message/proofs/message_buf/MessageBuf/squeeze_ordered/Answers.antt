@@ -1,19 +1,23 @@
-use Rattle.std.proofs.Common.{ℕ, List, ◌++◌, ◌∙◌, length, refl, ap, sym, subst, arith}
+use Rattle.std.proofs.Common.{ℕ, List, ◌++◌, ◌∙◌, length, take, drop, refl, ap, sym, subst, arith}
 use Rattle.std.specs.List.{sum_by}
 use Rattle.stow_raw.specs.RawBuf.{raw_lists}
 use Rattle.stow_message.specs.Filter.{Covers}
-use Rattle.stow_message.specs.MessageBuf.{MessageList}
-use Rattle.stow_message.specs.Packed.{message_size}
+use Rattle.stow_message.specs.MessageBuf.{MessageList, AreUpTo}
+use Rattle.stow_message.specs.Packed.{message_size, message_at, IsUpTo}
+use Rattle.stow_message.proofs.Bounded.{still_up_to}
 use Rattle.stow_message.proofs.Counted.{is_counted}
 use Rattle.stow_message.proofs.Covered.{covered}
+use Rattle.stow_message.proofs.Each.{each_next, each_of_all}
+use Rattle.stow_message.proofs.Pushed.{slots_of_messages}
+use Rattle.stow_message.proofs.Reading.{length-message_bytes}
 use Rattle.stow_message.proofs.Squeezed.{turn, end}
 use Rattle.stow_message.proofs.message_buf.MessageBuf.squeeze_ordered.Goals as goal
 
 pub slot-requires : goal.slot-requires
 slot-requires g c = (turn c.self.inside.raw c.self.invariant.filled c.args.self.now c.self.view_is c.loop-i.i c.loop-i.self-inside.raw c.loop-i.invariant.raw c.loop-i.spare _ c.loop-i.invariant.spare (omega (arith, c.loop-i-test.true, c.slot_count-i-end.ensures))).slot
 
-pub packed_at-requires : goal.packed_at-requires
-packed_at-requires g c =
+pub packed_at-message-requires : goal.packed_at-message-requires
+packed_at-message-requires g c =
     let t = turn c.self.inside.raw c.self.invariant.filled c.args.self.now c.self.view_is c.loop-i.i c.loop-i.self-inside.raw c.loop-i.invariant.raw c.loop-i.spare _ c.loop-i.invariant.spare (omega (arith, c.loop-i-test.true, c.slot_count-i-end.ensures)) in
     record { begins = t.begins c.slot.result c.slot.ensures; small = t.small }
 
@@ -25,7 +29,7 @@ overflow_cast-at g c =
 pub push_front-requires : goal.push_front-requires
 push_front-requires g c =
     let t = turn c.self.inside.raw c.self.invariant.filled c.args.self.now c.self.view_is c.loop-i.i c.loop-i.self-inside.raw c.loop-i.invariant.raw c.loop-i.spare _ c.loop-i.invariant.spare (omega (arith, c.loop-i-test.true, c.slot_count-i-end.ensures)) in
-    omega (arith, t.room c.slot.result c.slot.ensures _ refl c.requires, ap length c.packed_at.ensures)
+    omega (arith, t.room c.slot.result c.slot.ensures _ refl c.requires, ap length c.packed_at-message.ensures)
 
 pub set_slot-requires : goal.set_slot-requires
 set_slot-requires g c = (turn c.self.inside.raw c.self.invariant.filled c.args.self.now c.self.view_is c.loop-i.i c.loop-i.self-inside.raw c.loop-i.invariant.raw c.loop-i.spare _ c.loop-i.invariant.spare (omega (arith, c.loop-i-test.true, c.slot_count-i-end.ensures))).slot
@@ -38,7 +42,10 @@ loop-i-preserved g c =
       raw = t.slots _ c.front_len-at.ensures _ c.set_slot.ensures;
       marks = c.loop-i.invariant.marks;
       live = c.loop-i.invariant.live;
-      spare = t.bytes c.slot.result c.slot.ensures _ refl _ (c.push_front.ensures ∙ ap (λ l. raw_lists (spare.front ++ l) spare.slots spare.capacity) c.packed_at.ensures);
+      up_to = let m = message_at (drop c.slot.result c.loop-i.self-inside.raw.front) in let most = c.max-largest.result in
+          each_next (IsUpTo most) c.args.self.now.messages c.loop-i.i m t.more (t.there c.slot.result c.slot.ensures m refl) (omega (arith, ap length c.packed_at-message.ensures, length-message_bytes m, c.max-largest.ensures))
+          (still_up_to c.loop-i.largest most (take c.loop-i.i c.args.self.now.messages) (omega (arith, c.max-largest.ensures)) c.loop-i.invariant.up_to);
+      spare = t.bytes c.slot.result c.slot.ensures _ refl _ (c.push_front.ensures ∙ ap (λ l. raw_lists (spare.front ++ l) spare.slots spare.capacity) c.packed_at-message.ensures);
     }
 
 pub bring_front-requires : goal.bring_front-requires
@@ -59,6 +66,9 @@ pub invariant_of-self : goal.invariant_of-self
 invariant_of-self g c = let e = (end c.self.inside.raw c.self.invariant.filled c.args.self.now c.self.view_is c.loop-i.i c.loop-i.self-inside.raw c.loop-i.invariant.raw c.loop-i.spare _ c.loop-i.invariant.spare (omega (arith, c.loop-i-test.false, c.slot_count-i-end.ensures))) in record {
   filled = e.filled _ c.bring_front.ensures.brought;
   covers = c.renew_marks.ensures;
+  bounded = subst (AreUpTo c.loop-i.largest) (sym (ap (λ (w : MessageList). w.messages) (e.is _ c.bring_front.ensures.brought)))
+      (each_of_all (IsUpTo c.loop-i.largest) c.args.self.now.messages c.loop-i.i
+      (omega (arith, c.loop-i-test.false, c.slot_count-i-end.ensures, slots_of_messages c.self.inside.raw, ap (λ (w : MessageList). length w.messages) c.self.view_is)) c.loop-i.invariant.up_to);
   counted = c.loop-i.invariant.live ∙ is_counted c.self.inside.raw c.self.inside.live c.args.self.now c.self.view_is c.self.invariant.counted ∙ sym (ap (λ (w : MessageList). sum_by message_size w.messages) (e.is _ c.bring_front.ensures.brought));
 }
 
