@@ -1,5 +1,5 @@
 //! Which child most bytes are buffered for, and the way of its messages.
-ghost use Rattle.std.specs.Prelude.{◌≡◌, ◌↔◌, ◌<◌, ◌≤◌, length, slice_index_or, IsTrue, IfOk, OnErr};
+ghost use Rattle.std.specs.Prelude.{◌≡◌, ◌↔◌, ◌<◌, ◌≤◌, length, slice_index_or, IsTrue, IfOk, IfSome, OnErr, None};
 ghost use Rattle.stow_message.specs.Rising.{in_range, AreNew};
 ghost use Rattle.stow_leaves.specs.Forgets.{Forgets};
 ghost use Rattle.stow_merge.specs.Pins.{pins_in};
@@ -28,6 +28,22 @@ pub(crate) fn bytes_for<A: Allocator>(
     buffer.range_bytes(children[index].low(), high_after(children, index))
 }
 
+/// The same, if they are more than so many.
+fn bytes_above<A: Allocator>(
+    children: &[Child<A>],
+    index: usize,
+    buffer: &MessageBuf<A>,
+    bytes: usize,
+) -> Option<usize>
+    requires { index < length children.now }
+    ensures more { (d : Part) → IfSome result (λ found. (bytes < found)
+        × (found ≡ bytes_for (parts_of children.now) buffer.now index d)) }
+    ensures none { (d : Part) → result ≡ None
+        → bytes_for (parts_of children.now) buffer.now index d ≤ bytes }
+{
+    buffer.range_bytes_above(children[index].low(), high_after(children, index), bytes)
+}
+
 /// The child for which most bytes are buffered, the leftmost of equals.
 pub(crate) fn heaviest<A: Allocator>(children: &[Child<A>], buffer: &MessageBuf<A>) -> usize
     requires { 0 < length children.now }
@@ -35,8 +51,7 @@ pub(crate) fn heaviest<A: Allocator>(children: &[Child<A>], buffer: &MessageBuf<
 {
     let (mut best, mut most) = (0, bytes_for(children, 0, buffer));
     for index in 1..children.len() {
-        let bytes = bytes_for(children, index, buffer);
-        if bytes > most {
+        if let Some(bytes) = bytes_above(children, index, buffer, most) {
             best = index;
             most = bytes;
         }
