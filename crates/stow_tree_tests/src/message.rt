@@ -238,6 +238,8 @@ impl<A: Allocator + Copy> All<A> {
             && run.get(0).number == 9
             && run.get(0).op.carried() == b"new".as_slice()
             && self.pair.left.range_bytes(from, to) == 27
+            && self.pair.left.range_bytes_above(from, to, 26) == Some(27)
+            && self.pair.left.range_bytes_above(from, to, 27).is_none()
             && self.pair.left.of_key(from).len() == 1
     }
 }
