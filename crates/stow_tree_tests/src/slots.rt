@@ -44,36 +44,12 @@ fn counts<A: Allocator + Copy, B: Allocator>(
     Ok((all, young, buf.young_count(), heap.asked()))
 }
 
-/// How many slots are put into a large block, how many of them count as newcomers, and whether the young ones are ripe then.
-const RIPE: [(u32, usize, bool); 6] = [
-    (191, 0, false),
-    (192, 0, true),
-    (191, 3, false),
-    (191, 4, true),
-    (1_025, 35, false),
-    (1_025, 36, true),
-];
-
-fn is_ripe<A: Allocator + Copy>(
-    alloc: A,
-    count: u32,
-    newcomers: usize,
-) -> Result<bool, AllocError> {
-    let mut buf = SlotBuf::with_capacity(alloc, LARGE)?;
-    put_all(&mut buf, count);
-    Ok(buf.is_ripe(newcomers))
-}
-
 #[test]
 fn young_slots_wait(rt: HostRuntime) -> Result<(), Fail> {
     let heap = Refusing::new(rt.alloc());
     for (count, bytes, young) in WAITING {
         let counts = counts(&heap, &heap, (count, bytes))?;
         assert_eq!(rt; counts, (count as usize, young, 0, 0));
-    }
-    heap.set(Plan::Grant);
-    for (count, newcomers, ripe) in RIPE {
-        assert_eq!(rt; is_ripe(&heap, count, newcomers)?, ripe);
     }
     Ok(())
 }
