@@ -204,7 +204,7 @@ const SHRINKS_BY_JOBS: [Call; 6] = [
 
 /// Nodes are not joined, so at a fan-out of 4 the leaves become fewer and not few.
 const SHRINKS_LESS: [Call; 6] = [
-    Call::Random(1_800),
+    Call::Random(1_250),
     Call::Want(Want::Grown(3, 50)),
     Call::Unpin,
     Call::Shrink(4, true),
