@@ -32,8 +32,6 @@ pub struct MessageBuf<A: Allocator = Global> {
     pub(crate) live: usize,
     /// How many bytes each of them takes at most, its slot among them.
     pub(crate) largest: usize,
-    /// How many messages were put since all slots were ordered of which nothing told that their key has others: a hint.
-    pub(crate) newcomers: usize,
 }
 
 impl<A: Allocator> Model for MessageBuf<A> {
@@ -126,7 +124,6 @@ impl<A: Allocator + Copy> MessageBuf<A> {
             words,
             live: 0,
             largest: 0,
-            newcomers: 0,
         })
     }
 }
@@ -168,7 +165,6 @@ impl<A: Allocator> MessageBuf<A> {
     {
         self.words.settle(&self.raw);
         self.raw.settle();
-        self.newcomers = 0;
     }
 
     /// How many messages there are.

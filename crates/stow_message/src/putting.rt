@@ -63,17 +63,8 @@ impl<A: Allocator> MessageBuf<A> {
     fn settle_ripe(&mut self)
         ensures { self.new ≡ self.old }
     {
-        if self.raw.is_ripe(self.newcomers) {
+        if self.raw.is_ripe() {
             self.settle();
-        }
-    }
-
-    /// Counts the message that is put next among the newcomers, where no guess tells that its key has others here.
-    fn note_newcomer(&mut self, guess: Place)
-        ensures { self.new ≡ self.old }
-    {
-        if guess.count > self.raw.slot_count() {
-            self.newcomers = self.newcomers.saturating_add(1);
         }
     }
 
@@ -161,7 +152,6 @@ impl<A: Allocator> MessageBuf<A> {
         ensures { self.new ≡ with_message (message_of message.entry) self.old }
     {
         self.settle_ripe();
-        self.note_newcomer(guess);
         self.put(message, guess);
     }
 

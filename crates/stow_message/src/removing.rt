@@ -156,6 +156,5 @@ impl<A: Allocator> MessageBuf<A> {
         self.words.clear();
         self.live = 0;
         self.largest = 0;
-        self.newcomers = 0;
     }
 }

@@ -15,11 +15,8 @@ use stow_raw::raw_buf::RawBuf;
 /// The most young slots.
 const YOUNG: usize = 1_024;
 
-/// How many newcomers are ripe where there are no other slots; a 32nd of those more are where there are some.
+/// How many young slots are ripe where there are no others; a 32nd of those more are where there are some.
 const FEWEST_RIPE: usize = 4;
-
-/// How many young slots at least are ripe where few of them are newcomers.
-const FEWEST_KNOWN_RIPE: usize = 192;
 
 /// The fewest bytes of a block that has a list of young slots.
 const LARGE: usize = 65_536;
@@ -263,13 +260,11 @@ impl<A: Allocator> SlotBuf<A> {
         self.young.capacity()
     }
 
-    /// Whether the young slots had better come to the others before the next one is put, where so many of them are newcomers, which have
-    /// none of their key before them: where these are many, by how many others would move. The other young slots are let be longer. Then keys that are
-    /// written again and again keep young slots, and what their next messages hide can go (`remove_young`).
-    pub fn is_ripe(&self, newcomers: usize) -> bool {
-        let many = FEWEST_RIPE.saturating_add(self.raw.slot_count() / 32);
-        let all = many.max(FEWEST_KNOWN_RIPE).min(self.young.capacity());
-        newcomers >= many || self.young.len() >= all
+    /// Whether the young slots had better come to the others before the next one is put: where they are many, by how many others they
+    /// would move.
+    pub fn is_ripe(&self) -> bool {
+        let ripe = FEWEST_RIPE.saturating_add(self.raw.slot_count() / 32);
+        self.young.len() >= ripe.min(self.young.capacity())
     }
 
     /// How many slots aren't young.
