@@ -6,7 +6,7 @@ use Rattle.stow_tree_model.specs.Op.{Op, Put, Gone, Append, bytes_in}
 use Rattle.stow_tree_model.specs.TreeMessage.{TreeMessage}
 use Rattle.stow_tree_model.specs.Order.{MessagesRise}
 use Rattle.stow_message.specs.Filter.{Covers}
-use Rattle.stow_message.specs.Packed.{kind_of, op_by, message_at, message_size, BeginsWith, IsUpTo}
+use Rattle.stow_message.specs.Packed.{kind_of, op_by, message_at, message_size, BeginsWith, IsNoLarger}
 use Rattle.stow_message.specs.Rising.{placed, all_placed, in_range, out_of_range, without}
 use Rattle.std.specs.List.{AllByRecursion, sum_by}
 
@@ -66,9 +66,9 @@ message_list_code =
     code_by (List TreeMessage × (ℕ × ℕ)) (coded× (coded_list message_code) (coded× coded_ℕ coded_ℕ))
     (λ b. (b.messages, (b.used, b.capacity))) (λ p. message_list p.0 p.1.0 p.1.1) (λ _. refl)
 
--- each message takes no more than so many bytes
-abbrev pub AreUpTo : ℕ → List TreeMessage → Type 0
-AreUpTo most ms = AllByRecursion (IsUpTo most) ms
+-- each message takes no more bytes than so many
+abbrev pub AreNoLarger : ℕ → List TreeMessage → Type 0
+AreNoLarger most ms = AllByRecursion (IsNoLarger most) ms
 
 -- the messages at the slots' places
 abbrev pub messages_in : RawLists → List TreeMessage
@@ -100,4 +100,4 @@ pub record IsMarked (raw : RawLists) (words : List ℕ) (live largest : ℕ) : T
   pub filled : IsPackedBuffer raw
   pub covers : Covers words (messages_in raw)
   pub counted : live ≡ sum_by message_size (messages_in raw)
-  pub bounded : AreUpTo largest (messages_in raw)
+  pub bounded : AreNoLarger largest (messages_in raw)

@@ -31,9 +31,9 @@ message_bytes m = head_of m ++ (m.key ++ bytes_in m.op)
 abbrev pub message_size : TreeMessage → ℕ
 message_size m = 19 + length m.key + length (bytes_in m.op)
 
--- it takes no more than so many bytes
-abbrev pub IsUpTo : ℕ → TreeMessage → Type 0
-IsUpTo most m = message_size m ≤ most
+-- it takes no more bytes than so many
+abbrev pub IsNoLarger : ℕ → TreeMessage → Type 0
+IsNoLarger most m = message_size m ≤ most
 
 -- a tenant's message, within the limits
 pub record IsMessage (m : TreeMessage) : Type 0 where

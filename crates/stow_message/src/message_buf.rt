@@ -2,7 +2,7 @@
 ghost use Rattle.std.specs.Prelude.{◌≡◌, ◌+◌, ◌-◌, ◌^◌, ◌<◌, ◌≤◌, [], length, take, drop, reverse, slice_get, slice_index_or, IfOk, IfSome, IsSome, None, Some, false};
 ghost use Rattle.stow_tree_model.specs.TreeMessage.{TreeMessage, message_of};
 ghost use Rattle.stow_tree_model.specs.Order.{MessagesRise};
-ghost use Rattle.stow_message.specs.MessageBuf.{message_list, messages_in, AreUpTo};
+ghost use Rattle.stow_message.specs.MessageBuf.{message_list, messages_in, AreNoLarger};
 ghost use Rattle.stow_message.specs.Packed.{message_bytes, message_size, message_at, IsMessage, BeginsWith};
 ghost use Rattle.stow_message.specs.Rising.{below, of_key, in_range};
 ghost use Rattle.std.specs.List.{All, sum_by};
@@ -154,7 +154,7 @@ impl<A: Allocator> MessageBuf<A> {
 
     /// How many bytes each message takes at most, its slot among them.
     pub(crate) fn largest(&self) -> usize
-        ensures { AreUpTo result self.now.messages }
+        ensures { AreNoLarger result self.now.messages }
     {
         self.largest
     }

@@ -2,7 +2,7 @@
 ghost use Rattle.std.specs.Prelude.{◌≡◌, ◌<◌, ◌≤◌, length, slice_index_or};
 ghost use Rattle.std.specs.List.{sum_by};
 ghost use Rattle.stow_tree_model.specs.TreeMessage.{TreeMessage, message_of};
-ghost use Rattle.stow_message.specs.MessageBuf.{AreUpTo};
+ghost use Rattle.stow_message.specs.MessageBuf.{AreNoLarger};
 ghost use Rattle.stow_message.specs.Packed.{message_bytes, message_size};
 
 use crate::message_buf::MessageBuf;
@@ -52,7 +52,7 @@ impl<'a, A: Allocator> Run<'a, A> {
 
     /// How many bytes each message takes at most, its slot among them.
     pub(crate) fn largest(&self) -> usize
-        ensures { AreUpTo result self.now }
+        ensures { AreNoLarger result self.now }
     {
         self.buf.largest()
     }

@@ -2,13 +2,13 @@ use Rattle.std.proofs.Common.{ℕ, List, ◌≡◌, ◌+◌, ◌-◌, ◌*◌, �
 use Rattle.std.specs.List.{sum_by}
 use Rattle.stow_raw.specs.RawBuf.{RawLists, raw_used}
 use Rattle.stow_tree_model.specs.TreeMessage.{TreeMessage, message_of}
-use Rattle.stow_message.specs.Packed.{all_bytes, message_size, IsUpTo}
+use Rattle.stow_message.specs.Packed.{all_bytes, message_size, IsNoLarger}
 use Rattle.stow_message.specs.Filter.{Covers, IsCovered}
-use Rattle.stow_message.specs.MessageBuf.{MessageList, messages_in, AreUpTo}
+use Rattle.stow_message.specs.MessageBuf.{MessageList, messages_in, AreNoLarger}
 use Rattle.stow_message.proofs.Counted.{is_counted}
 use Rattle.stow_message.proofs.Placed.{sum-all_placed}
 use Rattle.stow_message.proofs.Covered.{covered, covers_more}
-use Rattle.stow_message.proofs.Bounded.{still_up_to, up_to}
+use Rattle.stow_message.proofs.Bounded.{still_no_larger, are_no_larger}
 use Rattle.stow_message.proofs.Each.{each_all_placed}
 use Rattle.stow_message.proofs.Squeezed.{all_sizes}
 use Rattle.stow_message.proofs.Merged.{Filling, filling, filled_here, here_small, old_within, place_here, end_within, next, now_filled, now_seen}
@@ -128,12 +128,12 @@ invariant_of-self g c = let l = c.loop-new in
         sum-all_placed c.args.run.now c.args.self.now.messages,
         ap (λ (w : MessageList). sum_by message_size w.messages) (now_seen c.args.self.now c.args.run.now c.requires.room c.requires.valid l.self-inside.raw l.new l.old (l.old + l.new - length c.args.run.now) l.at l.invariant.filling c.requires.rising c.requires.new (omega (arith, c.loop-new-test.false, c.len-count.ensures))),
       );
-      bounded = let most = c.max-self-inside.result in subst (AreUpTo most)
+      bounded = let most = c.max-self-inside.result in subst (AreNoLarger most)
           (sym (ap (λ (w : MessageList). w.messages) (now_seen c.args.self.now c.args.run.now c.requires.room c.requires.valid l.self-inside.raw l.new l.old (l.old + l.new - length c.args.run.now) l.at l.invariant.filling c.requires.rising c.requires.new (omega (arith, c.loop-new-test.false, c.len-count.ensures)))))
-          (each_all_placed (IsUpTo most) c.args.run.now c.args.self.now.messages
-          (still_up_to c.largest.result most c.args.run.now (omega (arith, c.max-self-inside.ensures)) c.largest.ensures)
-          (still_up_to c.self.inside.largest most c.args.self.now.messages (omega (arith, c.max-self-inside.ensures, l.invariant.largest))
-          (up_to c.self.inside.raw c.self.inside.largest c.args.self.now c.self.view_is c.self.invariant.bounded)));
+          (each_all_placed (IsNoLarger most) c.args.run.now c.args.self.now.messages
+          (still_no_larger c.largest.result most c.args.run.now (omega (arith, c.max-self-inside.ensures)) c.largest.ensures)
+          (still_no_larger c.self.inside.largest most c.args.self.now.messages (omega (arith, c.max-self-inside.ensures, l.invariant.largest))
+          (are_no_larger c.self.inside.raw c.self.inside.largest c.args.self.now c.self.view_is c.self.invariant.bounded)));
     }
 
 pub returns : goal.returns

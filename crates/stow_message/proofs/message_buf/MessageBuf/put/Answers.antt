@@ -2,12 +2,12 @@ use Rattle.std.proofs.Common.{ap, sym, subst, ◌∙◌, arith}
 use Rattle.std.specs.List.{sum_by}
 use Rattle.stow_tree_model.specs.TreeMessage.{message_of}
 use Rattle.stow_message.specs.Filter.{Covers, IsCovered}
-use Rattle.stow_message.specs.MessageBuf.{MessageList, AreUpTo}
-use Rattle.stow_message.specs.Packed.{message_size, IsUpTo}
+use Rattle.stow_message.specs.MessageBuf.{MessageList, AreNoLarger}
+use Rattle.stow_message.specs.Packed.{message_size, IsNoLarger}
 use Rattle.stow_message.proofs.RisingLists.{sum-placed}
 use Rattle.stow_message.proofs.Counted.{is_counted}
 use Rattle.stow_message.proofs.Covered.{covered, covers_more}
-use Rattle.stow_message.proofs.Bounded.{still_up_to, up_to}
+use Rattle.stow_message.proofs.Bounded.{still_no_larger, are_no_larger}
 use Rattle.stow_message.proofs.Each.{each_placed}
 use Rattle.stow_message.proofs.Pushed.{bytes_fit, push}
 use Rattle.stow_message.proofs.message_buf.MessageBuf.put.Goals as goal
@@ -29,10 +29,10 @@ invariant_of-self g c =
           (covers_more c.self.inside.filter marks c.args.self.now.messages c.add.ensures.stay
           (covered c.self.inside.raw c.self.inside.filter c.args.self.now c.self.view_is c.self.invariant.covers)));
       counted = omega (arith, c.size.ensures, is_counted c.self.inside.raw c.self.inside.live c.args.self.now c.self.view_is c.self.invariant.counted, sum-placed (message_of c.args.message) c.args.self.now.messages, ap (λ (w : MessageList). sum_by message_size w.messages) (put.is _ _ c.front_len-at.ensures c.insert_slot_near.ensures));
-      bounded = let most = c.max-self-inside.result in subst (AreUpTo most) (sym (ap (λ (w : MessageList). w.messages) (put.is _ _ c.front_len-at.ensures c.insert_slot_near.ensures)))
-          (each_placed (IsUpTo most) (message_of c.args.message) c.args.self.now.messages (omega (arith, c.size.ensures, c.size-2.ensures, c.max-self-inside.ensures))
-          (still_up_to c.self.inside.largest most c.args.self.now.messages (omega (arith, c.max-self-inside.ensures))
-          (up_to c.self.inside.raw c.self.inside.largest c.args.self.now c.self.view_is c.self.invariant.bounded)));
+      bounded = let most = c.max-self-inside.result in subst (AreNoLarger most) (sym (ap (λ (w : MessageList). w.messages) (put.is _ _ c.front_len-at.ensures c.insert_slot_near.ensures)))
+          (each_placed (IsNoLarger most) (message_of c.args.message) c.args.self.now.messages (omega (arith, c.size.ensures, c.size-2.ensures, c.max-self-inside.ensures))
+          (still_no_larger c.self.inside.largest most c.args.self.now.messages (omega (arith, c.max-self-inside.ensures))
+          (are_no_larger c.self.inside.raw c.self.inside.largest c.args.self.now c.self.view_is c.self.invariant.bounded)));
     }
 
 pub overflow_add-self : goal.overflow_add-self

@@ -4,8 +4,8 @@ use Rattle.stow_raw.specs.RawBuf.{RawLists, raw_used}
 use Rattle.stow_tree_model.specs.TreeMessage.{TreeMessage, message_of}
 use Rattle.stow_tree_model.specs.Order.{MessagesRise}
 use Rattle.stow_message.specs.Filter.{Covers, IsCovered}
-use Rattle.stow_message.specs.MessageBuf.{MessageList, message_list, messages_in, AreUpTo, IsPackedBuffer}
-use Rattle.stow_message.specs.Packed.{message_size, IsUpTo}
+use Rattle.stow_message.specs.MessageBuf.{MessageList, message_list, messages_in, AreNoLarger, IsPackedBuffer}
+use Rattle.stow_message.specs.Packed.{message_size, IsNoLarger}
 use Rattle.stow_message.specs.Rising.{AreHeld, without}
 use Rattle.stow_message.proofs.Counted.{kept_counted}
 use Rattle.stow_message.proofs.Each.{each_without}
@@ -61,8 +61,8 @@ invariant_of-self g c = let l = c.loop-i in let raw = c.self.inside.raw in let b
       filled = subst IsPackedBuffer (sym is) (taken_filled raw h bs all);
       covers = subst (λ (bits : List ℕ). Covers bits (messages_in c.remove_slots.new.self)) (sym l.invariant.marks) (subst (λ (r : RawLists). Covers marks (messages_in r)) (sym is)
           (subst (Covers marks) (sym (taken_messages raw h bs all)) (each_without (IsCovered marks) bs (messages_in raw) c.self.invariant.covers)));
-      bounded = let most = c.self.inside.largest in subst (λ most. AreUpTo most (messages_in c.remove_slots.new.self)) (sym l.invariant.largest) (subst (λ (r : RawLists). AreUpTo most (messages_in r)) (sym is)
-          (subst (AreUpTo most) (sym (taken_messages raw h bs all)) (each_without (IsUpTo most) bs (messages_in raw) c.self.invariant.bounded)));
+      bounded = let most = c.self.inside.largest in subst (λ most. AreNoLarger most (messages_in c.remove_slots.new.self)) (sym l.invariant.largest) (subst (λ (r : RawLists). AreNoLarger most (messages_in r)) (sym is)
+          (subst (AreNoLarger most) (sym (taken_messages raw h bs all)) (each_without (IsNoLarger most) bs (messages_in raw) c.self.invariant.bounded)));
       counted = omega (
         arith,
         l.invariant.live,

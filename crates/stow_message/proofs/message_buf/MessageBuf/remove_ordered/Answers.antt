@@ -1,8 +1,8 @@
 use Rattle.std.proofs.Common.{◌+◌, ◌≤◌, length, ap, sym, subst, arith}
 use Rattle.std.specs.List.{sum_by}
 use Rattle.stow_message.specs.Filter.{Covers, IsCovered}
-use Rattle.stow_message.specs.MessageBuf.{MessageList, messages_in, AreUpTo}
-use Rattle.stow_message.specs.Packed.{message_size, IsUpTo}
+use Rattle.stow_message.specs.MessageBuf.{MessageList, messages_in, AreNoLarger}
+use Rattle.stow_message.specs.Packed.{message_size, IsNoLarger}
 use Rattle.stow_message.proofs.Counted.{rest_counted, gone_counted}
 use Rattle.stow_message.proofs.Each.{each_rest}
 use Rattle.stow_message.proofs.Pushed.{slots_of_messages}
@@ -19,7 +19,7 @@ invariant_of-self g c =
     record {
       filled = last_filled raw last h i k le c.remove_slots.ensures;
       covers = subst (Covers c.self.inside.filter) (sym (last_messages raw last h i k le c.remove_slots.ensures)) (each_rest (IsCovered c.self.inside.filter) (messages_in raw) i (i + k) c.self.invariant.covers);
-      bounded = subst (AreUpTo c.self.inside.largest) (sym (last_messages raw last h i k le c.remove_slots.ensures)) (each_rest (IsUpTo c.self.inside.largest) (messages_in raw) i (i + k) c.self.invariant.bounded);
+      bounded = subst (AreNoLarger c.self.inside.largest) (sym (last_messages raw last h i k le c.remove_slots.ensures)) (each_rest (IsNoLarger c.self.inside.largest) (messages_in raw) i (i + k) c.self.invariant.bounded);
       counted = omega (arith, c.self.invariant.counted, rest_counted (messages_in raw) i k, gone_counted raw c.args.self.now c.self.view_is i k _ c.bytes_in-gone.ensures, ap (sum_by message_size) (last_messages raw last h i k le c.remove_slots.ensures));
     }
 

@@ -2,8 +2,8 @@ use Rattle.std.proofs.Common.{◌+◌, ◌≤◌, drop, length, ap, sym, subst, 
 use Rattle.std.specs.List.{sum_by}
 use Rattle.stow_raw.specs.RawBuf.{RawLists}
 use Rattle.stow_message.specs.Filter.{Covers, IsCovered}
-use Rattle.stow_message.specs.MessageBuf.{messages_in, AreUpTo}
-use Rattle.stow_message.specs.Packed.{message_bytes, message_at, message_size, IsUpTo}
+use Rattle.stow_message.specs.MessageBuf.{messages_in, AreNoLarger}
+use Rattle.stow_message.specs.Packed.{message_bytes, message_at, message_size, IsNoLarger}
 use Rattle.stow_message.proofs.Each.{each_rest}
 use Rattle.stow_message.proofs.Removed.{last_messages, last_filled, last_view}
 use Rattle.stow_message.proofs.Single.{slot_within, single_counted}
@@ -22,7 +22,7 @@ invariant_of-self-2 g c =
     record {
       filled = last_filled raw last h i 1 le there.1;
       covers = subst (Covers c.self.inside.filter) (sym (last_messages raw last h i 1 le there.1)) (each_rest (IsCovered c.self.inside.filter) (messages_in raw) i (i + 1) c.self.invariant.covers);
-      bounded = subst (AreUpTo c.self.inside.largest) (sym (last_messages raw last h i 1 le there.1)) (each_rest (IsUpTo c.self.inside.largest) (messages_in raw) i (i + 1) c.self.invariant.bounded);
+      bounded = subst (AreNoLarger c.self.inside.largest) (sym (last_messages raw last h i 1 le there.1)) (each_rest (IsNoLarger c.self.inside.largest) (messages_in raw) i (i + 1) c.self.invariant.bounded);
       counted = omega (arith, c.self.invariant.counted, single_counted raw i at there.0 c.packed_at.result.now (c.packed_at.ensures ∙ ap (λ (r : RawLists). message_bytes (message_at (drop at r.front))) there.1), ap (sum_by message_size) (last_messages raw last h i 1 le there.1));
     }
 

@@ -2,9 +2,9 @@ use Rattle.std.proofs.Common.{ℕ, List, ◌++◌, ◌∙◌, length, take, drop
 use Rattle.std.specs.List.{sum_by}
 use Rattle.stow_raw.specs.RawBuf.{raw_lists}
 use Rattle.stow_message.specs.Filter.{Covers}
-use Rattle.stow_message.specs.MessageBuf.{MessageList, AreUpTo}
-use Rattle.stow_message.specs.Packed.{message_size, message_at, IsUpTo}
-use Rattle.stow_message.proofs.Bounded.{still_up_to}
+use Rattle.stow_message.specs.MessageBuf.{MessageList, AreNoLarger}
+use Rattle.stow_message.specs.Packed.{message_size, message_at, IsNoLarger}
+use Rattle.stow_message.proofs.Bounded.{still_no_larger}
 use Rattle.stow_message.proofs.Counted.{is_counted}
 use Rattle.stow_message.proofs.Covered.{covered}
 use Rattle.stow_message.proofs.Each.{each_next, each_of_all}
@@ -42,9 +42,9 @@ loop-i-preserved g c =
       raw = t.slots _ c.front_len-at.ensures _ c.set_slot.ensures;
       marks = c.loop-i.invariant.marks;
       live = c.loop-i.invariant.live;
-      up_to = let m = message_at (drop c.slot.result c.loop-i.self-inside.raw.front) in let most = c.max-largest.result in
-          each_next (IsUpTo most) c.args.self.now.messages c.loop-i.i m t.more (t.there c.slot.result c.slot.ensures m refl) (omega (arith, ap length c.packed_at-message.ensures, length-message_bytes m, c.max-largest.ensures))
-          (still_up_to c.loop-i.largest most (take c.loop-i.i c.args.self.now.messages) (omega (arith, c.max-largest.ensures)) c.loop-i.invariant.up_to);
+      bounded = let m = message_at (drop c.slot.result c.loop-i.self-inside.raw.front) in let most = c.max-largest.result in
+          each_next (IsNoLarger most) c.args.self.now.messages c.loop-i.i m t.more (t.there c.slot.result c.slot.ensures m refl) (omega (arith, ap length c.packed_at-message.ensures, length-message_bytes m, c.max-largest.ensures))
+          (still_no_larger c.loop-i.largest most (take c.loop-i.i c.args.self.now.messages) (omega (arith, c.max-largest.ensures)) c.loop-i.invariant.bounded);
       spare = t.bytes c.slot.result c.slot.ensures _ refl _ (c.push_front.ensures ∙ ap (λ l. raw_lists (spare.front ++ l) spare.slots spare.capacity) c.packed_at-message.ensures);
     }
 
@@ -66,9 +66,9 @@ pub invariant_of-self : goal.invariant_of-self
 invariant_of-self g c = let e = (end c.self.inside.raw c.self.invariant.filled c.args.self.now c.self.view_is c.loop-i.i c.loop-i.self-inside.raw c.loop-i.invariant.raw c.loop-i.spare _ c.loop-i.invariant.spare (omega (arith, c.loop-i-test.false, c.slot_count-i-end.ensures))) in record {
   filled = e.filled _ c.bring_front.ensures.brought;
   covers = c.renew_marks.ensures;
-  bounded = subst (AreUpTo c.loop-i.largest) (sym (ap (λ (w : MessageList). w.messages) (e.is _ c.bring_front.ensures.brought)))
-      (each_of_all (IsUpTo c.loop-i.largest) c.args.self.now.messages c.loop-i.i
-      (omega (arith, c.loop-i-test.false, c.slot_count-i-end.ensures, slots_of_messages c.self.inside.raw, ap (λ (w : MessageList). length w.messages) c.self.view_is)) c.loop-i.invariant.up_to);
+  bounded = subst (AreNoLarger c.loop-i.largest) (sym (ap (λ (w : MessageList). w.messages) (e.is _ c.bring_front.ensures.brought)))
+      (each_of_all (IsNoLarger c.loop-i.largest) c.args.self.now.messages c.loop-i.i
+      (omega (arith, c.loop-i-test.false, c.slot_count-i-end.ensures, slots_of_messages c.self.inside.raw, ap (λ (w : MessageList). length w.messages) c.self.view_is)) c.loop-i.invariant.bounded);
   counted = c.loop-i.invariant.live ∙ is_counted c.self.inside.raw c.self.inside.live c.args.self.now c.self.view_is c.self.invariant.counted ∙ sym (ap (λ (w : MessageList). sum_by message_size w.messages) (e.is _ c.bring_front.ensures.brought));
 }
 
