@@ -1,8 +1,8 @@
 -- What holds of each message, as messages come and go.
-use Rattle.std.proofs.Common.{◌≡◌, ℕ, zero, suc, ◌+◌, ◌<◌, ◌≤◌, Bool, true, false, List, [], ◌∷◌, ◌++◌, length, get_or, take, drop, subst, arith}
+use Rattle.std.proofs.Common.{◌≡◌, ℕ, zero, suc, ◌+◌, ◌<◌, ◌≤◌, Bool, true, false, List, [], ◌∷◌, length, get_or, take, subst, arith}
 use Rattle.std.proofs.lemmas.List.{take_all}
 use Rattle.std.specs.Prelude.{if◌then◌else◌}
-use Rattle.std.specs.List.{AllByRecursion, filter, remove_range}
+use Rattle.std.specs.List.{AllByRecursion, filter}
 use Rattle.stow_tree_model.specs.TreeMessage.{TreeMessage}
 use Rattle.stow_tree_model.specs.Order.{place_of}
 use Rattle.stow_message.specs.Rising.{is_below, placed, all_placed, without}
@@ -38,18 +38,6 @@ module _ (P : TreeMessage → Type 0) where
   each_taken zero ms c = tt
   each_taken (suc i) [] c = tt
   each_taken (suc i) (m ∷ ms) c = (c.0, each_taken i ms c.1)
-
-  pub each_dropped : (i : ℕ) (ms : List TreeMessage) → AllByRecursion P ms → AllByRecursion P (drop i ms)
-  each_dropped zero ms c = c
-  each_dropped (suc i) [] c = tt
-  each_dropped (suc i) (m ∷ ms) c = each_dropped i ms c.1
-
-  each_append : (ms ns : List TreeMessage) → AllByRecursion P ms → AllByRecursion P ns → AllByRecursion P (ms ++ ns)
-  each_append [] ns h c = c
-  each_append (m ∷ ms) ns h c = (h.0, each_append ms ns h.1 c)
-
-  pub each_rest : (ms : List TreeMessage) (from to : ℕ) → AllByRecursion P ms → AllByRecursion P (remove_range ms from to)
-  each_rest ms from to c = each_append (take from ms) (drop to ms) (each_taken from ms c) (each_dropped to ms c)
 
   each_one_more : (ms : List TreeMessage) (i : ℕ) (m : TreeMessage) → i < length ms → m ≡ get_or ms i m → P m → AllByRecursion P (take i ms) → AllByRecursion P (take (suc i) ms)
   each_one_more [] i m l e h c = absurd (omega arith)

@@ -7,7 +7,8 @@
 //! searches for a key that has no message; that each held key is in it is kept by the type. Beside the slots stand words of the keys,
 //! by which a search begins: a hint, of which no contract speaks (`key_words`).
 //! A body that always answers `AllocError` meets the contract of `with_capacity`: tests call it with ample memory. How much
-//! the filter spares stands in no contract: one of whose marks all are set is right too.
+//! the filter spares stands in no contract: one of whose marks all are set is right too. Nor does how tight the bound of each message's bytes is:
+//! with one beyond all `range_bytes_above` answers the same, and looks at each message.
 #![tactic(auto)]
 
 mod batches;

@@ -4,9 +4,8 @@ use Rattle.stow_message.specs.Filter.{Covers, IsCovered}
 use Rattle.stow_message.specs.MessageBuf.{MessageList, messages_in, AreNoLarger}
 use Rattle.stow_message.specs.Packed.{message_size, IsNoLarger}
 use Rattle.stow_message.proofs.Counted.{rest_counted, gone_counted}
-use Rattle.stow_message.proofs.Each.{each_rest}
 use Rattle.stow_message.proofs.Pushed.{slots_of_messages}
-use Rattle.stow_message.proofs.Removed.{last_messages, last_filled, last_view}
+use Rattle.stow_message.proofs.Removed.{all_removed, last_messages, last_filled, last_view}
 use Rattle.stow_message.proofs.message_buf.MessageBuf.remove_ordered.Goals as goal
 
 pub remove_slots-requires : goal.remove_slots-requires
@@ -18,8 +17,8 @@ invariant_of-self g c =
     let le : i + k ≤ length raw.slots = omega (arith, c.requires, slots_of_messages raw, ap (λ (w : MessageList). length w.messages) c.self.view_is) in
     record {
       filled = last_filled raw last h i k le c.remove_slots.ensures;
-      covers = subst (Covers c.self.inside.filter) (sym (last_messages raw last h i k le c.remove_slots.ensures)) (each_rest (IsCovered c.self.inside.filter) (messages_in raw) i (i + k) c.self.invariant.covers);
-      bounded = subst (AreNoLarger c.self.inside.largest) (sym (last_messages raw last h i k le c.remove_slots.ensures)) (each_rest (IsNoLarger c.self.inside.largest) (messages_in raw) i (i + k) c.self.invariant.bounded);
+      covers = subst (Covers c.self.inside.filter) (sym (last_messages raw last h i k le c.remove_slots.ensures)) (all_removed (IsCovered c.self.inside.filter) (messages_in raw) i (i + k) (omega arith) c.self.invariant.covers);
+      bounded = subst (AreNoLarger c.self.inside.largest) (sym (last_messages raw last h i k le c.remove_slots.ensures)) (all_removed (IsNoLarger c.self.inside.largest) (messages_in raw) i (i + k) (omega arith) c.self.invariant.bounded);
       counted = omega (arith, c.self.invariant.counted, rest_counted (messages_in raw) i k, gone_counted raw c.args.self.now c.self.view_is i k _ c.bytes_in-gone.ensures, ap (sum_by message_size) (last_messages raw last h i k le c.remove_slots.ensures));
     }
 

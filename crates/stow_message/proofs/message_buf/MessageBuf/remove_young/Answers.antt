@@ -4,8 +4,7 @@ use Rattle.stow_raw.specs.RawBuf.{RawLists}
 use Rattle.stow_message.specs.Filter.{Covers, IsCovered}
 use Rattle.stow_message.specs.MessageBuf.{messages_in, AreNoLarger}
 use Rattle.stow_message.specs.Packed.{message_bytes, message_at, message_size, IsNoLarger}
-use Rattle.stow_message.proofs.Each.{each_rest}
-use Rattle.stow_message.proofs.Removed.{last_messages, last_filled, last_view}
+use Rattle.stow_message.proofs.Removed.{all_removed, last_messages, last_filled, last_view}
 use Rattle.stow_message.proofs.Single.{slot_within, single_counted}
 use Rattle.stow_message.proofs.message_buf.MessageBuf.remove_young.Goals as goal
 
@@ -21,8 +20,8 @@ invariant_of-self-2 g c =
     let le : i + 1 ≤ length raw.slots = omega (arith, within) in
     record {
       filled = last_filled raw last h i 1 le there.1;
-      covers = subst (Covers c.self.inside.filter) (sym (last_messages raw last h i 1 le there.1)) (each_rest (IsCovered c.self.inside.filter) (messages_in raw) i (i + 1) c.self.invariant.covers);
-      bounded = subst (AreNoLarger c.self.inside.largest) (sym (last_messages raw last h i 1 le there.1)) (each_rest (IsNoLarger c.self.inside.largest) (messages_in raw) i (i + 1) c.self.invariant.bounded);
+      covers = subst (Covers c.self.inside.filter) (sym (last_messages raw last h i 1 le there.1)) (all_removed (IsCovered c.self.inside.filter) (messages_in raw) i (i + 1) (omega arith) c.self.invariant.covers);
+      bounded = subst (AreNoLarger c.self.inside.largest) (sym (last_messages raw last h i 1 le there.1)) (all_removed (IsNoLarger c.self.inside.largest) (messages_in raw) i (i + 1) (omega arith) c.self.invariant.bounded);
       counted = omega (arith, c.self.invariant.counted, single_counted raw i at there.0 c.packed_at.result.now (c.packed_at.ensures ∙ ap (λ (r : RawLists). message_bytes (message_at (drop at r.front))) there.1), ap (sum_by message_size) (last_messages raw last h i 1 le there.1));
     }
 
