@@ -5,9 +5,9 @@ use std::alloc::Global;
 use std::io::BufReader;
 use std::process::ExitCode;
 use stow_program::program::program;
+use stow_program::stow_workers::counted::Counted;
 use stow_run::failure::MEMORY;
 use stow_run::folder::System;
-use stow_workers::counted::Counted;
 
 /// The most bytes of the input that the system is asked for at once. What serves them takes smaller pieces of these.
 const READ_AHEAD: usize = 65_536;

@@ -1,1 +1,2 @@
 pub mod Words
+pub use Rattle.stow_tree.specs as StowTree

@@ -8,3 +8,5 @@
 
 pub mod arguments;
 mod entry;
+
+pub use stow_tree;

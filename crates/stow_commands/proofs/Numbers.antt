@@ -14,7 +14,7 @@ use Rattle.std.proofs.lemmas.List.{get_or-take, take_all, length-take-le}
 use Rattle.std.proofs.lemmas.Slice.Eq.{bytes_eq-Decides}
 use Rattle.std.proofs.lemmas.Str.{digit_value_digit}
 use Rattle.std.proofs.lemmas.Str.Parse.{IsNumeralModel, numerals_by_value, tells_by_index, digits_value_short}
-use Rattle.stow_bytes.specs.Limits.{number_limit}
+use Rattle.stow_model.specs.StowBytes.Limits.{number_limit}
 use Rattle.stow_model.specs.NumberText.{is_integer, number_of}
 use Rattle.stow_commands.specs.Numbers.{IsMagnitude}
 

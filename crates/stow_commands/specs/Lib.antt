@@ -1,3 +1,5 @@
 pub mod Commands
 pub mod Outcomes
 pub mod Numbers
+pub use Rattle.stow_model.specs.StowBytes
+pub use Rattle.stow_model.specs as StowModel

@@ -13,9 +13,9 @@ use crate::number::number;
 use crate::snapshots::read_snapshot;
 use crate::update::Update;
 use std::alloc::Allocator;
-use stow_bytes::limits::KEY_LIMIT;
 use stow_model::lent_words::LentWords;
 use stow_model::refusal::Refusal;
+use stow_model::stow_bytes::limits::KEY_LIMIT;
 use stow_model::words::Words;
 
 /// Keys of one deletion.

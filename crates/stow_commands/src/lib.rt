@@ -17,3 +17,6 @@ pub mod outcome;
 pub mod outcome_fault;
 mod snapshots;
 pub mod update;
+
+pub use stow_model;
+pub use stow_model::stow_bytes;

@@ -1,7 +1,7 @@
 //! What a change of a row leads to.
 use std::alloc::{Allocator, Global};
-use stow_bytes::byte_string::ByteString;
 use stow_model::reply::Reply;
+use stow_model::stow_bytes::byte_string::ByteString;
 
 /// What a change of a row leads to.
 #[derive(Drop)]

@@ -11,11 +11,11 @@ use crate::outcome::Outcome;
 use crate::outcome_fault::OutcomeFault;
 use itoa::Buffer;
 use std::alloc::{AllocError, Allocator};
-use stow_bytes::byte_string::ByteString;
-use stow_bytes::limits::VALUE_LIMIT;
 use stow_model::refusal::Refusal;
 use stow_model::reply::Reply;
 use stow_model::simple_string::SimpleString;
+use stow_model::stow_bytes::byte_string::ByteString;
+use stow_model::stow_bytes::limits::VALUE_LIMIT;
 
 /// A change of one row, which its present value alone decides.
 #[derive(Clone, Copy)]

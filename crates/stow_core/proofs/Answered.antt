@@ -28,17 +28,17 @@ use Rattle.stow_core.specs.declared.change.Change.TheVariants as in_change
 use Rattle.stow_core.specs.declared.prepared.Prepared.{Prepared}
 use Rattle.stow_core.proofs.Changed.{same_charge}
 use Rattle.stow_core.proofs.Kept.{keeps_itself}
-use Rattle.stow_state.specs.Rows.{IsIndex}
-use Rattle.stow_state.specs.State.{IsSound, view}
+use Rattle.stow_ledger.specs.StowState.Rows.{IsIndex}
+use Rattle.stow_ledger.specs.StowState.State.{IsSound, view}
 use Rattle.stow_core.specs.Prepared.{effect, prepared_answer, after_given, after_refusal, after_take, gives, serves, IsPriced, IsCharged, IsPrepared, OnlyCounts}
 use Rattle.stow_core.specs.State.{CoreState, store_of, shared_of, Answers, Calls, Keeps, Moves}
-use Rattle.stow_state.specs.Steps.{Maintenance}
-use Rattle.stow_state.proofs.Steps.{call_of_nothing, step_sound, steps_after_maintenance_law}
+use Rattle.stow_ledger.specs.StowState.Steps.{Maintenance}
+use Rattle.stow_ledger.proofs.StowState.Steps.{call_of_nothing, step_sound, steps_after_maintenance_law}
 use Rattle.stow_tree_model.specs.Keys.{packed, own_key}
 use Rattle.stow_tree_model.specs.Op.{Op, Gone}
 use Rattle.stow_tree_model.specs.Operations.{numbered}
 use Rattle.stow_tree_model.specs.Operations.{outcome as operated}
-use Rattle.stow_state.specs.Rows.{version_of, with_row}
+use Rattle.stow_ledger.specs.StowState.Rows.{version_of, with_row}
 use Rattle.stow_tree_model.proofs.Packed.{own_key-packed}
 
 pub if_ok : {X E : Type 0} (r : Result X E) (P Q : X → Type 0) → ((x : X) → P x → Q x) → IfOk r P → IfOk r Q

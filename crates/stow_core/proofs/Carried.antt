@@ -18,21 +18,21 @@ use Rattle.stow_core.proofs.Stores.{found_high, found_own, found_account}
 use Rattle.stow_ledger.specs.Accounts.{AccountState, IsAccountOf}
 use Rattle.stow_ledger.specs.Shown.{charge_of}
 use Rattle.stow_ledger.specs.declared.charge.Charge.{Charge}
-use Rattle.stow_merge.specs.declared.pins.Pins.{Pins}
-use Rattle.stow_merge.specs.Pins.{room_in}
-use Rattle.stow_merge.specs.Pins as held
+use Rattle.stow_dropping.specs.StowMerge.declared.pins.Pins.{Pins}
+use Rattle.stow_dropping.specs.StowMerge.Pins.{room_in}
+use Rattle.stow_dropping.specs.StowMerge.Pins as held
 use Rattle.stow_model.specs.Login.{Entry, IsTenant}
 use Rattle.stow_model.specs.Store.{Store, counted}
 use Rattle.std.specs.FinMap.{FinMap}
 use Rattle.std.specs.Ordering.{nat_cmp}
 use Rattle.std.specs.Prelude.{option_map}
 use Rattle.stow_model.specs.Store.{Rows}
-use Rattle.stow_state.specs.Rows.{rows_at}
-use Rattle.stow_state.proofs.Snapshots.{get-copies_of}
-use Rattle.stow_state.specs.State.{SharedState, IsSound, copies, store_in, pins_in}
-use Rattle.stow_state.specs.Steps.{SharedStep, LeadsTo, Maintenance}
-use Rattle.stow_tree.specs.TreeState.{TreeState, tree_messages}
-use Rattle.stow_tree.specs.Putting.{AreApart}
+use Rattle.stow_ledger.specs.StowState.Rows.{rows_at}
+use Rattle.stow_ledger.proofs.StowState.Snapshots.{get-copies_of}
+use Rattle.stow_ledger.specs.StowState.State.{SharedState, IsSound, copies, store_in, pins_in}
+use Rattle.stow_ledger.specs.StowState.Steps.{SharedStep, LeadsTo, Maintenance}
+use Rattle.stow_dropping.specs.StowTree.TreeState.{TreeState, tree_messages}
+use Rattle.stow_dropping.specs.StowTree.Putting.{AreApart}
 use Rattle.stow_tree_model.specs.Op.{Op}
 use Rattle.stow_tree_model.specs.Messages.{with_all}
 use Rattle.stow_versions.specs.VersionsState.{VersionsState, IsVersionsState, IsReady}

@@ -19,22 +19,22 @@ use Rattle.stow_ledger.specs.Shown.{charge_of}
 use Rattle.stow_ledger.specs.Kept.{with_snapshot}
 use Rattle.stow_ledger.specs.declared.charge.Charge.{Charge}
 use Rattle.stow_ledger.proofs.KeptLemmas.{take_is_free_law}
-use Rattle.stow_merge.specs.declared.pins.Pins.{Pins}
-use Rattle.stow_merge.specs.Pins as held
+use Rattle.stow_dropping.specs.StowMerge.declared.pins.Pins.{Pins}
+use Rattle.stow_dropping.specs.StowMerge.Pins as held
 use Rattle.stow_model.specs.Store.{Store, Rows, charge, counted, one_more}
-use Rattle.stow_state.specs.Changes.{AreWritten, changes}
-use Rattle.stow_state.specs.Rows.{IsIndex}
-use Rattle.stow_state.specs.State.{TenantState, IdsBelow, store_in, pins_in, lasts_in}
-use Rattle.stow_state.specs.Steps.{LeadsTo, WritesOnce, WritesRows, SnapshotMoves, numbers_of, moved_tenant}
-use Rattle.stow_state.proofs.Changes.{writes_by_messages_law}
-use Rattle.stow_state.proofs.Snapshots.{copies_below, id_cases, numbers_stay, numbers_move_law}
+use Rattle.stow_ledger.specs.StowState.Changes.{AreWritten, changes}
+use Rattle.stow_ledger.specs.StowState.Rows.{IsIndex}
+use Rattle.stow_ledger.specs.StowState.State.{TenantState, IdsBelow, store_in, pins_in, lasts_in}
+use Rattle.stow_ledger.specs.StowState.Steps.{LeadsTo, WritesOnce, WritesRows, SnapshotMoves, numbers_of, moved_tenant}
+use Rattle.stow_ledger.proofs.StowState.Changes.{writes_by_messages_law}
+use Rattle.stow_ledger.proofs.StowState.Snapshots.{copies_below, id_cases, numbers_stay, numbers_move_law}
 use Rattle.std.specs.Cmp.{nat_cmp_total}
-use Rattle.stow_tree.specs.TreeState.{TreeState, tree_messages, HasBound}
+use Rattle.stow_dropping.specs.StowTree.TreeState.{TreeState, tree_messages, HasBound}
 use Rattle.stow_tree_model.specs.Agreement.{Agree, with_bound}
 use Rattle.stow_tree_model.specs.Keys.{own_key}
 use Rattle.stow_tree_model.specs.Messages.{Messages, with_all}
 use Rattle.stow_tree_model.specs.Op.{Op}
-use Rattle.stow_tree.specs.Putting.{AreApart}
+use Rattle.stow_dropping.specs.StowTree.Putting.{AreApart}
 use Rattle.stow_versions.specs.VersionsState.{VersionsState}
 
 -- ---- ids

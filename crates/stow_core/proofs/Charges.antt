@@ -27,10 +27,10 @@ use Rattle.stow_ledger.proofs.KeptLemmas.{present_is_charged_law}
 use Rattle.stow_ledger.proofs.TreeHistory.{rows_are_history_law}
 use Rattle.stow_ledger.proofs.WriteLemmas.{write_is_charged_law}
 use Rattle.stow_model.specs.Store.{Store, Rows, Version, exceeds_quota, rows_without, value_in}
-use Rattle.stow_state.specs.Rows.{rows_at, version_of}
-use Rattle.stow_state.specs.Rows.{with_row as written_row}
-use Rattle.stow_state.specs.State.{TenantState, IsSound, store_in}
-use Rattle.stow_tree.specs.TreeState.{tree_messages}
+use Rattle.stow_ledger.specs.StowState.Rows.{rows_at, version_of}
+use Rattle.stow_ledger.specs.StowState.Rows.{with_row as written_row}
+use Rattle.stow_ledger.specs.StowState.State.{TenantState, IsSound, store_in}
+use Rattle.stow_dropping.specs.StowTree.TreeState.{tree_messages}
 use Rattle.stow_core.specs.Writes.{IsLengthAfter, StaysShort}
 use Rattle.stow_core.proofs.Answered.{priced_as}
 use Rattle.stow_tree_model.specs.Keys.{own_key}

@@ -10,9 +10,9 @@ use Rattle.std.specs.List.{AllByRecursion}
 use Rattle.std.specs.Ordering.{nat_cmp, eq_by_cmp, is_lt}
 use Rattle.std.specs.FinMap.Entries.{below_all}
 use Rattle.stow_model.specs.Store.{Rows}
-use Rattle.stow_state.specs.Rows.{rows_at}
-use Rattle.stow_state.specs.State.{copies}
-use Rattle.stow_state.proofs.Snapshots.{contains_first, get-copies}
+use Rattle.stow_ledger.specs.StowState.Rows.{rows_at}
+use Rattle.stow_ledger.specs.StowState.State.{copies}
+use Rattle.stow_ledger.proofs.StowState.Snapshots.{contains_first, get-copies}
 use Rattle.stow_tree_model.specs.Messages.{Messages}
 
 -- each id with what is made of its number

@@ -20,7 +20,7 @@ use Rattle.stow_ledger.specs.declared.charge.Charge.{Charge}
 use Rattle.stow_ledger.specs.declared.sized_version.SizedVersion.{SizedVersion}
 use Rattle.stow_ledger.proofs.KeptLemmas.{present_is_charged_law}
 use Rattle.stow_model.specs.Store.{Store, Version}
-use Rattle.stow_state.specs.State.{IsSound}
+use Rattle.stow_ledger.specs.StowState.State.{IsSound}
 use Rattle.stow_tree_model.specs.Keys.{packed, own_key}
 use Rattle.stow_tree_model.specs.Op.{Gone}
 

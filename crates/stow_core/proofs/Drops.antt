@@ -26,10 +26,10 @@ use Rattle.stow_ledger.specs.Shown.{charge_of, without_snapshot}
 use Rattle.stow_ledger.specs.declared.charge.Charge.{Charge}
 use Rattle.stow_ledger.proofs.KeptLemmas.{present_is_charged_law}
 use Rattle.stow_model.specs.Store.{Store, Rows}
-use Rattle.stow_state.specs.Rows.{IsIndex, rows_at}
-use Rattle.stow_state.specs.State.{TenantState, IsSound, copies, store_in}
-use Rattle.stow_state.proofs.Snapshots.{found_value, get-copies_of}
-use Rattle.stow_tree.specs.TreeState.{tree_messages}
+use Rattle.stow_ledger.specs.StowState.Rows.{IsIndex, rows_at}
+use Rattle.stow_ledger.specs.StowState.State.{TenantState, IsSound, copies, store_in}
+use Rattle.stow_ledger.proofs.StowState.Snapshots.{found_value, get-copies_of}
+use Rattle.stow_dropping.specs.StowTree.TreeState.{tree_messages}
 use Rattle.stow_tree_model.specs.Keys.{packed}
 use Rattle.stow_tree_model.specs.Messages.{Messages, ops_of}
 use Rattle.stow_tree_model.specs.Operations.{NoneAbove}

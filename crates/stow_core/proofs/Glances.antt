@@ -9,12 +9,12 @@ use Rattle.stow_core.proofs.RowLengths.{entry_length}
 use Rattle.stow_ledger.specs.Shown.{sized_option}
 use Rattle.stow_ledger.specs.declared.sized_version.SizedVersion.{SizedVersion}
 use Rattle.stow_model.specs.Store.{Version}
-use Rattle.stow_read.specs.Glance.{IsToldOf}
-use Rattle.stow_read.specs.declared.newest.Newest.{Newest}
-use Rattle.stow_read.specs.declared.newest.Newest.TheVariants as newest
-use Rattle.stow_read.specs.declared.value_head.ValueHead.{ValueHead}
-use Rattle.stow_state.specs.Rows.{rows_at, version_of}
-use Rattle.stow_state.proofs.Rows.{rows_by_value_law}
+use Rattle.stow_dropping.specs.StowRead.Glance.{IsToldOf}
+use Rattle.stow_dropping.specs.StowRead.declared.newest.Newest.{Newest}
+use Rattle.stow_dropping.specs.StowRead.declared.newest.Newest.TheVariants as newest
+use Rattle.stow_dropping.specs.StowRead.declared.value_head.ValueHead.{ValueHead}
+use Rattle.stow_ledger.specs.StowState.Rows.{rows_at, version_of}
+use Rattle.stow_ledger.proofs.StowState.Rows.{rows_by_value_law}
 use Rattle.stow_tree_model.specs.Keys.{packed}
 use Rattle.stow_tree_model.specs.Messages.{Messages, value}
 use Rattle.stow_tree_model.specs.Operations.{NumberedValue}

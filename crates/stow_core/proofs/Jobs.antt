@@ -5,16 +5,16 @@ use Rattle.std.proofs.lemmas.List.Elements.{All-contains, Contains-get_or}
 use Rattle.stow_core.specs.State.{CoreState, shared_of, IsCore}
 use Rattle.stow_core.specs.Flushing.{TakesResultOf, IsPlannedFrom}
 use Rattle.stow_core.proofs.Kept.{pins_held}
-use Rattle.stow_merge.specs.Covering.{IsCovered}
-use Rattle.stow_merge.specs.Pins as held
-use Rattle.stow_merge.specs.declared.flush_job.FlushJob.{FlushJob}
-use Rattle.stow_merge.specs.declared.pins.Pins.{Pins}
-use Rattle.stow_node.specs.Installs.{CanInstall}
-use Rattle.stow_node.specs.declared.installed.Installed.{Installed}
-use Rattle.stow_node.specs.declared.installed.Installed.TheVariants as installed
-use Rattle.stow_node.specs.Plans.{IsPlanned}
-use Rattle.stow_node.specs.Subtree.{Subtree}
-use Rattle.stow_state.specs.State.{pins_in}
+use Rattle.stow_dropping.specs.StowMerge.Covering.{IsCovered}
+use Rattle.stow_dropping.specs.StowMerge.Pins as held
+use Rattle.stow_dropping.specs.StowMerge.declared.flush_job.FlushJob.{FlushJob}
+use Rattle.stow_dropping.specs.StowMerge.declared.pins.Pins.{Pins}
+use Rattle.stow_dropping.specs.StowNode.Installs.{CanInstall}
+use Rattle.stow_dropping.specs.StowNode.declared.installed.Installed.{Installed}
+use Rattle.stow_dropping.specs.StowNode.declared.installed.Installed.TheVariants as installed
+use Rattle.stow_dropping.specs.StowNode.Plans.{IsPlanned}
+use Rattle.stow_dropping.specs.StowNode.Subtree.{Subtree}
+use Rattle.stow_ledger.specs.StowState.State.{pins_in}
 use Rattle.stow_tree_model.specs.Agreement.{TenantPins}
 use Rattle.stow_tree_model.specs.Keys.{tenant_of}
 use Rattle.stow_versions.proofs.PinLemmas.{same_contains}

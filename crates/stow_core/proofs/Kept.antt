@@ -5,16 +5,16 @@ use Rattle.stow_core.specs.State.{CoreState, shared_of, store_of, IsCore, Keeps}
 use Rattle.stow_core.specs.Tenancies.{TenancyState, tenancy_at, is_among}
 use Rattle.stow_core.proofs.Stores.{same_store}
 use Rattle.stow_ledger.specs.Accounts.{IsAccountOf}
-use Rattle.stow_merge.specs.declared.pins.Pins.{Pins}
-use Rattle.stow_merge.specs.Pins.{room_in}
-use Rattle.stow_merge.specs.Pins as held
-use Rattle.stow_node.specs.Subtree.{Subtree}
-use Rattle.stow_state.specs.State.{SharedState, IsSound, pins_in, lasts_in}
-use Rattle.stow_state.specs.Steps.{SharedStep, Maintenance, moved, reply_to}
-use Rattle.stow_state.proofs.Steps.{step_sound, step_is_there_law, steps_by_parts_law, other_views_stay_law, maintenance_chains}
-use Rattle.stow_tree.specs.Shapes.{AreInRange}
-use Rattle.stow_tree.specs.TreeState.{TreeState, tree_messages, AgreeUnder}
-use Rattle.stow_tree.proofs.Sets.{same_messages}
+use Rattle.stow_dropping.specs.StowMerge.declared.pins.Pins.{Pins}
+use Rattle.stow_dropping.specs.StowMerge.Pins.{room_in}
+use Rattle.stow_dropping.specs.StowMerge.Pins as held
+use Rattle.stow_dropping.specs.StowNode.Subtree.{Subtree}
+use Rattle.stow_ledger.specs.StowState.State.{SharedState, IsSound, pins_in, lasts_in}
+use Rattle.stow_ledger.specs.StowState.Steps.{SharedStep, Maintenance, moved, reply_to}
+use Rattle.stow_ledger.proofs.StowState.Steps.{step_sound, step_is_there_law, steps_by_parts_law, other_views_stay_law, maintenance_chains}
+use Rattle.stow_dropping.specs.StowTree.Shapes.{AreInRange}
+use Rattle.stow_dropping.specs.StowTree.TreeState.{TreeState, tree_messages, AgreeUnder}
+use Rattle.stow_dropping.proofs.StowTree.Sets.{same_messages}
 use Rattle.stow_tree_model.specs.Agreement.{Agree}
 use Rattle.stow_tree_model.specs.Messages.{Messages}
 use Rattle.stow_tree_model.proofs.SetLemmas.{fewer_pins_agree_law}

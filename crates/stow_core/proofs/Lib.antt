@@ -27,3 +27,5 @@ pub mod Deletions
 pub mod Shown
 pub mod Jobs
 pub mod Sends
+pub use Rattle.stow_login.proofs as StowLogin
+pub use Rattle.stow_ledger.proofs.StowState

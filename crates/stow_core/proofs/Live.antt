@@ -8,10 +8,10 @@ use Rattle.stow_core.specs.declared.tenancy.Tenancy.{Tenancy}
 use Rattle.stow_core.proofs.Stores.{stored}
 use Rattle.stow_core.proofs.Tenancies.{own_of_parts, same_versions}
 use Rattle.stow_model.specs.Store.{Store, snapshot_rows, number_in}
-use Rattle.stow_state.specs.Rows.{rows_at}
-use Rattle.stow_state.specs.State.{store_in}
-use Rattle.stow_state.proofs.Snapshots.{get-copies_of}
-use Rattle.stow_tree.specs.TreeState.{tree_messages}
+use Rattle.stow_ledger.specs.StowState.Rows.{rows_at}
+use Rattle.stow_ledger.specs.StowState.State.{store_in}
+use Rattle.stow_ledger.proofs.StowState.Snapshots.{get-copies_of}
+use Rattle.stow_dropping.specs.StowTree.TreeState.{tree_messages}
 use Rattle.stow_versions.specs.VersionsState.{VersionsState}
 
 module _ {A : Type 0} (core : CoreState) (t : ℕ) (x : Tenancy A) (at : tenancy_at t core.tenancies ≡ Some (tenancy_of x)) where

@@ -9,15 +9,15 @@ use Rattle.stow_core.proofs.Stores.{new_shared, new_stores}
 use Rattle.stow_core.proofs.Tenancies.{new_owns}
 use Rattle.stow_ledger.specs.Accounts.{AccountState, IsAccountOf, new_account}
 use Rattle.stow_ledger.proofs.KeptLemmas.{new_account_is_empty_law}
-use Rattle.stow_merge.specs.declared.pins.Pins.{Pins}
-use Rattle.stow_merge.specs.Pins as held
+use Rattle.stow_dropping.specs.StowMerge.declared.pins.Pins.{Pins}
+use Rattle.stow_dropping.specs.StowMerge.Pins as held
 use Rattle.stow_model.specs.Login.{Entry, quota_of}
 use Rattle.stow_model.specs.Store.{empty_store}
-use Rattle.stow_state.specs.State.{TenantState, IsSound, new_state, new_tenant}
-use Rattle.stow_state.proofs.Snapshots.{entries-empty}
-use Rattle.stow_state.proofs.Steps.{new_sound}
-use Rattle.stow_tree.specs.Shapes.{AreInRange}
-use Rattle.stow_tree.specs.TreeState.{tree_messages}
+use Rattle.stow_ledger.specs.StowState.State.{TenantState, IsSound, new_state, new_tenant}
+use Rattle.stow_ledger.proofs.StowState.Snapshots.{entries-empty}
+use Rattle.stow_ledger.proofs.StowState.Steps.{new_sound}
+use Rattle.stow_dropping.specs.StowTree.Shapes.{AreInRange}
+use Rattle.stow_dropping.specs.StowTree.TreeState.{tree_messages}
 
 -- each account is new
 account_of : (entries : List Entry) (p : ℕ) (own : TenancyState) → slice_get (map new_tenancy entries) p ≡ Some own → (quota : ℕ) × (own.account ≡ new_account quota)

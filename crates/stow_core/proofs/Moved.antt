@@ -9,18 +9,18 @@ use Rattle.stow_core.specs.Tenancies.{TenancyState, own_state, tenancy_at, is_am
 use Rattle.stow_core.proofs.Stores.{store_view, same_store}
 use Rattle.stow_core.proofs.Tenancies.{set_own, set_other, tenants_set}
 use Rattle.stow_ledger.specs.Accounts.{IsAccountOf}
-use Rattle.stow_merge.specs.declared.pins.Pins.{Pins}
-use Rattle.stow_merge.specs.Pins.{room_in}
-use Rattle.stow_merge.specs.Pins as held
+use Rattle.stow_dropping.specs.StowMerge.declared.pins.Pins.{Pins}
+use Rattle.stow_dropping.specs.StowMerge.Pins.{room_in}
+use Rattle.stow_dropping.specs.StowMerge.Pins as held
 use Rattle.stow_model.specs.Store.{Store}
 use Rattle.stow_model.specs.Store.{step as own_step}
-use Rattle.stow_state.specs.Changes.{changes}
-use Rattle.stow_state.specs.Rows.{IsIndex}
-use Rattle.stow_state.specs.State.{TenantState, view, pins_in, lasts_in}
-use Rattle.stow_state.specs.Steps.{LeadsTo, LeadsAlone, WritesOnce, after_call, moved_tenant, with_tenant}
-use Rattle.stow_state.proofs.Steps.{stores_lead_law}
-use Rattle.stow_tree.specs.Shapes.{AreInRange}
-use Rattle.stow_tree.specs.TreeState.{TreeState, tree_messages}
+use Rattle.stow_ledger.specs.StowState.Changes.{changes}
+use Rattle.stow_ledger.specs.StowState.Rows.{IsIndex}
+use Rattle.stow_ledger.specs.StowState.State.{TenantState, view, pins_in, lasts_in}
+use Rattle.stow_ledger.specs.StowState.Steps.{LeadsTo, LeadsAlone, WritesOnce, after_call, moved_tenant, with_tenant}
+use Rattle.stow_ledger.proofs.StowState.Steps.{stores_lead_law}
+use Rattle.stow_dropping.specs.StowTree.Shapes.{AreInRange}
+use Rattle.stow_dropping.specs.StowTree.TreeState.{TreeState, tree_messages}
 use Rattle.stow_tree_model.specs.Agreement.{Agree}
 use Rattle.stow_tree_model.specs.Messages.{Messages, with_all}
 

@@ -5,8 +5,8 @@ use Rattle.std.specs.List.{list_any}
 use Rattle.std.proofs.Math.Bool.{false≢true}
 use Rattle.std.proofs.lemmas.Bool.{cases_eq, eq-eqb, ne_eqb}
 use Rattle.stow_core.specs.Tenancies.{is_among, without, unless}
-use Rattle.stow_merge.specs.PinLists.{AreRising}
-use Rattle.stow_state.proofs.Snapshots.{contains_first}
+use Rattle.stow_dropping.specs.StowMerge.PinLists.{AreRising}
+use Rattle.stow_ledger.proofs.StowState.Snapshots.{contains_first}
 use Rattle.stow_versions.proofs.PinLemmas.{any_again, any_without, contains_from}
 
 pub not_none : {X : Type 0} (o : Option X) → o ≡ None → IsSome o → ⊥

@@ -11,13 +11,13 @@ use Rattle.stow_core.specs.Writes.{writes_of, AreMessages, StaysShort}
 use Rattle.stow_core.proofs.Keyed.{first_own, later_own}
 use Rattle.stow_core.proofs.Room.{can_write_rows, writes_are_messages}
 use Rattle.stow_core.proofs.Stores.{own_there, within, stored, row_value}
-use Rattle.stow_merge.specs.declared.pins.Pins.{Pins}
+use Rattle.stow_dropping.specs.StowMerge.declared.pins.Pins.{Pins}
 use Rattle.stow_model.specs.Login.{IsTenant}
 use Rattle.stow_model.specs.Store.{Store}
 use Rattle.stow_model.specs.Store as stored_value
-use Rattle.stow_state.specs.State.{lasts_in}
-use Rattle.stow_tree.specs.Putting.{CanReserve}
-use Rattle.stow_tree.specs.TreeState.{tree_messages, HasBound}
+use Rattle.stow_ledger.specs.StowState.State.{lasts_in}
+use Rattle.stow_dropping.specs.StowTree.Putting.{CanReserve}
+use Rattle.stow_dropping.specs.StowTree.TreeState.{tree_messages, HasBound}
 use Rattle.stow_tree_model.specs.Keys.{packed, own_key}
 use Rattle.stow_tree_model.specs.Messages.{value}
 use Rattle.stow_tree_model.specs.Op.{Op}

@@ -5,15 +5,15 @@ use Rattle.std.proofs.Math.Seq.{drop-cons}
 use Rattle.std.proofs.lemmas.List.{length-append}
 use Rattle.std.proofs.lemmas.List.Sums.{sum_by-cons}
 use Rattle.stow_bytes.specs.Limits.{value_limit, number_limit}
-use Rattle.stow_message.specs.Packed.{message_size, IsMessage}
+use Rattle.stow_dropping.specs.StowMessage.Packed.{message_size, IsMessage}
 use Rattle.stow_core.specs.Keys.{AreKeysOf}
-use Rattle.stow_tree.specs.Shapes.{AreInRange}
+use Rattle.stow_dropping.specs.StowTree.Shapes.{AreInRange}
 use Rattle.stow_core.specs.Taken.{AreDistinct}
 use Rattle.stow_core.specs.Writes.{write_of, writes_of, AreMessages, StaysShort}
 use Rattle.stow_core.proofs.Keyed.{first_own, later_own, tenant_of_own}
-use Rattle.stow_tree.specs.Putting.{CanAdd, CanReserve, IsReserved, AreApart, Puts, bytes_of}
-use Rattle.stow_tree.specs.TreeState.{TreeState, tree_messages, HasBound}
-use Rattle.stow_tree.proofs.Put.{puts_then}
+use Rattle.stow_dropping.specs.StowTree.Putting.{CanAdd, CanReserve, IsReserved, AreApart, Puts, bytes_of}
+use Rattle.stow_dropping.specs.StowTree.TreeState.{TreeState, tree_messages, HasBound}
+use Rattle.stow_dropping.proofs.StowTree.Put.{puts_then}
 use Rattle.stow_tree_model.specs.Keys.{packed, own_key, tenant_of, IsTenantKey}
 use Rattle.stow_tree_model.specs.Messages.{Messages, ops_of, value, with_all}
 use Rattle.stow_tree_model.specs.Op.{Op, Put, Gone, Append, bytes_in}

@@ -17,13 +17,13 @@ use Rattle.stow_core.proofs.Stores.{no_store, stored}
 use Rattle.stow_core.proofs.Written.{given_are_written}
 use Rattle.stow_ledger.specs.Shown.{sized_option}
 use Rattle.stow_ledger.specs.declared.sized_version.SizedVersion.{SizedVersion}
-use Rattle.stow_merge.specs.declared.pins.Pins.{Pins}
+use Rattle.stow_dropping.specs.StowMerge.declared.pins.Pins.{Pins}
 use Rattle.stow_model.specs.Store.{Store, Version, value_in}
-use Rattle.stow_state.specs.Changes.{AreRowsBefore}
-use Rattle.stow_state.specs.Rows.{version_of}
-use Rattle.stow_state.proofs.Changes.{rows_are_below_law}
-use Rattle.stow_state.proofs.Rows.{get-with_row}
-use Rattle.stow_tree.specs.TreeState.{tree_messages}
+use Rattle.stow_ledger.specs.StowState.Changes.{AreRowsBefore}
+use Rattle.stow_ledger.specs.StowState.Rows.{version_of}
+use Rattle.stow_ledger.proofs.StowState.Changes.{rows_are_below_law}
+use Rattle.stow_ledger.proofs.StowState.Rows.{get-with_row}
+use Rattle.stow_dropping.specs.StowTree.TreeState.{tree_messages}
 use Rattle.stow_tree_model.specs.Keys.{own_key}
 use Rattle.stow_tree_model.specs.Merged.{same_key}
 use Rattle.stow_tree_model.specs.Op.{Op}

@@ -11,9 +11,9 @@ use Rattle.stow_core.proofs.tenancy.Tenancy.TheSendSync as tenancy
 use Rattle.stow_core.specs.contracts.Core as core
 use Rattle.stow_core.specs.contracts.Core.TheInside as inside
 use Rattle.stow_login.proofs.tenants.Tenants.TheSendSync as tenants
-use Rattle.stow_merge.proofs.pins.Pins.TheSendSync as pins
+use Rattle.stow_dropping.proofs.StowMerge.pins.Pins.TheSendSync as pins
 use Rattle.stow_model.proofs.words.Words.TheSendSync as words
-use Rattle.stow_tree.proofs.Sends.{tree_sends}
+use Rattle.stow_dropping.proofs.StowTree.Sends.{tree_sends}
 
 fields_send : (A : RattleType) (g : Ghosts A.Denot) → IsSend A → IsSync A → Frees g g.dealloc_token → IsSend (inside.the_field A g).row
 fields_send A g sent shared free =

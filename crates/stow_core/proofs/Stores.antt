@@ -12,17 +12,17 @@ use Rattle.stow_core.proofs.Tenancies.{there, past, found_at}
 use Rattle.stow_core.specs.declared.tenancy.Tenancy.{Tenancy}
 use Rattle.std.proofs.lemmas.List.{length-map}
 use Rattle.stow_ledger.specs.Accounts.{IsAccountOf}
-use Rattle.stow_merge.specs.declared.pins.Pins.{Pins}
+use Rattle.stow_dropping.specs.StowMerge.declared.pins.Pins.{Pins}
 use Rattle.stow_model.specs.Login.{IsTenant, quota_of}
 use Rattle.stow_model.specs.Store.{Store, Rows, Version, empty_store}
 use Rattle.stow_model.specs.Store as stored_value
-use Rattle.stow_read.specs.declared.found.Found.{Found}
-use Rattle.stow_read.specs.Found.{found_value}
-use Rattle.stow_state.specs.Rows.{rows_at, version_of, IsIndex}
-use Rattle.stow_state.specs.State.{SharedState, store_in, view, new_tenant, new_state}
-use Rattle.stow_state.proofs.Rows.{rows_by_value_law}
-use Rattle.stow_state.proofs.Steps.{new_view}
-use Rattle.stow_tree.specs.TreeState.{tree_messages}
+use Rattle.stow_dropping.specs.StowRead.declared.found.Found.{Found}
+use Rattle.stow_dropping.specs.StowRead.Found.{found_value}
+use Rattle.stow_ledger.specs.StowState.Rows.{rows_at, version_of, IsIndex}
+use Rattle.stow_ledger.specs.StowState.State.{SharedState, store_in, view, new_tenant, new_state}
+use Rattle.stow_ledger.proofs.StowState.Rows.{rows_by_value_law}
+use Rattle.stow_ledger.proofs.StowState.Steps.{new_view}
+use Rattle.stow_dropping.specs.StowTree.TreeState.{tree_messages}
 use Rattle.stow_tree_model.specs.Keys.{packed, own_key}
 use Rattle.stow_tree_model.specs.Messages.{Messages, value}
 use Rattle.stow_tree_model.specs.Operations.{NumberedValue, value_in}

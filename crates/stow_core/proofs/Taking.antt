@@ -16,7 +16,7 @@ use Rattle.stow_model.proofs.Numbers.{all_append}
 use Rattle.stow_core.specs.Keys.{AreKeysOf}
 use Rattle.stow_core.specs.Taken.{AreDistinct, AreTaken}
 use Rattle.stow_core.proofs.Keyed.{one_more_own}
-use Rattle.stow_state.proofs.Rows.{same_rows}
+use Rattle.stow_ledger.proofs.StowState.Rows.{same_rows}
 use Rattle.stow_tree_model.specs.Keys.{packed, own_key, IsTenantKey}
 use Rattle.stow_tree_model.specs.Merged.{same_key}
 use Rattle.stow_tree_model.proofs.Orders.{key_cases}

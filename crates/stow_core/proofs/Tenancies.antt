@@ -11,9 +11,9 @@ use Rattle.stow_core.specs.Tenancies.{TenancyState, tenancy_with, tenancy_of, ve
 use Rattle.stow_core.specs.declared.tenancy.Tenancy.{Tenancy}
 use Rattle.stow_ledger.specs.Accounts.{AccountState, new_account}
 use Rattle.stow_model.specs.Login.{Entry, quota_from, quota_of}
-use Rattle.stow_state.specs.State.{TenantState, new_tenant}
-use Rattle.stow_state.specs.Steps.{with_tenant}
-use Rattle.stow_state.proofs.Snapshots.{entries-empty}
+use Rattle.stow_ledger.specs.StowState.State.{TenantState, new_tenant}
+use Rattle.stow_ledger.specs.StowState.Steps.{with_tenant}
+use Rattle.stow_ledger.proofs.StowState.Snapshots.{entries-empty}
 use Rattle.stow_versions.specs.VersionsState.{VersionsState, new_versions}
 
 -- ---- lists

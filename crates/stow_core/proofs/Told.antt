@@ -2,8 +2,8 @@
 use Rattle.std.proofs.Common.{◌≡◌, ℕ, zero, suc, ◌+◌, ◌<◌, List, [], ◌∷◌, ◌++◌, length, take, map, get_or, ap, sym, ◌∙◌, subst, arith}
 use Rattle.std.specs.List.{AllByRecursion, flat_map}
 use Rattle.stow_core.specs.Ends.{row_bulks}
-use Rattle.stow_read.specs.Range.{KeyValue, key_value}
-use Rattle.stow_read.specs.declared.row.Row as coded
+use Rattle.stow_dropping.specs.StowRead.Range.{KeyValue, key_value}
+use Rattle.stow_dropping.specs.StowRead.declared.row.Row as coded
 use Rattle.stow_model.specs.Item.{Item}
 use Rattle.stow_tree_model.specs.Intervals.{AreKeyBytes, IsWholeKey}
 

@@ -12,8 +12,8 @@ use Rattle.stow_ledger.specs.Accounts.{AccountState, IsAccountOf, usage_of}
 use Rattle.stow_ledger.proofs.HistoryLemmas.{rows_are_charged_law}
 use Rattle.stow_ledger.proofs.KeptLemmas.{report_is_usage_law}
 use Rattle.stow_model.specs.Store.{Store, counted, usage}
-use Rattle.stow_state.specs.State.{store_in}
-use Rattle.stow_tree.specs.TreeState.{tree_messages}
+use Rattle.stow_ledger.specs.StowState.State.{store_in}
+use Rattle.stow_dropping.specs.StowTree.TreeState.{tree_messages}
 
 -- an account charges each row
 pub rows_charged : (store : Store) (a : AccountState) → IsAccountOf store a → 16 * a.rows ≤ a.charge

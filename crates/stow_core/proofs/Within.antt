@@ -14,15 +14,15 @@ use Rattle.std.specs.Ordering.{is_le, is_lt, ordering_then, ordering_reverse, na
 use Rattle.std.proofs.lemmas.Bool.{cases_order, cond-true, cond-false}
 use Rattle.std.proofs.lemmas.List.{length-map}
 use Rattle.stow_bytes.specs.Bytes.{bytes_cmp}
-use Rattle.stow_leaf.specs.Intervals.{spans}
+use Rattle.stow_dropping.specs.StowLeaf.Intervals.{spans}
 use Rattle.stow_model.specs.Item.{Item}
 use Rattle.stow_model.specs.Item as item
 use Rattle.stow_model.specs.Store.{Rows, Shown, Version, is_within, row_items, rows_within}
 use Rattle.stow_tree_model.specs.Intervals.{IsWholeKey}
 use Rattle.stow_core.specs.Ends.{upper_end, row_bulks}
-use Rattle.stow_read.specs.Range.{KeyValue, IsRange, AreUnder}
-use Rattle.stow_state.specs.Rows.{rows_at, version_of}
-use Rattle.stow_state.proofs.Rows.{rows_by_value_law}
+use Rattle.stow_dropping.specs.StowRead.Range.{KeyValue, IsRange, AreUnder}
+use Rattle.stow_ledger.specs.StowState.Rows.{rows_at, version_of}
+use Rattle.stow_ledger.proofs.StowState.Rows.{rows_by_value_law}
 use Rattle.stow_tree_model.specs.Keys.{packed, own_key, tenant_of}
 use Rattle.stow_tree_model.specs.Merged.{same_key}
 use Rattle.stow_tree_model.specs.Messages.{Messages, ops_of, value}

@@ -10,12 +10,12 @@ use Rattle.stow_core.proofs.Keyed.{first_own, later_own, tenant_of_own}
 use Rattle.stow_core.proofs.Stores.{version_value}
 use Rattle.stow_model.specs.Store.{Rows, Version, rows_without}
 use Rattle.stow_model.specs.Store as stored
-use Rattle.stow_state.specs.Changes.{changes, message_to, changed_keys, AreOwn, AreWritten}
-use Rattle.stow_state.specs.Rows.{rows_at, version_of, with_row}
-use Rattle.stow_state.proofs.Changes.{own_rows_move_law}
-use Rattle.stow_state.proofs.Rows.{get-with_row, rows_by_value_law}
-use Rattle.stow_tree.specs.Putting.{AreApart}
-use Rattle.stow_tree.specs.TreeState.{HasBound}
+use Rattle.stow_ledger.specs.StowState.Changes.{changes, message_to, changed_keys, AreOwn, AreWritten}
+use Rattle.stow_ledger.specs.StowState.Rows.{rows_at, version_of, with_row}
+use Rattle.stow_ledger.proofs.StowState.Changes.{own_rows_move_law}
+use Rattle.stow_ledger.proofs.StowState.Rows.{get-with_row, rows_by_value_law}
+use Rattle.stow_dropping.specs.StowTree.Putting.{AreApart}
+use Rattle.stow_dropping.specs.StowTree.TreeState.{HasBound}
 use Rattle.stow_tree_model.specs.Agreement.{TenantPins, TenantBounds, Agree, PinsBelow, with_bound}
 use Rattle.stow_tree_model.specs.Keys.{packed, own_key, tenant_of}
 use Rattle.stow_tree_model.specs.Messages.{Messages, ops_of, ops_in, value, with_all, IsCall}

@@ -2,7 +2,7 @@
 use Rattle.std.specs.Prelude.{ℕ, ◌+◌, List, [], ◌∷◌, length, if◌then◌else◌, ◌==◌}
 use Rattle.stow_model.specs.Item.{Item}
 use Rattle.stow_model.specs.Item as item
-use Rattle.stow_read.specs.Range.{KeyValue}
+use Rattle.stow_dropping.specs.StowRead.Range.{KeyValue}
 use Rattle.stow_tree_model.specs.Keys.{packed, own_key}
 
 -- the upper end: an empty one is none, and the tenant's keys end where the next index's begin

@@ -1,8 +1,8 @@
 -- What a flush outside the lock asks of the core.
 use Rattle.std.specs.Prelude.{◌≡◌, []}
-use Rattle.stow_merge.specs.declared.flush_job.FlushJob.{FlushJob}
-use Rattle.stow_node.specs.Jobs.{job_state}
-use Rattle.stow_node.specs.Subtree.{buffered}
+use Rattle.stow_dropping.specs.StowMerge.declared.flush_job.FlushJob.{FlushJob}
+use Rattle.stow_dropping.specs.StowNode.Jobs.{job_state}
+use Rattle.stow_dropping.specs.StowNode.Subtree.{buffered}
 use Rattle.stow_core.specs.Jobs.{TakesJob, IsPlan}
 use Rattle.stow_core.specs.State.{CoreState}
 

@@ -1,10 +1,10 @@
 -- What a core says of a flush job, by what the job holds.
 use Rattle.std.specs.Prelude.{◌≢◌, []}
-use Rattle.stow_node.specs.Installs.{IsFresh}
-use Rattle.stow_node.specs.Jobs.{JobState}
-use Rattle.stow_node.specs.Nodes.{AreAmong}
-use Rattle.stow_node.specs.Subtree.{buffered}
-use Rattle.stow_state.specs.State.{pins_in}
+use Rattle.stow_dropping.specs.StowNode.Installs.{IsFresh}
+use Rattle.stow_dropping.specs.StowNode.Jobs.{JobState}
+use Rattle.stow_dropping.specs.StowNode.Nodes.{AreAmong}
+use Rattle.stow_dropping.specs.StowNode.Subtree.{buffered}
+use Rattle.stow_ledger.specs.StowState.State.{pins_in}
 use Rattle.stow_core.specs.State.{CoreState, shared_of}
 
 -- the result of the job can be installed in the core as it is, under the numbers of live snapshots

@@ -9,3 +9,7 @@ pub mod Ends
 pub mod Prepared
 pub mod Flushing
 pub mod Jobs
+pub use Rattle.stow_dropping.specs.StowMerge
+pub use Rattle.stow_dropping.specs.StowNode
+pub use Rattle.stow_ledger.specs.StowState
+pub use Rattle.stow_dropping.specs.StowTree

@@ -26,7 +26,7 @@ use Rattle.stow_core.specs.RowLengths.{HaveLength}
 use Rattle.stow_core.specs.Taken.{AreDistinct}
 use Rattle.stow_core.specs.Tenancies.{tenancy_at, versions_of}
 use Rattle.stow_core.specs.Writes.{given_op, row_given, rows_given, writes_of, AreMessages, StaysShort}
-use Rattle.stow_tree.specs.Putting.{IsReserved, bytes_of}
+use Rattle.stow_dropping.specs.StowTree.Putting.{IsReserved, bytes_of}
 use Rattle.stow_tree_model.specs.Keys.{own_key, IsTenantKey}
 use Rattle.stow_tree_model.specs.Op.{Op}
 use Rattle.stow_versions.specs.VersionsState.{IsReady}

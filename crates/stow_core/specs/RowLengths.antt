@@ -3,11 +3,11 @@ use Rattle.std.specs.Prelude.{◌≡◌, ℕ, ◌≤◌, List, length, set, All,
 use Rattle.std.specs.FinMap as map
 use Rattle.stow_core.specs.declared.length_entry.LengthEntry.{LengthEntry}
 use Rattle.stow_core.specs.State.{CoreState, store_of, IsCore}
-use Rattle.stow_merge.specs.declared.pins.Pins.{Pins}
+use Rattle.stow_dropping.specs.StowMerge.declared.pins.Pins.{Pins}
 use Rattle.stow_ledger.specs.Shown.{sized_option}
 use Rattle.stow_model.specs.Store.{Rows, Store, Version}
-use Rattle.stow_read.specs.declared.newest.Newest.{Newest}
-use Rattle.stow_read.specs.declared.newest.Newest.TheVariants as newest
+use Rattle.stow_dropping.specs.StowRead.declared.newest.Newest.{Newest}
+use Rattle.stow_dropping.specs.StowRead.declared.newest.Newest.TheVariants as newest
 
 -- a length of a tenant's write came, if one was told, in the place of another
 abbrev pub IsKeptIn : List LengthEntry → ℕ → ℕ → Option ℕ → List LengthEntry → Type 0

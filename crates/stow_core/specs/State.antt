@@ -5,10 +5,10 @@ use Rattle.std.specs.List.{flat_map}
 use Rattle.stow_core.specs.Tenancies.{TenancyState, own_state, tenancy_at, versions_of, is_among}
 use Rattle.stow_core.specs.declared.interval.Interval.{Interval}
 use Rattle.stow_ledger.specs.Accounts.{IsAccountOf}
-use Rattle.stow_leaf_cache.specs.Cache.{cache_resized}
-use Rattle.stow_merge.specs.Pins.{room_in}
-use Rattle.stow_merge.specs.Pins as held
-use Rattle.stow_merge.specs.declared.pins.Pins.{Pins}
+use Rattle.stow_dropping.specs.StowLeafCache.Cache.{cache_resized}
+use Rattle.stow_dropping.specs.StowMerge.Pins.{room_in}
+use Rattle.stow_dropping.specs.StowMerge.Pins as held
+use Rattle.stow_dropping.specs.StowMerge.declared.pins.Pins.{Pins}
 use Rattle.stow_model.specs.Item.{Item}
 use Rattle.stow_model.specs.declared.refusal.Refusal.TheVariants as refusal
 use Rattle.stow_model.specs.Reply.{Reply}
@@ -18,11 +18,11 @@ use Rattle.stow_model.specs.Store.{Store, Rows, Version, Answer, Request, OwnEve
 use Rattle.stow_model.specs.Store.{step as own_step}
 use Rattle.stow_core.specs.declared.rows_at.RowsAt.{RowsAt}
 use Rattle.stow_core.specs.declared.snapshot.Snapshot.{Snapshot}
-use Rattle.stow_state.specs.Rows.{rows_at}
-use Rattle.stow_state.specs.State.{SharedState, IsSound, pins_in, store_in, new_state}
-use Rattle.stow_state.specs.Steps.{SharedStep, Call, Maintenance}
-use Rattle.stow_tree.specs.Shapes.{AreInRange}
-use Rattle.stow_tree.specs.TreeState.{TreeState, tree_messages}
+use Rattle.stow_ledger.specs.StowState.Rows.{rows_at}
+use Rattle.stow_ledger.specs.StowState.State.{SharedState, IsSound, pins_in, store_in, new_state}
+use Rattle.stow_ledger.specs.StowState.Steps.{SharedStep, Call, Maintenance}
+use Rattle.stow_dropping.specs.StowTree.Shapes.{AreInRange}
+use Rattle.stow_dropping.specs.StowTree.TreeState.{TreeState, tree_messages}
 use Rattle.stow_tree_model.specs.Messages.{Messages}
 
 -- the tenants, what each of them has beside its messages, and the tree of all tenants' rows

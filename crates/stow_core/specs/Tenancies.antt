@@ -6,7 +6,7 @@ use Rattle.stow_ledger.specs.Accounts.{AccountState, new_account}
 use Rattle.stow_ledger.specs.declared.charge.Charge.{Charge}
 use Rattle.stow_model.specs.Login.{Entry}
 use Rattle.stow_model.specs.Store.{one_more}
-use Rattle.stow_state.specs.State.{TenantState, new_tenant}
+use Rattle.stow_ledger.specs.StowState.State.{TenantState, new_tenant}
 pub use Rattle.stow_versions.specs.VersionsState.{is_among}
 use Rattle.stow_versions.specs.VersionsState.{VersionsState}
 

@@ -8,7 +8,7 @@ use Rattle.stow_core.specs.declared.given.Given.{Given}
 use Rattle.stow_core.specs.declared.given.Given.TheVariants as given
 use Rattle.stow_core.specs.declared.row_answer.RowAnswer.{RowAnswer}
 use Rattle.stow_core.specs.declared.row_answer.RowAnswer.TheVariants as answer
-use Rattle.stow_message.specs.Packed.{IsMessage}
+use Rattle.stow_dropping.specs.StowMessage.Packed.{IsMessage}
 use Rattle.stow_bytes.specs.Limits.{value_limit}
 use Rattle.stow_ledger.specs.Shown.{sized_option}
 use Rattle.stow_ledger.specs.declared.sized_version.SizedVersion.{SizedVersion}
@@ -17,9 +17,9 @@ use Rattle.stow_model.specs.declared.refusal.Refusal.{Refusal}
 use Rattle.stow_model.specs.Store.{Rows, Version, value_in}
 use Rattle.stow_model.specs.Store as meant
 use Rattle.stow_tree_model.specs.Operations.{outcome, bytes_or_none, numbered}
-use Rattle.stow_read.specs.declared.found.Found.{Found}
-use Rattle.stow_read.specs.Found.{found_value}
-use Rattle.stow_state.specs.Rows.{version_of, with_row}
+use Rattle.stow_dropping.specs.StowRead.declared.found.Found.{Found}
+use Rattle.stow_dropping.specs.StowRead.Found.{found_value}
+use Rattle.stow_ledger.specs.StowState.Rows.{version_of, with_row}
 use Rattle.stow_tree_model.specs.Op.{Op, Put, Gone, Append}
 use Rattle.stow_tree_model.specs.TreeMessage.{TreeMessage}
 

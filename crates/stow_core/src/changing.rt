@@ -3,7 +3,7 @@ ghost use Rattle.std.specs.Prelude.{◌≡◌, ◌∷◌, [], IfOk, OnOk, length
 ghost use Rattle.stow_ledger.specs.Shown.{sized_option};
 ghost use Rattle.stow_model.specs.Reply.{reply_of};
 ghost use Rattle.stow_model.specs.Login.{IsTenant};
-ghost use Rattle.stow_state.specs.State.{IsSound};
+ghost use Rattle.stow_ledger.specs.StowState.State.{IsSound};
 ghost use Rattle.stow_tree_model.specs.Keys.{own_key, packed, IsTenantKey};
 ghost use Rattle.stow_core.specs.Keys.{AreKeysOf};
 ghost use Rattle.stow_core.specs.Legal.{IsShortKey};
@@ -26,11 +26,11 @@ use crate::sized_row::SizedRow;
 use crate::write::Write;
 use std::alloc::{AllocError, Allocator};
 use stow_commands::update::Update;
+use stow_dropping::stow_message::place::Place;
+use stow_dropping::stow_read::found::Found;
 use stow_ledger::row_change::RowChange;
 use stow_ledger::sized_version::SizedVersion;
-use stow_message::place::Place;
 use stow_model::reply::Reply;
-use stow_read::found::Found;
 
 impl<A: Allocator + Copy> Core<A> {
     /// Finds what a change of a key's row says, by the value that the row has.

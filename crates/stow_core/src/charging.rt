@@ -12,10 +12,10 @@ ghost use Rattle.stow_tree_model.specs.Value.{IsValue};
 use crate::Core;
 use crate::given::length_of;
 use std::alloc::Allocator;
+use stow_dropping::stow_read::found::Found;
 use stow_ledger::charge::Charge;
 use stow_ledger::row_change::RowChange;
 use stow_ledger::sized_version::SizedVersion;
-use stow_read::found::Found;
 
 impl<A: Allocator + Copy> Core<A> {
     /// The tenant's charge once its next write changes a row so.

@@ -7,7 +7,7 @@ ghost use Rattle.stow_model.specs.Login.{IsTenant};
 ghost use Rattle.stow_model.specs.Command.{Del};
 ghost use Rattle.stow_model.specs.LentWords.{words_in};
 ghost use Rattle.stow_core.specs.Legal.{AreShortKeys};
-ghost use Rattle.stow_state.specs.State.{IsSound};
+ghost use Rattle.stow_ledger.specs.StowState.State.{IsSound};
 ghost use Rattle.stow_core.specs.State.{store_of, shared_of};
 ghost use Rattle.stow_core.specs.Prepared.{IsPrepared, IsChargedWithout, serves};
 ghost use Rattle.stow_core.specs.Taken.{AreTaken};

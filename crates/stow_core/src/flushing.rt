@@ -1,17 +1,17 @@
 //! Flushes of all tenants' messages, which are merged outside the lock.
 ghost use Rattle.std.specs.Prelude.{◌≡◌, ◌↔◌, None, IfOk, IfErr, IfSome};
-ghost use Rattle.stow_node.specs.Installs.{BatchIsGone};
-ghost use Rattle.stow_node.specs.declared.installed.Installed.TheVariants as installed;
-ghost use Rattle.stow_tree.specs.TreeState.{IsRead};
+ghost use Rattle.stow_dropping.specs.StowNode.Installs.{BatchIsGone};
+ghost use Rattle.stow_dropping.specs.StowNode.declared.installed.Installed.TheVariants as installed;
+ghost use Rattle.stow_dropping.specs.StowTree.TreeState.{IsRead};
 ghost use Rattle.stow_core.specs.State.{Keeps};
 ghost use Rattle.stow_core.specs.Flushing.{IsDrained, IsPlannedFrom, TakesResultOf};
 
 use crate::Core;
 use std::alloc::{AllocError, Allocator};
-use stow_merge::flush_job::FlushJob;
-use stow_merge::flush_result::FlushResult;
-use stow_node::installed::Installed;
-use stow_node::pick::Pick;
+use stow_dropping::stow_merge::flush_job::FlushJob;
+use stow_dropping::stow_merge::flush_result::FlushResult;
+use stow_dropping::stow_node::installed::Installed;
+use stow_dropping::stow_node::pick::Pick;
 
 impl<A: Allocator + Copy> Core<A> {
     /// A job for a flush, under the numbers of live snapshots, if a buffer holds a message. No tenant's store changes, also

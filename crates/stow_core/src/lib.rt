@@ -41,10 +41,10 @@ ghost use Rattle.stow_model.specs.Login.{IsTenant};
 ghost use Rattle.stow_core.specs.State.{store_of, IsNewCore, Moves, Calls, Resized, Keeps};
 ghost use Rattle.stow_core.specs.Tenancies.{new_tenancy, tenancy_of};
 ghost use Rattle.stow_core.specs.Prepared.{CanCarryOut, PreparesOwn, RefusesStranger, effect};
-ghost use Rattle.stow_tree.specs.declared.tree_fault.TreeFault.TheVariants as fault;
-ghost use Rattle.stow_tree.specs.Reports.{IsReport};
-ghost use Rattle.stow_tree.specs.Shapes.{IsInRange};
-ghost use Rattle.stow_tree.specs.TreeState.{new_tree};
+ghost use Rattle.stow_dropping.specs.StowTree.declared.tree_fault.TreeFault.TheVariants as fault;
+ghost use Rattle.stow_dropping.specs.StowTree.Reports.{IsReport};
+ghost use Rattle.stow_dropping.specs.StowTree.Shapes.{IsInRange};
+ghost use Rattle.stow_dropping.specs.StowTree.TreeState.{new_tree};
 
 use change::Change;
 use held_back::HeldBack;
@@ -56,15 +56,15 @@ use std::alloc::{AllocError, Allocator, Global};
 use std::marker::Model;
 use std::sync::Arc;
 use stow_commands::command::Command;
+use stow_dropping::stow_merge::pins::Pins;
+use stow_dropping::stow_tree::shape_report::ShapeReport;
+use stow_dropping::stow_tree::tree::Tree;
+use stow_dropping::stow_tree::tree_fault::TreeFault;
+use stow_dropping::stow_tree::tree_shape::TreeShape;
 use stow_login::tenants::Tenants;
-use stow_merge::pins::Pins;
 use stow_model::refusal::Refusal;
 use stow_model::reply::Reply;
 use stow_model::words::Words;
-use stow_tree::shape_report::ShapeReport;
-use stow_tree::tree::Tree;
-use stow_tree::tree_fault::TreeFault;
-use stow_tree::tree_shape::TreeShape;
 use tenancy::Tenancy;
 
 pub mod change;
@@ -97,6 +97,10 @@ mod usage;
 pub mod write;
 mod writes;
 mod writing;
+
+pub use stow_commands;
+pub use stow_dropping::{stow_merge, stow_node, stow_tree};
+pub use stow_login;
 
 /// The stores of all tenants.
 #[derive(Drop)]

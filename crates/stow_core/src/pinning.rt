@@ -1,12 +1,12 @@
 //! Pins that come with snapshots and go with them.
 ghost use Rattle.std.specs.Prelude.{◌≡◌, ◌≢◌, ◌<◌, ◌≤◌, ◌||◌, ◌==◌, ℕ, Contains, length};
 ghost use Rattle.stow_core.specs.Tenancies.{is_among, without};
-ghost use Rattle.stow_merge.specs.PinLists.{pin_limit};
-ghost use Rattle.stow_merge.specs.Pins.{pins_in, room_in};
+ghost use Rattle.stow_dropping.specs.StowMerge.PinLists.{pin_limit};
+ghost use Rattle.stow_dropping.specs.StowMerge.Pins.{pins_in, room_in};
 ghost use Rattle.stow_tree_model.specs.Agreement.{with_pins};
 
 use std::alloc::Allocator;
-use stow_merge::pins::Pins;
+use stow_dropping::stow_merge::pins::Pins;
 
 /// Adds a tenant's pin that is none below the others, unless it is there.
 pub(crate) fn add_pin<A: Allocator + Copy>(pins: &mut Pins<A>, tenant: u32, number: u64)

@@ -1,5 +1,5 @@
 //! Where a write's messages may come to stand.
-use stow_message::place::Place;
+use stow_dropping::stow_message::place::Place;
 
 /// How many keys of a write have a place.
 const KEYS: usize = 4;

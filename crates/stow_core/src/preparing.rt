@@ -5,7 +5,7 @@ ghost use Rattle.stow_model.specs.declared.reply.Reply.TheVariants as told;
 ghost use Rattle.stow_model.specs.Reply.{reply_of};
 ghost use Rattle.stow_model.specs.Reply as reply;
 ghost use Rattle.stow_model.specs.Login.{IsTenant};
-ghost use Rattle.stow_state.specs.State.{IsSound};
+ghost use Rattle.stow_ledger.specs.StowState.State.{IsSound};
 ghost use Rattle.stow_core.specs.Legal.{HasLegalKeys};
 ghost use Rattle.stow_core.specs.State.{shared_of};
 ghost use Rattle.stow_core.specs.Prepared.{IsPrepared, OnlyCounts, serves};

@@ -6,16 +6,16 @@ ghost use Rattle.stow_core.specs.State.{told_rows};
 ghost use Rattle.stow_core.specs.Ends.{upper_end, row_bulks};
 ghost use Rattle.stow_tree_model.specs.Intervals.{AreKeyBytes, IsWholeKey};
 ghost use Rattle.stow_tree_model.specs.Keys.{IsTenantKey};
-ghost use Rattle.stow_read.specs.Range.{key_value};
-ghost use Rattle.stow_state.specs.Rows.{rows_at};
-ghost use Rattle.stow_tree.specs.TreeState.{tree_messages, IsRead};
+ghost use Rattle.stow_dropping.specs.StowRead.Range.{key_value};
+ghost use Rattle.stow_ledger.specs.StowState.Rows.{rows_at};
+ghost use Rattle.stow_dropping.specs.StowTree.TreeState.{tree_messages, IsRead};
 
 use crate::interval::Interval;
 use crate::keys::pack_into;
 use std::alloc::{AllocError, Allocator};
+use stow_dropping::stow_read::row::Row;
+use stow_dropping::stow_tree::tree::Tree;
 use stow_model::items::Items;
-use stow_read::row::Row;
-use stow_tree::tree::Tree;
 use stow_tree_model::tenant_key::TenantKey;
 use stow_tree_model::tenant_key_buf::TenantKeyBuf;
 

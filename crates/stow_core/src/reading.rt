@@ -11,7 +11,7 @@ ghost use Rattle.stow_model.specs.Store.{count_rows, get_reply, item_or_null, le
 ghost use Rattle.stow_tree_model.specs.Keys.{packed, IsTenantKey};
 ghost use Rattle.stow_tree_model.specs.Value.{IsValue};
 ghost use Rattle.stow_core.specs.Legal.{IsShortKey, AreShortKeys};
-ghost use Rattle.stow_state.specs.State.{IsSound};
+ghost use Rattle.stow_ledger.specs.StowState.State.{IsSound};
 ghost use Rattle.stow_core.specs.RowLengths.{IsToldOfRow};
 ghost use Rattle.stow_core.specs.State.{row_at, rows_in, shared_of, store_of, Keeps};
 ghost use Rattle.stow_core.specs.Tenancies.{tenancy_at, tenancy_of};
@@ -27,14 +27,14 @@ use crate::sized_row::SizedRow;
 use crate::tenancy::Tenancy;
 use std::alloc::{AllocError, Allocator};
 use stow_bytes::byte_string::ByteString;
+use stow_dropping::stow_message::place::Place;
+use stow_dropping::stow_read::found::Found;
+use stow_dropping::stow_read::glance::Glance;
+use stow_dropping::stow_read::newest::Newest;
 use stow_ledger::sized_version::SizedVersion;
-use stow_message::place::Place;
 use stow_model::items::Items;
 use stow_model::lent_words::LentWords;
 use stow_model::reply::Reply;
-use stow_read::found::Found;
-use stow_read::glance::Glance;
-use stow_read::newest::Newest;
 use stow_tree_model::tenant_key::TenantKey;
 
 /// How many bytes of each value have room from the start where several are read.

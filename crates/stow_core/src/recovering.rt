@@ -1,7 +1,7 @@
 //! A way back from want of memory.
 ghost use Rattle.std.specs.Prelude.{◌≡◌};
 ghost use Rattle.stow_model.specs.Login.{IsTenant};
-ghost use Rattle.stow_state.specs.State.{IsSound};
+ghost use Rattle.stow_ledger.specs.StowState.State.{IsSound};
 ghost use Rattle.stow_core.specs.Legal.{HasLegalKeys};
 ghost use Rattle.stow_core.specs.State.{shared_of, Keeps};
 ghost use Rattle.stow_core.specs.Prepared.{IsPrepared, serves};

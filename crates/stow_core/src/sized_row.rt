@@ -1,6 +1,6 @@
 //! Rows without their bytes.
+use stow_dropping::stow_message::place::Place;
 use stow_ledger::sized_version::SizedVersion;
-use stow_message::place::Place;
 
 /// What is told of a key's row in place of its bytes.
 #[derive(Clone, Copy)]

@@ -9,7 +9,7 @@ ghost use Rattle.stow_model.specs.Login.{IsTenant};
 ghost use Rattle.stow_model.specs.Reply.{reply_of};
 ghost use Rattle.stow_model.specs.Reply as reply;
 ghost use Rattle.stow_model.specs.Store.{can_take, id_items, number_in};
-ghost use Rattle.stow_state.specs.State.{IsSound};
+ghost use Rattle.stow_ledger.specs.StowState.State.{IsSound};
 ghost use Rattle.stow_core.specs.Legal.{IsShortKey};
 ghost use Rattle.stow_core.specs.Prepared.{IsCharged, IsPrepared, after_drop, serves};
 ghost use Rattle.stow_core.specs.State.{rows_in, shared_of, store_of, IsNumberOf, IsSnapshotOf, Keeps};

@@ -1,10 +1,10 @@
 //! Messages of writes, and the room that the tree has for them.
 ghost use Rattle.std.specs.Prelude.{◌≡◌, ◌∷◌, [], map, IfOk, OnOk};
-ghost use Rattle.stow_merge.specs.Pins.{pins_in};
-ghost use Rattle.stow_message.specs.Packed.{IsMessage};
+ghost use Rattle.stow_dropping.specs.StowMerge.Pins.{pins_in};
+ghost use Rattle.stow_dropping.specs.StowMessage.Packed.{IsMessage};
 ghost use Rattle.stow_model.specs.LentWords.{words_in};
-ghost use Rattle.stow_tree.specs.Putting.{CanReserve, IsReserved, Puts};
-ghost use Rattle.stow_tree.specs.TreeState.{tree_messages, AgreeUnder};
+ghost use Rattle.stow_dropping.specs.StowTree.Putting.{CanReserve, IsReserved, Puts};
+ghost use Rattle.stow_dropping.specs.StowTree.TreeState.{tree_messages, AgreeUnder};
 ghost use Rattle.stow_tree_model.specs.Messages.{with_all};
 ghost use Rattle.stow_tree_model.specs.Op.{op_of};
 ghost use Rattle.stow_tree_model.specs.TreeMessage.{message_of};
@@ -12,10 +12,10 @@ ghost use Rattle.stow_core.specs.Writes.{write_of, writes_of, AreMessages};
 
 use crate::places::Places;
 use std::alloc::{AllocError, Allocator};
-use stow_merge::pins::Pins;
-use stow_message::place::Place;
+use stow_dropping::stow_merge::pins::Pins;
+use stow_dropping::stow_message::place::Place;
+use stow_dropping::stow_tree::tree::Tree;
 use stow_model::lent_words::LentWords;
-use stow_tree::tree::Tree;
 use stow_tree_model::message::Message;
 use stow_tree_model::op::Op;
 use stow_tree_model::tenant_key::TenantKey;

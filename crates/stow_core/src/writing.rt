@@ -3,7 +3,7 @@ ghost use Rattle.std.specs.Prelude.{◌≡◌, ◌∷◌, [], IfOk, nat_lt};
 ghost use Rattle.stow_bytes.specs.Limits.{number_limit};
 ghost use Rattle.stow_model.specs.Reply.{reply_of};
 ghost use Rattle.stow_model.specs.Login.{IsTenant};
-ghost use Rattle.stow_state.specs.State.{IsSound};
+ghost use Rattle.stow_ledger.specs.StowState.State.{IsSound};
 ghost use Rattle.stow_core.specs.State.{store_of, shared_of};
 ghost use Rattle.stow_core.specs.Prepared.{IsPrepared, IsPriced, CanGive, CanWrite, TellsLength, after_written, next_number, writes};
 ghost use Rattle.stow_core.specs.Writes.{given_op};

@@ -9,7 +9,7 @@ use Rattle.std.specs.Cmp.{nat_cmp_total}
 use Rattle.std.specs.FinMap as finite
 use Rattle.std.proofs.lemmas.Bool.{cases_Bool, cond-false}
 use Rattle.std.proofs.lemmas.List.Folds.{list_any-append}
-use Rattle.stow_model.specs.Store.{Rows, Store, Shown, is_same_version, shown_by, charge}
+use Rattle.stow_ledger.specs.StowModel.Store.{Rows, Store, Shown, is_same_version, shown_by, charge}
 use Rattle.stow_ledger.specs.Shown.{is_in, charge_of, without_snapshot}
 use Rattle.stow_ledger.proofs.Costs.{cost_by_once, contra, same_is}
 use Rattle.stow_ledger.proofs.RowLemmas.{in_copies, any_values}

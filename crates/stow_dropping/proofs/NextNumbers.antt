@@ -4,17 +4,17 @@ use Rattle.std.specs.Prelude.{IsSome}
 use Rattle.std.specs.Option.{unwrap_or}
 use Rattle.std.specs.FinMap as finite
 use Rattle.std.proofs.lemmas.Bool.{cases_lt}
-use Rattle.stow_model.specs.Store.{Version}
+use Rattle.stow_ledger.specs.StowModel.Store.{Version}
 use Rattle.stow_tree_model.specs.Keys.{packed}
 use Rattle.stow_tree_model.specs.Op.{Op}
 use Rattle.stow_tree_model.specs.Operations.{NumberedValue, Operations, numbered, outcome, value_in, applied, latest, NoneAbove}
 use Rattle.stow_tree_model.specs.Messages.{Messages, ops_of}
 use Rattle.stow_tree_model.proofs.Latest.{latest_stays}
-use Rattle.stow_state.specs.Rows.{rows_at, version_of}
-use Rattle.stow_state.proofs.Rows.{rows_by_value_law}
+use Rattle.stow_ledger.specs.StowState.Rows.{rows_at, version_of}
+use Rattle.stow_ledger.proofs.StowState.Rows.{rows_by_value_law}
 use Rattle.stow_ledger.specs.Histories.{IsNextNumber}
 use Rattle.stow_ledger.proofs.TreeHistory.{rows_are_history_law}
-use Rattle.stow_read.specs.Walk.{IsNumberAfter}
+use Rattle.stow_tree.specs.StowRead.Walk.{IsNumberAfter}
 
 no_some : {X : Type 0} {x : X} → ◌≡◌ {A = Option X} None (Some x) → ⊥
 no_some e = cc

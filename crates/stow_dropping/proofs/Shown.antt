@@ -1,7 +1,7 @@
 -- Rows of heads, one after another.
 use Rattle.std.proofs.Common.{◌≡◌, ℕ, zero, suc, ◌+◌, ◌<◌, List, [], ◌∷◌, ◌++◌, length, take, get_or, ap, sym, ◌∙◌, subst, arith}
 use Rattle.stow_ledger.specs.declared.shown_row.ShownRow.{ShownRow}
-use Rattle.stow_read.specs.declared.row_head.RowHead.{RowHead}
+use Rattle.stow_tree.specs.StowRead.declared.row_head.RowHead.{RowHead}
 use Rattle.stow_dropping.specs.Parts.{shown_of, all_shown, HaveWholeKeys}
 use Rattle.stow_tree_model.specs.Intervals.{IsWholeKey}
 

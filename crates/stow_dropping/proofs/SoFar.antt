@@ -11,7 +11,7 @@ use Rattle.std.proofs.lemmas.List.Sums.{sum_by-append}
 use Rattle.std.proofs.lemmas.List.{length-append, append_assoc, map-append}
 use Rattle.std.proofs.Math.Bool.{false≢true}
 use Rattle.std.proofs.lemmas.Bool.{cond-false}
-use Rattle.stow_bytes.specs.Bytes.{bytes_cmp}
+use Rattle.stow_tree_model.specs.StowBytes.Bytes.{bytes_cmp}
 use Rattle.stow_tree_model.specs.Messages.{Messages, ops_of}
 use Rattle.stow_tree_model.specs.Op.{Op}
 use Rattle.stow_tree_model.specs.Operations.{NumberedValue, Operations, applied, latest}
@@ -22,12 +22,12 @@ use Rattle.stow_ledger.specs.Accounts.{AccountState, IsGivenBy, present_charge}
 use Rattle.stow_ledger.specs.Charges.{charge_after_drop, row_freed}
 use Rattle.stow_ledger.specs.declared.charge.Charge.{Charge}
 use Rattle.stow_ledger.specs.declared.shown_row.ShownRow.{ShownRow}
-use Rattle.stow_read.specs.NextKey.{is_from}
-use Rattle.stow_read.specs.Walk.{is_inside, head_keys, IsWalk}
-use Rattle.stow_read.specs.declared.row_head.RowHead.{RowHead}
-use Rattle.stow_read.proofs.FirstKeys.{inside_from}
-use Rattle.stow_read.proofs.NextKeys.{from_above}
-use Rattle.stow_read.proofs.Walks.{walks_join}
+use Rattle.stow_tree.specs.StowRead.NextKey.{is_from}
+use Rattle.stow_tree.specs.StowRead.Walk.{is_inside, head_keys, IsWalk}
+use Rattle.stow_tree.specs.StowRead.declared.row_head.RowHead.{RowHead}
+use Rattle.stow_tree.proofs.StowRead.FirstKeys.{inside_from}
+use Rattle.stow_tree.proofs.StowRead.NextKeys.{from_above}
+use Rattle.stow_tree.proofs.StowRead.Walks.{walks_join}
 use Rattle.stow_dropping.specs.Parts.{shown_of, all_shown, HaveWholeKeys}
 use Rattle.stow_dropping.proofs.WholeDrops.{IsWholeDrop}
 

@@ -9,9 +9,9 @@ use Rattle.std.specs.Ordering.{is_lt, ordering_then}
 use Rattle.std.specs.FinMap as finite
 use Rattle.std.specs.FinMap.{find}
 use Rattle.std.proofs.lemmas.Bool.{cond-true, cond-false}
-use Rattle.stow_bytes.specs.Bytes.{bytes_cmp}
-use Rattle.stow_bytes.specs.Limits.{tenant_limit}
-use Rattle.stow_model.specs.Store.{Version, Shown, is_within}
+use Rattle.stow_tree_model.specs.StowBytes.Bytes.{bytes_cmp}
+use Rattle.stow_tree_model.specs.StowBytes.Limits.{tenant_limit}
+use Rattle.stow_ledger.specs.StowModel.Store.{Version, Shown, is_within}
 use Rattle.stow_tree_model.specs.Intervals.{IsWholeKey, IsWithin}
 use Rattle.stow_tree_model.specs.Keys.{packed, own_key}
 use Rattle.stow_tree_model.specs.Merged.{same_key}
@@ -22,11 +22,11 @@ use Rattle.stow_tree_model.proofs.Orders.{key_cases, less_than, same_number}
 use Rattle.stow_tree_model.proofs.Packed.{own_key-packed}
 use Rattle.stow_tree_model.proofs.PackedOrder.{packed_in_order_law, packed-parts, tenant_interval_law}
 use Rattle.stow_tree_model.proofs.Rising.{less_from}
-use Rattle.stow_state.specs.Rows.{rows_at, version_of, RowsRise}
-use Rattle.stow_state.proofs.Rows.{rows_by_value_law, interval_in_order_law}
-use Rattle.stow_read.specs.Walk.{is_inside, head_keys, IsHead}
-use Rattle.stow_read.specs.declared.row_head.RowHead.{RowHead}
-use Rattle.stow_read.proofs.FirstKeys.{inside_from, inside_to, insided}
+use Rattle.stow_ledger.specs.StowState.Rows.{rows_at, version_of, RowsRise}
+use Rattle.stow_ledger.proofs.StowState.Rows.{rows_by_value_law, interval_in_order_law}
+use Rattle.stow_tree.specs.StowRead.Walk.{is_inside, head_keys, IsHead}
+use Rattle.stow_tree.specs.StowRead.declared.row_head.RowHead.{RowHead}
+use Rattle.stow_tree.proofs.StowRead.FirstKeys.{inside_from, inside_to, insided}
 use Rattle.stow_dropping.specs.Parts.{HaveWholeKeys}
 
 -- ---- keys of the tenant

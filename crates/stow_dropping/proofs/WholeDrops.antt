@@ -4,12 +4,12 @@ use Rattle.std.specs.Prelude.{IfSome}
 use Rattle.std.specs.List.{AllZip}
 use Rattle.std.specs.FinMap as finite
 use Rattle.std.proofs.lemmas.List.{length-drop}
-use Rattle.stow_bytes.specs.Limits.{tenant_limit}
-use Rattle.stow_model.specs.Store.{Version, Store}
+use Rattle.stow_tree_model.specs.StowBytes.Limits.{tenant_limit}
+use Rattle.stow_ledger.specs.StowModel.Store.{Version, Store}
 use Rattle.stow_tree_model.specs.Keys.{packed, own_key}
 use Rattle.stow_tree_model.specs.Messages.{Messages, ops_of}
 use Rattle.stow_tree_model.specs.Operations.{NoneAbove}
-use Rattle.stow_state.specs.Rows.{rows_at}
+use Rattle.stow_ledger.specs.StowState.Rows.{rows_at}
 use Rattle.stow_ledger.specs.Accounts.{AccountState, present_charge}
 use Rattle.stow_ledger.specs.Charges.{charge_after_drop, shown_until}
 use Rattle.stow_ledger.specs.Histories.{ShowsHistory, SameNumbers}
@@ -19,9 +19,9 @@ use Rattle.stow_ledger.proofs.DropLemmas.{drop_is_charged_law}
 use Rattle.stow_ledger.proofs.HistoryLemmas.{pins_tell_of_drops_law}
 use Rattle.stow_ledger.proofs.KeptLemmas.{present_is_charged_law}
 use Rattle.stow_ledger.proofs.TreeHistory.{rows_are_history_law}
-use Rattle.stow_read.specs.Walk.{IsNumberAfter, IsHead, IsWalk}
-use Rattle.stow_read.specs.declared.row_head.RowHead.{RowHead}
-use Rattle.stow_read.proofs.Walks.{walk_whole}
+use Rattle.stow_tree.specs.StowRead.Walk.{IsNumberAfter, IsHead, IsWalk}
+use Rattle.stow_tree.specs.StowRead.declared.row_head.RowHead.{RowHead}
+use Rattle.stow_tree.proofs.StowRead.Walks.{walk_whole}
 use Rattle.stow_dropping.specs.Dropping.{IsChargeWithout}
 use Rattle.stow_dropping.specs.Parts.{shown_of, all_shown, HaveWholeKeys}
 use Rattle.stow_dropping.proofs.NextNumbers.{next_number}

@@ -1,11 +1,11 @@
 -- What a drop leaves charged.
 use Rattle.std.specs.Prelude.{◌≡◌, ℕ, ◌≤◌, List, Some}
 use Rattle.std.specs.FinMap as map
-use Rattle.stow_model.specs.Store.{Store}
+use Rattle.stow_ledger.specs.StowModel.Store.{Store}
 use Rattle.stow_tree_model.specs.Keys.{packed}
 use Rattle.stow_tree_model.specs.Messages.{Messages, ops_of}
 use Rattle.stow_tree_model.specs.Operations.{NoneAbove}
-use Rattle.stow_state.specs.Rows.{rows_at}
+use Rattle.stow_ledger.specs.StowState.Rows.{rows_at}
 use Rattle.stow_ledger.specs.Accounts.{AccountState, IsAccountOf}
 use Rattle.stow_ledger.specs.Histories.{ShowsHistory, SameNumbers}
 use Rattle.stow_ledger.specs.Shown.{charge_of, without_snapshot}

@@ -2,7 +2,7 @@
 use Rattle.std.specs.Prelude.{◌≡◌, ◌≢◌, ℕ, Some, IsTrue}
 use Rattle.std.specs.FinMap as map
 use Rattle.std.specs.List.{AllByRecursion}
-use Rattle.stow_model.specs.Store.{Rows, Store, shown_by}
+use Rattle.stow_ledger.specs.StowModel.Store.{Rows, Store, shown_by}
 use Rattle.stow_ledger.specs.Shown.{is_in, charge_of, without_snapshot}
 
 -- each version that the rows show, the store shows too

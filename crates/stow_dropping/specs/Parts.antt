@@ -3,8 +3,8 @@ use Rattle.std.specs.Prelude.{ℕ, ◌-◌, List, length, map}
 use Rattle.std.specs.List.{AllByRecursion}
 use Rattle.stow_tree_model.specs.Intervals.{IsWholeKey}
 use Rattle.stow_ledger.specs.declared.shown_row.ShownRow.{ShownRow}
-use Rattle.stow_read.specs.Walk.{head_keys}
-use Rattle.stow_read.specs.declared.row_head.RowHead.{RowHead}
+use Rattle.stow_tree.specs.StowRead.Walk.{head_keys}
+use Rattle.stow_tree.specs.StowRead.declared.row_head.RowHead.{RowHead}
 
 -- the row with the bytes of its tenant's own key, in front of which its index has four
 abbrev pub shown_of : {A : Type 0} → RowHead A → ShownRow

@@ -1,6 +1,6 @@
 //! The charge after a drop.
 ghost use Rattle.std.specs.Prelude.{◌≤◌, IfOk};
-ghost use Rattle.stow_bytes.specs.Limits.{tenant_limit};
+ghost use Rattle.stow_tree_model.specs.StowBytes.Limits.{tenant_limit};
 ghost use Rattle.stow_ledger.specs.Accounts.{IsGivenBy};
 ghost use Rattle.stow_tree.specs.TreeState.{tree_messages};
 ghost use Rattle.stow_dropping.specs.Dropping.{IsChargeWithout};
@@ -9,8 +9,8 @@ use crate::parts::rows_of;
 use std::alloc::{AllocError, Allocator};
 use stow_ledger::account::Account;
 use stow_ledger::charge::Charge;
-use stow_read::row_head::RowHead;
-use stow_read::start::Start;
+use stow_tree::stow_read::row_head::RowHead;
+use stow_tree::stow_read::start::Start;
 use stow_tree::tree::Tree;
 use stow_tree_model::tenant_key_buf::TenantKeyBuf;
 

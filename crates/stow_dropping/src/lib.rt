@@ -11,3 +11,6 @@
 pub mod dropping;
 pub mod laws;
 mod parts;
+
+pub use stow_tree;
+pub use stow_tree::{stow_merge, stow_message, stow_node, stow_read, stow_superseded};

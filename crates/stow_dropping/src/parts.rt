@@ -7,7 +7,7 @@ ghost use Rattle.stow_dropping.specs.Parts.{shown_of, all_shown, HaveWholeKeys};
 use std::alloc::{AllocError, Allocator};
 use stow_ledger::shown_row::ShownRow;
 use stow_ledger::sized_version::SizedVersion;
-use stow_read::row_head::RowHead;
+use stow_tree::stow_read::row_head::RowHead;
 
 /// The rows of heads, in their order.
 pub(crate) fn rows_of<A: Allocator + Copy>(

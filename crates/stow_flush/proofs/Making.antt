@@ -1,23 +1,23 @@
 -- A root as room is made in it.
 use Rattle.std.proofs.Common.{zero, suc, ◌≡◌, ℕ, ◌+◌, ◌*◌, ◌/◌, ◌<◌, ◌≤◌, length, max, arith, refl, sym, ap, ◌∙◌, subst, ⊎_elim, inl, inr, List}
 use Rattle.std.specs.List.{sum_by}
-use Rattle.stow_leaf.specs.LeafRows.{LeafRows, row_messages}
-use Rattle.stow_leaf_cache.specs.Cache.{Cache}
-use Rattle.stow_message.specs.MessageBuf.{message_list}
-use Rattle.stow_message.specs.Packed.{message_size}
-use Rattle.stow_tree_model.specs.Agreement.{TenantPins}
-use Rattle.stow_tree_model.specs.Keys.{tenant_of}
-use Rattle.stow_tree_model.specs.Messages.{ops_in}
-use Rattle.stow_tree_model.specs.Operations.{or_else}
+use Rattle.stow_node.specs.StowLeaf.LeafRows.{LeafRows, row_messages}
+use Rattle.stow_node.specs.StowLeafCache.Cache.{Cache}
+use Rattle.stow_node.specs.StowMessage.MessageBuf.{message_list}
+use Rattle.stow_node.specs.StowMessage.Packed.{message_size}
+use Rattle.stow_node.specs.StowTreeModel.Agreement.{TenantPins}
+use Rattle.stow_node.specs.StowTreeModel.Keys.{tenant_of}
+use Rattle.stow_node.specs.StowTreeModel.Messages.{ops_in}
+use Rattle.stow_node.specs.StowTreeModel.Operations.{or_else}
 use Rattle.stow_node.specs.Flushes.{Flushes}
-use Rattle.stow_leaves.specs.Forgets.{Forgets}
+use Rattle.stow_node.specs.StowLeaves.Forgets.{Forgets}
 use Rattle.stow_node.specs.Moves.{IsSqueezed, LacksRoom, StaysInMeaning}
 use Rattle.stow_node.specs.Subtree.{Subtree, messages_of}
 use Rattle.stow_node.specs.Ways.{StepsDown}
 use Rattle.stow_node.specs.declared.shape.Shape.{Shape}
-use Rattle.stow_leaf.proofs.Over.{same_itself, same_pointwise, same_then}
+use Rattle.stow_node.proofs.StowLeaf.Over.{same_itself, same_pointwise, same_then}
 use Rattle.stow_node.proofs.Standing.{parts_ops}
-use Rattle.stow_superseded.specs.Superseded.{buffer_without_superseded}
+use Rattle.stow_node.specs.StowSuperseded.Superseded.{buffer_without_superseded}
 use Rattle.stow_node.specs.Superseded.{DropsSuperseded, EachMeansTheSame, MayDropSuperseded}
 use Rattle.stow_flush.specs.Rooms.{RootStands, FitsSqueezed, FlushesTimes, FlushesForRoom, MakesRoom}
 

@@ -1,16 +1,16 @@
 -- Room at the root.
 use Rattle.std.specs.Prelude.{◌≡◌, ◌⊎◌, ℕ, zero, suc, ◌+◌, ◌≤◌, List}
 use Rattle.std.specs.List.{sum_by}
-use Rattle.stow_leaf_cache.specs.Cache.{Cache}
-use Rattle.stow_message.specs.Packed.{message_size}
-use Rattle.stow_leaf.specs.Replacements.{MeanTheSame}
+use Rattle.stow_node.specs.StowLeafCache.Cache.{Cache}
+use Rattle.stow_node.specs.StowMessage.Packed.{message_size}
+use Rattle.stow_node.specs.StowLeaf.Replacements.{MeanTheSame}
 use Rattle.stow_node.specs.Moves.{IsSqueezed, LacksRoom}
 use Rattle.stow_node.specs.Subtree.{Subtree, messages_of}
 use Rattle.stow_node.specs.Superseded.{DropsSuperseded}
 use Rattle.stow_node.specs.Ways.{StepsDown}
-use Rattle.stow_tree_model.specs.Agreement.{TenantPins}
-use Rattle.stow_tree_model.specs.Keys.{tenant_of}
-use Rattle.stow_tree_model.specs.Messages.{ops_in}
+use Rattle.stow_node.specs.StowTreeModel.Agreement.{TenantPins}
+use Rattle.stow_node.specs.StowTreeModel.Keys.{tenant_of}
+use Rattle.stow_node.specs.StowTreeModel.Messages.{ops_in}
 
 -- so many bytes fit beside a node's own messages
 abbrev pub BytesFit : ℕ → Subtree → Type 0

@@ -10,3 +10,6 @@
 #![tactic(auto)]
 
 pub mod room;
+
+pub use stow_node;
+pub use stow_node::{stow_leaf, stow_leaf_cache, stow_merge, stow_message, stow_superseded};

@@ -1,17 +1,17 @@
 //! Room in the root's own buffer.
 ghost use Rattle.std.specs.Prelude.{◌≡◌, ◌+◌, ◌≤◌, OnOk, OnErr};
-ghost use Rattle.stow_merge.specs.Pins.{pins_in};
+ghost use Rattle.stow_node.specs.StowMerge.Pins.{pins_in};
 ghost use Rattle.stow_node.specs.Flushes.{AreShort};
-ghost use Rattle.stow_leaves.specs.Forgets.{Forgets};
+ghost use Rattle.stow_node.specs.StowLeaves.Forgets.{Forgets};
 ghost use Rattle.stow_node.specs.Moves.{IsSqueezed};
 ghost use Rattle.stow_node.specs.Subtree.{messages_of};
 ghost use Rattle.stow_flush.specs.Rooms.{RootStands, BytesFit, FitsSqueezed, FlushesForRoom, MakesRoom};
 
 use std::alloc::{AllocError, Allocator};
-use stow_leaf_cache::leaf_cache::LeafCache;
-use stow_merge::pins::Pins;
 use stow_node::node::Node;
-use stow_raw::raw_buf::RawBuf;
+use stow_node::stow_leaf_cache::leaf_cache::LeafCache;
+use stow_node::stow_merge::pins::Pins;
+use stow_node::stow_raw::raw_buf::RawBuf;
 
 /// Flushes until so many bytes fit into the root's own buffer. Where memory is refused, the root means what it did.
 fn flush<A: Allocator + Copy>(

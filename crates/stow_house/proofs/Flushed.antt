@@ -2,11 +2,11 @@
 use Rattle.std.proofs.Common.{◌≡◌, ◌≢◌, ◌↔◌, ℕ, refl, sym, ◌∙◌, ⊎_elim}
 use Rattle.stow_core.specs.Flushing.{TakesResultOf}
 use Rattle.stow_core.specs.State.{CoreState, Keeps}
-use Rattle.stow_merge.specs.declared.flush_result.FlushResult.{FlushResult}
-use Rattle.stow_node.specs.Installs.{BatchIsGone}
-use Rattle.stow_node.specs.Jobs.{JobState, job_state}
-use Rattle.stow_node.specs.declared.installed.Installed.{Installed}
-use Rattle.stow_node.specs.declared.installed.Installed.TheVariants as in_place
+use Rattle.stow_core.specs.StowMerge.declared.flush_result.FlushResult.{FlushResult}
+use Rattle.stow_core.specs.StowNode.Installs.{BatchIsGone}
+use Rattle.stow_core.specs.StowNode.Jobs.{JobState, job_state}
+use Rattle.stow_core.specs.StowNode.declared.installed.Installed.{Installed}
+use Rattle.stow_core.specs.StowNode.declared.installed.Installed.TheVariants as in_place
 use Rattle.stow_model.specs.Event as event
 use Rattle.stow_house.specs.Flushers.{FlusherState, Free, HasJob, HasResult, TakesResult, DropsResult, PlansJob, MergesJob, InstallsResult}
 use Rattle.stow_house.specs.StepResult as answer

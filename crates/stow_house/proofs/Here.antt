@@ -10,7 +10,7 @@ use Rattle.stow_model.specs.Store.{Answer, OwnEvent, Asked, step, is_out_of_memo
 use Rattle.stow_model.specs.History.{Plain, Status, Unused, IsOpen, Closed, Service, event_of_own, status_after_message, status_after_event, stream_after_event, request_of, request_of_message, message_reply, told_by}
 use Rattle.stow_model.proofs.Refused.{want_of_memory_lem}
 use Rattle.stow_core.specs.State.{CoreState, store_of, shared_of, Calls, Answers, AnswersRequest}
-use Rattle.stow_state.specs.Steps.{SharedStep, Call}
+use Rattle.stow_core.specs.StowState.Steps.{SharedStep, Call}
 use Rattle.stow_house.specs.SharedRuns.{IsCalled}
 use Rattle.stow_house.specs.declared.connection.Connection.{Connection}
 use Rattle.stow_house.specs.declared.connection_event.ConnectionEvent as coded

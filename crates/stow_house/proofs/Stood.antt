@@ -15,10 +15,10 @@ use Rattle.stow_model.specs.Store.{OwnEvent, GivenQuota, answer_with, store_afte
 use Rattle.stow_model.specs.History.{Step, Void, At, Flushed, Ordered, ConnectionStep, Plain, Took, Broke, Status, Unused, IsOpen, Closed, with_own, part_of, status_of, status_after, served_as, served_after, taken_by, taken_after, stream_of, stream_after, stream_with, stream_after_event, Service, request_of, may_be_given, given_to, with_service, service_of, line_of, told_by, reply_in_line, told_at, CanLead, MayTakeNothing, CanBeVoid, MayBeVoid, Follows, IsStep, IsHistory}
 use Rattle.stow_core.specs.State.{CoreState, store_of, shared_of, IsNewCore, Keeps}
 use Rattle.stow_core.specs.State as in_core
-use Rattle.stow_state.specs.State.{SharedState, IsSound, new_state}
-use Rattle.stow_state.specs.Steps.{SharedStep, SharedRun, ToldEvent, Maintenance}
-use Rattle.stow_state.specs.Steps as in_state
-use Rattle.stow_state.proofs.Steps.{run_sound, step_is_there_law}
+use Rattle.stow_core.specs.StowState.State.{SharedState, IsSound, new_state}
+use Rattle.stow_core.specs.StowState.Steps.{SharedStep, SharedRun, ToldEvent, Maintenance}
+use Rattle.stow_core.specs.StowState.Steps as in_state
+use Rattle.stow_core.proofs.StowState.Steps.{run_sound, step_is_there_law}
 use Rattle.stow_house.specs.SharedRuns.{IsCalled, call_of, shared_steps}
 use Rattle.stow_house.specs.Seen.{Seen, IsServedTenant, never_opened}
 use Rattle.stow_house.specs.StepResult.{StepResult, Done, Refused, answer_to_own, answer_to_order, MayAnswer, IsAnswer}

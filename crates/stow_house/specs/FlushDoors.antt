@@ -1,7 +1,7 @@
 -- What is done at a flusher's door.
 use Rattle.std.specs.Prelude.{ℕ, length, Option, Some, None, Result, Ok, Err}
-use Rattle.stow_merge.specs.declared.flush_job.FlushJob.{FlushJob}
-use Rattle.stow_node.specs.declared.installed.Installed.{Installed}
+use Rattle.stow_core.specs.StowMerge.declared.flush_job.FlushJob.{FlushJob}
+use Rattle.stow_core.specs.StowNode.declared.installed.Installed.{Installed}
 
 pub data Flushing : Type 0 where
   -- a flush was planned, and of how many messages its job is, if there is one

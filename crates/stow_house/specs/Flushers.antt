@@ -4,10 +4,10 @@ use Rattle.std.specs.Ordering.{nat_cmp}
 use Rattle.std.specs.BTreeMap.{BTreeMap, get}
 use Rattle.stow_core.specs.Flushing.{IsDrained}
 use Rattle.stow_core.specs.Jobs.{IsPlan, IsStale}
-use Rattle.stow_node.specs.Jobs.{JobState, job_state}
+use Rattle.stow_core.specs.StowNode.Jobs.{JobState, job_state}
 use Rattle.stow_core.specs.State.{CoreState, Keeps}
-use Rattle.stow_node.specs.Installs.{BatchIsGone}
-use Rattle.stow_tree.specs.TreeState.{IsRead}
+use Rattle.stow_core.specs.StowNode.Installs.{BatchIsGone}
+use Rattle.stow_core.specs.StowTree.TreeState.{IsRead}
 use Rattle.stow_house.specs.declared.flusher.Flusher.{Flusher}
 use Rattle.stow_house.specs.declared.flusher.Flusher.TheVariants as coded
 use Rattle.stow_house.specs.StepResult.{StepResult, Done, Job, NoJob, Installed, Stale, Refused, NoMemory}

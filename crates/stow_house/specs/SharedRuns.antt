@@ -4,7 +4,7 @@ use Rattle.stow_model.specs.Login.{Entry}
 use Rattle.stow_model.specs.Reply.{Reply}
 use Rattle.stow_model.specs.History.{Step, Void, At, Flushed, Ordered, Service, service_of, told_at}
 use Rattle.stow_core.specs.State.{CoreState, shared_of}
-use Rattle.stow_state.specs.Steps.{SharedStep, ToldEvent, Call, Maintenance}
+use Rattle.stow_core.specs.StowState.Steps.{SharedStep, ToldEvent, Call, Maintenance}
 
 -- what comes to a tenant's store is a step of the shared state; where nothing comes, it stays
 abbrev pub IsCalled : Option Service → Option Reply → CoreState → CoreState → Type 0

@@ -8,8 +8,8 @@ use Rattle.stow_model.specs.Store.{store_after}
 use Rattle.stow_model.specs.History.{Step, ConnectionStep, event_of_step, part_of, status_of, served_as, taken_by, stream_of, line_of, IsHistory}
 use Rattle.stow_core.specs.State.{CoreState, store_of, shared_of, Resized}
 use Rattle.stow_house.specs.declared.house.House.{House}
-use Rattle.stow_state.specs.State.{new_state}
-use Rattle.stow_state.specs.Steps.{SharedRun}
+use Rattle.stow_core.specs.StowState.State.{new_state}
+use Rattle.stow_core.specs.StowState.Steps.{SharedRun}
 use Rattle.stow_house.specs.Flushers.{FlusherState, flusher_at, PlansJob, MergesJob, InstallsResult}
 use Rattle.stow_house.specs.Seen.{Seen, seen_at}
 use Rattle.stow_house.specs.SharedRuns.{shared_steps}

@@ -7,7 +7,7 @@ use crate::session::Session;
 use crate::stop::Stop;
 use crate::taken::Taken;
 use std::alloc::{AllocError, Allocator, Global};
-use stow_login::tenants::Tenants;
+use stow_core::stow_login::tenants::Tenants;
 use stow_model::reply::Reply;
 use stow_model::words::Words;
 use stow_resp::input::Input;

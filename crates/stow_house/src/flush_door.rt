@@ -3,9 +3,9 @@ ghost use Rattle.std.specs.Prelude.{◌≡◌, IsSome, None, OnErr, OnOk};
 ghost use Rattle.stow_house.specs.FlushDoors.{Flushing, planned, installed};
 
 use std::alloc::{AllocError, Allocator};
-use stow_merge::flush_job::FlushJob;
-use stow_merge::flush_result::FlushResult;
-use stow_node::installed::Installed;
+use stow_core::stow_merge::flush_job::FlushJob;
+use stow_core::stow_merge::flush_result::FlushResult;
+use stow_core::stow_node::installed::Installed;
 
 /// What plans flushes for a flusher, and installs what they were merged into.
 pub trait FlushDoor<A: Allocator> {

@@ -6,9 +6,9 @@ use crate::step_result::StepResult;
 use std::alloc::{Allocator, Global};
 use std::mem;
 use stow_core::Core;
-use stow_merge::flush_job::FlushJob;
-use stow_merge::flush_result::FlushResult;
-use stow_node::installed::Installed;
+use stow_core::stow_merge::flush_job::FlushJob;
+use stow_core::stow_merge::flush_result::FlushResult;
+use stow_core::stow_node::installed::Installed;
 
 /// What a flusher has.
 #[derive(Drop)]

@@ -34,3 +34,7 @@ pub mod step_result;
 pub mod stop;
 pub mod taken;
 pub mod told;
+
+pub use stow_core;
+pub use stow_core::{stow_login, stow_merge, stow_node, stow_tree};
+pub use stow_resp;

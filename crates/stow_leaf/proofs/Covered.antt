@@ -4,16 +4,16 @@ use Rattle.std.specs.Prelude.{All, Contains, IsSome}
 use Rattle.std.proofs.lemmas.Bool.{cases_eq}
 use Rattle.std.proofs.lemmas.List.Elements.{All-contains, All-map}
 use Rattle.stow_merge.specs.Covering.{Covers, IsCovered}
-use Rattle.stow_tree_model.specs.Agreement.{TenantPins}
-use Rattle.stow_tree_model.specs.Keys.{tenant_of}
-use Rattle.stow_tree_model.specs.Merged.{row_message, merged}
-use Rattle.stow_tree_model.specs.Messages.{ops_in}
-use Rattle.stow_tree_model.specs.Operations.{NoneAbove}
-use Rattle.stow_tree_model.specs.Order.{VersionPlace}
-use Rattle.stow_tree_model.specs.TreeMessage.{TreeMessage}
-use Rattle.stow_tree_model.specs.Version.{Version}
-use Rattle.stow_tree_model.proofs.Latest.{contains_cases}
-use Rattle.stow_tree_model.proofs.Pruning.{contains_here, contains_there, none_in_nothing}
+use Rattle.stow_merge.specs.StowTreeModel.Agreement.{TenantPins}
+use Rattle.stow_merge.specs.StowTreeModel.Keys.{tenant_of}
+use Rattle.stow_merge.specs.StowTreeModel.Merged.{row_message, merged}
+use Rattle.stow_merge.specs.StowTreeModel.Messages.{ops_in}
+use Rattle.stow_merge.specs.StowTreeModel.Operations.{NoneAbove}
+use Rattle.stow_merge.specs.StowTreeModel.Order.{VersionPlace}
+use Rattle.stow_merge.specs.StowTreeModel.TreeMessage.{TreeMessage}
+use Rattle.stow_merge.specs.StowTreeModel.Version.{Version}
+use Rattle.stow_merge.proofs.StowTreeModel.Latest.{contains_cases}
+use Rattle.stow_merge.proofs.StowTreeModel.Pruning.{contains_here, contains_there, none_in_nothing}
 use Rattle.stow_leaf.specs.Replacements.{GiveWay, ops_with}
 use Rattle.stow_leaf.proofs.Found.{found_at, merge_gives_way, none_unless, some_or}
 

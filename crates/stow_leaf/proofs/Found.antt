@@ -9,28 +9,28 @@ use Rattle.std.specs.declared.cmp.Ordering.{Ordering}
 use Rattle.std.specs.declared.cmp.Ordering.TheVariants.{Less, Equal, Greater}
 use Rattle.std.specs.Cmp.Lexicographic.{nat_list_cmp_total}
 use Rattle.std.proofs.lemmas.Bool.Decides.{nat_tests}
-use Rattle.stow_bytes.specs.Bytes.{bytes_cmp}
-use Rattle.stow_tree_model.specs.Op.{Op}
-use Rattle.stow_tree_model.specs.Agreement.{TenantPins}
-use Rattle.stow_tree_model.specs.Keys.{tenant_of}
-use Rattle.stow_tree_model.specs.Merged.{op_of_value, row_message, rows_set, merged}
-use Rattle.stow_tree_model.specs.Messages.{ops_of, ops_in, with_all, set_of}
-use Rattle.stow_tree_model.specs.Operations.{Operations, NumberedValue, applied, latest, or_else, value_in, numbered, outcome, NoneAbove}
-use Rattle.stow_tree_model.specs.Order.{VersionPlace, place_cmp, place_of, version_place, VersionsRise}
-use Rattle.stow_tree_model.specs.TreeMessage.{TreeMessage}
-use Rattle.stow_tree_model.specs.Value.{IsValue}
-use Rattle.stow_tree_model.specs.Version.{Version}
-use Rattle.stow_tree_model.proofs.Histories.{ops_in-at, ops_in-skip}
-use Rattle.stow_tree_model.proofs.Latest.{contains_cases}
-use Rattle.stow_tree_model.proofs.Merges.{pruned_agrees_law}
-use Rattle.stow_tree_model.proofs.Orders.{place_cases}
-use Rattle.stow_tree_model.proofs.Pruning.{contains_here, contains_there, none_in_nothing, pruning}
-use Rattle.stow_tree_model.proofs.SetLemmas.{ops-with_all, same_agreement}
-use Rattle.stow_message.proofs.RisingLists.{no_path, lt_is}
+use Rattle.stow_merge.specs.StowBytes.Bytes.{bytes_cmp}
+use Rattle.stow_merge.specs.StowTreeModel.Op.{Op}
+use Rattle.stow_merge.specs.StowTreeModel.Agreement.{TenantPins}
+use Rattle.stow_merge.specs.StowTreeModel.Keys.{tenant_of}
+use Rattle.stow_merge.specs.StowTreeModel.Merged.{op_of_value, row_message, rows_set, merged}
+use Rattle.stow_merge.specs.StowTreeModel.Messages.{ops_of, ops_in, with_all, set_of}
+use Rattle.stow_merge.specs.StowTreeModel.Operations.{Operations, NumberedValue, applied, latest, or_else, value_in, numbered, outcome, NoneAbove}
+use Rattle.stow_merge.specs.StowTreeModel.Order.{VersionPlace, place_cmp, place_of, version_place, VersionsRise}
+use Rattle.stow_merge.specs.StowTreeModel.TreeMessage.{TreeMessage}
+use Rattle.stow_merge.specs.StowTreeModel.Value.{IsValue}
+use Rattle.stow_merge.specs.StowTreeModel.Version.{Version}
+use Rattle.stow_merge.proofs.StowTreeModel.Histories.{ops_in-at, ops_in-skip}
+use Rattle.stow_merge.proofs.StowTreeModel.Latest.{contains_cases}
+use Rattle.stow_merge.proofs.StowTreeModel.Merges.{pruned_agrees_law}
+use Rattle.stow_merge.proofs.StowTreeModel.Orders.{place_cases}
+use Rattle.stow_merge.proofs.StowTreeModel.Pruning.{contains_here, contains_there, none_in_nothing, pruning}
+use Rattle.stow_merge.proofs.StowTreeModel.SetLemmas.{ops-with_all, same_agreement}
+use Rattle.stow_merge.proofs.StowMessage.RisingLists.{no_path, lt_is}
 use Rattle.stow_merge.proofs.Lists.{all_from_members, all_mapped_member}
 use Rattle.stow_merge.specs.Pages.{HaveShortValues}
-use Rattle.stow_page.specs.Format.{IsVersion}
-use Rattle.stow_page.specs.Rows.{IsCountUpTo}
+use Rattle.stow_merge.specs.StowPage.Format.{IsVersion}
+use Rattle.stow_merge.specs.StowPage.Rows.{IsCountUpTo}
 use Rattle.stow_leaf.specs.Intervals.{spans, NoneOutside}
 use Rattle.stow_leaf.specs.Replacements.{GiveWay, ops_with, AreThere, HasShortValues}
 use Rattle.stow_leaf.proofs.Intervals.{lt, by_test, lt_self}

@@ -2,17 +2,17 @@
 use Rattle.std.proofs.Common.{◌≡◌, ◌≢◌, ℕ, zero, suc, ◌<◌, Bool, true, false, cond, List, [], ◌∷◌, length, map, get_or, Option, None, refl, ap, ◌∙◌, sym, subst, arith, inl, inr}
 use Rattle.std.specs.Prelude.{Contains, IsSome}
 use Rattle.std.specs.List.{AllByRecursion}
-use Rattle.stow_tree_model.specs.Agreement.{TenantPins}
-use Rattle.stow_tree_model.specs.Keys.{tenant_of}
-use Rattle.stow_tree_model.specs.Merged.{row_message, rows_set, merged}
-use Rattle.stow_tree_model.specs.Messages.{ops_in, with_all}
-use Rattle.stow_tree_model.specs.Op.{Op}
-use Rattle.stow_tree_model.specs.Operations.{or_else}
-use Rattle.stow_tree_model.specs.Order.{VersionsRise}
-use Rattle.stow_tree_model.specs.TreeMessage.{TreeMessage}
-use Rattle.stow_tree_model.specs.Version.{Version}
-use Rattle.stow_tree_model.proofs.Pruning.{none_in_nothing, pruning}
-use Rattle.stow_message.specs.Rising.{in_range}
+use Rattle.stow_merge.specs.StowTreeModel.Agreement.{TenantPins}
+use Rattle.stow_merge.specs.StowTreeModel.Keys.{tenant_of}
+use Rattle.stow_merge.specs.StowTreeModel.Merged.{row_message, rows_set, merged}
+use Rattle.stow_merge.specs.StowTreeModel.Messages.{ops_in, with_all}
+use Rattle.stow_merge.specs.StowTreeModel.Op.{Op}
+use Rattle.stow_merge.specs.StowTreeModel.Operations.{or_else}
+use Rattle.stow_merge.specs.StowTreeModel.Order.{VersionsRise}
+use Rattle.stow_merge.specs.StowTreeModel.TreeMessage.{TreeMessage}
+use Rattle.stow_merge.specs.StowTreeModel.Version.{Version}
+use Rattle.stow_merge.proofs.StowTreeModel.Pruning.{none_in_nothing, pruning}
+use Rattle.stow_merge.specs.StowMessage.Rising.{in_range}
 use Rattle.stow_merge.specs.FlushJobs.{IsMergeOf}
 use Rattle.stow_merge.specs.Pages.{AreLeafPages, ArePagesOf, HaveShortValues}
 use Rattle.stow_merge.specs.Pins.{pins_in}

@@ -7,8 +7,8 @@ use Rattle.std.specs.Ordering.{is_lt, ordering_reverse}
 use Rattle.std.specs.Cmp.{tied_itself}
 use Rattle.std.specs.Cmp.Lexicographic.{nat_list_cmp_total}
 use Rattle.std.proofs.lemmas.Map.Lookups.{exact_bytes}
-use Rattle.stow_bytes.specs.Bytes.{bytes_cmp}
-use Rattle.stow_message.proofs.RisingLists.{no_path, lt_is}
+use Rattle.stow_merge.specs.StowBytes.Bytes.{bytes_cmp}
+use Rattle.stow_merge.proofs.StowMessage.RisingLists.{no_path, lt_is}
 use Rattle.stow_leaf.specs.Intervals.{spans}
 
 -- the first key stands below the second

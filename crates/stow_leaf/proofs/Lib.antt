@@ -6,3 +6,5 @@ pub mod Covered
 pub mod Fronts
 pub mod Steps
 pub mod Over
+pub use Rattle.stow_merge.proofs as StowMerge
+pub use Rattle.stow_merge.proofs.StowMessage

@@ -5,18 +5,18 @@ use Rattle.std.specs.Prelude.{if◌then◌else◌, not}
 use Rattle.std.specs.Cmp.{tied_itself}
 use Rattle.std.specs.List.{AllByRecursion, filter}
 use Rattle.std.proofs.lemmas.Bool.{cond-true, cond-false}
-use Rattle.stow_tree_model.specs.Op.{Op}
-use Rattle.stow_tree_model.specs.TreeMessage.{TreeMessage}
+use Rattle.stow_merge.specs.StowTreeModel.Op.{Op}
+use Rattle.stow_merge.specs.StowTreeModel.TreeMessage.{TreeMessage}
 use Rattle.std.specs.List.Sorted.{IsStrictlySortedBy}
 use Rattle.std.specs.declared.cmp.Ordering.TheVariants.{Less}
-use Rattle.stow_tree_model.specs.Order.{VersionPlace, place_cmp, place_of, MessagesRise}
-use Rattle.stow_tree_model.specs.Operations.{or_else}
-use Rattle.stow_tree_model.specs.Messages.{ops_in}
-use Rattle.stow_tree_model.proofs.Orders.{place_cases, place_total}
-use Rattle.stow_tree_model.proofs.Histories.{ops_in-skip}
-use Rattle.stow_message.proofs.RisingLists.{AllAbove}
-use Rattle.stow_message.proofs.Placed.{AllOther, all_other_placed}
-use Rattle.stow_message.specs.Rising.{is_below, placed, all_placed, in_range, out_of_range}
+use Rattle.stow_merge.specs.StowTreeModel.Order.{VersionPlace, place_cmp, place_of, MessagesRise}
+use Rattle.stow_merge.specs.StowTreeModel.Operations.{or_else}
+use Rattle.stow_merge.specs.StowTreeModel.Messages.{ops_in}
+use Rattle.stow_merge.proofs.StowTreeModel.Orders.{place_cases, place_total}
+use Rattle.stow_merge.proofs.StowTreeModel.Histories.{ops_in-skip}
+use Rattle.stow_merge.proofs.StowMessage.RisingLists.{AllAbove}
+use Rattle.stow_merge.proofs.StowMessage.Placed.{AllOther, all_other_placed}
+use Rattle.stow_merge.specs.StowMessage.Rising.{is_below, placed, all_placed, in_range, out_of_range}
 use Rattle.stow_leaf.specs.Intervals.{spans}
 
 true_false : true ≡ false → ⊥

@@ -3,11 +3,11 @@ use Rattle.std.proofs.Common.{zero, suc, ◌≡◌, ℕ, ◌<◌, ◌≤◌, ◌
 use Rattle.std.specs.Prelude.{IsSome, Contains, nat_le}
 use Rattle.std.proofs.lemmas.Bool.{cases_lt}
 use Rattle.std.proofs.lemmas.Bool.Decides.{nat_tests}
-use Rattle.stow_tree_model.specs.Agreement.{AgreeAt}
-use Rattle.stow_tree_model.specs.Op.{Op}
-use Rattle.stow_tree_model.specs.Operations.{Operations, applied, latest, or_else, over, value_in, NoneAbove, NoneUpTo}
-use Rattle.stow_tree_model.specs.Value.{IsValue}
-use Rattle.stow_tree_model.proofs.Latest.{latest_same, above_bound, merges_lem}
+use Rattle.stow_merge.specs.StowTreeModel.Agreement.{AgreeAt}
+use Rattle.stow_merge.specs.StowTreeModel.Op.{Op}
+use Rattle.stow_merge.specs.StowTreeModel.Operations.{Operations, applied, latest, or_else, over, value_in, NoneAbove, NoneUpTo}
+use Rattle.stow_merge.specs.StowTreeModel.Value.{IsValue}
+use Rattle.stow_merge.proofs.StowTreeModel.Latest.{latest_same, above_bound, merges_lem}
 use Rattle.stow_leaf.specs.Replacements.{HasShortValues, MeanTheSame}
 use Rattle.stow_leaf.proofs.Found.{none_some, none_unless, some_or, some_left, some_right, stays_itself}
 

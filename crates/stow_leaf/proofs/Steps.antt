@@ -2,10 +2,10 @@
 use Rattle.std.proofs.Common.{◌≡◌, ◌≢◌, ℕ, zero, suc, ◌+◌, ◌<◌, List, [], ◌∷◌, ◌++◌, take, length, map, get_or, Some, refl, ap, ◌∙◌, sym, arith}
 use Rattle.std.specs.Prelude.{slice_get, Result, Ok, Err, IfOk}
 use Rattle.std.proofs.lemmas.List.{map-append, take_more, length-take-le}
-use Rattle.stow_tree_model.specs.TreeMessage.{TreeMessage, message_of}
-use Rattle.stow_tree_model.specs.declared.message.Message as lent
-use Rattle.stow_tree_model.specs.Version.{Version}
-use Rattle.stow_message.specs.Rising.{in_range}
+use Rattle.stow_merge.specs.StowTreeModel.TreeMessage.{TreeMessage, message_of}
+use Rattle.stow_merge.specs.StowTreeModel.declared.message.Message as lent
+use Rattle.stow_merge.specs.StowTreeModel.Version.{Version}
+use Rattle.stow_merge.specs.StowMessage.Rising.{in_range}
 use Rattle.stow_leaf.specs.LeafRows.{leaf_rows}
 use Rattle.stow_leaf.specs.Making.{first_key, fenced, leaves_from, AreFilled}
 use Rattle.stow_leaf.specs.declared.leaf.Leaf.{Leaf}

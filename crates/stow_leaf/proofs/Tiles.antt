@@ -6,15 +6,15 @@ use Rattle.std.specs.Ordering.{is_lt}
 use Rattle.std.specs.declared.cmp.Ordering.TheVariants.{Less}
 use Rattle.std.proofs.lemmas.List.{map-append}
 use Rattle.std.proofs.lemmas.List.Elements.{Contains-append_left, Contains-append_right}
-use Rattle.stow_bytes.specs.Bytes.{bytes_cmp}
-use Rattle.stow_tree_model.specs.Merged.{row_message}
-use Rattle.stow_tree_model.specs.Messages.{ops_in}
-use Rattle.stow_tree_model.specs.Operations.{or_else}
-use Rattle.stow_tree_model.specs.Order.{VersionsRise}
-use Rattle.stow_tree_model.specs.TreeMessage.{TreeMessage}
-use Rattle.stow_tree_model.specs.Version.{Version}
-use Rattle.stow_tree_model.proofs.Pruning.{contains_here}
-use Rattle.stow_message.proofs.RisingLists.{lt_is}
+use Rattle.stow_merge.specs.StowBytes.Bytes.{bytes_cmp}
+use Rattle.stow_merge.specs.StowTreeModel.Merged.{row_message}
+use Rattle.stow_merge.specs.StowTreeModel.Messages.{ops_in}
+use Rattle.stow_merge.specs.StowTreeModel.Operations.{or_else}
+use Rattle.stow_merge.specs.StowTreeModel.Order.{VersionsRise}
+use Rattle.stow_merge.specs.StowTreeModel.TreeMessage.{TreeMessage}
+use Rattle.stow_merge.specs.StowTreeModel.Version.{Version}
+use Rattle.stow_merge.proofs.StowTreeModel.Pruning.{contains_here}
+use Rattle.stow_merge.proofs.StowMessage.RisingLists.{lt_is}
 use Rattle.stow_merge.proofs.KeyLemmas.{rises_after}
 use Rattle.stow_merge.specs.Pages.{read_in_order, AreLeafPages}
 use Rattle.stow_leaf.specs.Intervals.{spans}

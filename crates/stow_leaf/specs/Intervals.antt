@@ -1,9 +1,9 @@
 -- Intervals of all tenants' keys.
 use Rattle.std.specs.Prelude.{◌≡◌, ℕ, List, [], ◌∷◌, Bool, false, not, ◌&&◌, None}
 use Rattle.std.specs.Ordering.{is_lt}
-use Rattle.stow_bytes.specs.Bytes.{bytes_cmp}
-use Rattle.stow_tree_model.specs.Messages.{ops_in}
-use Rattle.stow_tree_model.specs.TreeMessage.{TreeMessage}
+use Rattle.stow_merge.specs.StowBytes.Bytes.{bytes_cmp}
+use Rattle.stow_merge.specs.StowTreeModel.Messages.{ops_in}
+use Rattle.stow_merge.specs.StowTreeModel.TreeMessage.{TreeMessage}
 
 -- the upper end of all tenants' keys
 abbrev pub top_key : List ℕ

@@ -2,10 +2,10 @@
 use Rattle.std.specs.Prelude.{◌≡◌, ℕ, List, [], ◌∷◌, map}
 use Rattle.std.specs.declared.cmp.Ordering.TheVariants.{Less}
 use Rattle.std.specs.List.{flat_map}
-use Rattle.stow_bytes.specs.Bytes.{bytes_cmp}
-use Rattle.stow_tree_model.specs.Merged.{row_message}
-use Rattle.stow_tree_model.specs.TreeMessage.{TreeMessage}
-use Rattle.stow_tree_model.specs.Version.{Version}
+use Rattle.stow_merge.specs.StowBytes.Bytes.{bytes_cmp}
+use Rattle.stow_merge.specs.StowTreeModel.Merged.{row_message}
+use Rattle.stow_merge.specs.StowTreeModel.TreeMessage.{TreeMessage}
+use Rattle.stow_merge.specs.StowTreeModel.Version.{Version}
 use Rattle.stow_leaf.specs.Intervals.{NoneOutside}
 use Rattle.stow_leaf.specs.declared.leaf.Leaf.{Leaf}
 

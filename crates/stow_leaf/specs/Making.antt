@@ -1,6 +1,6 @@
 -- Leaves made of merged pages.
 use Rattle.std.specs.Prelude.{◌≢◌, ℕ, suc, ◌<◌, List, [], ◌∷◌, length, slice_index_or}
-use Rattle.stow_tree_model.specs.Version.{Version}
+use Rattle.stow_merge.specs.StowTreeModel.Version.{Version}
 use Rattle.stow_leaf.specs.LeafRows.{LeafRows}
 
 -- the key of the first version

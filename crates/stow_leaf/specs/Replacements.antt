@@ -5,16 +5,16 @@ use Rattle.stow_merge.specs.Covering.{Covers}
 use Rattle.stow_merge.specs.Pages.{HaveOneKey, HaveShortValues}
 use Rattle.stow_merge.specs.Pins.{pins_in}
 use Rattle.stow_merge.specs.declared.flush_job.FlushJob.{FlushJob}
-use Rattle.stow_message.specs.Rising.{in_range}
-use Rattle.stow_page.specs.Format.{packed_page}
-use Rattle.stow_tree_model.specs.Agreement.{TenantPins, AgreeAt}
-use Rattle.stow_tree_model.specs.Keys.{tenant_of}
-use Rattle.stow_tree_model.specs.Merged.{row_message, merged}
-use Rattle.stow_tree_model.specs.Messages.{ops_in}
-use Rattle.stow_tree_model.specs.Operations.{Operations, over, latest, value_in, NoneAbove}
-use Rattle.stow_tree_model.specs.TreeMessage.{TreeMessage}
-use Rattle.stow_tree_model.specs.Value.{IsValue}
-use Rattle.stow_tree_model.specs.Version.{Version}
+use Rattle.stow_merge.specs.StowMessage.Rising.{in_range}
+use Rattle.stow_merge.specs.StowPage.Format.{packed_page}
+use Rattle.stow_merge.specs.StowTreeModel.Agreement.{TenantPins, AgreeAt}
+use Rattle.stow_merge.specs.StowTreeModel.Keys.{tenant_of}
+use Rattle.stow_merge.specs.StowTreeModel.Merged.{row_message, merged}
+use Rattle.stow_merge.specs.StowTreeModel.Messages.{ops_in}
+use Rattle.stow_merge.specs.StowTreeModel.Operations.{Operations, over, latest, value_in, NoneAbove}
+use Rattle.stow_merge.specs.StowTreeModel.TreeMessage.{TreeMessage}
+use Rattle.stow_merge.specs.StowTreeModel.Value.{IsValue}
+use Rattle.stow_merge.specs.StowTreeModel.Version.{Version}
 use Rattle.stow_leaf.specs.Intervals.{spans, NoneOutside}
 use Rattle.stow_leaf.specs.LeafRows.{LeafRows, row_messages, first_fence, IsLeafTile, LeavesTo}
 

@@ -2,7 +2,7 @@
 ghost use Rattle.std.specs.Prelude.{◌≡◌};
 ghost use Rattle.stow_leaf.specs.Intervals.{top_key};
 
-use stow_tree_model::tenant_key::TenantKey;
+use stow_merge::stow_tree_model::tenant_key::TenantKey;
 
 /// The upper end of all tenants' keys.
 pub fn top_key() -> TenantKey<'static>

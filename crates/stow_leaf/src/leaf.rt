@@ -2,7 +2,7 @@
 ghost use Rattle.std.specs.Prelude.{◌≡◌, ℕ, List, map, IfOk};
 ghost use Rattle.stow_leaf.specs.LeafRows.{leaf_rows};
 ghost use Rattle.stow_leaf.specs.Replacements.{CanReplace, IsJobOf, IsReplacement, TakePlace};
-ghost use Rattle.stow_tree_model.specs.Agreement.{TenantPins};
+ghost use Rattle.stow_merge.specs.StowTreeModel.Agreement.{TenantPins};
 ghost use Rattle.stow_merge.specs.Pins.{pins_in};
 
 use crate::making::{leaves_from, lent_run};
@@ -10,10 +10,10 @@ use std::alloc::{AllocError, Allocator, Global};
 use stow_merge::flush_result::FlushResult;
 use stow_merge::merging::merge_into_pages;
 use stow_merge::pins::Pins;
-use stow_message::message_buf::MessageBuf;
-use stow_page::rows::Rows;
-use stow_tree_model::tenant_key::TenantKey;
-use stow_tree_model::tenant_key_buf::TenantKeyBuf;
+use stow_merge::stow_message::message_buf::MessageBuf;
+use stow_merge::stow_page::rows::Rows;
+use stow_merge::stow_tree_model::tenant_key::TenantKey;
+use stow_merge::stow_tree_model::tenant_key_buf::TenantKeyBuf;
 
 /// The rows of the keys from a fence on, up to the next leaf's.
 #[derive(Drop)]

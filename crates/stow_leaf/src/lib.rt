@@ -13,3 +13,6 @@
 pub mod ends;
 pub mod leaf;
 mod making;
+
+pub use stow_merge;
+pub use stow_merge::{stow_message, stow_raw};

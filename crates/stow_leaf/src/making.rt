@@ -2,15 +2,15 @@
 ghost use Rattle.std.specs.Prelude.{◌≡◌, ◌≢◌, [], length, map, IfOk};
 ghost use Rattle.stow_leaf.specs.LeafRows.{leaf_rows};
 ghost use Rattle.stow_leaf.specs.Making.{first_key, AreFilled, leaves_from};
-ghost use Rattle.stow_tree_model.specs.TreeMessage.{message_of};
+ghost use Rattle.stow_merge.specs.StowTreeModel.TreeMessage.{message_of};
 
 use crate::leaf::Leaf;
 use std::alloc::{AllocError, Allocator};
-use stow_message::run::Run;
-use stow_page::rows::Rows;
-use stow_tree_model::message::Message;
-use stow_tree_model::tenant_key::TenantKey;
-use stow_tree_model::tenant_key_buf::TenantKeyBuf;
+use stow_merge::stow_message::run::Run;
+use stow_merge::stow_page::rows::Rows;
+use stow_merge::stow_tree_model::message::Message;
+use stow_merge::stow_tree_model::tenant_key::TenantKey;
+use stow_merge::stow_tree_model::tenant_key_buf::TenantKeyBuf;
 
 /// The messages of a run, lent.
 pub fn lent_run<'b, A: Allocator + Copy>(

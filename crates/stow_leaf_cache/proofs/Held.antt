@@ -13,7 +13,7 @@ use Rattle.std.proofs.lemmas.Map.Keys.{IsDistinct-head, IsDistinct-tail}
 use Rattle.std.proofs.lemmas.List.{take_all, take-map, length-map}
 use Rattle.std.specs.Str.{bytes_eq}
 use Rattle.std.specs.declared.vec.Vec.{Vec}
-use Rattle.stow_tree_model.specs.Version.{Version}
+use Rattle.stow_page.specs.StowTreeModel.Version.{Version}
 use Rattle.stow_leaf_cache.specs.Cache.{Cache, cache_used, HeldLeaf, leaf_of, leaves_of, rows_under, leaves_without, leaves_used, leaves_kept, IsLimited}
 
 pub rows_under-map : {A : Type 0} (fence : List ℕ) (held : List (Vec ℕ A × List Version)) → rows_under fence (map leaf_of held) ≡ lookup (λ k. bytes_eq fence k.items) held

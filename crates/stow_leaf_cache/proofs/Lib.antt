@@ -1,1 +1,3 @@
 pub mod Held
+pub use Rattle.stow_page.proofs as StowPage
+pub use Rattle.stow_page.proofs.StowTreeModel

@@ -8,3 +8,6 @@
 #![tactic(auto)]
 
 pub mod leaf_cache;
+
+pub use stow_page;
+pub use stow_page::stow_tree_model;

@@ -4,8 +4,8 @@ use Rattle.std.specs.Prelude.{Contains, Result, Ok, Err, OnErr}
 use Rattle.std.specs.Cmp.Lexicographic.{bytes_decides}
 use Rattle.std.specs.Str.{bytes_eq}
 use Rattle.std.proofs.lemmas.List.Elements.{Contains-append_left, Contains-append_right, Contains-append_cases}
-use Rattle.stow_tree_model.proofs.Latest.{contains_cases}
-use Rattle.stow_tree_model.proofs.Pruning.{contains_here, contains_there}
+use Rattle.stow_leaf_cache.proofs.StowTreeModel.Latest.{contains_cases}
+use Rattle.stow_leaf_cache.proofs.StowTreeModel.Pruning.{contains_here, contains_there}
 use Rattle.stow_leaf.specs.LeafRows.{LeafRows}
 use Rattle.stow_leaf_cache.specs.Cache.{Cache, rows_under, leaves_without}
 use Rattle.stow_leaves.specs.Forgets.{Forgets, cache_without}

@@ -5,20 +5,20 @@ use Rattle.std.specs.Ordering.{is_lt}
 use Rattle.std.specs.Prelude.{IsSome, Contains}
 use Rattle.std.proofs.lemmas.Grind.{flat_map-append}
 use Rattle.stow_leaf_cache.specs.Cache.{Cache, rows_under, leaves_without}
-use Rattle.stow_merge.proofs.Lists.{all_split, all_join}
-use Rattle.stow_message.proofs.RisingLists.{no_path, lt_is}
-use Rattle.stow_message.specs.Rising.{in_range}
-use Rattle.stow_tree_model.specs.Agreement.{TenantPins}
-use Rattle.stow_tree_model.specs.Keys.{tenant_of}
-use Rattle.stow_tree_model.specs.Merged.{row_message}
-use Rattle.stow_tree_model.specs.Messages.{ops_in}
-use Rattle.stow_tree_model.specs.Operations.{or_else}
-use Rattle.stow_tree_model.specs.TreeMessage.{TreeMessage}
-use Rattle.stow_tree_model.proofs.Latest.{contains_cases}
+use Rattle.stow_leaf.proofs.StowMerge.Lists.{all_split, all_join}
+use Rattle.stow_leaf.proofs.StowMessage.RisingLists.{no_path, lt_is}
+use Rattle.stow_leaf.specs.StowMessage.Rising.{in_range}
+use Rattle.stow_leaf_cache.specs.StowTreeModel.Agreement.{TenantPins}
+use Rattle.stow_leaf_cache.specs.StowTreeModel.Keys.{tenant_of}
+use Rattle.stow_leaf_cache.specs.StowTreeModel.Merged.{row_message}
+use Rattle.stow_leaf_cache.specs.StowTreeModel.Messages.{ops_in}
+use Rattle.stow_leaf_cache.specs.StowTreeModel.Operations.{or_else}
+use Rattle.stow_leaf_cache.specs.StowTreeModel.TreeMessage.{TreeMessage}
+use Rattle.stow_leaf_cache.proofs.StowTreeModel.Latest.{contains_cases}
 use Rattle.stow_leaf.specs.Intervals.{top_key, spans}
 use Rattle.stow_leaf.specs.LeafRows.{LeafRows, row_messages, first_fence, IsLeafTile, LeavesTo}
 use Rattle.stow_leaf.specs.Replacements.{IsLeafSize, AreThere, HasShortValues, MeanTheSame, ops_with, IsFence, TakePlace}
-use Rattle.stow_bytes.specs.Bytes.{bytes_cmp}
+use Rattle.stow_leaf_cache.specs.StowBytes.Bytes.{bytes_cmp}
 use Rattle.stow_leaf.proofs.Found.{none_or, or_none, some_or, some_left, some_right}
 use Rattle.stow_leaf.proofs.Intervals.{lt, by_test, lt_self, lt_not, lt_le, le_le, under, beyond, not_spanned, span_low, span_high, spanned}
 use Rattle.stow_leaf.proofs.Ops.{ops-append, ops-in_range}

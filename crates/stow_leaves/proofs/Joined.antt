@@ -8,19 +8,19 @@ use Rattle.std.specs.declared.cmp.Ordering.TheVariants.{Less}
 use Rattle.std.specs.Cmp.Lexicographic.{nat_list_cmp_total}
 use Rattle.std.proofs.lemmas.List.{map-append}
 use Rattle.std.proofs.lemmas.List.Elements.{Contains-append_left, Contains-append_right, Contains-append_cases}
-use Rattle.stow_bytes.specs.Bytes.{bytes_cmp}
-use Rattle.stow_merge.proofs.Lists.{all_split, all_join}
-use Rattle.stow_merge.proofs.Formats.{front_within}
-use Rattle.stow_merge.specs.Pages.{KeysBelow}
-use Rattle.stow_message.proofs.RisingLists.{lt_is}
-use Rattle.stow_page.specs.Format.{packed_page}
-use Rattle.stow_tree_model.specs.Merged.{row_message}
-use Rattle.stow_tree_model.specs.Messages.{ops_in}
-use Rattle.stow_tree_model.specs.Order.{VersionPlace, place_cmp, version_place, VersionsRise}
-use Rattle.stow_tree_model.specs.TreeMessage.{TreeMessage}
-use Rattle.stow_tree_model.specs.Version.{Version}
-use Rattle.stow_tree_model.proofs.Latest.{contains_cases}
-use Rattle.stow_tree_model.proofs.Pruning.{contains_here, contains_there}
+use Rattle.stow_leaf_cache.specs.StowBytes.Bytes.{bytes_cmp}
+use Rattle.stow_leaf.proofs.StowMerge.Lists.{all_split, all_join}
+use Rattle.stow_leaf.proofs.StowMerge.Formats.{front_within}
+use Rattle.stow_leaf.specs.StowMerge.Pages.{KeysBelow}
+use Rattle.stow_leaf.proofs.StowMessage.RisingLists.{lt_is}
+use Rattle.stow_leaf_cache.specs.StowPage.Format.{packed_page}
+use Rattle.stow_leaf_cache.specs.StowTreeModel.Merged.{row_message}
+use Rattle.stow_leaf_cache.specs.StowTreeModel.Messages.{ops_in}
+use Rattle.stow_leaf_cache.specs.StowTreeModel.Order.{VersionPlace, place_cmp, version_place, VersionsRise}
+use Rattle.stow_leaf_cache.specs.StowTreeModel.TreeMessage.{TreeMessage}
+use Rattle.stow_leaf_cache.specs.StowTreeModel.Version.{Version}
+use Rattle.stow_leaf_cache.proofs.StowTreeModel.Latest.{contains_cases}
+use Rattle.stow_leaf_cache.proofs.StowTreeModel.Pruning.{contains_here, contains_there}
 use Rattle.stow_leaf.specs.Intervals.{spans}
 use Rattle.stow_leaf.specs.LeafRows.{LeafRows, row_messages, first_fence, IsLeafTile, LeavesTo}
 use Rattle.stow_leaf.specs.Replacements.{IsLeafSize}

@@ -2,12 +2,12 @@
 use Rattle.std.proofs.Common.{◌≡◌, ℕ, zero, suc, ◌+◌, ◌<◌, ◌≤◌, true, false, List, [], ◌∷◌, ◌++◌, length, map, take, drop, set, get_or, Bool, Option, Some, None, refl, sym, ap, ◌∙◌, subst, arith, length-append, append_assoc}
 use Rattle.std.specs.Prelude.{Contains}
 use Rattle.std.proofs.lemmas.List.{map-append, length-map, take-map, drop-map}
-use Rattle.stow_merge.specs.Pages.{KeysBelow}
+use Rattle.stow_leaf.specs.StowMerge.Pages.{KeysBelow}
 use Rattle.stow_leaf.specs.Intervals.{top_key}
 use Rattle.stow_leaf.specs.LeafRows.{LeafRows, leaf_rows, LeavesTo}
 use Rattle.stow_leaf.specs.declared.leaf.Leaf.{Leaf}
 use Rattle.stow_leaf_cache.specs.Cache.{Cache, rows_under, leaves_without}
-use Rattle.stow_tree_model.specs.Version.{Version}
+use Rattle.stow_leaf_cache.specs.StowTreeModel.Version.{Version}
 use Rattle.stow_leaves.specs.Forgets.{Forgets, cache_without}
 use Rattle.stow_leaves.specs.Joins.{AreToJoin, JoinsAll, LosesPair, NoneToJoin, Pair, with_joined, IsJoinOf, JoinsPair}
 use Rattle.stow_leaves.proofs.Forgotten.{forgot, forgets_two}

@@ -4,16 +4,16 @@ use Rattle.std.specs.List.{filter}
 use Rattle.std.specs.Ordering.{eq_by_cmp, is_eq}
 use Rattle.std.specs.Prelude.{if◌then◌else◌, not, Contains, IsSome}
 use Rattle.std.proofs.lemmas.Bool.{cases_lt}
-use Rattle.stow_message.specs.Rising.{without}
-use Rattle.stow_tree_model.specs.Merged.{row_message}
-use Rattle.stow_tree_model.specs.Messages.{ops_in}
-use Rattle.stow_tree_model.specs.Op.{Op}
-use Rattle.stow_tree_model.specs.Operations.{or_else}
-use Rattle.stow_tree_model.specs.Order.{VersionPlace, place_cmp, place_of}
-use Rattle.stow_tree_model.specs.TreeMessage.{TreeMessage}
-use Rattle.stow_tree_model.specs.Version.{Version}
-use Rattle.stow_tree_model.proofs.Histories.{ops_in-at, ops_in-skip}
-use Rattle.stow_tree_model.proofs.Orders.{place_cases}
+use Rattle.stow_leaf.specs.StowMessage.Rising.{without}
+use Rattle.stow_leaf_cache.specs.StowTreeModel.Merged.{row_message}
+use Rattle.stow_leaf_cache.specs.StowTreeModel.Messages.{ops_in}
+use Rattle.stow_leaf_cache.specs.StowTreeModel.Op.{Op}
+use Rattle.stow_leaf_cache.specs.StowTreeModel.Operations.{or_else}
+use Rattle.stow_leaf_cache.specs.StowTreeModel.Order.{VersionPlace, place_cmp, place_of}
+use Rattle.stow_leaf_cache.specs.StowTreeModel.TreeMessage.{TreeMessage}
+use Rattle.stow_leaf_cache.specs.StowTreeModel.Version.{Version}
+use Rattle.stow_leaf_cache.proofs.StowTreeModel.Histories.{ops_in-at, ops_in-skip}
+use Rattle.stow_leaf_cache.proofs.StowTreeModel.Orders.{place_cases}
 use Rattle.stow_leaf.specs.LeafRows.{LeafRows}
 use Rattle.stow_leaf.proofs.Found.{found_at, none_or, none_some, or_none, some_or}
 use Rattle.stow_leaves.specs.Absorbs.{BatchGoes}

@@ -7,18 +7,18 @@ use Rattle.std.proofs.lemmas.Grind.{flat_map-append}
 use Rattle.std.proofs.lemmas.List.{length-take-le, map-append, take-map, drop-map}
 use Rattle.std.proofs.lemmas.List.Elements.{Contains-append_left, Contains-append_right, Contains-append_cases}
 use Rattle.stow_leaf_cache.specs.Cache.{Cache, rows_under, leaves_without}
-use Rattle.stow_merge.proofs.Lists.{all_split, all_join}
-use Rattle.stow_merge.specs.declared.flush_job.FlushJob.{FlushJob}
-use Rattle.stow_message.proofs.RisingLists.{no_path}
-use Rattle.stow_message.specs.Rising.{in_range, out_of_range}
-use Rattle.stow_tree_model.specs.Agreement.{TenantPins}
-use Rattle.stow_tree_model.specs.Keys.{tenant_of}
-use Rattle.stow_tree_model.specs.Merged.{row_message}
-use Rattle.stow_tree_model.specs.Messages.{ops_in}
-use Rattle.stow_tree_model.specs.Operations.{Operations, latest, or_else, over, value_in}
-use Rattle.stow_tree_model.specs.TreeMessage.{TreeMessage}
-use Rattle.stow_tree_model.specs.Value.{IsValue}
-use Rattle.stow_tree_model.proofs.Latest.{contains_cases}
+use Rattle.stow_leaf.proofs.StowMerge.Lists.{all_split, all_join}
+use Rattle.stow_leaf.specs.StowMerge.declared.flush_job.FlushJob.{FlushJob}
+use Rattle.stow_leaf.proofs.StowMessage.RisingLists.{no_path}
+use Rattle.stow_leaf.specs.StowMessage.Rising.{in_range, out_of_range}
+use Rattle.stow_leaf_cache.specs.StowTreeModel.Agreement.{TenantPins}
+use Rattle.stow_leaf_cache.specs.StowTreeModel.Keys.{tenant_of}
+use Rattle.stow_leaf_cache.specs.StowTreeModel.Merged.{row_message}
+use Rattle.stow_leaf_cache.specs.StowTreeModel.Messages.{ops_in}
+use Rattle.stow_leaf_cache.specs.StowTreeModel.Operations.{Operations, latest, or_else, over, value_in}
+use Rattle.stow_leaf_cache.specs.StowTreeModel.TreeMessage.{TreeMessage}
+use Rattle.stow_leaf_cache.specs.StowTreeModel.Value.{IsValue}
+use Rattle.stow_leaf_cache.proofs.StowTreeModel.Latest.{contains_cases}
 use Rattle.stow_leaf.specs.Intervals.{top_key, spans}
 use Rattle.stow_leaf.specs.LeafRows.{LeafRows, leaf_rows, row_messages, first_fence, IsLeafTile, LeavesTo}
 use Rattle.stow_leaf.specs.Replacements.{IsLeafSize, AreThere, HasShortValues, MeanTheSame, ops_with, CanReplace, IsFence, TakePlace}

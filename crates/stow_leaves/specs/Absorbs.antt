@@ -5,16 +5,16 @@ use Rattle.stow_leaf.specs.Intervals.{top_key, spans}
 use Rattle.stow_leaf.specs.LeafRows.{LeafRows, row_messages, first_fence, LeavesTo}
 use Rattle.stow_leaf.specs.Replacements.{IsLeafSize, AreThere, HasShortValues, MeanTheSame, ops_with, IsReplacement, IsJobOf}
 use Rattle.stow_leaf_cache.specs.Cache.{Cache}
-use Rattle.stow_merge.specs.Covering.{Covers}
-use Rattle.stow_merge.specs.Pins.{pins_in}
-use Rattle.stow_merge.specs.declared.flush_job.FlushJob.{FlushJob}
-use Rattle.stow_message.specs.Rising.{in_range, out_of_range}
-use Rattle.stow_tree_model.specs.Agreement.{TenantPins}
-use Rattle.stow_tree_model.specs.Keys.{tenant_of}
-use Rattle.stow_tree_model.specs.Messages.{ops_in}
-use Rattle.stow_tree_model.specs.Operations.{Operations, or_else, over}
-use Rattle.stow_tree_model.specs.TreeMessage.{TreeMessage}
-use Rattle.stow_tree_model.specs.Version.{Version}
+use Rattle.stow_leaf.specs.StowMerge.Covering.{Covers}
+use Rattle.stow_leaf.specs.StowMerge.Pins.{pins_in}
+use Rattle.stow_leaf.specs.StowMerge.declared.flush_job.FlushJob.{FlushJob}
+use Rattle.stow_leaf.specs.StowMessage.Rising.{in_range, out_of_range}
+use Rattle.stow_leaf_cache.specs.StowTreeModel.Agreement.{TenantPins}
+use Rattle.stow_leaf_cache.specs.StowTreeModel.Keys.{tenant_of}
+use Rattle.stow_leaf_cache.specs.StowTreeModel.Messages.{ops_in}
+use Rattle.stow_leaf_cache.specs.StowTreeModel.Operations.{Operations, or_else, over}
+use Rattle.stow_leaf_cache.specs.StowTreeModel.TreeMessage.{TreeMessage}
+use Rattle.stow_leaf_cache.specs.StowTreeModel.Version.{Version}
 use Rattle.stow_leaves.specs.Forgets.{cache_without}
 use Rattle.stow_leaves.specs.Joins.{JoinsAll, NoneToJoin}
 

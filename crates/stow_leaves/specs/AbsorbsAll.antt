@@ -2,15 +2,15 @@
 use Rattle.std.specs.Prelude.{◌≡◌, ◌≢◌, ◌⊎◌, ℕ, ◌<◌, List, [], ◌∷◌, ◌++◌, length, true, false}
 use Rattle.std.specs.List.{AllByRecursion}
 use Rattle.std.specs.Ordering.{is_lt}
-use Rattle.stow_bytes.specs.Bytes.{bytes_cmp}
+use Rattle.stow_leaf_cache.specs.StowBytes.Bytes.{bytes_cmp}
 use Rattle.stow_leaf.specs.Intervals.{top_key, spans}
 use Rattle.stow_leaf.specs.LeafRows.{LeafRows, first_fence, IsLeafTile, LeavesTo}
 use Rattle.stow_leaf.specs.Replacements.{IsLeafSize, AreThere, HasShortValues, MeanTheSame, ops_with, IsReplacement}
 use Rattle.stow_leaf_cache.specs.Cache.{Cache}
-use Rattle.stow_message.specs.Rising.{in_range}
-use Rattle.stow_tree_model.specs.Agreement.{TenantPins}
-use Rattle.stow_tree_model.specs.Keys.{tenant_of}
-use Rattle.stow_tree_model.specs.TreeMessage.{TreeMessage}
+use Rattle.stow_leaf.specs.StowMessage.Rising.{in_range}
+use Rattle.stow_leaf_cache.specs.StowTreeModel.Agreement.{TenantPins}
+use Rattle.stow_leaf_cache.specs.StowTreeModel.Keys.{tenant_of}
+use Rattle.stow_leaf_cache.specs.StowTreeModel.TreeMessage.{TreeMessage}
 use Rattle.stow_leaves.specs.Absorbs.{ops_above}
 use Rattle.stow_leaves.specs.Forgets.{cache_without}
 use Rattle.stow_leaves.specs.Joins.{JoinsAll, NoneToJoin}

@@ -3,8 +3,8 @@ use Rattle.std.specs.Prelude.{◌≡◌, ◌⊎◌, ℕ, zero, suc, ◌*◌, ◌
 use Rattle.stow_leaf.specs.Intervals.{top_key}
 use Rattle.stow_leaf.specs.LeafRows.{LeafRows, LeavesTo}
 use Rattle.stow_leaf_cache.specs.Cache.{Cache}
-use Rattle.stow_page.specs.Format.{packed_page}
-use Rattle.stow_tree_model.specs.Version.{Version}
+use Rattle.stow_leaf_cache.specs.StowPage.Format.{packed_page}
+use Rattle.stow_leaf_cache.specs.StowTreeModel.Version.{Version}
 use Rattle.stow_leaves.specs.Forgets.{cache_without}
 
 -- the page is below a quarter of the target

@@ -2,7 +2,7 @@
 ghost use Rattle.std.specs.Prelude.{◌≡◌, ◌+◌, ◌<◌, ◌≤◌, ◌++◌, length, take, drop, map, ◌∷◌, [], IfOk, OnErr};
 ghost use Rattle.std.specs.Vec.{vec_len, vec_capacity};
 ghost use Rattle.stow_leaf.specs.LeafRows.{leaf_rows, LeavesTo};
-ghost use Rattle.stow_merge.specs.Pins.{pins_in};
+ghost use Rattle.stow_leaf.specs.StowMerge.Pins.{pins_in};
 ghost use Rattle.stow_leaf.specs.Intervals.{top_key};
 ghost use Rattle.stow_leaves.specs.Absorbs.{left_above, CanAbsorb, CanPutOthers, CanPutPages, PutsOthers, PutsPages, Merges, StandsFor};
 ghost use Rattle.stow_leaves.specs.AbsorbsAll.{CanAbsorbAll, CanGiveWay, GivesWay, MergesAll, StandsForAll};
@@ -12,11 +12,11 @@ use crate::ends::{first_fence, high_after};
 use crate::joining::join_small;
 use std::alloc::{AllocError, Allocator};
 use stow_leaf::leaf::Leaf;
+use stow_leaf::stow_merge::flush_result::FlushResult;
+use stow_leaf::stow_merge::pins::Pins;
+use stow_leaf::stow_message::message_buf::MessageBuf;
 use stow_leaf_cache::leaf_cache::LeafCache;
-use stow_merge::flush_result::FlushResult;
-use stow_merge::pins::Pins;
-use stow_message::message_buf::MessageBuf;
-use stow_tree_model::tenant_key::TenantKey;
+use stow_leaf_cache::stow_tree_model::tenant_key::TenantKey;
 
 /// Puts other leaves in the place of the one at `index`. There is room for them.
 fn put_leaves<A: Allocator>(leaves: &mut Vec<Leaf<A>, A>, index: usize, mut others: Vec<Leaf<A>, A>)

@@ -6,7 +6,7 @@ ghost use Rattle.stow_leaves.specs.Absorbs.{fence_at};
 use std::alloc::Allocator;
 use stow_leaf::ends::top_key;
 use stow_leaf::leaf::Leaf;
-use stow_tree_model::tenant_key::TenantKey;
+use stow_leaf_cache::stow_tree_model::tenant_key::TenantKey;
 
 /// Where the keys of the leaf at `index` end.
 pub(crate) fn high_after<A: Allocator>(leaves: &[Leaf<A>], index: usize) -> TenantKey<'_>

@@ -2,15 +2,15 @@
 ghost use Rattle.std.specs.Prelude.{◌≡◌, ◌↔◌, IsTrue, ◌<◌, ◌≤◌, ◌++◌, length, map, IfOk, OnOk, OnErr};
 ghost use Rattle.stow_leaf.specs.Intervals.{top_key};
 ghost use Rattle.stow_leaf.specs.LeafRows.{leaf_rows, LeavesTo};
-ghost use Rattle.stow_merge.specs.Pages.{KeysBelow};
-ghost use Rattle.stow_page.specs.Format.{packed_page};
+ghost use Rattle.stow_leaf.specs.StowMerge.Pages.{KeysBelow};
+ghost use Rattle.stow_leaf_cache.specs.StowPage.Format.{packed_page};
 ghost use Rattle.stow_leaves.specs.Forgets.{Forgets};
 ghost use Rattle.stow_leaves.specs.Joins.{IsSmall, AreToJoin, IsJoinOf, Pair, with_joined, JoinsPair, JoinsAll, LosesPair, NoneToJoin};
 
 use std::alloc::{AllocError, Allocator};
 use stow_leaf::leaf::Leaf;
 use stow_leaf_cache::leaf_cache::LeafCache;
-use stow_page::rows::Rows;
+use stow_leaf_cache::stow_page::rows::Rows;
 
 /// Whether the rows' page is below a quarter of the target: four times its bytes are fewer.
 fn is_small<A: Allocator>(rows: &Rows<A>, target: u32) -> bool

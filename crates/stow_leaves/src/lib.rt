@@ -25,3 +25,8 @@
 pub mod absorbing;
 mod ends;
 mod joining;
+
+pub use stow_leaf;
+pub use stow_leaf::{stow_merge, stow_message, stow_raw};
+pub use stow_leaf_cache;
+pub use stow_leaf_cache::stow_page;

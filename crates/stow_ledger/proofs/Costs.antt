@@ -6,7 +6,7 @@ use Rattle.std.proofs.lemmas.Bool.{cases_Bool, eqb-true, eq-eqb, cond-true, cond
 use Rattle.std.proofs.lemmas.Slice.Eq.{bytes_eq-Decides as bytes_decides}
 use Rattle.std.proofs.lemmas.List.Folds.{list_any-append}
 use Rattle.std.proofs.lemmas.List.Sums.{sum_by-append, sum_by-cons}
-use Rattle.stow_model.specs.Store.{Shown, cost, is_same_version, distinct}
+use Rattle.stow_state.specs.StowModel.Store.{Shown, cost, is_same_version, distinct}
 use Rattle.stow_ledger.specs.Shown.{is_in, cost_of_all, CostByMembers}
 
 -- ---- tests

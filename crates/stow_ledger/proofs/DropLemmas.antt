@@ -6,7 +6,7 @@ use Rattle.std.specs.FinMap as finite
 use Rattle.std.proofs.lemmas.Bool.{cases_Bool, cond-true, cond-false}
 use Rattle.std.proofs.lemmas.List.Folds.{list_any-append}
 use Rattle.std.proofs.lemmas.List.Sums.{sum_by-cons}
-use Rattle.stow_model.specs.Store.{Rows, Store, Shown, cost, is_same_version, shown_by, charge}
+use Rattle.stow_state.specs.StowModel.Store.{Rows, Store, Shown, cost, is_same_version, shown_by, charge}
 use Rattle.stow_ledger.specs.declared.shown_row.ShownRow.{ShownRow}
 use Rattle.stow_ledger.specs.Charges.{version_cost, is_shown, row_cost, row_freed}
 use Rattle.stow_ledger.specs.Shown.{is_in, without_snapshot, IsToldOf, DropIsCharged}

@@ -9,7 +9,7 @@ use Rattle.std.proofs.lemmas.Bool.Decides.{leb_tells}
 use Rattle.std.proofs.lemmas.Slice.Eq.{bytes_eq-Decides as bytes_decides}
 use Rattle.std.proofs.lemmas.List.Folds.{list_any-append}
 use Rattle.std.proofs.lemmas.List.Sums.{sum_by-cons}
-use Rattle.stow_model.specs.Store.{Version, Rows, Store, Shown, cost, is_same_version, charge}
+use Rattle.stow_state.specs.StowModel.Store.{Version, Rows, Store, Shown, cost, is_same_version, charge}
 use Rattle.stow_ledger.specs.Charges.{is_pinned, is_between}
 use Rattle.stow_ledger.specs.Shown.{is_in, copied}
 use Rattle.stow_ledger.specs.Histories.{History, IsVersionHistory, ShowsHistory, SameNumbers, PinsTellOfWrites, NextIsNew, PinsTellOfDrops, RowsAreCharged}

@@ -6,12 +6,12 @@ use Rattle.std.specs.declared.cmp.Ordering.{Ordering}
 use Rattle.std.specs.declared.cmp.Ordering.TheVariants.{Less, Equal, Greater}
 use Rattle.std.specs.Ordering.{nat_cmp, is_eq, eq_by_cmp}
 use Rattle.std.specs.Cmp.{nat_cmp_total, nat_cmp_is}
-use Rattle.stow_bytes.specs.Bytes.{bytes_cmp}
+use Rattle.stow_versions.specs.StowBytes.Bytes.{bytes_cmp}
 use Rattle.std.specs.FinMap.{FinMap}
 use Rattle.std.specs.FinMap as finite
 use Rattle.std.proofs.lemmas.Bool.{cases_Bool, cond-true, cond-false}
 use Rattle.std.proofs.lemmas.List.Folds.{list_any-append}
-use Rattle.stow_model.specs.Store.{Version, Rows, Shown, is_same_version, empty_store, charge, usage}
+use Rattle.stow_state.specs.StowModel.Store.{Version, Rows, Shown, is_same_version, empty_store, charge, usage}
 use Rattle.stow_ledger.specs.declared.charge.Charge.{Charge}
 use Rattle.stow_ledger.specs.Shown.{is_in, cost_of_all, copied}
 use Rattle.stow_ledger.specs.Kept.{NewAccountIsEmpty, PresentIsCharged, CommitIsCharged, with_snapshot, TakeIsFree, ReportIsUsage}

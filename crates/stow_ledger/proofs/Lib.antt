@@ -5,3 +5,4 @@ pub mod DropLemmas
 pub mod HistoryLemmas
 pub mod KeptLemmas
 pub mod TreeHistory
+pub use Rattle.stow_state.proofs as StowState

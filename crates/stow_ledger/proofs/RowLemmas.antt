@@ -16,8 +16,8 @@ use Rattle.std.proofs.lemmas.Bool.{cases_Bool, cond-true, cond-false}
 use Rattle.std.proofs.lemmas.Slice.Eq.{bytes_eq-Decides as bytes_decides}
 use Rattle.std.proofs.lemmas.Map.Text.{is_eq-slice_cmp}
 use Rattle.std.proofs.lemmas.List.Folds.{list_any-append}
-use Rattle.stow_bytes.specs.Bytes.{bytes_cmp}
-use Rattle.stow_model.specs.Store.{Version, Rows, Shown, is_same_version}
+use Rattle.stow_versions.specs.StowBytes.Bytes.{bytes_cmp}
+use Rattle.stow_state.specs.StowModel.Store.{Version, Rows, Shown, is_same_version}
 use Rattle.stow_ledger.specs.Shown.{is_in}
 use Rattle.stow_ledger.proofs.Costs.{Once, or_false, contra}
 

@@ -4,11 +4,11 @@ use Rattle.std.specs.Prelude.{IfSome}
 use Rattle.std.specs.Option.{unwrap_or}
 use Rattle.std.specs.FinMap as finite
 use Rattle.std.proofs.lemmas.Bool.{cases_lt}
-use Rattle.stow_model.specs.Store.{Version}
-use Rattle.stow_tree_model.specs.Keys.{packed}
-use Rattle.stow_tree_model.specs.Op.{Op}
-use Rattle.stow_tree_model.specs.Operations.{NumberedValue, Operations, numbered, outcome, value_in, applied, latest}
-use Rattle.stow_tree_model.specs.Messages.{ops_of, value}
+use Rattle.stow_state.specs.StowModel.Store.{Version}
+use Rattle.stow_state.specs.StowTreeModel.Keys.{packed}
+use Rattle.stow_state.specs.StowTreeModel.Op.{Op}
+use Rattle.stow_state.specs.StowTreeModel.Operations.{NumberedValue, Operations, numbered, outcome, value_in, applied, latest}
+use Rattle.stow_state.specs.StowTreeModel.Messages.{ops_of, value}
 use Rattle.stow_state.specs.Rows.{rows_at, version_of}
 use Rattle.stow_state.proofs.Rows.{rows_by_value_law}
 use Rattle.stow_state.proofs.Changes.{rows_are_below_law}

@@ -9,8 +9,8 @@ use Rattle.std.proofs.lemmas.Bool.{cases_Bool, cond-true, cond-false}
 use Rattle.std.proofs.lemmas.Slice.Eq.{bytes_eq-Decides as bytes_decides}
 use Rattle.std.proofs.lemmas.List.Folds.{list_any-append}
 use Rattle.std.proofs.lemmas.List.Sums.{sum_by-cons}
-use Rattle.stow_bytes.specs.Bytes.{bytes_cmp}
-use Rattle.stow_model.specs.Store.{Version, Rows, Store, Shown, cost, is_same_version, charge}
+use Rattle.stow_versions.specs.StowBytes.Bytes.{bytes_cmp}
+use Rattle.stow_state.specs.StowModel.Store.{Version, Rows, Store, Shown, cost, is_same_version, charge}
 use Rattle.stow_ledger.specs.Charges.{version_cost, is_pinned, cost_brought, cost_freed, count_of}
 use Rattle.stow_ledger.specs.Shown.{PinsTell, charge_after_removals, RemovalsAreCharged, is_in, cost_of_all, rows_with, with_row, sized_option, length_option, copied, IsNewRow, WriteIsCharged}
 use Rattle.stow_ledger.proofs.Costs.{Once, cost_by_once, contra, same_is, or_false}

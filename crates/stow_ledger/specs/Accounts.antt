@@ -1,8 +1,8 @@
 -- What a tenant's account says.
 use Rattle.std.specs.Prelude.{◌≡◌, ℕ, Bool, List, [], ◌∷◌, nat_le, ◌||◌}
 use Rattle.std.specs.FinMap as map
-use Rattle.stow_model.specs.Store.{Store, charge}
-use Rattle.stow_model.specs.declared.usage.Usage.{Usage}
+use Rattle.stow_state.specs.StowModel.Store.{Store, charge}
+use Rattle.stow_state.specs.StowModel.declared.usage.Usage.{Usage}
 use Rattle.stow_versions.specs.VersionsState.{VersionsState}
 use Rattle.stow_ledger.specs.Charges.{charge_after_write, charge_after_drop}
 use Rattle.stow_ledger.specs.declared.charge.Charge.{Charge}

@@ -2,8 +2,8 @@
 use Rattle.std.specs.Prelude.{◌≡◌, ℕ, ◌+◌, ◌*◌, ◌<◌, ◌≤◌, ◌↔◌, List, map as list_map, Contains, Option, Some, None, IfSome}
 use Rattle.std.specs.List.{AllByRecursion}
 use Rattle.std.specs.FinMap as map
-use Rattle.stow_model.specs.Store.{Version, Rows, Store, shown_by, charge}
-use Rattle.stow_tree_model.specs.Messages.{Messages}
+use Rattle.stow_state.specs.StowModel.Store.{Version, Rows, Store, shown_by, charge}
+use Rattle.stow_state.specs.StowTreeModel.Messages.{Messages}
 use Rattle.stow_state.specs.Rows.{rows_at}
 use Rattle.stow_ledger.specs.Charges.{shown_until}
 use Rattle.stow_ledger.specs.Shown.{is_in, PinsTell, IsNewRow}

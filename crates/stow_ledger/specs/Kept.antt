@@ -1,7 +1,7 @@
 -- A tenant's account, kept as that of its store.
 use Rattle.std.specs.Prelude.{◌≡◌, ℕ, None}
 use Rattle.std.specs.FinMap as map
-use Rattle.stow_model.specs.Store.{Store, empty_store, usage}
+use Rattle.stow_state.specs.StowModel.Store.{Store, empty_store, usage}
 use Rattle.stow_versions.specs.VersionsState.{VersionsState}
 use Rattle.stow_ledger.specs.declared.charge.Charge.{Charge}
 use Rattle.stow_ledger.specs.Accounts.{AccountState, new_account, IsAccountOf, present_charge, usage_of}

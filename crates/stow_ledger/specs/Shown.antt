@@ -2,7 +2,7 @@
 use Rattle.std.specs.Prelude.{◌≡◌, ℕ, ◌+◌, Bool, List, ◌++◌, length, sum_by, Option, Some, None, IfSome, IsTrue, IsFalse, ◌||◌, [], ◌∷◌}
 use Rattle.std.specs.List.{list_any, flat_map, AllZip}
 use Rattle.std.specs.FinMap as map
-use Rattle.stow_model.specs.Store.{Version, Rows, Store, Shown, cost, is_same_version, distinct, shown_by, charge, rows_without}
+use Rattle.stow_state.specs.StowModel.Store.{Version, Rows, Store, Shown, cost, is_same_version, distinct, shown_by, charge, rows_without}
 use Rattle.stow_ledger.specs.Charges.{is_pinned, is_shown, charge_after_write, charge_after_drop}
 use Rattle.stow_ledger.specs.declared.charge.Charge.{Charge}
 use Rattle.stow_ledger.specs.declared.row_change.RowChange.{RowChange}

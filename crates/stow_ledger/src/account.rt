@@ -1,7 +1,7 @@
 //! One tenant's account.
 ghost use Rattle.std.specs.Prelude.{◌≡◌, ◌≤◌, IsTrue};
-ghost use Rattle.stow_bytes.specs.Limits.{number_limit};
-ghost use Rattle.stow_model.specs.Store.{one_more, AreWithin};
+ghost use Rattle.stow_versions.specs.StowBytes.Limits.{number_limit};
+ghost use Rattle.stow_state.specs.StowModel.Store.{one_more, AreWithin};
 ghost use Rattle.stow_ledger.specs.Charges.{charge_after_write, charge_after_drop};
 
 use crate::charge::Charge;
@@ -9,8 +9,8 @@ use crate::row_change::RowChange;
 use crate::shown_row::ShownRow;
 use std::alloc::Allocator;
 use std::marker::Model;
-use stow_bytes::limits::NUMBER_LIMIT;
-use stow_model::usage::Usage;
+use stow_state::stow_model::usage::Usage;
+use stow_versions::stow_bytes::limits::NUMBER_LIMIT;
 use stow_versions::versions::Versions;
 
 /// A tenant's quota, what it is charged, and what is counted for it.
@@ -25,7 +25,7 @@ pub struct Account {
 
 impl Model for Account {
     ghost use Rattle.std.specs.Prelude.{◌≤◌};
-    ghost use Rattle.stow_bytes.specs.Limits.{number_limit};
+    ghost use Rattle.stow_versions.specs.StowBytes.Limits.{number_limit};
     ghost use Rattle.stow_ledger.specs.Accounts.{AccountState};
 
     ghost Value = { AccountState };

@@ -1,7 +1,7 @@
 //! A charge after a change.
 ghost use Rattle.std.specs.Prelude.{◌≡◌, ◌≤◌};
 ghost use Rattle.std.specs.List.{list_any};
-ghost use Rattle.stow_bytes.specs.Limits.{number_limit};
+ghost use Rattle.stow_versions.specs.StowBytes.Limits.{number_limit};
 ghost use Rattle.stow_ledger.specs.Charges.{version_cost, is_pinned, is_between, is_shown, row_freed, charge_after_write, charge_after_drop};
 
 use crate::row_change::RowChange;

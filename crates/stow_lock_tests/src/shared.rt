@@ -1,39 +1,39 @@
 //! What no clause says: that the calls succeed where there is memory, what two seats leave, and each request for
 //! memory refused in turn.
 ghost use Rattle.std.specs.Prelude.{◌≡◌, IfOk};
-ghost use Rattle.stow_core.specs.State.{IsNewCore};
+ghost use Rattle.stow_workers.specs.StowCore.State.{IsNewCore};
 
 use std::alloc::{AllocError, Allocator, Global};
 use std::process::Abort;
 use std::sync::{Arc, Wait};
 use std::test::Fail;
-use stow_core::Core;
-use stow_house::door::Door;
-use stow_house::request::Request;
 use stow_login::tenants::Tenants;
 use stow_model::refusal::Refusal;
 use stow_model::reply::Reply;
 use stow_model::simple_string::SimpleString;
 use stow_model::words::Words;
-use stow_node::installed::Installed;
 use stow_plain::plain_request::PlainRequest;
 use stow_plain::plain_store::PlainStore;
 use stow_refusing::{Plan, Refusing};
-use stow_shared::closed::Closed;
-use stow_shared::comparing::same_reply;
-use stow_shared::copying::copied_words;
-use stow_shared::desk::Desk;
-use stow_shared::entry::Entry;
-use stow_shared::journal::Journal;
-use stow_shared::kept::Kept;
-use stow_shared::open_fault::OpenFault;
-use stow_shared::seat::Seat;
-use stow_shared::shared::Shared;
-use stow_shared::step::Step;
-use stow_shared::unkept::Unkept;
 use stow_testing::lines::words_of;
 use stow_testing::tenants::{QUOTA, THREE};
-use stow_tree::tree_shape::TreeShape;
+use stow_workers::stow_core::Core;
+use stow_workers::stow_house::door::Door;
+use stow_workers::stow_house::request::Request;
+use stow_workers::stow_node::installed::Installed;
+use stow_workers::stow_shared::closed::Closed;
+use stow_workers::stow_shared::comparing::same_reply;
+use stow_workers::stow_shared::copying::copied_words;
+use stow_workers::stow_shared::desk::Desk;
+use stow_workers::stow_shared::entry::Entry;
+use stow_workers::stow_shared::journal::Journal;
+use stow_workers::stow_shared::kept::Kept;
+use stow_workers::stow_shared::open_fault::OpenFault;
+use stow_workers::stow_shared::seat::Seat;
+use stow_workers::stow_shared::shared::Shared;
+use stow_workers::stow_shared::step::Step;
+use stow_workers::stow_shared::unkept::Unkept;
+use stow_workers::stow_tree::tree_shape::TreeShape;
 
 const OK: Reply = Reply::Simple(SimpleString::Ok);
 

@@ -10,7 +10,7 @@ use Rattle.std.specs.BTreeMap as tree
 use Rattle.std.specs.Str.{bytes_eq}
 use Rattle.std.specs.declared.vec.Vec.{Vec}
 use Rattle.stow_model.specs.Login.{Entry, IsTenant}
-use Rattle.stow_bytes.proofs.ByteKeys.{updates_bytes}
+use Rattle.stow_model.proofs.StowBytes.ByteKeys.{updates_bytes}
 use Rattle.stow_login.specs.Entries.{index_from, index_named}
 use Rattle.stow_login.specs.Names.{Names, names_of, index_in, AreNamed}
 use Rattle.stow_login.specs.TenantFile.{is_used}

@@ -10,7 +10,7 @@ use Rattle.stow_login.specs.declared.tenants_fault.TenantsFault.{TenantsFault}
 use Rattle.stow_login.specs.declared.tenants_fault.TenantsFault.TheVariants as fault
 use Rattle.stow_model.specs.Login.{Entry}
 use Rattle.stow_login.specs.TenantFile.{◌>>=◌, size, count, items_in, tables_of, four_fields, entry_in, entries_after, entries_of}
-use Rattle.stow_bytes.specs.Limits.{tenant_limit}
+use Rattle.stow_model.specs.StowBytes.Limits.{tenant_limit}
 
 size-members_view : (es : List (String Global × Value)) → size (members_view es) ≡ length es
 size-members_view [] = refl

@@ -16,7 +16,7 @@ use Rattle.toml.specs.Parse.{parse_document}
 use Rattle.stow_model.specs.Login.{Entry}
 use Rattle.stow_login.specs.declared.tenants_fault.TenantsFault.{TenantsFault}
 use Rattle.stow_login.specs.declared.tenants_fault.TenantsFault.TheVariants as fault
-use Rattle.stow_bytes.specs.Limits.{tenant_limit}
+use Rattle.stow_model.specs.StowBytes.Limits.{tenant_limit}
 use Rattle.stow_login.specs.TenantFile.{◌>>=◌, count, items_in, limited, four_fields, text_at, number_at, is_name, valid_name, is_used, unused_name, short_salt, salt_limit, salt_in, digest_length, digest_in, quota_in, entry_in, entries_after, entries_of, IsByRule, HaveOwnNames, EntriesAreByRule}
 
 -- ---- steps that gave a value

@@ -7,7 +7,7 @@ use Rattle.std.specs.Str.{bytes_eq}
 use Rattle.hex.specs.Hex.{decode_of, decode_sized}
 use Rattle.toml.specs.Data.{Data, Items, no_items, item, Members, no_members, member, get_member, as_str, as_integer, as_array, as_table}
 use Rattle.toml.specs.Parse.{parse_document}
-use Rattle.stow_bytes.specs.Limits.{tenant_limit}
+use Rattle.stow_model.specs.StowBytes.Limits.{tenant_limit}
 use Rattle.stow_model.specs.Login.{Entry}
 use Rattle.stow_login.specs.declared.tenants_fault.TenantsFault.{TenantsFault}
 use Rattle.stow_login.specs.declared.tenants_fault.TenantsFault.TheVariants as fault

@@ -11,8 +11,8 @@ use crate::tenants::Tenants;
 use crate::tenants_fault::TenantsFault;
 use hex::{FromHex, FromHexError};
 use std::alloc::Allocator;
-use stow_bytes::byte_string::ByteString;
-use stow_bytes::limits;
+use stow_model::stow_bytes::byte_string::ByteString;
+use stow_model::stow_bytes::limits;
 use toml::{Table, Value};
 
 /// The most tenants of a file.

@@ -1,9 +1,9 @@
 //! A tenant of the service.
 ghost use Rattle.std.specs.Prelude.{◌≤◌};
-ghost use Rattle.stow_bytes.specs.Limits.{number_limit};
+ghost use Rattle.stow_model.specs.StowBytes.Limits.{number_limit};
 
 use std::alloc::{Allocator, Global};
-use stow_bytes::byte_string::ByteString;
+use stow_model::stow_bytes::byte_string::ByteString;
 
 /// Who may log in as whom, and how many bytes its rows may be charged.
 #[derive(Drop)]

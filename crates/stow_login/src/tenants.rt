@@ -2,7 +2,7 @@
 ghost use Rattle.std.specs.Bool.{OnTrue};
 ghost use Rattle.std.specs.Prelude.{◌≡◌, ◌<◌, ◌≤◌, ◌↔◌, ◌++◌, ◌∷◌, [], false, length, IsTrue, IfSome, OnOk};
 ghost use Rattle.stow_model.specs.Login.{IsTenant, login, quota_of};
-ghost use Rattle.stow_bytes.specs.Limits.{number_limit};
+ghost use Rattle.stow_model.specs.StowBytes.Limits.{number_limit};
 ghost use Rattle.stow_login.specs.Entries.{entry_of, name_of, index_named, is_own};
 ghost use Rattle.stow_login.specs.TenantFile.{IsReading, is_used};
 
@@ -13,7 +13,7 @@ use crate::tenant::Tenant;
 use crate::tenants_fault::TenantsFault;
 use std::alloc::{AllocError, Allocator, Global};
 use std::marker::Model;
-use stow_bytes::byte_string::ByteString;
+use stow_model::stow_bytes::byte_string::ByteString;
 
 /// Fewer than 65,536 tenants, each with an index that counts from 1.
 #[derive(Drop)]

@@ -7,14 +7,14 @@ use Rattle.std.specs.declared.cmp.Ordering.TheVariants.{Less}
 use Rattle.std.specs.Cmp.Lexicographic.{nat_list_cmp_total}
 use Rattle.std.specs.Option.{unwrap_or}
 use Rattle.std.proofs.lemmas.Option.{slice_get_within}
-use Rattle.stow_bytes.specs.Bytes.{bytes_cmp}
+use Rattle.stow_page.specs.StowBytes.Bytes.{bytes_cmp}
 use Rattle.stow_page.specs.Rows.{AreApart}
 use Rattle.stow_page.proofs.Looked.{all_at}
-use Rattle.stow_tree_model.specs.Order.{version_place, VersionsRise}
-use Rattle.stow_tree_model.specs.Version.{Version}
-use Rattle.stow_tree_model.proofs.Histories.{falls_key}
-use Rattle.stow_tree_model.proofs.Latest.{contains_cases}
-use Rattle.stow_tree_model.proofs.Pruning.{none_in_nothing}
+use Rattle.stow_page.specs.StowTreeModel.Order.{version_place, VersionsRise}
+use Rattle.stow_page.specs.StowTreeModel.Version.{Version}
+use Rattle.stow_page.proofs.StowTreeModel.Histories.{falls_key}
+use Rattle.stow_page.proofs.StowTreeModel.Latest.{contains_cases}
+use Rattle.stow_page.proofs.StowTreeModel.Pruning.{none_in_nothing}
 use Rattle.stow_merge.proofs.KeyOps.{not_below}
 use Rattle.stow_merge.proofs.Lists.{all_member}
 

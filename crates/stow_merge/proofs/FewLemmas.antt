@@ -6,16 +6,16 @@ use Rattle.std.specs.List.Sorted.{IsStrictlySortedBy}
 use Rattle.std.proofs.lemmas.Bool.{cases_lt}
 use Rattle.std.proofs.lemmas.Bool.Decides.{nat_tests}
 use Rattle.std.proofs.lemmas.List.Elements.{Contains-append_left, Contains-append_right}
-use Rattle.stow_tree_model.specs.Agreement.{TenantPins}
-use Rattle.stow_tree_model.specs.Keys.{tenant_of}
-use Rattle.stow_tree_model.specs.Merged.{IsGreatestUpTo, IsKept, pruned}
-use Rattle.stow_tree_model.specs.Messages.{Messages, ops_of}
-use Rattle.stow_tree_model.specs.Operations.{NoneAbove}
-use Rattle.stow_tree_model.specs.Order.{place_cmp, VersionsRise}
-use Rattle.stow_tree_model.specs.Version.{Version}
-use Rattle.stow_tree_model.proofs.Histories.{falls_number}
-use Rattle.stow_tree_model.proofs.Latest.{contains_cases}
-use Rattle.stow_tree_model.proofs.Pruning.{pruning, contains_here, none_in_nothing}
+use Rattle.stow_page.specs.StowTreeModel.Agreement.{TenantPins}
+use Rattle.stow_page.specs.StowTreeModel.Keys.{tenant_of}
+use Rattle.stow_page.specs.StowTreeModel.Merged.{IsGreatestUpTo, IsKept, pruned}
+use Rattle.stow_page.specs.StowTreeModel.Messages.{Messages, ops_of}
+use Rattle.stow_page.specs.StowTreeModel.Operations.{NoneAbove}
+use Rattle.stow_page.specs.StowTreeModel.Order.{place_cmp, VersionsRise}
+use Rattle.stow_page.specs.StowTreeModel.Version.{Version}
+use Rattle.stow_page.proofs.StowTreeModel.Histories.{falls_number}
+use Rattle.stow_page.proofs.StowTreeModel.Latest.{contains_cases}
+use Rattle.stow_page.proofs.StowTreeModel.Pruning.{pruning, contains_here, none_in_nothing}
 use Rattle.stow_merge.specs.Pages.{HaveOneKey, HaveShortValues}
 use Rattle.stow_merge.specs.PinLists.{pin_limit}
 use Rattle.stow_merge.specs.Writing.{CanMerge}

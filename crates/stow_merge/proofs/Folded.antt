@@ -5,18 +5,18 @@ use Rattle.std.specs.List.{AllByRecursion}
 use Rattle.std.specs.List.Sorted.{IsStrictlySortedBy}
 use Rattle.std.specs.declared.cmp.Ordering.TheVariants.{Less}
 use Rattle.std.proofs.lemmas.List.{append-nil, append_assoc, reverse-append}
-use Rattle.stow_tree_model.specs.Agreement.{TenantPins}
-use Rattle.stow_tree_model.specs.Keys.{tenant_of}
-use Rattle.stow_tree_model.specs.Merged.{row_message, rows_set, merged, version_at, value_of, kept, trimmed, same_key, is_kept, is_pin_within, op_of_value}
-use Rattle.stow_tree_model.specs.Messages.{ops_of, ops_in, with_all}
-use Rattle.stow_tree_model.specs.Op.{Op}
-use Rattle.stow_tree_model.specs.Operations.{or_else, outcome}
-use Rattle.stow_tree_model.specs.Order.{place_cmp, place_of, MessagesRise}
-use Rattle.stow_tree_model.specs.TreeMessage.{TreeMessage}
-use Rattle.stow_tree_model.specs.Version.{Version}
-use Rattle.stow_tree_model.proofs.Ordered.{in_order_once_law}
-use Rattle.stow_tree_model.proofs.Orders.{key_cases, less_within}
-use Rattle.stow_tree_model.proofs.Pruning.{contains_here, contains_there}
+use Rattle.stow_page.specs.StowTreeModel.Agreement.{TenantPins}
+use Rattle.stow_page.specs.StowTreeModel.Keys.{tenant_of}
+use Rattle.stow_page.specs.StowTreeModel.Merged.{row_message, rows_set, merged, version_at, value_of, kept, trimmed, same_key, is_kept, is_pin_within, op_of_value}
+use Rattle.stow_page.specs.StowTreeModel.Messages.{ops_of, ops_in, with_all}
+use Rattle.stow_page.specs.StowTreeModel.Op.{Op}
+use Rattle.stow_page.specs.StowTreeModel.Operations.{or_else, outcome}
+use Rattle.stow_page.specs.StowTreeModel.Order.{place_cmp, place_of, MessagesRise}
+use Rattle.stow_page.specs.StowTreeModel.TreeMessage.{TreeMessage}
+use Rattle.stow_page.specs.StowTreeModel.Version.{Version}
+use Rattle.stow_page.proofs.StowTreeModel.Ordered.{in_order_once_law}
+use Rattle.stow_page.proofs.StowTreeModel.Orders.{key_cases, less_within}
+use Rattle.stow_page.proofs.StowTreeModel.Pruning.{contains_here, contains_there}
 use Rattle.stow_merge.specs.OneKey.{AreOfOneKey, folded, left_by}
 use Rattle.stow_merge.proofs.KeyOps.{ops-merged, ops_in-append, message_found, row_found}
 use Rattle.stow_merge.proofs.Lists.{all_from_members, all_join, all_split}

@@ -7,7 +7,7 @@ use Rattle.stow_page.proofs.Pushed.{length-entries, length-entry, length-packed_
 use Rattle.stow_page.specs.Format.{entry, entries, tail, is_long, has_long, format_of, packed_page}
 use Rattle.stow_page.specs.declared.format.Format.{Format}
 use Rattle.stow_page.specs.declared.format.Format.TheVariants.{One, Two}
-use Rattle.stow_tree_model.specs.Version.{Version}
+use Rattle.stow_page.specs.StowTreeModel.Version.{Version}
 use Rattle.stow_merge.proofs.Lists.{all_split}
 
 -- ---- what a format tells

@@ -11,21 +11,21 @@ use Rattle.std.proofs.Math.ListN.{drop_of_length-le}
 use Rattle.std.proofs.lemmas.List.{drop-take, length-drop, length-take}
 use Rattle.std.proofs.Math.Seq.{take-length}
 use Rattle.std.proofs.lemmas.Option.{slice_get-map, slice_get-get_or, slice_get_within}
-use Rattle.stow_bytes.specs.Bytes.{bytes_cmp}
+use Rattle.stow_page.specs.StowBytes.Bytes.{bytes_cmp}
 use Rattle.stow_page.specs.Format.{IsVersion, AreVersions}
 use Rattle.stow_page.specs.Rows.{IsCountFrom, is_above}
 use Rattle.stow_page.proofs.Looked.{all_at, rise_at, lower_at}
-use Rattle.stow_tree_model.specs.Agreement.{TenantPins}
-use Rattle.stow_tree_model.specs.Merged.{merged, rows_set}
-use Rattle.stow_tree_model.specs.Messages.{with_all}
-use Rattle.stow_tree_model.specs.Order.{place_cmp, place_of, version_place, MessagesRise, VersionsRise}
-use Rattle.stow_tree_model.specs.TreeMessage.{TreeMessage}
-use Rattle.stow_tree_model.specs.Value.{IsValue}
-use Rattle.stow_tree_model.specs.Version.{Version}
-use Rattle.stow_tree_model.proofs.Histories.{falls_key}
-use Rattle.stow_tree_model.proofs.Orders.{key_cases, less_within}
-use Rattle.stow_tree_model.proofs.Pruning.{pruning}
-use Rattle.stow_tree_model.proofs.Rising.{less_from}
+use Rattle.stow_page.specs.StowTreeModel.Agreement.{TenantPins}
+use Rattle.stow_page.specs.StowTreeModel.Merged.{merged, rows_set}
+use Rattle.stow_page.specs.StowTreeModel.Messages.{with_all}
+use Rattle.stow_page.specs.StowTreeModel.Order.{place_cmp, place_of, version_place, MessagesRise, VersionsRise}
+use Rattle.stow_page.specs.StowTreeModel.TreeMessage.{TreeMessage}
+use Rattle.stow_page.specs.StowTreeModel.Value.{IsValue}
+use Rattle.stow_page.specs.StowTreeModel.Version.{Version}
+use Rattle.stow_page.proofs.StowTreeModel.Histories.{falls_key}
+use Rattle.stow_page.proofs.StowTreeModel.Orders.{key_cases, less_within}
+use Rattle.stow_page.proofs.StowTreeModel.Pruning.{pruning}
+use Rattle.stow_page.proofs.StowTreeModel.Rising.{less_from}
 use Rattle.stow_merge.specs.OneKey.{AreOfOneKey, CanFollow, IsRowOf, IsRunOf}
 use Rattle.stow_merge.specs.Pages.{HaveShortValues}
 use Rattle.stow_merge.proofs.KeyLemmas.{rises_front}

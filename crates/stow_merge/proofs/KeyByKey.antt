@@ -6,16 +6,16 @@ use Rattle.std.specs.List.Sorted.{IsStrictlySortedBy}
 use Rattle.std.specs.Ordering.{nat_cmp, ordering_then}
 use Rattle.std.specs.declared.cmp.Ordering.TheVariants.{Less}
 use Rattle.std.proofs.lemmas.List.Elements.{Contains-append_cases, Contains-append_left, Contains-append_right}
-use Rattle.stow_bytes.specs.Bytes.{bytes_cmp}
-use Rattle.stow_tree_model.specs.Agreement.{TenantPins}
-use Rattle.stow_tree_model.specs.Merged.{rows_set, row_message, merged, Stays, IsPruning}
-use Rattle.stow_tree_model.specs.Messages.{ops_in, with_all}
-use Rattle.stow_tree_model.specs.Operations.{Operations, or_else}
-use Rattle.stow_tree_model.specs.Order.{place_cmp, version_place, VersionsRise}
-use Rattle.stow_tree_model.specs.TreeMessage.{TreeMessage}
-use Rattle.stow_tree_model.specs.Version.{Version}
-use Rattle.stow_tree_model.proofs.Latest.{contains_cases}
-use Rattle.stow_tree_model.proofs.Pruning.{pruning, pruned_exactly_law, contains_here, contains_there, none_in_nothing}
+use Rattle.stow_page.specs.StowBytes.Bytes.{bytes_cmp}
+use Rattle.stow_page.specs.StowTreeModel.Agreement.{TenantPins}
+use Rattle.stow_page.specs.StowTreeModel.Merged.{rows_set, row_message, merged, Stays, IsPruning}
+use Rattle.stow_page.specs.StowTreeModel.Messages.{ops_in, with_all}
+use Rattle.stow_page.specs.StowTreeModel.Operations.{Operations, or_else}
+use Rattle.stow_page.specs.StowTreeModel.Order.{place_cmp, version_place, VersionsRise}
+use Rattle.stow_page.specs.StowTreeModel.TreeMessage.{TreeMessage}
+use Rattle.stow_page.specs.StowTreeModel.Version.{Version}
+use Rattle.stow_page.proofs.StowTreeModel.Latest.{contains_cases}
+use Rattle.stow_page.proofs.StowTreeModel.Pruning.{pruning, pruned_exactly_law, contains_here, contains_there, none_in_nothing}
 use Rattle.stow_merge.proofs.KeyOps.{not_below, or_nothing, nothing_or, none_if_not, one_of, message_found, row_found, ops_over, ops_over-append, ops-merged, stays_of}
 
 -- ---- keys of rows and messages

@@ -7,14 +7,14 @@ use Rattle.std.specs.List.{AllByRecursion}
 use Rattle.std.specs.List.Sorted.{IsStrictlySortedBy}
 use Rattle.std.proofs.lemmas.List.{map-append, take-append-drop}
 use Rattle.std.proofs.lemmas.List.Elements.{Contains-append_right}
-use Rattle.stow_bytes.specs.Bytes.{bytes_cmp}
-use Rattle.stow_tree_model.specs.Merged.{same_key}
-use Rattle.stow_tree_model.specs.Order.{VersionPlace, place_cmp, version_place, VersionsRise}
-use Rattle.stow_tree_model.specs.Version.{Version}
-use Rattle.stow_tree_model.proofs.Histories.{falls_key}
-use Rattle.stow_tree_model.proofs.Latest.{contains_cases}
-use Rattle.stow_tree_model.proofs.Orders.{key_cases}
-use Rattle.stow_tree_model.proofs.Pruning.{contains_here, none_in_nothing}
+use Rattle.stow_page.specs.StowBytes.Bytes.{bytes_cmp}
+use Rattle.stow_page.specs.StowTreeModel.Merged.{same_key}
+use Rattle.stow_page.specs.StowTreeModel.Order.{VersionPlace, place_cmp, version_place, VersionsRise}
+use Rattle.stow_page.specs.StowTreeModel.Version.{Version}
+use Rattle.stow_page.proofs.StowTreeModel.Histories.{falls_key}
+use Rattle.stow_page.proofs.StowTreeModel.Latest.{contains_cases}
+use Rattle.stow_page.proofs.StowTreeModel.Orders.{key_cases}
+use Rattle.stow_page.proofs.StowTreeModel.Pruning.{contains_here, none_in_nothing}
 use Rattle.stow_merge.specs.Pages.{read_in_order, HaveOneKey, KeysBelow}
 use Rattle.stow_merge.specs.Writing.{version_in, versions_in, IsKeyRun, AreRuns}
 use Rattle.stow_merge.specs.declared.kept_version.KeptVersion as coded

@@ -7,20 +7,20 @@ use Rattle.std.specs.Cmp.{tied_itself}
 use Rattle.std.specs.Cmp.Lexicographic.{nat_list_cmp_total}
 use Rattle.std.specs.declared.cmp.Ordering.TheVariants.{Less, Equal}
 use Rattle.std.proofs.lemmas.List.{map-append}
-use Rattle.stow_bytes.specs.Bytes.{bytes_cmp}
-use Rattle.stow_tree_model.specs.Agreement.{TenantPins}
-use Rattle.stow_tree_model.specs.Keys.{tenant_of}
-use Rattle.stow_tree_model.specs.Merged.{row_message, rows_set, Stays}
-use Rattle.stow_tree_model.specs.Messages.{Messages, ops_of, ops_in, with_all, set_of}
-use Rattle.stow_tree_model.specs.Op.{Op, Put}
-use Rattle.stow_tree_model.specs.Operations.{Operations, applied, latest, or_else, value_in, NoneAbove}
-use Rattle.stow_tree_model.specs.Order.{VersionPlace, place_cmp, place_of}
-use Rattle.stow_tree_model.specs.TreeMessage.{TreeMessage}
-use Rattle.stow_tree_model.specs.Version.{Version}
-use Rattle.stow_tree_model.proofs.Histories.{ops_in-skip}
-use Rattle.stow_tree_model.proofs.Orders.{place_cases}
-use Rattle.stow_tree_model.proofs.Pruning.{contains_here, contains_there}
-use Rattle.stow_tree_model.proofs.SetLemmas.{ops-with_all}
+use Rattle.stow_page.specs.StowBytes.Bytes.{bytes_cmp}
+use Rattle.stow_page.specs.StowTreeModel.Agreement.{TenantPins}
+use Rattle.stow_page.specs.StowTreeModel.Keys.{tenant_of}
+use Rattle.stow_page.specs.StowTreeModel.Merged.{row_message, rows_set, Stays}
+use Rattle.stow_page.specs.StowTreeModel.Messages.{Messages, ops_of, ops_in, with_all, set_of}
+use Rattle.stow_page.specs.StowTreeModel.Op.{Op, Put}
+use Rattle.stow_page.specs.StowTreeModel.Operations.{Operations, applied, latest, or_else, value_in, NoneAbove}
+use Rattle.stow_page.specs.StowTreeModel.Order.{VersionPlace, place_cmp, place_of}
+use Rattle.stow_page.specs.StowTreeModel.TreeMessage.{TreeMessage}
+use Rattle.stow_page.specs.StowTreeModel.Version.{Version}
+use Rattle.stow_page.proofs.StowTreeModel.Histories.{ops_in-skip}
+use Rattle.stow_page.proofs.StowTreeModel.Orders.{place_cases}
+use Rattle.stow_page.proofs.StowTreeModel.Pruning.{contains_here, contains_there}
+use Rattle.stow_page.proofs.StowTreeModel.SetLemmas.{ops-with_all}
 
 -- ---- options
 

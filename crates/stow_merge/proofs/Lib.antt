@@ -19,3 +19,5 @@ pub mod OneKeyLemmas
 pub mod Going
 pub mod Folded
 pub mod PartLemmas
+pub use Rattle.stow_message.proofs as StowMessage
+pub use Rattle.stow_page.proofs.StowTreeModel

@@ -4,8 +4,8 @@ use Rattle.std.specs.Prelude.{Contains}
 use Rattle.std.specs.List.{AllByRecursion}
 use Rattle.std.proofs.lemmas.Bool.{cases_lt}
 use Rattle.std.proofs.lemmas.List.{get_or_default, take-append-drop}
-use Rattle.stow_tree_model.proofs.Latest.{contains_cases}
-use Rattle.stow_tree_model.proofs.Pruning.{contains_here, contains_there, none_in_nothing}
+use Rattle.stow_page.proofs.StowTreeModel.Latest.{contains_cases}
+use Rattle.stow_page.proofs.StowTreeModel.Pruning.{contains_here, contains_there, none_in_nothing}
 
 pub all_member : {X : Type 0} (P : X → Type 0) (xs : List X) (x : X) → AllByRecursion P xs → Contains xs x → P x
 all_member P [] x h c = absurd (none_in_nothing x c)

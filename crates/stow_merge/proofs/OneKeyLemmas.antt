@@ -7,20 +7,20 @@ use Rattle.std.proofs.lemmas.Bool.{cases_lt}
 use Rattle.std.proofs.lemmas.Bool.Decides.{nat_tests}
 use Rattle.std.proofs.Math.Seq.{take-length}
 use Rattle.std.proofs.lemmas.List.{take-map, drop-map, take_rest}
-use Rattle.stow_tree_model.specs.Agreement.{TenantPins}
-use Rattle.stow_tree_model.specs.Keys.{tenant_of}
+use Rattle.stow_page.specs.StowTreeModel.Agreement.{TenantPins}
+use Rattle.stow_page.specs.StowTreeModel.Keys.{tenant_of}
 use Rattle.std.specs.List.Sorted.{IsStrictlySortedBy}
-use Rattle.stow_tree_model.specs.Order.{place_cmp, place_of, MessagesRise, VersionsRise}
-use Rattle.stow_tree_model.specs.Operations.{outcome}
+use Rattle.stow_page.specs.StowTreeModel.Order.{place_cmp, place_of, MessagesRise, VersionsRise}
+use Rattle.stow_page.specs.StowTreeModel.Operations.{outcome}
 use Rattle.std.specs.declared.cmp.Ordering.TheVariants.{Less}
-use Rattle.stow_tree_model.specs.declared.version.Version as lent
-use Rattle.stow_tree_model.proofs.Histories.{falls_number}
-use Rattle.stow_tree_model.proofs.Latest.{contains_cases}
-use Rattle.stow_tree_model.proofs.Pruning.{contains_here, none_in_nothing}
-use Rattle.stow_tree_model.specs.Merged.{merged, same_key, version_at}
-use Rattle.stow_tree_model.specs.TreeMessage.{TreeMessage, message_of}
-use Rattle.stow_tree_model.specs.Version.{Version}
-use Rattle.stow_tree_model.specs.declared.message.Message as messages
+use Rattle.stow_page.specs.StowTreeModel.declared.version.Version as lent
+use Rattle.stow_page.proofs.StowTreeModel.Histories.{falls_number}
+use Rattle.stow_page.proofs.StowTreeModel.Latest.{contains_cases}
+use Rattle.stow_page.proofs.StowTreeModel.Pruning.{contains_here, none_in_nothing}
+use Rattle.stow_page.specs.StowTreeModel.Merged.{merged, same_key, version_at}
+use Rattle.stow_page.specs.StowTreeModel.TreeMessage.{TreeMessage, message_of}
+use Rattle.stow_page.specs.StowTreeModel.Version.{Version}
+use Rattle.stow_page.specs.StowTreeModel.declared.message.Message as messages
 use Rattle.stow_merge.specs.OneKey.{rows_of, folded, left_by, version_with, AreOfOneKey, AreOlder, IsNewest, IsRowOf, IsRunOf, StaysAlone}
 use Rattle.stow_merge.proofs.Folded.{merged_folded, folded_more}
 use Rattle.stow_merge.proofs.Lists.{all_member, all_mapped_member}

@@ -10,9 +10,9 @@ use Rattle.std.proofs.Math.Seq.{drop-length}
 use Rattle.stow_page.proofs.Pushed.{length-entries, length-entry}
 use Rattle.stow_page.specs.Format.{entry, entries, packed_page}
 use Rattle.stow_page.specs.declared.format.Format.{Format}
-use Rattle.stow_tree_model.specs.Order.{VersionsRise}
-use Rattle.stow_tree_model.specs.Version.{Version}
-use Rattle.stow_tree_model.proofs.Pruning.{none_in_nothing}
+use Rattle.stow_page.specs.StowTreeModel.Order.{VersionsRise}
+use Rattle.stow_page.specs.StowTreeModel.Version.{Version}
+use Rattle.stow_page.proofs.StowTreeModel.Pruning.{none_in_nothing}
 use Rattle.stow_merge.specs.Cuts.{size_between, ArePages}
 use Rattle.stow_merge.specs.Pages.{read_in_order, HaveOneKey, HaveShortValues, KeysBelow, IsLeafPage, AreLeafPages}
 use Rattle.stow_merge.specs.Writing.{CanPack, CanMerge, AreFewAndShort, pages_at}

@@ -4,14 +4,14 @@ use Rattle.std.specs.Prelude.{Result, Ok, Err, IfOk, sum}
 use Rattle.std.specs.Borrow.{Bor}
 use Rattle.std.specs.List.{AllByRecursion}
 use Rattle.std.proofs.lemmas.List.{append-nil, length-map}
-use Rattle.stow_tree_model.proofs.Pruning.{none_in_nothing}
+use Rattle.stow_page.proofs.StowTreeModel.Pruning.{none_in_nothing}
 use Rattle.std.proofs.Math.Seq.{take-length}
 use Rattle.std.proofs.lemmas.List.Sums.{sum-map}
 use Rattle.stow_page.proofs.Pushed.{length-packed_page}
 use Rattle.stow_page.specs.Format.{entries, format_of, packed_page}
 use Rattle.stow_page.specs.declared.format.Format.{Format}
-use Rattle.stow_tree_model.specs.Order.{VersionsRise}
-use Rattle.stow_tree_model.specs.Version.{Version}
+use Rattle.stow_page.specs.StowTreeModel.Order.{VersionsRise}
+use Rattle.stow_page.specs.StowTreeModel.Version.{Version}
 use Rattle.stow_merge.specs.Cuts.{size_between, ArePages}
 use Rattle.stow_merge.specs.Pages.{read_in_order, HaveShortValues, AreLeafPages, ArePagesOf}
 use Rattle.stow_merge.specs.Writing.{versions_in, keys_in, AreRuns, AreSizes, AreFewAndShort, CanMerge, CanPack, pages_at, at_least_one_page}

@@ -6,15 +6,15 @@ use Rattle.std.specs.declared.cmp.Ordering.TheVariants.{Less}
 use Rattle.std.proofs.lemmas.Bool.{cases_lt}
 use Rattle.std.proofs.lemmas.List.{append-nil, map-append, take-map, drop-map, take_more, take-take, drop-append-le, length-take-le, length-map}
 use Rattle.std.proofs.lemmas.Option.{slice_get_within, get_or_from_slice_get}
-use Rattle.stow_bytes.specs.Bytes.{bytes_cmp}
+use Rattle.stow_page.specs.StowBytes.Bytes.{bytes_cmp}
 use Rattle.stow_page.specs.Format.{entry, entries, format_of, packed_page, AreVersions}
 use Rattle.stow_page.specs.Rows.{AreApart}
 use Rattle.stow_page.specs.declared.format.Format.{Format}
-use Rattle.stow_tree_model.specs.Merged.{same_key}
-use Rattle.stow_tree_model.specs.Order.{VersionsRise}
-use Rattle.stow_tree_model.specs.Version.{Version}
-use Rattle.stow_tree_model.proofs.Latest.{contains_cases}
-use Rattle.stow_tree_model.proofs.Pruning.{none_in_nothing}
+use Rattle.stow_page.specs.StowTreeModel.Merged.{same_key}
+use Rattle.stow_page.specs.StowTreeModel.Order.{VersionsRise}
+use Rattle.stow_page.specs.StowTreeModel.Version.{Version}
+use Rattle.stow_page.proofs.StowTreeModel.Latest.{contains_cases}
+use Rattle.stow_page.proofs.StowTreeModel.Pruning.{none_in_nothing}
 use Rattle.stow_merge.specs.Cuts.{size_between, ArePages}
 use Rattle.stow_merge.specs.Pages.{read_in_order, ArePagesOf, HaveShortValues, KeysBelow}
 use Rattle.stow_merge.specs.Parts.{alone, parts_at}

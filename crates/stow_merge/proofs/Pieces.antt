@@ -3,9 +3,9 @@ use Rattle.std.proofs.Common.{◌≡◌, ℕ, zero, suc, ◌+◌, ◌<◌, ◌�
 use Rattle.std.specs.Prelude.{if◌then◌else◌, is_some, map}
 use Rattle.std.specs.List.{flat_map}
 use Rattle.std.proofs.lemmas.List.{map-append, take_more, length-take-le, drop-append-le, append-nil}
-use Rattle.stow_tree_model.specs.Op.{Op, Put, Gone, Append, bytes_in}
-use Rattle.stow_tree_model.specs.Operations.{outcome}
-use Rattle.stow_tree_model.specs.TreeMessage.{TreeMessage}
+use Rattle.stow_page.specs.StowTreeModel.Op.{Op, Put, Gone, Append, bytes_in}
+use Rattle.stow_page.specs.StowTreeModel.Operations.{outcome}
+use Rattle.stow_page.specs.StowTreeModel.TreeMessage.{TreeMessage}
 use Rattle.stow_merge.specs.KeptVersion.{bytes_between, value_between, start_after, kept_version}
 use Rattle.stow_merge.specs.declared.kept_version.KeptVersion as coded
 

@@ -4,7 +4,7 @@ use Rattle.std.specs.Prelude.{filter, slice_get}
 use Rattle.std.specs.declared.vec.Vec.{Vec}
 use Rattle.std.proofs.lemmas.Bool.{cases_eq, eq-eqb, ne_eqb, cond-true, cond-false}
 use Rattle.std.proofs.lemmas.List.Kept.{AllPairs-filter}
-use Rattle.stow_tree_model.specs.Agreement.{TenantPins, with_pins}
+use Rattle.stow_page.specs.StowTreeModel.Agreement.{TenantPins, with_pins}
 use Rattle.stow_merge.specs.PinLists.{items_of, numbers_at, AreRising}
 
 slice_get-here : {X : Type 0} (xs : List X) (i : ℕ) (x : X) → i < length xs → slice_get (set xs i x) i ≡ Some x

@@ -11,11 +11,11 @@ use Rattle.std.proofs.lemmas.Option.{slice_get_within, slice_get-map, slice_get-
 use Rattle.stow_message.specs.Rising.{IsNew}
 use Rattle.stow_page.specs.Rows.{IsCountUpTo}
 use Rattle.stow_page.proofs.Looked.{versions_rise_at}
-use Rattle.stow_tree_model.specs.Merged.{row_message}
-use Rattle.stow_tree_model.specs.Order.{VersionPlace, place_cmp, place_of, version_place, VersionsRise}
-use Rattle.stow_tree_model.specs.TreeMessage.{TreeMessage}
-use Rattle.stow_tree_model.specs.Version.{Version}
-use Rattle.stow_tree_model.proofs.Orders.{place_total, place_cases}
+use Rattle.stow_page.specs.StowTreeModel.Merged.{row_message}
+use Rattle.stow_page.specs.StowTreeModel.Order.{VersionPlace, place_cmp, place_of, version_place, VersionsRise}
+use Rattle.stow_page.specs.StowTreeModel.TreeMessage.{TreeMessage}
+use Rattle.stow_page.specs.StowTreeModel.Version.{Version}
+use Rattle.stow_page.proofs.StowTreeModel.Orders.{place_total, place_cases}
 
 -- a version above a place, or below one that is not above it, doesn't stand there
 above_elsewhere : (place at : VersionPlace) → is_lt (place_cmp place at) ≡ true → at ≢ place

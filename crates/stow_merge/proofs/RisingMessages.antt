@@ -1,8 +1,8 @@
 -- Parts of messages that rise.
 use Rattle.std.proofs.Common.{ℕ, List, ◌++◌, take, drop, sym, subst}
 use Rattle.std.proofs.lemmas.List.{take-append-drop}
-use Rattle.stow_tree_model.specs.Order.{place_of, MessagesRise}
-use Rattle.stow_tree_model.specs.TreeMessage.{TreeMessage}
+use Rattle.stow_page.specs.StowTreeModel.Order.{place_of, MessagesRise}
+use Rattle.stow_page.specs.StowTreeModel.TreeMessage.{TreeMessage}
 use Rattle.stow_merge.proofs.KeyLemmas.{rise_after, rise_front}
 
 pub messages_front : (ms more : List TreeMessage) → MessagesRise (ms ++ more) → MessagesRise ms

@@ -3,17 +3,17 @@ use Rattle.std.proofs.Common.{◌≡◌, ◌≢◌, ℕ, zero, suc, ◌+◌, ◌
 use Rattle.std.specs.Prelude.{Contains, IsSome, slice_get}
 use Rattle.std.specs.declared.cmp.Ordering.TheVariants.{Less}
 use Rattle.std.proofs.lemmas.List.{take-append-drop}
-use Rattle.stow_bytes.specs.Bytes.{bytes_cmp}
+use Rattle.stow_page.specs.StowBytes.Bytes.{bytes_cmp}
 use Rattle.stow_page.specs.Rows.{AreAlone}
-use Rattle.stow_tree_model.specs.Agreement.{TenantPins}
-use Rattle.stow_tree_model.specs.Merged.{op_of_value, row_message, rows_set, merged}
-use Rattle.stow_tree_model.specs.Messages.{ops_in, with_all}
-use Rattle.stow_tree_model.specs.Operations.{Operations, latest, value_in}
-use Rattle.stow_tree_model.specs.Order.{VersionPlace, VersionsRise}
-use Rattle.stow_tree_model.specs.Version.{Version}
-use Rattle.stow_tree_model.proofs.Histories.{ops_in-at, ops_in-skip}
-use Rattle.stow_tree_model.proofs.Latest.{contains_cases}
-use Rattle.stow_tree_model.proofs.Pruning.{pruned_exactly_law, none_in_nothing}
+use Rattle.stow_page.specs.StowTreeModel.Agreement.{TenantPins}
+use Rattle.stow_page.specs.StowTreeModel.Merged.{op_of_value, row_message, rows_set, merged}
+use Rattle.stow_page.specs.StowTreeModel.Messages.{ops_in, with_all}
+use Rattle.stow_page.specs.StowTreeModel.Operations.{Operations, latest, value_in}
+use Rattle.stow_page.specs.StowTreeModel.Order.{VersionPlace, VersionsRise}
+use Rattle.stow_page.specs.StowTreeModel.Version.{Version}
+use Rattle.stow_page.proofs.StowTreeModel.Histories.{ops_in-at, ops_in-skip}
+use Rattle.stow_page.proofs.StowTreeModel.Latest.{contains_cases}
+use Rattle.stow_page.proofs.StowTreeModel.Pruning.{pruned_exactly_law, none_in_nothing}
 use Rattle.stow_merge.proofs.Climbing.{KeysClimb, climb, climb_at, one_each}
 use Rattle.stow_merge.proofs.KeyLemmas.{rises_front, rises_after}
 use Rattle.stow_merge.proofs.KeyOps.{not_below, is_there, ops_over, ops-merged, by_ops, from_ops, StaysBy, none_if_not, row_found, put_last}

@@ -5,13 +5,13 @@ use Rattle.std.specs.Cmp.Lexicographic.{nat_list_cmp_total}
 use Rattle.std.specs.declared.cmp.Ordering.TheVariants.{Less}
 use Rattle.std.proofs.lemmas.List.{take-append-drop}
 use Rattle.std.proofs.lemmas.List.Elements.{Contains-append_cases}
-use Rattle.stow_bytes.specs.Bytes.{bytes_cmp}
-use Rattle.stow_tree_model.specs.Agreement.{TenantPins}
-use Rattle.stow_tree_model.specs.Merged.{merged}
-use Rattle.stow_tree_model.specs.TreeMessage.{TreeMessage}
-use Rattle.stow_tree_model.specs.Version.{Version}
-use Rattle.stow_tree_model.proofs.Latest.{contains_cases}
-use Rattle.stow_tree_model.proofs.Pruning.{none_in_nothing}
+use Rattle.stow_page.specs.StowBytes.Bytes.{bytes_cmp}
+use Rattle.stow_page.specs.StowTreeModel.Agreement.{TenantPins}
+use Rattle.stow_page.specs.StowTreeModel.Merged.{merged}
+use Rattle.stow_page.specs.StowTreeModel.TreeMessage.{TreeMessage}
+use Rattle.stow_page.specs.StowTreeModel.Version.{Version}
+use Rattle.stow_page.proofs.StowTreeModel.Latest.{contains_cases}
+use Rattle.stow_page.proofs.StowTreeModel.Pruning.{none_in_nothing}
 use Rattle.stow_merge.proofs.KeyByKey.{keys_have, merges_apart}
 use Rattle.stow_merge.proofs.Lists.{split_at}
 use Rattle.stow_merge.proofs.Settled.{AreSettled, settled_take, merged_settled}

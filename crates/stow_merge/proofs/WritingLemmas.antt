@@ -7,17 +7,17 @@ use Rattle.std.proofs.lemmas.Grind.{flat_map-append}
 use Rattle.std.proofs.lemmas.List.{append-nil, map-append, take_more, take-append-drop, take-map, drop-map}
 use Rattle.std.proofs.lemmas.List.Folds.{list_any-append}
 use Rattle.std.proofs.Math.Bool.{or-true}
-use Rattle.stow_bytes.specs.Limits.{value_limit}
+use Rattle.stow_page.specs.StowBytes.Limits.{value_limit}
 use Rattle.stow_page.specs.Format.{is_long, has_long}
-use Rattle.stow_tree_model.specs.Merged.{same_key}
-use Rattle.stow_tree_model.specs.Op.{op_of, bytes_in}
-use Rattle.stow_tree_model.specs.Order.{VersionsRise}
-use Rattle.stow_tree_model.specs.TreeMessage.{TreeMessage, message_of}
-use Rattle.stow_tree_model.specs.Value.{IsValue}
-use Rattle.stow_tree_model.specs.Version.{Version}
-use Rattle.stow_tree_model.specs.declared.message.Message as messages
-use Rattle.stow_tree_model.proofs.Orders.{key_cases}
-use Rattle.stow_tree_model.proofs.Readings.{drop_one_less}
+use Rattle.stow_page.specs.StowTreeModel.Merged.{same_key}
+use Rattle.stow_page.specs.StowTreeModel.Op.{op_of, bytes_in}
+use Rattle.stow_page.specs.StowTreeModel.Order.{VersionsRise}
+use Rattle.stow_page.specs.StowTreeModel.TreeMessage.{TreeMessage, message_of}
+use Rattle.stow_page.specs.StowTreeModel.Value.{IsValue}
+use Rattle.stow_page.specs.StowTreeModel.Version.{Version}
+use Rattle.stow_page.specs.StowTreeModel.declared.message.Message as messages
+use Rattle.stow_page.proofs.StowTreeModel.Orders.{key_cases}
+use Rattle.stow_page.proofs.StowTreeModel.Readings.{drop_one_less}
 use Rattle.stow_merge.specs.KeptVersion.{bytes_between, value_between}
 use Rattle.stow_merge.specs.Pages.{read_in_order}
 use Rattle.stow_merge.specs.Writing.{CanPack}

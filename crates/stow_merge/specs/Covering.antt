@@ -1,9 +1,9 @@
 -- Whether pins show nothing of a merge that went away.
 use Rattle.std.specs.Prelude.{◌⊎◌, ℕ, ◌≤◌, List, All, Contains}
-use Rattle.stow_tree_model.specs.Agreement.{TenantPins}
-use Rattle.stow_tree_model.specs.Keys.{tenant_of}
-use Rattle.stow_tree_model.specs.TreeMessage.{TreeMessage}
-use Rattle.stow_tree_model.specs.Version.{Version}
+use Rattle.stow_page.specs.StowTreeModel.Agreement.{TenantPins}
+use Rattle.stow_page.specs.StowTreeModel.Keys.{tenant_of}
+use Rattle.stow_page.specs.StowTreeModel.TreeMessage.{TreeMessage}
+use Rattle.stow_page.specs.StowTreeModel.Version.{Version}
 
 -- each present pin was used, or isn't below the number
 abbrev pub IsCovered : List ℕ → List ℕ → ℕ → Type 0

@@ -1,7 +1,7 @@
 -- What a flush job stands for.
 use Rattle.std.specs.Prelude.{List}
-use Rattle.stow_tree_model.specs.Merged.{merged}
-use Rattle.stow_tree_model.specs.Version.{Version}
+use Rattle.stow_page.specs.StowTreeModel.Merged.{merged}
+use Rattle.stow_page.specs.StowTreeModel.Version.{Version}
 use Rattle.stow_merge.specs.Pages.{ArePagesOf}
 use Rattle.stow_merge.specs.Pins.{pins_in}
 use Rattle.stow_merge.specs.declared.flush_job.FlushJob.{FlushJob}

@@ -1,10 +1,10 @@
 -- Versions that a merge keeps, by where their bytes stand among messages in order.
 use Rattle.std.specs.Prelude.{ℕ, Bool, false, List, take, drop, Option, Some, None, unwrap_or}
 use Rattle.std.specs.List.{flat_map}
-use Rattle.stow_tree_model.specs.Merged.{same_key}
-use Rattle.stow_tree_model.specs.Op.{Op, Put, Gone, Append, bytes_in}
-use Rattle.stow_tree_model.specs.TreeMessage.{TreeMessage}
-use Rattle.stow_tree_model.specs.Version.{Version}
+use Rattle.stow_page.specs.StowTreeModel.Merged.{same_key}
+use Rattle.stow_page.specs.StowTreeModel.Op.{Op, Put, Gone, Append, bytes_in}
+use Rattle.stow_page.specs.StowTreeModel.TreeMessage.{TreeMessage}
+use Rattle.stow_page.specs.StowTreeModel.Version.{Version}
 use Rattle.stow_merge.specs.declared.kept_version.KeptVersion as coded
 
 -- the bytes that messages carry, from one of them to before another

@@ -1,13 +1,13 @@
 -- What a merge keeps of one key.
 use Rattle.std.specs.Prelude.{◌≡◌, ◌≢◌, List, length, slice_get, take, drop, [], ◌∷◌, ◌++◌, ℕ, ◌<◌, ◌≤◌, Contains, Option, Some, None}
 use Rattle.std.specs.List.{AllByRecursion}
-use Rattle.stow_tree_model.specs.Agreement.{TenantPins}
-use Rattle.stow_tree_model.specs.Merged.{merged, version_at}
-use Rattle.stow_tree_model.specs.Operations.{outcome}
-use Rattle.stow_tree_model.specs.Order.{MessagesRise, VersionsRise}
-use Rattle.stow_tree_model.specs.TreeMessage.{TreeMessage}
-use Rattle.stow_tree_model.specs.Version.{Version, version_of}
-use Rattle.stow_tree_model.specs.declared.version.Version as lent
+use Rattle.stow_page.specs.StowTreeModel.Agreement.{TenantPins}
+use Rattle.stow_page.specs.StowTreeModel.Merged.{merged, version_at}
+use Rattle.stow_page.specs.StowTreeModel.Operations.{outcome}
+use Rattle.stow_page.specs.StowTreeModel.Order.{MessagesRise, VersionsRise}
+use Rattle.stow_page.specs.StowTreeModel.TreeMessage.{TreeMessage}
+use Rattle.stow_page.specs.StowTreeModel.Version.{Version, version_of}
+use Rattle.stow_page.specs.StowTreeModel.declared.version.Version as lent
 use Rattle.stow_merge.specs.Pages.{HaveShortValues}
 
 -- a key's row, if it has one

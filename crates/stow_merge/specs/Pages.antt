@@ -4,10 +4,10 @@ use Rattle.std.specs.declared.cmp.Ordering.TheVariants.{Less}
 use Rattle.std.specs.Coded.{×_prop, Unit-prop}
 use Rattle.std.specs.List.{flat_map, AllByRecursion}
 use Rattle.std.proofs.Props.{props}
-use Rattle.stow_bytes.specs.Bytes.{bytes_cmp}
+use Rattle.stow_page.specs.StowBytes.Bytes.{bytes_cmp}
 use Rattle.stow_page.specs.Format.{packed_page}
-use Rattle.stow_tree_model.specs.Value.{IsValue}
-use Rattle.stow_tree_model.specs.Version.{Version}
+use Rattle.stow_page.specs.StowTreeModel.Value.{IsValue}
+use Rattle.stow_page.specs.StowTreeModel.Version.{Version}
 
 -- the versions of pages, read in order
 abbrev pub read_in_order : List (List Version) → List Version

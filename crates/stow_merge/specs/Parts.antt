@@ -1,6 +1,6 @@
 -- Parts of the versions that stand in one block.
 use Rattle.std.specs.Prelude.{ℕ, List, [], ◌∷◌, take, drop}
-use Rattle.stow_tree_model.specs.Version.{Version}
+use Rattle.stow_page.specs.StowTreeModel.Version.{Version}
 
 -- a version that is its key's only one
 abbrev pub alone : Version → List Version

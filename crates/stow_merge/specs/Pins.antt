@@ -1,6 +1,6 @@
 -- Each tenant's pins.
 use Rattle.std.specs.Prelude.{ℕ}
-use Rattle.stow_tree_model.specs.Agreement.{TenantPins}
+use Rattle.stow_page.specs.StowTreeModel.Agreement.{TenantPins}
 use Rattle.stow_merge.specs.declared.pins.Pins.{Pins}
 use Rattle.stow_merge.specs.PinLists.{numbers_at, room_at}
 

@@ -4,9 +4,9 @@ use Rattle.std.specs.Borrow.{Bor}
 use Rattle.std.specs.List.{AllByRecursion}
 use Rattle.stow_page.specs.Format.{entries, packed_page}
 use Rattle.stow_page.specs.declared.format.Format.{Format}
-use Rattle.stow_tree_model.specs.Order.{VersionsRise}
-use Rattle.stow_tree_model.specs.TreeMessage.{message_of}
-use Rattle.stow_tree_model.specs.Version.{Version}
+use Rattle.stow_page.specs.StowTreeModel.Order.{VersionsRise}
+use Rattle.stow_page.specs.StowTreeModel.TreeMessage.{message_of}
+use Rattle.stow_page.specs.StowTreeModel.Version.{Version}
 use Rattle.stow_merge.specs.KeptVersion.{bytes_between, kept_version}
 use Rattle.stow_merge.specs.Pages.{read_in_order, HaveShortValues, HaveOneKey}
 use Rattle.stow_merge.specs.declared.kept_version.KeptVersion as coded

@@ -3,18 +3,18 @@ ghost use Rattle.std.specs.Prelude.{◌≡◌, ◌≢◌, ◌+◌, ◌^◌, [], 
 ghost use Rattle.stow_merge.specs.OneKey.{rows_of, IsRowOf, IsRunOf};
 ghost use Rattle.stow_merge.specs.Pages.{HaveShortValues};
 ghost use Rattle.stow_merge.specs.Pins.{pins_in};
-ghost use Rattle.stow_tree_model.specs.Merged.{merged};
-ghost use Rattle.stow_tree_model.specs.Order.{MessagesRise, VersionsRise};
-ghost use Rattle.stow_tree_model.specs.TreeMessage.{message_of};
+ghost use Rattle.stow_page.specs.StowTreeModel.Merged.{merged};
+ghost use Rattle.stow_page.specs.StowTreeModel.Order.{MessagesRise, VersionsRise};
+ghost use Rattle.stow_page.specs.StowTreeModel.TreeMessage.{message_of};
 
 use crate::one_key::add_key;
 use crate::pins::Pins;
 use std::alloc::{AllocError, Allocator};
 use stow_page::packed_rows::PackedRows;
 use stow_page::rows::Rows;
-use stow_tree_model::message::Message;
-use stow_tree_model::tenant_key::TenantKey;
-use stow_tree_model::version::Version;
+use stow_page::stow_tree_model::message::Message;
+use stow_page::stow_tree_model::tenant_key::TenantKey;
+use stow_page::stow_tree_model::version::Version;
 
 /// Bytes of a message's entry beside key and value, at most.
 const BESIDE: usize = 15;

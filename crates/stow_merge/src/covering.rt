@@ -2,13 +2,13 @@
 ghost use Rattle.std.specs.Prelude.{◌↔◌, ◌⊎◌, ◌≤◌, All, Contains, IsTrue};
 ghost use Rattle.stow_merge.specs.Covering.{Covers, IsCovered};
 ghost use Rattle.stow_merge.specs.Pins.{pins_in};
-ghost use Rattle.stow_tree_model.specs.Keys.{tenant_of};
+ghost use Rattle.stow_page.specs.StowTreeModel.Keys.{tenant_of};
 
 use crate::pins::Pins;
 use std::alloc::Allocator;
 use stow_message::message_buf::MessageBuf;
 use stow_page::rows::Rows;
-use stow_tree_model::tenant_key::TenantKey;
+use stow_page::stow_tree_model::tenant_key::TenantKey;
 
 /// Whether the pin was used, or isn't below the number.
 fn is_pin_covered(used: &[u64], pin: u64, number: u64) -> bool

@@ -1,10 +1,10 @@
 //! How full the pages of a merge are to be.
 use crate::page_sizes::PageSizes;
 use std::alloc::Allocator;
-use stow_bytes::compare::compare;
 use stow_page::rows::Rows;
-use stow_tree_model::message::Message;
-use stow_tree_model::tenant_key::TenantKey;
+use stow_page::stow_bytes::compare::compare;
+use stow_page::stow_tree_model::message::Message;
+use stow_page::stow_tree_model::tenant_key::TenantKey;
 
 /// How full pages are to be, by where more keys are likely to come.
 #[derive(Clone, Copy)]

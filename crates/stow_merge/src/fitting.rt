@@ -1,17 +1,17 @@
 //! Whether a leaf's rows and a batch can be merged.
 ghost use Rattle.std.specs.Prelude.{◌≡◌, ◌+◌, ◌≤◌, ◌↔◌, length, map, IfOk, IsTrue};
 ghost use Rattle.std.specs.List.{flat_map};
-ghost use Rattle.stow_bytes.specs.Limits.{value_limit};
+ghost use Rattle.stow_page.specs.StowBytes.Limits.{value_limit};
 ghost use Rattle.stow_merge.specs.Mergeable.{IsMergeable};
 ghost use Rattle.stow_merge.specs.Pages.{HaveShortValues};
 ghost use Rattle.stow_merge.specs.Pins.{pins_in};
 ghost use Rattle.stow_merge.specs.Writing.{version_in, versions_in};
 ghost use Rattle.stow_message.specs.Rising.{AreNew, IsNew};
-ghost use Rattle.stow_tree_model.specs.Merged.{merged, row_message};
-ghost use Rattle.stow_tree_model.specs.Op.{bytes_in};
-ghost use Rattle.stow_tree_model.specs.Order.{MessagesRise};
-ghost use Rattle.stow_tree_model.specs.TreeMessage.{message_of};
-ghost use Rattle.stow_tree_model.specs.Value.{IsValue};
+ghost use Rattle.stow_page.specs.StowTreeModel.Merged.{merged, row_message};
+ghost use Rattle.stow_page.specs.StowTreeModel.Op.{bytes_in};
+ghost use Rattle.stow_page.specs.StowTreeModel.Order.{MessagesRise};
+ghost use Rattle.stow_page.specs.StowTreeModel.TreeMessage.{message_of};
+ghost use Rattle.stow_page.specs.StowTreeModel.Value.{IsValue};
 
 use crate::joining::compare;
 use crate::kept_version::KeptVersion;
@@ -19,10 +19,10 @@ use crate::lending::{lent_messages, lent_rows};
 use crate::pins::Pins;
 use crate::survey::{Survey, between, survey_of};
 use std::alloc::{AllocError, Allocator};
-use stow_bytes::limits::VALUE_LIMIT;
 use stow_message::message_buf::MessageBuf;
 use stow_page::rows::Rows;
-use stow_tree_model::message::Message;
+use stow_page::stow_bytes::limits::VALUE_LIMIT;
+use stow_page::stow_tree_model::message::Message;
 
 /// Whether each value that a merge of a leaf's rows with a batch keeps is within the limit of values, as
 /// `merge_into_pages` requires. `Err` where memory was refused.

@@ -3,7 +3,7 @@ ghost use Rattle.std.specs.Prelude.{◌≤◌};
 ghost use Rattle.stow_merge.specs.declared.flush_target.TheConstants.{LEAST_LEAF_TARGET, GREATEST_LEAF_TARGET};
 
 use std::alloc::{Allocator, Global};
-use stow_tree_model::tenant_key_buf::TenantKeyBuf;
+use stow_page::stow_tree_model::tenant_key_buf::TenantKeyBuf;
 
 /// The lowest leaf target, in bytes of a page.
 pub const LEAST_LEAF_TARGET: u32 = 4_096;

@@ -1,16 +1,16 @@
 //! A leaf's rows and a batch in one order.
 ghost use Rattle.std.specs.Prelude.{◌≡◌, ◌+◌, ◌<◌, ◌≤◌, List, map, length, IfOk};
-ghost use Rattle.stow_tree_model.specs.Merged.{rows_set};
-ghost use Rattle.stow_tree_model.specs.Messages.{with_all, in_order};
-ghost use Rattle.stow_tree_model.specs.Order.{place_cmp, place_of, version_place, MessagesRise, VersionsRise};
-ghost use Rattle.stow_tree_model.specs.TreeMessage.{message_of};
-ghost use Rattle.stow_tree_model.specs.Version.{version_of};
+ghost use Rattle.stow_page.specs.StowTreeModel.Merged.{rows_set};
+ghost use Rattle.stow_page.specs.StowTreeModel.Messages.{with_all, in_order};
+ghost use Rattle.stow_page.specs.StowTreeModel.Order.{place_cmp, place_of, version_place, MessagesRise, VersionsRise};
+ghost use Rattle.stow_page.specs.StowTreeModel.TreeMessage.{message_of};
+ghost use Rattle.stow_page.specs.StowTreeModel.Version.{version_of};
 
 use std::alloc::{AllocError, Allocator};
 use std::cmp::Ordering;
-use stow_tree_model::message::Message;
-use stow_tree_model::rows::row_as_message;
-use stow_tree_model::version::Version;
+use stow_page::stow_tree_model::message::Message;
+use stow_page::stow_tree_model::rows::row_as_message;
+use stow_page::stow_tree_model::version::Version;
 
 /// The messages of a leaf's rows and of a batch, in order, lent. Where both have one of a key and number, it is the
 /// batch's.
@@ -60,6 +60,6 @@ pub(crate) fn compare(row: &Version<'_>, message: &Message<'_>) -> Ordering
     ensures { result
         ≡ place_cmp (version_place (version_of row.now)) (place_of (message_of message.now)) }
 {
-    let keys = stow_bytes::compare::compare(row.key.bytes, message.key.bytes);
+    let keys = stow_page::stow_bytes::compare::compare(row.key.bytes, message.key.bytes);
     keys.then(row.number.cmp(&message.number))
 }

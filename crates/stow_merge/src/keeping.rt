@@ -4,18 +4,18 @@ ghost use Rattle.std.specs.List.{list_any};
 ghost use Rattle.std.specs.Option.{option_map};
 ghost use Rattle.stow_merge.specs.KeptVersion.{kept_version, start_after, is_of_key};
 ghost use Rattle.stow_merge.specs.Pins.{pins_in};
-ghost use Rattle.stow_tree_model.specs.Merged.{begins_with, is_pin_within, is_kept, merged_history};
-ghost use Rattle.stow_tree_model.specs.Op.{op_of};
-ghost use Rattle.stow_tree_model.specs.Order.{MessagesRise};
-ghost use Rattle.stow_tree_model.specs.TreeMessage.{message_of};
+ghost use Rattle.stow_page.specs.StowTreeModel.Merged.{begins_with, is_pin_within, is_kept, merged_history};
+ghost use Rattle.stow_page.specs.StowTreeModel.Op.{op_of};
+ghost use Rattle.stow_page.specs.StowTreeModel.Order.{MessagesRise};
+ghost use Rattle.stow_page.specs.StowTreeModel.TreeMessage.{message_of};
 
 use crate::kept_version::KeptVersion;
 use crate::pins::Pins;
 use std::alloc::{AllocError, Allocator};
-use stow_tree_model::in_order::nth;
-use stow_tree_model::message::Message;
-use stow_tree_model::op::Op;
-use stow_tree_model::tenant_key::TenantKey;
+use stow_page::stow_tree_model::in_order::nth;
+use stow_page::stow_tree_model::message::Message;
+use stow_page::stow_tree_model::op::Op;
+use stow_page::stow_tree_model::tenant_key::TenantKey;
 
 /// For how many versions there is room from the start; a longer list grows. With room for all of them a store that was loaded in ascending order
 /// took a fifth more memory.

@@ -1,9 +1,9 @@
 //! What a merge keeps.
 ghost use Rattle.std.specs.Prelude.{◌≤◌};
-ghost use Rattle.stow_bytes.specs.Limits.{number_limit};
-ghost use Rattle.stow_tree_model.specs.Keys.{IsOfTenant};
+ghost use Rattle.stow_page.specs.StowBytes.Limits.{number_limit};
+ghost use Rattle.stow_page.specs.StowTreeModel.Keys.{IsOfTenant};
 
-use stow_tree_model::tenant_key::TenantKey;
+use stow_page::stow_tree_model::tenant_key::TenantKey;
 
 /// A version that a merge keeps, told by where its bytes stand among the joined messages, so that an append is
 /// written after what stands below it without a copy of either.

@@ -1,14 +1,14 @@
 //! A leaf's rows and a batch as lists of what they lend.
 ghost use Rattle.std.specs.Prelude.{◌≡◌, ◌+◌, ◌<◌, ◌≤◌, length, map, IfOk};
-ghost use Rattle.stow_tree_model.specs.Order.{MessagesRise, VersionsRise};
-ghost use Rattle.stow_tree_model.specs.TreeMessage.{message_of};
-ghost use Rattle.stow_tree_model.specs.Version.{version_of};
+ghost use Rattle.stow_page.specs.StowTreeModel.Order.{MessagesRise, VersionsRise};
+ghost use Rattle.stow_page.specs.StowTreeModel.TreeMessage.{message_of};
+ghost use Rattle.stow_page.specs.StowTreeModel.Version.{version_of};
 
 use std::alloc::{AllocError, Allocator};
 use stow_message::message_buf::MessageBuf;
 use stow_page::rows::Rows;
-use stow_tree_model::message::Message;
-use stow_tree_model::version::Version;
+use stow_page::stow_tree_model::message::Message;
+use stow_page::stow_tree_model::version::Version;
 
 /// The versions of rows, lent.
 pub(crate) fn lent_rows<'r, A: Allocator + Copy, C: Allocator>(

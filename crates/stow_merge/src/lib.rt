@@ -48,3 +48,8 @@ mod parts;
 pub mod pins;
 pub mod survey;
 mod writing;
+
+pub use stow_message;
+pub use stow_message::stow_raw;
+pub use stow_page;
+pub use stow_page::stow_tree_model;

@@ -2,19 +2,19 @@
 //! Where they are cut into more pages, none is larger for it: a page's own format is no wider.
 ghost use Rattle.std.specs.Prelude.{◌≡◌, ℕ, ◌+◌, ◌≤◌, List, length, map, Some, IfOk};
 ghost use Rattle.std.specs.List.{flat_map, AllByRecursion};
-ghost use Rattle.stow_bytes.specs.Limits.{value_limit};
+ghost use Rattle.stow_page.specs.StowBytes.Limits.{value_limit};
 ghost use Rattle.stow_merge.specs.Pages.{HaveShortValues};
 ghost use Rattle.stow_merge.specs.Writing.{version_in, versions_in, keys_in, AreFewAndShort, AreSizes};
 ghost use Rattle.stow_page.specs.Format.{entry, entries, tail, is_long, format_of};
-ghost use Rattle.stow_tree_model.specs.Op.{bytes_in};
-ghost use Rattle.stow_tree_model.specs.TreeMessage.{message_of};
-ghost use Rattle.stow_tree_model.specs.Value.{IsValue};
+ghost use Rattle.stow_page.specs.StowTreeModel.Op.{bytes_in};
+ghost use Rattle.stow_page.specs.StowTreeModel.TreeMessage.{message_of};
+ghost use Rattle.stow_page.specs.StowTreeModel.Value.{IsValue};
 
 use crate::kept_version::KeptVersion;
 use crate::survey::{Survey, between};
 use std::alloc::{AllocError, Allocator};
 use stow_page::format::Format;
-use stow_tree_model::message::Message;
+use stow_page::stow_tree_model::message::Message;
 
 /// The longest value whose length format 1 can tell, in bytes.
 const SHORT_LIMIT: usize = 65_535;

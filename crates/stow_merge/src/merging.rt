@@ -4,9 +4,9 @@ ghost use Rattle.stow_merge.specs.Pages.{HaveShortValues, ArePagesOf};
 ghost use Rattle.stow_merge.specs.Pins.{pins_in};
 ghost use Rattle.stow_merge.specs.Writing.{versions_in, CanMerge, at_least_one_page};
 ghost use Rattle.stow_page.specs.Format.{packed_page};
-ghost use Rattle.stow_tree_model.specs.Merged.{merged};
-ghost use Rattle.stow_tree_model.specs.Order.{MessagesRise};
-ghost use Rattle.stow_tree_model.specs.TreeMessage.{message_of};
+ghost use Rattle.stow_page.specs.StowTreeModel.Merged.{merged};
+ghost use Rattle.stow_page.specs.StowTreeModel.Order.{MessagesRise};
+ghost use Rattle.stow_page.specs.StowTreeModel.TreeMessage.{message_of};
 
 use crate::by_keys::merged_by_keys;
 use crate::cutting::cut_by;
@@ -20,7 +20,7 @@ use crate::writing::{by_key, write_pages};
 use std::alloc::{AllocError, Allocator};
 use stow_page::packed_rows::PackedRows;
 use stow_page::rows::Rows;
-use stow_tree_model::message::Message;
+use stow_page::stow_tree_model::message::Message;
 
 /// The bytes of a page before its first entry.
 pub(crate) const HEADER_SIZE: u32 = 5;

@@ -4,13 +4,13 @@ ghost use Rattle.stow_merge.specs.OneKey.{rows_of, folded, left_by, version_with
 ghost use Rattle.stow_merge.specs.Pages.{HaveShortValues};
 ghost use Rattle.stow_merge.specs.Pins.{pins_in};
 ghost use Rattle.stow_merge.specs.Writing.{versions_in};
-ghost use Rattle.stow_tree_model.specs.Merged.{merged, version_at};
-ghost use Rattle.stow_tree_model.specs.Op.{op_of};
-ghost use Rattle.stow_tree_model.specs.Operations.{bytes_or_none, outcome};
-ghost use Rattle.stow_tree_model.specs.Value.{IsValue};
-ghost use Rattle.stow_tree_model.specs.Order.{MessagesRise, VersionsRise};
-ghost use Rattle.stow_tree_model.specs.TreeMessage.{message_of};
-ghost use Rattle.stow_tree_model.specs.Version.{version_of};
+ghost use Rattle.stow_page.specs.StowTreeModel.Merged.{merged, version_at};
+ghost use Rattle.stow_page.specs.StowTreeModel.Op.{op_of};
+ghost use Rattle.stow_page.specs.StowTreeModel.Operations.{bytes_or_none, outcome};
+ghost use Rattle.stow_page.specs.StowTreeModel.Value.{IsValue};
+ghost use Rattle.stow_page.specs.StowTreeModel.Order.{MessagesRise, VersionsRise};
+ghost use Rattle.stow_page.specs.StowTreeModel.TreeMessage.{message_of};
+ghost use Rattle.stow_page.specs.StowTreeModel.Version.{version_of};
 
 use crate::kept_version::KeptVersion;
 use crate::pins::Pins;
@@ -18,9 +18,9 @@ use crate::survey::{Survey, survey_of};
 use crate::writing::{fold, lent_version};
 use std::alloc::{AllocError, Allocator};
 use stow_page::packed_rows::PackedRows;
-use stow_tree_model::message::Message;
-use stow_tree_model::op::Op;
-use stow_tree_model::version::Version;
+use stow_page::stow_tree_model::message::Message;
+use stow_page::stow_tree_model::op::Op;
+use stow_page::stow_tree_model::version::Version;
 
 /// Adds what a merge keeps of one key's row and messages above the versions of a block. `false` where the block has no room. What more than one
 /// message carries is put together in `bytes`.

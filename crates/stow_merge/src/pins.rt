@@ -14,7 +14,7 @@ pub struct Pins<A: Allocator = Global> {
 
 impl<A: Allocator + Copy> Pins<A> {
     ghost use Rattle.std.specs.Prelude.{[], ◌∷◌, ◌++◌, All, OnOk};
-    ghost use Rattle.stow_tree_model.specs.Agreement.{with_pins};
+    ghost use Rattle.stow_page.specs.StowTreeModel.Agreement.{with_pins};
     ghost use Rattle.stow_merge.specs.Pins.{pins_in, room_in};
 
     /// No tenant has a pin.

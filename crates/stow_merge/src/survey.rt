@@ -3,20 +3,20 @@ ghost use Rattle.std.specs.Prelude.{◌≡◌, ◌++◌, List, map, take, drop, 
 ghost use Rattle.std.specs.List.{flat_map};
 ghost use Rattle.stow_merge.specs.KeptVersion.{value_between, bytes_between, kept_version};
 ghost use Rattle.stow_merge.specs.Pins.{pins_in};
-ghost use Rattle.stow_tree_model.specs.Merged.{merged};
-ghost use Rattle.stow_tree_model.specs.Op.{bytes_in};
-ghost use Rattle.stow_tree_model.specs.Operations.{bytes_or_none};
-ghost use Rattle.stow_tree_model.specs.Order.{MessagesRise, VersionsRise};
-ghost use Rattle.stow_tree_model.specs.TreeMessage.{message_of};
-ghost use Rattle.stow_tree_model.specs.Version.{version_of};
+ghost use Rattle.stow_page.specs.StowTreeModel.Merged.{merged};
+ghost use Rattle.stow_page.specs.StowTreeModel.Op.{bytes_in};
+ghost use Rattle.stow_page.specs.StowTreeModel.Operations.{bytes_or_none};
+ghost use Rattle.stow_page.specs.StowTreeModel.Order.{MessagesRise, VersionsRise};
+ghost use Rattle.stow_page.specs.StowTreeModel.TreeMessage.{message_of};
+ghost use Rattle.stow_page.specs.StowTreeModel.Version.{version_of};
 
 use crate::joining::join;
 use crate::keeping::keep;
 use crate::kept_version::KeptVersion;
 use crate::pins::Pins;
 use std::alloc::{AllocError, Allocator, Global};
-use stow_tree_model::message::Message;
-use stow_tree_model::version::Version;
+use stow_page::stow_tree_model::message::Message;
+use stow_page::stow_tree_model::version::Version;
 
 /// The messages of a leaf's rows and a batch in order, lent, and the versions that stay of them.
 #[derive(Drop)]

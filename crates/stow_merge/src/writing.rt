@@ -4,10 +4,10 @@ ghost use Rattle.std.specs.List.{flat_map, AllByRecursion};
 ghost use Rattle.stow_merge.specs.KeptVersion.{kept_version};
 ghost use Rattle.stow_merge.specs.Pages.{read_in_order};
 ghost use Rattle.stow_merge.specs.Writing.{version_in, versions_in, keys_in, IsKeyRun, AreRuns, IsFolded, CanPack, pages_at};
-ghost use Rattle.stow_tree_model.specs.Op.{bytes_in};
-ghost use Rattle.stow_tree_model.specs.TreeMessage.{message_of};
-ghost use Rattle.stow_tree_model.specs.Value.{bytes_at, IsValue};
-ghost use Rattle.stow_tree_model.specs.Version.{version_of};
+ghost use Rattle.stow_page.specs.StowTreeModel.Op.{bytes_in};
+ghost use Rattle.stow_page.specs.StowTreeModel.TreeMessage.{message_of};
+ghost use Rattle.stow_page.specs.StowTreeModel.Value.{bytes_at, IsValue};
+ghost use Rattle.stow_page.specs.StowTreeModel.Version.{version_of};
 
 use crate::kept_version::KeptVersion;
 use crate::merging::HEADER_SIZE;
@@ -15,9 +15,9 @@ use crate::survey::{Survey, between};
 use std::alloc::{AllocError, Allocator};
 use stow_page::packed_rows::PackedRows;
 use stow_page::rows::Rows;
-use stow_tree_model::message::Message;
-use stow_tree_model::tenant_key::TenantKey;
-use stow_tree_model::version::Version;
+use stow_page::stow_tree_model::message::Message;
+use stow_page::stow_tree_model::tenant_key::TenantKey;
+use stow_page::stow_tree_model::version::Version;
 
 /// The kept versions key by key, lent.
 pub(crate) fn by_key<'k, A: Allocator + Copy>(

@@ -4,7 +4,7 @@ use Rattle.std.proofs.lemmas.List.{length-drop}
 use Rattle.std.specs.Prelude.{if◌then◌else◌}
 use Rattle.std.specs.List.{sum_by, remove_range}
 use Rattle.std.proofs.lemmas.List.Sums.{sum_by-cons, sum_by-append, sum_by-take-drop}
-use Rattle.stow_raw.specs.RawBuf.{RawLists, raw_used}
+use Rattle.stow_slots.specs.StowRaw.RawBuf.{RawLists, raw_used}
 use Rattle.stow_tree_model.specs.TreeMessage.{TreeMessage}
 use Rattle.stow_message.specs.Packed.{message_size}
 use Rattle.stow_message.specs.MessageBuf.{MessageList, message_list, messages_in}

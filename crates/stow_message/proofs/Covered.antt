@@ -2,8 +2,8 @@
 use Rattle.std.proofs.Common.{◌≡◌, ◌≢◌, ℕ, Bool, true, false, List, [], ◌∷◌, refl, ap, sym, subst, ◌∙◌, ⊎_elim}
 use Rattle.std.specs.Prelude.{if◌then◌else◌}
 use Rattle.std.specs.Ordering.{is_eq}
-use Rattle.stow_bytes.specs.Bytes.{bytes_cmp}
-use Rattle.stow_raw.specs.RawBuf.{RawLists, raw_used}
+use Rattle.stow_tree_model.specs.StowBytes.Bytes.{bytes_cmp}
+use Rattle.stow_slots.specs.StowRaw.RawBuf.{RawLists, raw_used}
 use Rattle.stow_tree_model.specs.Merged.{same_key}
 use Rattle.stow_tree_model.specs.TreeMessage.{TreeMessage}
 use Rattle.stow_tree_model.proofs.Orders.{key_cases}

@@ -6,7 +6,7 @@ use Rattle.std.specs.Prelude.{slice_set}
 use Rattle.std.specs.List.{All, AllByRecursion, sum_by, remove_range, drop-map}
 use Rattle.stow_tree_model.specs.TreeMessage.{TreeMessage}
 use Rattle.stow_tree_model.specs.Order.{place_of, MessagesRise}
-use Rattle.stow_raw.specs.RawBuf.{RawLists, raw_lists, raw_used}
+use Rattle.stow_slots.specs.StowRaw.RawBuf.{RawLists, raw_lists, raw_used}
 use Rattle.stow_message.specs.Packed.{message_bytes, message_size, IsMessage, message_at, BeginsWith, all_bytes, places_from}
 use Rattle.stow_message.specs.MessageBuf.{MessageList, message_list, messages_in, messages_from, IsPackedBuffer, IsFilledFrom}
 use Rattle.stow_message.specs.Rising.{is_first_below, below, all_placed, AreNew}

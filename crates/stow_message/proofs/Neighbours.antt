@@ -3,7 +3,7 @@ use Rattle.std.proofs.Common.{◌≡◌, ℕ, ◌<◌, ◌≤◌, Some, None, tr
 use Rattle.std.specs.Prelude.{slice_get}
 use Rattle.std.proofs.lemmas.Option.{slice_get_within, slice_get-get_or, get_or_from_slice_get}
 use Rattle.std.proofs.lemmas.List.{length-map}
-use Rattle.stow_raw.specs.RawBuf.{RawLists}
+use Rattle.stow_slots.specs.StowRaw.RawBuf.{RawLists}
 use Rattle.stow_tree_model.specs.Order.{VersionPlace}
 use Rattle.stow_tree_model.specs.TreeMessage.{TreeMessage}
 use Rattle.stow_message.specs.MessageBuf.{messages_in, IsPackedBuffer}

@@ -8,7 +8,7 @@ use Rattle.stow_tree_model.specs.Op.{bytes_in}
 use Rattle.stow_tree_model.specs.TreeMessage.{TreeMessage, message_of}
 use Rattle.stow_tree_model.specs.declared.message.Message as coded
 use Rattle.stow_tree_model.specs.Order.{place_of, MessagesRise}
-use Rattle.stow_raw.specs.RawBuf.{RawLists, raw_lists, raw_used}
+use Rattle.stow_slots.specs.StowRaw.RawBuf.{RawLists, raw_lists, raw_used}
 use Rattle.stow_message.specs.Packed.{head_of, message_bytes, message_size, IsMessage, message_at, BeginsWith}
 use Rattle.stow_message.specs.MessageBuf.{MessageList, message_list, Fits, with_message, messages_in, IsPackedBuffer}
 use Rattle.stow_message.specs.Rising.{below, placed, IsNew}

@@ -6,8 +6,8 @@ use Rattle.std.specs.declared.cmp.Ordering.TheVariants.{Less, Equal, Greater}
 use Rattle.std.specs.Ordering.{is_lt, is_eq, nat_cmp, ordering_then}
 use Rattle.std.specs.List.{All, AllByRecursion, filter, remove_range}
 use Rattle.std.specs.List.Sorted.{IsStrictlySortedBy}
-use Rattle.stow_bytes.specs.Bytes.{bytes_cmp}
-use Rattle.stow_bytes.specs.Limits.{number_limit}
+use Rattle.stow_tree_model.specs.StowBytes.Bytes.{bytes_cmp}
+use Rattle.stow_tree_model.specs.StowBytes.Limits.{number_limit}
 use Rattle.stow_tree_model.specs.TreeMessage.{TreeMessage}
 use Rattle.stow_tree_model.specs.Order.{VersionPlace, place_cmp, place_of, MessagesRise}
 use Rattle.stow_message.specs.Packed.{IsMessage}

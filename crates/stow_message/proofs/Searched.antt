@@ -5,7 +5,7 @@ use Rattle.std.specs.Prelude.{if◌then◌else◌, max}
 use Rattle.std.specs.List.{AllByRecursion, drop-map}
 use Rattle.stow_tree_model.specs.TreeMessage.{TreeMessage}
 use Rattle.stow_tree_model.specs.Order.{VersionPlace, place_of, MessagesRise}
-use Rattle.stow_raw.specs.RawBuf.{RawLists, raw_used}
+use Rattle.stow_slots.specs.StowRaw.RawBuf.{RawLists, raw_used}
 use Rattle.stow_message.specs.Packed.{message_at, BeginsWith}
 use Rattle.stow_message.specs.MessageBuf.{MessageList, message_list, messages_in, messages_from, named, IsPackedBuffer, IsFilledFrom}
 use Rattle.stow_message.specs.Rising.{is_below, is_first_below, below}

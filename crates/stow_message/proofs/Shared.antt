@@ -6,11 +6,11 @@ use Rattle.std.specs.declared.cmp.Ordering.TheVariants.{Less, Equal, Greater}
 use Rattle.std.specs.Ordering.{is_lt, nat_cmp, ord_min, ordering_then}
 use Rattle.std.proofs.lemmas.Bool.Decides.{nat_tests}
 use Rattle.std.proofs.lemmas.Map.Keys.{ge_from_not_lt}
-use Rattle.stow_bytes.specs.Bytes.{bytes_cmp}
-use Rattle.stow_bytes.specs.Words.{AreAlike}
-use Rattle.stow_bytes.proofs.Alike.{alike_none, alike_less, alike_between}
+use Rattle.stow_tree_model.specs.StowBytes.Bytes.{bytes_cmp}
+use Rattle.stow_tree_model.specs.StowBytes.Words.{AreAlike}
+use Rattle.stow_tree_model.proofs.StowBytes.Alike.{alike_none, alike_less, alike_between}
 use Rattle.stow_tree_model.specs.Order.{place_cmp, place_of}
-use Rattle.stow_raw.specs.RawBuf.{RawLists}
+use Rattle.stow_slots.specs.StowRaw.RawBuf.{RawLists}
 use Rattle.stow_message.specs.MessageBuf.{messages_from, named, IsFilledFrom}
 use Rattle.stow_message.proofs.RisingLists.{lt_is, rises_at}
 use Rattle.stow_message.proofs.Searched.{count_from, named_at}

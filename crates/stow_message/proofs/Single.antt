@@ -5,7 +5,7 @@ use Rattle.std.specs.Option.{option_map}
 use Rattle.std.specs.List.{sum_by, remove_range}
 use Rattle.std.proofs.lemmas.List.Sums.{sum_by-remove}
 use Rattle.std.proofs.lemmas.Option.{slice_get_within, slice_get-map, get_or_from_slice_get}
-use Rattle.stow_raw.specs.RawBuf.{RawLists}
+use Rattle.stow_slots.specs.StowRaw.RawBuf.{RawLists}
 use Rattle.stow_tree_model.specs.TreeMessage.{TreeMessage}
 use Rattle.stow_message.specs.MessageBuf.{messages_in}
 use Rattle.stow_message.specs.Packed.{message_bytes, message_size, message_at}

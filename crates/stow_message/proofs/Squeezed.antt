@@ -5,7 +5,7 @@ use Rattle.std.proofs.lemmas.List.Sums.{sum_by-cons}
 use Rattle.std.specs.List.{All, AllByRecursion, sum_by}
 use Rattle.stow_tree_model.specs.TreeMessage.{TreeMessage}
 use Rattle.stow_tree_model.specs.Order.{MessagesRise}
-use Rattle.stow_raw.specs.RawBuf.{RawLists, raw_lists, raw_used}
+use Rattle.stow_slots.specs.StowRaw.RawBuf.{RawLists, raw_lists, raw_used}
 use Rattle.stow_message.specs.Packed.{message_bytes, message_size, IsMessage, message_at, BeginsWith, all_bytes, places_from}
 use Rattle.stow_message.specs.MessageBuf.{MessageList, message_list, messages_in, IsPackedBuffer}
 use Rattle.stow_message.proofs.Reading.{length-message_bytes, message_read}

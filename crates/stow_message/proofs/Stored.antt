@@ -4,7 +4,7 @@ use Rattle.std.proofs.lemmas.List.{length-map}
 use Rattle.std.specs.List.{All, AllByRecursion}
 use Rattle.stow_tree_model.specs.Op.{bytes_in}
 use Rattle.stow_tree_model.specs.TreeMessage.{TreeMessage}
-use Rattle.stow_raw.specs.RawBuf.{RawLists, raw_used}
+use Rattle.stow_slots.specs.StowRaw.RawBuf.{RawLists, raw_used}
 use Rattle.stow_message.specs.Packed.{kind_of, head_of, message_bytes, IsMessage, key_len_at, number_at, kind_at, value_len_at, message_at, BeginsWith}
 use Rattle.stow_message.specs.MessageBuf.{MessageList, message_list, messages_in, IsPackedBuffer}
 use Rattle.stow_message.proofs.Reading.{length-message_bytes, head_taken, key_len_in_head, number_in_head, kind_in_head, value_len_in_head, key_read, value_read, message_read}

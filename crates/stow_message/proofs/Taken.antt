@@ -12,7 +12,7 @@ use Rattle.std.specs.List.Sorted.{IsStrictlySortedBy}
 use Rattle.stow_tree_model.specs.TreeMessage.{TreeMessage}
 use Rattle.stow_tree_model.specs.Order.{VersionPlace, place_cmp, place_of, MessagesRise}
 use Rattle.stow_tree_model.specs.Op.{bytes_in}
-use Rattle.stow_raw.specs.RawBuf.{RawLists, raw_lists, raw_used}
+use Rattle.stow_slots.specs.StowRaw.RawBuf.{RawLists, raw_lists, raw_used}
 use Rattle.stow_message.specs.Packed.{kind_of, op_by, message_size, message_at, BeginsWith}
 use Rattle.stow_message.specs.MessageBuf.{op_is, messages_in, IsPackedBuffer}
 use Rattle.stow_message.specs.Rising.{is_same, is_first, without}

@@ -7,7 +7,7 @@ use Rattle.std.specs.declared.cmp.Ordering.TheVariants.{Less}
 use Rattle.std.specs.List.{AllByRecursion, drop-map, remove_range}
 use Rattle.stow_tree_model.specs.TreeMessage.{TreeMessage}
 use Rattle.stow_tree_model.specs.Order.{place_cmp, place_of, MessagesRise}
-use Rattle.stow_raw.specs.RawBuf.{RawLists, raw_lists}
+use Rattle.stow_slots.specs.StowRaw.RawBuf.{RawLists, raw_lists}
 use Rattle.stow_message.specs.Packed.{message_at, BeginsWith}
 use Rattle.stow_message.specs.MessageBuf.{messages_in, messages_from, IsFilledFrom, IsPackedBuffer}
 use Rattle.stow_message.specs.Rising.{is_below, below, is_same, is_first}

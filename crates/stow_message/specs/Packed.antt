@@ -3,7 +3,7 @@
 -- byte first.
 use Rattle.std.specs.Prelude.{◌≡◌, ℕ, zero, suc, ◌+◌, ◌≤◌, List, [], ◌∷◌, ◌++◌, length, take, drop, slice_index}
 use Rattle.std.specs.Int.{w16, w32, w64, to_be_bytes, from_be_bytes}
-use Rattle.stow_bytes.specs.Limits.{value_limit, number_limit}
+use Rattle.stow_tree_model.specs.StowBytes.Limits.{value_limit, number_limit}
 use Rattle.stow_tree_model.specs.Keys.{IsTenantKey, IsOfTenant}
 use Rattle.stow_tree_model.specs.Op.{Op, Put, Gone, Append, bytes_in}
 use Rattle.stow_tree_model.specs.TreeMessage.{TreeMessage}

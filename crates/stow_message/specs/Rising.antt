@@ -3,7 +3,7 @@ use Rattle.std.specs.Prelude.{◌≡◌, ℕ, zero, suc, ◌≤◌, List, [], �
 use Rattle.std.specs.Ordering.{is_lt, is_eq}
 use Rattle.std.specs.List.{All, Contains, filter}
 use Rattle.std.specs.Str.{bytes_eq}
-use Rattle.stow_bytes.specs.Bytes.{bytes_cmp}
+use Rattle.stow_tree_model.specs.StowBytes.Bytes.{bytes_cmp}
 use Rattle.stow_tree_model.specs.Op.{bytes_in}
 use Rattle.stow_tree_model.specs.TreeMessage.{TreeMessage}
 use Rattle.stow_tree_model.specs.Messages.{ops_in}

@@ -1,6 +1,6 @@
 //! The head of a packed message: the one place that knows its layout, its size and the kinds of operations.
 ghost use Rattle.std.specs.Prelude.{◌≡◌, ◌+◌, ◌≤◌, ◌<◌, length, take};
-ghost use Rattle.stow_bytes.specs.Limits.{value_limit};
+ghost use Rattle.stow_tree_model.specs.StowBytes.Limits.{value_limit};
 ghost use Rattle.stow_tree_model.specs.Op.{op_of, bytes_in};
 ghost use Rattle.stow_tree_model.specs.TreeMessage.{message_of};
 ghost use Rattle.stow_message.specs.Packed.{kind_of, op_by, head_of, message_size, key_len_at, number_at, kind_at, value_len_at};

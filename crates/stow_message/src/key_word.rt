@@ -2,8 +2,8 @@
 ghost use Rattle.std.specs.Prelude.{◌≡◌, ◌≤◌, drop, length};
 
 use std::cmp::Ordering;
-use stow_bytes::compare::{compare, word_at};
 use stow_slots::quartering::{Sought, step_if};
+use stow_tree_model::stow_bytes::compare::{compare, word_at};
 
 /// Where a key's own bytes begin, behind its tenant's index.
 const INDEX: usize = 4;

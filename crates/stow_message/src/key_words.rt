@@ -7,9 +7,9 @@ use crate::run::Run;
 use crate::slots::key_at;
 use std::alloc::{AllocError, Allocator, Global};
 use std::cmp::Ordering;
-use stow_bytes::compare::compare;
 use stow_slots::quartering::count_below;
 use stow_slots::slot_buf::SlotBuf;
+use stow_tree_model::stow_bytes::compare::compare;
 
 /// How many bytes of a buffer there are for each word.
 const BYTES: usize = 96;

@@ -30,6 +30,7 @@ pub mod run;
 mod searching;
 mod slots;
 
+pub use stow_slots::stow_raw;
 pub use stow_tree_model::message::Message;
 pub use stow_tree_model::op::Op;
 pub use stow_tree_model::tenant_key::TenantKey;

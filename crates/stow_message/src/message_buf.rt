@@ -16,8 +16,8 @@ use crate::slots::search_from;
 use std::alloc::{AllocError, Allocator, Global};
 use std::marker::Model;
 use stow_filter::filter::Filter;
-use stow_raw::raw_buf::RawBuf;
 use stow_slots::slot_buf::SlotBuf;
+use stow_slots::stow_raw::raw_buf::RawBuf;
 use stow_tree_model::message::Message;
 use stow_tree_model::tenant_key::TenantKey;
 
@@ -35,7 +35,7 @@ pub struct MessageBuf<A: Allocator = Global> {
 }
 
 impl<A: Allocator> Model for MessageBuf<A> {
-    ghost use Rattle.stow_raw.specs.RawBuf.{raw_used};
+    ghost use Rattle.stow_slots.specs.StowRaw.RawBuf.{raw_used};
     ghost use Rattle.stow_message.specs.MessageBuf.{MessageList, message_list, message_list_code, messages_in, IsMarked};
 
     ghost Value = { MessageList };

@@ -3,7 +3,7 @@ ghost use Rattle.std.specs.Prelude.{◌≡◌, ◌+◌, ◌-◌, ◌*◌, ◌<�
 ghost use Rattle.std.specs.Ordering.{is_eq};
 ghost use Rattle.stow_tree_model.specs.TreeMessage.{message_of};
 ghost use Rattle.stow_tree_model.specs.Order.{place_cmp, place_of, MessagesRise};
-ghost use Rattle.stow_raw.specs.RawBuf.{raw_lists, RawFits};
+ghost use Rattle.stow_slots.specs.StowRaw.RawBuf.{raw_lists, RawFits};
 ghost use Rattle.stow_message.specs.MessageBuf.{message_list, Fits, with_message, with_messages, without_range};
 ghost use Rattle.stow_message.specs.Packed.{message_bytes, message_size, IsMessage, all_bytes};
 ghost use Rattle.stow_message.specs.Rising.{below, IsNew, in_range, all_placed, AreNew};
@@ -17,9 +17,9 @@ use crate::run::Run;
 use crate::slots::search_from;
 use std::alloc::Allocator;
 use std::cmp::Ordering;
-use stow_bytes::compare::compare;
 use stow_slots::slot_buf::SlotBuf;
 use stow_tree_model::message::Message;
+use stow_tree_model::stow_bytes::compare::compare;
 use stow_tree_model::tenant_key::TenantKey;
 
 /// The bytes of a short message, its slot among them.

@@ -1,6 +1,6 @@
 //! Messages that leave a buffer, and dead bytes that are dropped.
 ghost use Rattle.std.specs.Prelude.{◌≡◌, ◌+◌, ◌-◌, ◌*◌, ◌<◌, ◌≤◌, [], length, IsTrue, Some, false};
-ghost use Rattle.stow_raw.specs.RawBuf.{raw_lists};
+ghost use Rattle.stow_slots.specs.StowRaw.RawBuf.{raw_lists};
 ghost use Rattle.stow_message.specs.Filter.{Covers};
 ghost use Rattle.stow_message.specs.MessageBuf.{message_list, messages_in, IsPackedBuffer, without_range};
 ghost use Rattle.stow_message.specs.Packed.{message_size};
@@ -15,8 +15,8 @@ use crate::run::Run;
 use crate::slots::search_from;
 use std::alloc::Allocator;
 use stow_filter::filter::Filter;
-use stow_raw::raw_buf::RawBuf;
 use stow_slots::slot_buf::SlotBuf;
+use stow_slots::stow_raw::raw_buf::RawBuf;
 use stow_tree_model::tenant_key::TenantKey;
 
 /// Brings the front of a spare block in the place of the block's own. Where the two have as many bytes they change places, so

@@ -15,8 +15,8 @@ use crate::place::Place;
 use crate::slots::{search_between, search_from};
 use std::alloc::Allocator;
 use std::cmp::Ordering;
-use stow_bytes::compare::compare;
 use stow_tree_model::message::Message;
+use stow_tree_model::stow_bytes::compare::compare;
 use stow_tree_model::tenant_key::TenantKey;
 
 /// Whether the message stands below the key and number.

@@ -1,6 +1,6 @@
 //! Slots of a block, and the messages that they name.
 ghost use Rattle.std.specs.Prelude.{◌≡◌, ◌+◌, ◌^◌, ◌<◌, ◌≤◌, length, drop, slice_index};
-ghost use Rattle.stow_bytes.specs.Words.{AreAlike};
+ghost use Rattle.stow_tree_model.specs.StowBytes.Words.{AreAlike};
 ghost use Rattle.stow_message.specs.MessageBuf.{messages_from, named, IsFilledFrom};
 ghost use Rattle.stow_message.specs.Packed.{message_at, BeginsWith};
 ghost use Rattle.stow_message.specs.Rising.{below, is_below};
@@ -8,8 +8,8 @@ ghost use Rattle.stow_message.specs.Rising.{below, is_below};
 use crate::head::{HEAD, read_key_len, read_number};
 use std::alloc::Allocator;
 use std::cmp::Ordering;
-use stow_bytes::compare::{compare, compare_past};
 use stow_slots::slot_buf::SlotBuf;
+use stow_tree_model::stow_bytes::compare::{compare, compare_past};
 
 /// The key of the message that begins `at` bytes into the front.
 #[inline(always)]

@@ -11,3 +11,4 @@ pub mod Refused
 pub mod OneHistory
 pub mod Fronts
 pub mod Examples
+pub use Rattle.stow_bytes.proofs as StowBytes

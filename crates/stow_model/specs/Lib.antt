@@ -15,3 +15,4 @@ pub mod History
 pub mod Parts
 pub mod Reader
 pub mod Examples
+pub use Rattle.stow_bytes.specs as StowBytes

@@ -41,3 +41,5 @@ pub mod stream_read;
 pub mod stream_rest;
 pub mod usage;
 pub mod words;
+
+pub use stow_bytes;

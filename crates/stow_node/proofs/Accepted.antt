@@ -5,22 +5,22 @@ use Rattle.stow_tree_model.specs.Operations.{or_else}
 use Rattle.stow_tree_model.specs.Messages.{ops_in}
 use Rattle.stow_tree_model.specs.Order.{place_of, MessagesRise}
 use Rattle.stow_tree_model.specs.TreeMessage.{TreeMessage}
-use Rattle.stow_message.specs.MessageBuf.{MessageList, message_list, with_message, with_messages}
-use Rattle.stow_message.specs.Packed.{message_size}
+use Rattle.stow_leaves.specs.StowMessage.MessageBuf.{MessageList, message_list, with_message, with_messages}
+use Rattle.stow_leaves.specs.StowMessage.Packed.{message_size}
 use Rattle.std.proofs.lemmas.List.Sums.{sum_by-cons}
 use Rattle.std.specs.List.Sorted.{IsStrictlySortedBy}
-use Rattle.stow_message.specs.Rising.{is_below, placed, all_placed}
-use Rattle.stow_message.proofs.Placed.{AllOther}
+use Rattle.stow_leaves.specs.StowMessage.Rising.{is_below, placed, all_placed}
+use Rattle.stow_leaves.proofs.StowMessage.Placed.{AllOther}
 use Rattle.stow_node.specs.declared.node.Node.TheInside.{Inside}
 use Rattle.stow_node.specs.Subtree.{messages_of}
-use Rattle.stow_leaf.specs.LeafRows.{row_messages}
+use Rattle.stow_leaves.specs.StowLeaf.LeafRows.{row_messages}
 use Rattle.stow_node.specs.Parts.{messages_in, leaves_in, weight_in}
 use Rattle.stow_node.specs.Nodes.{parts_of, subtree_of, IsNode}
 use Rattle.stow_node.specs.Moves.{accepted, CanAccept}
-use Rattle.stow_leaf.proofs.Ops.{ops-append, ops-all_placed}
-use Rattle.stow_leaf.proofs.Found.{both_none}
+use Rattle.stow_leaves.proofs.StowLeaf.Ops.{ops-append, ops-all_placed}
+use Rattle.stow_leaves.proofs.StowLeaf.Found.{both_none}
 use Rattle.stow_node.proofs.Newer.{all_new_to, newer_than_part}
-use Rattle.stow_leaf.proofs.Found.{some_or, some_left, some_right}
+use Rattle.stow_leaves.proofs.StowLeaf.Found.{some_or, some_left, some_right}
 
 length-placed : (m : TreeMessage) (ns : List TreeMessage) → length (placed m ns) ≡ length ns + 1
 length-placed m [] = refl

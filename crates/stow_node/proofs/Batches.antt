@@ -2,13 +2,13 @@
 use Rattle.std.proofs.Common.{zero, suc, ◌≡◌, ℕ, ◌+◌, cond, List, [], ◌∷◌, length, take, Some, None, refl, sym, ap, ◌∙◌, arith}
 use Rattle.std.specs.Prelude.{not, slice_get}
 use Rattle.std.proofs.lemmas.List.Filters.{length-filter_both}
-use Rattle.stow_message.specs.Rising.{is_between, in_range, out_of_range}
+use Rattle.stow_leaves.specs.StowMessage.Rising.{is_between, in_range, out_of_range}
 use Rattle.stow_tree_model.specs.Messages.{ops_in}
 use Rattle.stow_tree_model.specs.TreeMessage.{TreeMessage}
-use Rattle.stow_leaf.specs.Intervals.{spans, NoneOutside}
-use Rattle.stow_leaf.proofs.Found.{none_some}
-use Rattle.stow_leaf.proofs.Intervals.{by_test}
-use Rattle.stow_leaf.proofs.Ops.{ops-out_of_range}
+use Rattle.stow_leaves.specs.StowLeaf.Intervals.{spans, NoneOutside}
+use Rattle.stow_leaves.proofs.StowLeaf.Found.{none_some}
+use Rattle.stow_leaves.proofs.StowLeaf.Intervals.{by_test}
+use Rattle.stow_leaves.proofs.StowLeaf.Ops.{ops-out_of_range}
 use Rattle.stow_node.proofs.Cut.{none_cond}
 use Rattle.stow_node.proofs.Planned.{contained_there}
 use Rattle.stow_tree_model.proofs.Pruning.{contains_here}

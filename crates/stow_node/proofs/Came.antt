@@ -3,7 +3,7 @@ use Rattle.std.proofs.Common.{suc, ◌≡◌, ℕ, ◌≤◌, List, [], ◌∷�
 use Rattle.std.specs.List.{insert, AllByRecursion}
 use Rattle.std.specs.declared.vec.Vec.{Vec}
 use Rattle.std.proofs.lemmas.List.{take-append-drop}
-use Rattle.stow_merge.proofs.Lists.{all_split}
+use Rattle.stow_leaves.proofs.StowMerge.Lists.{all_split}
 use Rattle.stow_node.specs.declared.child.Child.{Child}
 use Rattle.stow_node.specs.declared.shape.Shape.{Shape}
 use Rattle.stow_node.specs.Rooms.{IsList, AreLists, AreShells}

@@ -7,26 +7,26 @@ use Rattle.std.specs.declared.vec.Vec.{Vec}
 use Rattle.std.proofs.lemmas.Grind.{flat_map-append}
 use Rattle.std.proofs.lemmas.List.{map-append, length-map, take-append-drop, length-take-le}
 use Rattle.std.proofs.lemmas.List.Sums.{sum_by-append}
-use Rattle.stow_bytes.specs.Bytes.{bytes_cmp}
-use Rattle.stow_message.proofs.Placed.{AllOther}
-use Rattle.stow_message.proofs.Ranges.{filter_rises}
-use Rattle.stow_message.proofs.RisingLists.{no_path, lt_is}
-use Rattle.stow_message.specs.MessageBuf.{message_list, with_messages, without_range}
-use Rattle.stow_message.specs.Rising.{is_between, all_placed, in_range, out_of_range}
+use Rattle.stow_tree_model.specs.StowBytes.Bytes.{bytes_cmp}
+use Rattle.stow_leaves.proofs.StowMessage.Placed.{AllOther}
+use Rattle.stow_leaves.proofs.StowMessage.Ranges.{filter_rises}
+use Rattle.stow_leaves.proofs.StowMessage.RisingLists.{no_path, lt_is}
+use Rattle.stow_leaves.specs.StowMessage.MessageBuf.{message_list, with_messages, without_range}
+use Rattle.stow_leaves.specs.StowMessage.Rising.{is_between, all_placed, in_range, out_of_range}
 use Rattle.stow_tree_model.specs.Op.{Op}
 use Rattle.stow_tree_model.specs.Messages.{ops_in}
 use Rattle.stow_tree_model.specs.Operations.{or_else}
 use Rattle.stow_tree_model.specs.Order.{MessagesRise}
 use Rattle.stow_tree_model.specs.TreeMessage.{TreeMessage}
-use Rattle.stow_leaf.specs.Intervals.{top_key, spans}
-use Rattle.stow_leaf.specs.LeafRows.{LeafRows, row_messages, first_fence}
-use Rattle.stow_leaf.proofs.Intervals.{lt, lt_le, lt_self, by_test, under, beyond, spanned, span_low, span_high, not_spanned}
-use Rattle.stow_leaf.proofs.Ops.{ops-append, ops-in_range, ops-out_of_range, ops-all_placed}
-use Rattle.stow_merge.proofs.Lists.{all_split}
+use Rattle.stow_leaves.specs.StowLeaf.Intervals.{top_key, spans}
+use Rattle.stow_leaves.specs.StowLeaf.LeafRows.{LeafRows, row_messages, first_fence}
+use Rattle.stow_leaves.proofs.StowLeaf.Intervals.{lt, lt_le, lt_self, by_test, under, beyond, spanned, span_low, span_high, not_spanned}
+use Rattle.stow_leaves.proofs.StowLeaf.Ops.{ops-append, ops-in_range, ops-out_of_range, ops-all_placed}
+use Rattle.stow_leaves.proofs.StowMerge.Lists.{all_split}
 use Rattle.stow_node.specs.declared.child.Child.{Child}
 use Rattle.stow_node.specs.declared.node.Node.TheInside.{Inside}
 use Rattle.stow_node.specs.Parts.{Part, low_or, IsTile, TiledTo, messages_in, leaves_in, weight_in}
-use Rattle.stow_leaf.specs.Replacements.{IsLeafSize}
+use Rattle.stow_leaves.specs.StowLeaf.Replacements.{IsLeafSize}
 use Rattle.stow_node.specs.Nodes.{part_of, parts_of, nearest_in, AreLeafSizes, IsBelow, subtree_of, IsNode}
 use Rattle.stow_node.specs.Halves.{AreHalves}
 use Rattle.stow_node.proofs.Accepted.{length-all_placed}
@@ -34,7 +34,7 @@ use Rattle.std.proofs.lemmas.List.Filters.{length-filter_both}
 use Rattle.stow_node.proofs.Lowered.{rows_by_part, row_messages-append}
 use Rattle.stow_node.proofs.Nearest.{nearest_front, nearest_behind, nearest_same}
 use Rattle.stow_node.proofs.Raised.{wider, row_fences, first_of_row, whole_tile}
-use Rattle.stow_leaf.proofs.Found.{both_none, or_none, some_left, some_right}
+use Rattle.stow_leaves.proofs.StowLeaf.Found.{both_none, or_none, some_left, some_right}
 use Rattle.stow_node.proofs.Row.{message_taken, row_taken, messages_apart, rows_apart, none_before, none_from, row_out, low_at_most}
 
 -- ---- a row in two parts

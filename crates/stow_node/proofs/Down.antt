@@ -8,20 +8,20 @@ use Rattle.std.proofs.lemmas.List.{length-set, map-set, with_items_is}
 use Rattle.std.proofs.lemmas.Option.{slice_get-get_or}
 use Rattle.stow_tree_model.specs.Order.{MessagesRise}
 use Rattle.stow_tree_model.specs.TreeMessage.{TreeMessage}
-use Rattle.stow_message.specs.MessageBuf.{MessageList, without_range}
-use Rattle.stow_message.specs.Packed.{message_size}
-use Rattle.stow_message.specs.Rising.{in_range}
+use Rattle.stow_leaves.specs.StowMessage.MessageBuf.{MessageList, without_range}
+use Rattle.stow_leaves.specs.StowMessage.Packed.{message_size}
+use Rattle.stow_leaves.specs.StowMessage.Rising.{in_range}
 use Rattle.stow_node.specs.declared.child.Child.{Child}
 use Rattle.stow_node.specs.declared.child.Child.TheVariants as in_child
 use Rattle.stow_node.specs.declared.node.Node.TheInside.{Inside}
 use Rattle.stow_node.specs.Subtree.{Subtree}
 use Rattle.stow_node.specs.Parts.{Part, high_of}
-use Rattle.stow_leaf.specs.Intervals.{top_key}
+use Rattle.stow_leaves.specs.StowLeaf.Intervals.{top_key}
 use Rattle.stow_node.specs.Nodes.{part_of, node_part, parts_of, subtree_of, IsNode}
 use Rattle.stow_node.specs.Moves.{accepted, CanAccept, IsReallocated, StaysInMeaning, bytes_for, messages_for, HandsDown}
 use Rattle.stow_node.proofs.HandedDown.{same_node}
 use Rattle.stow_node.proofs.Lowered.{for_child, can_hand, Lowered, lowered, end_of-set}
-use Rattle.stow_leaf.proofs.Steps.{inside_of}
+use Rattle.stow_leaves.proofs.StowLeaf.Steps.{inside_of}
 use Rattle.stow_node.proofs.Reallocated.{reallocated_same}
 use Rattle.stow_node.proofs.Stayed.{part_at, ChildStays, child_stays}
 

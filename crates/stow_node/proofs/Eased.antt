@@ -5,10 +5,10 @@ use Rattle.std.specs.List.{AllByRecursion}
 use Rattle.std.specs.Ordering.{is_eq, eq_by_cmp}
 use Rattle.std.specs.Vec.{with_item}
 use Rattle.std.specs.declared.vec.Vec.{Vec}
-use Rattle.stow_message.proofs.Placed.{AllOther, all_other}
-use Rattle.stow_message.proofs.RisingLaws.{rests_rise}
-use Rattle.stow_message.specs.MessageBuf.{MessageList}
-use Rattle.stow_message.specs.Rising.{all_placed, in_range, AreNew}
+use Rattle.stow_leaves.proofs.StowMessage.Placed.{AllOther, all_other}
+use Rattle.stow_leaves.proofs.StowMessage.RisingLaws.{rests_rise}
+use Rattle.stow_leaves.specs.StowMessage.MessageBuf.{MessageList}
+use Rattle.stow_leaves.specs.StowMessage.Rising.{all_placed, in_range, AreNew}
 use Rattle.stow_tree_model.proofs.Histories.{ops_in-skip}
 use Rattle.stow_tree_model.proofs.Orders.{place_cases}
 use Rattle.stow_tree_model.specs.Agreement.{TenantPins}
@@ -17,12 +17,12 @@ use Rattle.stow_tree_model.specs.Messages.{ops_in}
 use Rattle.stow_tree_model.specs.Operations.{or_else}
 use Rattle.stow_tree_model.specs.Order.{VersionPlace, MessagesRise, place_cmp, place_of}
 use Rattle.stow_tree_model.specs.TreeMessage.{TreeMessage}
-use Rattle.stow_leaf.specs.Intervals.{top_key, spans}
-use Rattle.stow_leaf.specs.LeafRows.{row_messages}
-use Rattle.stow_leaf.proofs.Found.{both_none, some_left}
-use Rattle.stow_leaf.proofs.Intervals.{by_test}
-use Rattle.stow_leaf.proofs.Ops.{Other, ops-append, ops-all_placed}
-use Rattle.stow_leaf.proofs.Over.{or_none_left, or_none_right, same_pointwise, same_then}
+use Rattle.stow_leaves.specs.StowLeaf.Intervals.{top_key, spans}
+use Rattle.stow_leaves.specs.StowLeaf.LeafRows.{row_messages}
+use Rattle.stow_leaves.proofs.StowLeaf.Found.{both_none, some_left}
+use Rattle.stow_leaves.proofs.StowLeaf.Intervals.{by_test}
+use Rattle.stow_leaves.proofs.StowLeaf.Ops.{Other, ops-append, ops-all_placed}
+use Rattle.stow_leaves.proofs.StowLeaf.Over.{or_none_left, or_none_right, same_pointwise, same_then}
 use Rattle.stow_node.specs.declared.child.Child.{Child}
 use Rattle.stow_node.specs.declared.child.Child.TheVariants as in_child
 use Rattle.stow_node.specs.declared.node.Node.TheInside.{Inside}

@@ -2,11 +2,11 @@
 use Rattle.std.proofs.Common.{◌≡◌, ℕ, cond, ◌*◌, ◌<◌, true, false, List, [], ◌∷◌, ◌++◌, length, map, None, refl, sym, ap, ◌∙◌, subst, arith, append-nil}
 use Rattle.std.specs.List.{AllByRecursion}
 use Rattle.std.specs.declared.vec.Vec.{Vec}
-use Rattle.stow_bytes.specs.Bytes.{bytes_cmp}
-use Rattle.stow_message.proofs.RisingLists.{lt_is}
-use Rattle.stow_message.proofs.RisingLaws.{rests_rise}
-use Rattle.stow_message.specs.MessageBuf.{message_list, with_messages}
-use Rattle.stow_message.specs.Rising.{in_range, all_placed}
+use Rattle.stow_tree_model.specs.StowBytes.Bytes.{bytes_cmp}
+use Rattle.stow_leaves.proofs.StowMessage.RisingLists.{lt_is}
+use Rattle.stow_leaves.proofs.StowMessage.RisingLaws.{rests_rise}
+use Rattle.stow_leaves.specs.StowMessage.MessageBuf.{message_list, with_messages}
+use Rattle.stow_leaves.specs.StowMessage.Rising.{in_range, all_placed}
 use Rattle.stow_tree_model.specs.Agreement.{TenantPins}
 use Rattle.stow_tree_model.specs.Keys.{tenant_of}
 use Rattle.stow_tree_model.specs.Merged.{row_message}
@@ -14,14 +14,14 @@ use Rattle.stow_tree_model.specs.Messages.{ops_in}
 use Rattle.stow_tree_model.specs.Operations.{or_else}
 use Rattle.stow_tree_model.specs.Order.{MessagesRise}
 use Rattle.stow_tree_model.specs.TreeMessage.{TreeMessage}
-use Rattle.stow_leaf_cache.specs.Cache.{Cache}
-use Rattle.stow_leaf.specs.Intervals.{top_key, spans, NoneOutside}
-use Rattle.stow_leaf.specs.LeafRows.{LeafRows, row_messages, first_fence, LeavesTo}
-use Rattle.stow_leaf.specs.Replacements.{AreThere, HasShortValues, MeanTheSame}
-use Rattle.stow_leaf.proofs.Found.{both_none, none_some, or_none}
-use Rattle.stow_leaf.proofs.Intervals.{lt, by_test, under, beyond, not_spanned, span_high}
-use Rattle.stow_leaf.proofs.Ops.{ops-all_placed, ops-append, ops-in_range}
-use Rattle.stow_leaf.proofs.Over.{or_none_left, or_none_right, same_pointwise}
+use Rattle.stow_leaves.specs.StowLeafCache.Cache.{Cache}
+use Rattle.stow_leaves.specs.StowLeaf.Intervals.{top_key, spans, NoneOutside}
+use Rattle.stow_leaves.specs.StowLeaf.LeafRows.{LeafRows, row_messages, first_fence, LeavesTo}
+use Rattle.stow_leaves.specs.StowLeaf.Replacements.{AreThere, HasShortValues, MeanTheSame}
+use Rattle.stow_leaves.proofs.StowLeaf.Found.{both_none, none_some, or_none}
+use Rattle.stow_leaves.proofs.StowLeaf.Intervals.{lt, by_test, under, beyond, not_spanned, span_high}
+use Rattle.stow_leaves.proofs.StowLeaf.Ops.{ops-all_placed, ops-append, ops-in_range}
+use Rattle.stow_leaves.proofs.StowLeaf.Over.{or_none_left, or_none_right, same_pointwise}
 use Rattle.stow_leaves.specs.Absorbs.{ops_above}
 use Rattle.stow_leaves.specs.AbsorbsAll.{CanAbsorbAll, MergesAll, StandsForAll}
 use Rattle.stow_leaves.proofs.GivenWay.{ends_above}

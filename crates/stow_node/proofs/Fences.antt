@@ -6,10 +6,10 @@ use Rattle.std.specs.Ordering.{is_lt}
 use Rattle.stow_tree_model.proofs.Latest.{contains_cases}
 use Rattle.stow_tree_model.proofs.Pruning.{contains_here, contains_there, none_in_nothing}
 use Rattle.stow_tree_model.specs.TreeMessage.{TreeMessage}
-use Rattle.stow_leaf.specs.Intervals.{top_key, spans, NoneOutside}
-use Rattle.stow_leaf.specs.LeafRows.{LeafRows, first_fence}
-use Rattle.stow_leaf.proofs.Intervals.{lt, by_test, lt_self, lt_not, lt_le, le_le, span_low, span_high}
-use Rattle.stow_message.proofs.RisingLists.{no_path}
+use Rattle.stow_leaves.specs.StowLeaf.Intervals.{top_key, spans, NoneOutside}
+use Rattle.stow_leaves.specs.StowLeaf.LeafRows.{LeafRows, first_fence}
+use Rattle.stow_leaves.proofs.StowLeaf.Intervals.{lt, by_test, lt_self, lt_not, lt_le, le_le, span_low, span_high}
+use Rattle.stow_leaves.proofs.StowMessage.RisingLists.{no_path}
 use Rattle.stow_node.specs.Installs.{next_fence}
 use Rattle.stow_node.specs.Parts.{Part, low_or, end_of, TiledTo, leaves_in}
 use Rattle.stow_node.proofs.Row.{message_taken, messages_apart, low_below}

@@ -6,13 +6,13 @@ use Rattle.std.proofs.lemmas.List.Sums.{sum_by-cons}
 use Rattle.stow_tree_model.specs.Op.{Op}
 use Rattle.stow_tree_model.specs.TreeMessage.{TreeMessage}
 use Rattle.stow_tree_model.proofs.Histories.{ops_in-at}
-use Rattle.stow_message.specs.MessageBuf.{MessageList}
-use Rattle.stow_message.specs.Packed.{message_size}
-use Rattle.stow_message.specs.Rising.{is_between, in_range}
+use Rattle.stow_leaves.specs.StowMessage.MessageBuf.{MessageList}
+use Rattle.stow_leaves.specs.StowMessage.Packed.{message_size}
+use Rattle.stow_leaves.specs.StowMessage.Rising.{is_between, in_range}
 use Rattle.stow_node.specs.Parts.{Part, low_or, end_of}
-use Rattle.stow_leaf.specs.Intervals.{top_key, spans, NoneOutside}
+use Rattle.stow_leaves.specs.StowLeaf.Intervals.{top_key, spans, NoneOutside}
 use Rattle.stow_node.specs.Moves.{bytes_for, IsHeaviest}
-use Rattle.stow_leaf.proofs.Intervals.{lt, by_test, span_low, span_high, spanned}
+use Rattle.stow_leaves.proofs.StowLeaf.Intervals.{lt, by_test, span_low, span_high, spanned}
 
 -- the bytes of some of the messages are no more than those of all
 pub some_bytes : (f : TreeMessage → Bool) (ms : List TreeMessage) → sum_by message_size (filter f ms) ≤ sum_by message_size ms

@@ -1,18 +1,18 @@
 -- A node above one empty leaf.
 use Rattle.std.proofs.Common.{◌≡◌, ◌+◌, ◌*◌, ◌≤◌, length, List, [], ◌∷◌, refl, sym, ap, arith, subst, inl}
-use Rattle.stow_message.specs.MessageBuf.{message_list}
+use Rattle.stow_leaves.specs.StowMessage.MessageBuf.{message_list}
 use Rattle.stow_tree_model.specs.Keys.{packed}
 use Rattle.std.specs.declared.vec.Vec.{Vec}
 use Rattle.stow_node.specs.declared.child.Child.{Child}
 use Rattle.stow_node.specs.declared.child.Child.TheVariants as in_child
-use Rattle.stow_leaf.specs.declared.leaf.Leaf.{Leaf}
+use Rattle.stow_leaves.specs.StowLeaf.declared.leaf.Leaf.{Leaf}
 use Rattle.stow_node.specs.declared.node.Node.TheInside.{Inside}
 use Rattle.stow_node.specs.declared.shape.Shape.{Shape}
-use Rattle.stow_leaf.proofs.Fronts.{no_rows_size}
+use Rattle.stow_leaves.proofs.StowLeaf.Fronts.{no_rows_size}
 use Rattle.stow_node.specs.Subtree.{first_subtree}
 use Rattle.std.specs.List.{AllByRecursion}
 use Rattle.stow_node.specs.Parts.{TiledTo, low_or, messages_in, leaves_in, weight_in}
-use Rattle.stow_leaf.specs.Intervals.{top_key}
+use Rattle.stow_leaves.specs.StowLeaf.Intervals.{top_key}
 use Rattle.stow_node.specs.Nodes.{parts_of, nearest_in, deepest_in, IsBelow, subtree_of, IsNode, AreLeafSizes}
 
 pub record IsFirst {A : Type 0} (shape : Shape) (a : Inside A) : Type 0 where

@@ -3,9 +3,9 @@ use Rattle.std.proofs.Common.{zero, suc, ◌≡◌, ℕ, ◌+◌, ◌<◌, ◌�
 use Rattle.std.proofs.lemmas.Grind.{flat_map-append}
 use Rattle.std.proofs.lemmas.List.{map-append, take_more, take-append-drop}
 use Rattle.std.proofs.lemmas.List.Sums.{sum_by-append, sum_by-cons}
-use Rattle.stow_page.specs.Format.{packed_page}
-use Rattle.stow_leaf.specs.LeafRows.{LeafRows}
-use Rattle.stow_leaf.specs.declared.leaf.Leaf.{Leaf}
+use Rattle.stow_leaves.specs.StowPage.Format.{packed_page}
+use Rattle.stow_leaves.specs.StowLeaf.LeafRows.{LeafRows}
+use Rattle.stow_leaves.specs.StowLeaf.declared.leaf.Leaf.{Leaf}
 use Rattle.stow_node.specs.declared.child.Child.{Child}
 use Rattle.stow_node.specs.declared.child.Child.TheVariants as in_child
 use Rattle.stow_node.specs.Moves.{page_bytes}

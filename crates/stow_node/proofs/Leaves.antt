@@ -7,23 +7,23 @@ use Rattle.std.specs.declared.vec.Vec.{Vec}
 use Rattle.std.proofs.lemmas.List.{length-map}
 use Rattle.std.proofs.lemmas.List.Filters.{length-filter_both}
 use Rattle.std.proofs.lemmas.List.Sums.{sum_by-cons}
-use Rattle.stow_message.specs.MessageBuf.{MessageList, without_range}
-use Rattle.stow_message.specs.Packed.{message_size}
-use Rattle.stow_message.specs.Rising.{is_between, in_range, out_of_range}
+use Rattle.stow_leaves.specs.StowMessage.MessageBuf.{MessageList, without_range}
+use Rattle.stow_leaves.specs.StowMessage.Packed.{message_size}
+use Rattle.stow_leaves.specs.StowMessage.Rising.{is_between, in_range, out_of_range}
 use Rattle.stow_tree_model.specs.Agreement.{TenantPins}
 use Rattle.stow_tree_model.specs.Keys.{tenant_of}
 use Rattle.stow_tree_model.specs.Merged.{row_message}
 use Rattle.stow_tree_model.specs.Messages.{ops_in}
 use Rattle.stow_tree_model.specs.Operations.{or_else}
 use Rattle.stow_tree_model.specs.TreeMessage.{TreeMessage}
-use Rattle.stow_leaf_cache.specs.Cache.{Cache}
-use Rattle.stow_leaf.specs.Intervals.{top_key, spans, NoneOutside}
-use Rattle.stow_leaf.specs.LeafRows.{LeafRows, leaf_rows, row_messages, first_fence, IsLeafTile, LeavesTo}
-use Rattle.stow_leaf.specs.Replacements.{AreThere, HasShortValues, MeanTheSame}
-use Rattle.stow_leaf.specs.declared.leaf.Leaf.{Leaf}
-use Rattle.stow_leaf.proofs.Found.{none_some, some_left, some_right}
-use Rattle.stow_leaf.proofs.Intervals.{by_test, lt_self, spanned}
-use Rattle.stow_leaf.proofs.Ops.{ops-append, ops-out_of_range}
+use Rattle.stow_leaves.specs.StowLeafCache.Cache.{Cache}
+use Rattle.stow_leaves.specs.StowLeaf.Intervals.{top_key, spans, NoneOutside}
+use Rattle.stow_leaves.specs.StowLeaf.LeafRows.{LeafRows, leaf_rows, row_messages, first_fence, IsLeafTile, LeavesTo}
+use Rattle.stow_leaves.specs.StowLeaf.Replacements.{AreThere, HasShortValues, MeanTheSame}
+use Rattle.stow_leaves.specs.StowLeaf.declared.leaf.Leaf.{Leaf}
+use Rattle.stow_leaves.proofs.StowLeaf.Found.{none_some, some_left, some_right}
+use Rattle.stow_leaves.proofs.StowLeaf.Intervals.{by_test, lt_self, spanned}
+use Rattle.stow_leaves.proofs.StowLeaf.Ops.{ops-append, ops-out_of_range}
 use Rattle.stow_leaves.specs.Absorbs.{fence_at, left_above, ops_above, CanAbsorb, Merges, StandsFor}
 use Rattle.stow_leaves.proofs.Fences.{fence_is}
 use Rattle.stow_node.specs.declared.child.Child.{Child}

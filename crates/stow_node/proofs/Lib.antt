@@ -40,3 +40,8 @@ pub mod Taken
 pub mod Split
 pub mod Straight
 pub mod Superseded
+pub use Rattle.stow_leaves.proofs.StowLeaf
+pub use Rattle.stow_leaves.proofs.StowLeafCache
+pub use Rattle.stow_leaves.proofs.StowMerge
+pub use Rattle.stow_leaves.proofs.StowMessage
+pub use Rattle.stow_leaves.proofs.StowPage

@@ -13,27 +13,27 @@ use Rattle.stow_tree_model.specs.Operations.{or_else}
 use Rattle.stow_tree_model.specs.Messages.{ops_in}
 use Rattle.stow_tree_model.specs.Order.{MessagesRise}
 use Rattle.stow_tree_model.specs.TreeMessage.{TreeMessage}
-use Rattle.stow_message.specs.MessageBuf.{MessageList, without_range}
-use Rattle.stow_message.specs.Packed.{message_size}
-use Rattle.stow_message.specs.Rising.{is_between, all_placed, in_range, out_of_range}
-use Rattle.stow_message.proofs.RisingLaws.{rests_rise}
-use Rattle.stow_message.proofs.Placed.{AllOther}
+use Rattle.stow_leaves.specs.StowMessage.MessageBuf.{MessageList, without_range}
+use Rattle.stow_leaves.specs.StowMessage.Packed.{message_size}
+use Rattle.stow_leaves.specs.StowMessage.Rising.{is_between, all_placed, in_range, out_of_range}
+use Rattle.stow_leaves.proofs.StowMessage.RisingLaws.{rests_rise}
+use Rattle.stow_leaves.proofs.StowMessage.Placed.{AllOther}
 use Rattle.stow_node.specs.declared.child.Child.{Child}
 use Rattle.stow_node.specs.declared.child.Child.TheVariants as in_child
 use Rattle.stow_node.specs.declared.node.Node.TheInside.{Inside}
 use Rattle.stow_node.specs.Subtree.{Subtree, buffered, messages_of}
-use Rattle.stow_leaf.specs.LeafRows.{LeafRows, row_messages}
+use Rattle.stow_leaves.specs.StowLeaf.LeafRows.{LeafRows, row_messages}
 use Rattle.stow_node.specs.Parts.{Part, low_or, end_of, high_of, IsTile, TiledTo, messages_in, leaves_in, weight_in}
-use Rattle.stow_leaf.specs.Intervals.{top_key, spans}
+use Rattle.stow_leaves.specs.StowLeaf.Intervals.{top_key, spans}
 use Rattle.stow_node.specs.Nodes.{part_of, node_part, parts_of, IsBelow, subtree_of, IsNode, AreLeafSizes}
 use Rattle.stow_node.specs.Moves.{accepted, CanAccept, StaysInMeaning}
 use Rattle.stow_node.proofs.Accepted.{length-all_placed, below_of}
-use Rattle.stow_leaf.proofs.Found.{none_some, some_left}
+use Rattle.stow_leaves.proofs.StowLeaf.Found.{none_some, some_left}
 use Rattle.stow_node.proofs.Newer.{all_new_to, newer_than_part}
-use Rattle.stow_leaf.proofs.Ops.{ops-append, ops-in_range, ops-out_of_range, ops-all_placed}
+use Rattle.stow_leaves.proofs.StowLeaf.Ops.{ops-append, ops-in_range, ops-out_of_range, ops-all_placed}
 use Rattle.stow_node.proofs.Row.{Taken, Apart, message_taken, row_taken, messages_apart, rows_apart, at_part, same_at, low_or-set, tiled-set, tile_at, low_at_most}
-use Rattle.stow_leaf.proofs.Intervals.{lt, by_test, lt_le, span_low, span_high, spanned}
-use Rattle.stow_leaf.proofs.Steps.{inside_of}
+use Rattle.stow_leaves.proofs.StowLeaf.Intervals.{lt, by_test, lt_le, span_low, span_high, spanned}
+use Rattle.stow_leaves.proofs.StowLeaf.Steps.{inside_of}
 use Rattle.stow_node.proofs.Stayed.{part_at, level-set, level_at, leaves-set, count-set}
 
 pub row_messages-append : (xs ys : List LeafRows) → row_messages (xs ++ ys) ≡ row_messages xs ++ row_messages ys

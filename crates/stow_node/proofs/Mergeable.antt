@@ -1,12 +1,12 @@
 -- A leaf's messages in a buffer of their own can be merged with it.
 use Rattle.std.proofs.Common.{◌≡◌, ℕ, List, map, sym, subst}
 use Rattle.std.specs.Prelude.{IsSome}
-use Rattle.stow_leaf.proofs.Ops.{ops-in_range}
-use Rattle.stow_leaf.specs.Intervals.{spans}
-use Rattle.stow_leaf.specs.Replacements.{CanReplace}
-use Rattle.stow_merge.specs.Mergeable.{IsMergeable}
-use Rattle.stow_merge.specs.Pages.{HaveShortValues}
-use Rattle.stow_message.specs.Rising.{in_range, AreNew}
+use Rattle.stow_leaves.proofs.StowLeaf.Ops.{ops-in_range}
+use Rattle.stow_leaves.specs.StowLeaf.Intervals.{spans}
+use Rattle.stow_leaves.specs.StowLeaf.Replacements.{CanReplace}
+use Rattle.stow_leaves.specs.StowMerge.Mergeable.{IsMergeable}
+use Rattle.stow_leaves.specs.StowMerge.Pages.{HaveShortValues}
+use Rattle.stow_leaves.specs.StowMessage.Rising.{in_range, AreNew}
 use Rattle.stow_tree_model.specs.Agreement.{TenantPins}
 use Rattle.stow_tree_model.specs.Merged.{row_message, merged}
 use Rattle.stow_tree_model.specs.Messages.{ops_in}

@@ -2,15 +2,15 @@
 use Rattle.std.proofs.Common.{zero, suc, ◌≡◌, ℕ, ◌≤◌, arith, true, false, cond, List, [], ◌∷◌, ◌++◌, None, refl, sym, ap, ◌∙◌, subst}
 use Rattle.std.specs.Prelude.{IsSome, not, ◌&&◌}
 use Rattle.std.specs.Ordering.{is_lt}
-use Rattle.stow_message.specs.Rising.{in_range}
+use Rattle.stow_leaves.specs.StowMessage.Rising.{in_range}
 use Rattle.stow_tree_model.specs.Messages.{ops_in}
 use Rattle.stow_tree_model.specs.Operations.{or_else}
 use Rattle.stow_tree_model.specs.TreeMessage.{TreeMessage}
-use Rattle.stow_leaf.specs.Intervals.{top_key, spans}
-use Rattle.stow_leaf.proofs.Found.{none_or, both_none, none_some, some_or, some_left, some_right}
-use Rattle.stow_leaf.proofs.Intervals.{lt, by_test, lt_self, lt_not, lt_trans, lt_le, le_le, span_low, span_high, spanned, under, beyond}
-use Rattle.stow_leaf.proofs.Ops.{ops-append, ops-in_range}
-use Rattle.stow_leaf.proofs.Over.{or_none_left}
+use Rattle.stow_leaves.specs.StowLeaf.Intervals.{top_key, spans}
+use Rattle.stow_leaves.proofs.StowLeaf.Found.{none_or, both_none, none_some, some_or, some_left, some_right}
+use Rattle.stow_leaves.proofs.StowLeaf.Intervals.{lt, by_test, lt_self, lt_not, lt_trans, lt_le, le_le, span_low, span_high, spanned, under, beyond}
+use Rattle.stow_leaves.proofs.StowLeaf.Ops.{ops-append, ops-in_range}
+use Rattle.stow_leaves.proofs.StowLeaf.Over.{or_none_left}
 use Rattle.stow_node.specs.declared.child.Child.{Child}
 use Rattle.stow_node.specs.declared.child.Child.TheVariants as in_child
 use Rattle.stow_node.specs.Halves.{AreHalves}

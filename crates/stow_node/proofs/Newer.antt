@@ -9,12 +9,12 @@ use Rattle.stow_tree_model.specs.TreeMessage.{TreeMessage}
 use Rattle.stow_tree_model.proofs.Orders.{place_cases}
 use Rattle.stow_tree_model.proofs.Histories.{ops_in-at}
 use Rattle.std.proofs.lemmas.List.Elements.{All-from_recursion}
-use Rattle.stow_message.specs.Rising.{IsNew, AreNew}
-use Rattle.stow_message.proofs.Placed.{AllOther}
+use Rattle.stow_leaves.specs.StowMessage.Rising.{IsNew, AreNew}
+use Rattle.stow_leaves.proofs.StowMessage.Placed.{AllOther}
 use Rattle.stow_node.specs.Nodes.{AreNewer}
-use Rattle.stow_leaf.proofs.Found.{first_stays}
-use Rattle.stow_leaf.proofs.Ops.{Other}
-use Rattle.stow_leaf.proofs.Intervals.{by_test}
+use Rattle.stow_leaves.proofs.StowLeaf.Found.{first_stays}
+use Rattle.stow_leaves.proofs.StowLeaf.Ops.{Other}
+use Rattle.stow_leaves.proofs.StowLeaf.Intervals.{by_test}
 
 eq_is : (a b : VersionPlace) → is_eq (place_cmp a b) ≡ true → a ≡ b
 eq_is a b e = ⊎_elim

@@ -5,12 +5,12 @@ use Rattle.std.specs.List.{AllByRecursion, filter}
 use Rattle.std.specs.Ordering.{is_eq, eq_by_cmp}
 use Rattle.std.specs.declared.vec.Vec.{Vec}
 use Rattle.std.proofs.lemmas.List.{length-map}
-use Rattle.stow_merge.specs.Covering.{Covers}
-use Rattle.stow_merge.specs.Pins.{pins_in}
-use Rattle.stow_merge.specs.declared.flush_job.FlushJob.{FlushJob}
-use Rattle.stow_message.proofs.Ranges.{length-filter}
-use Rattle.stow_message.specs.MessageBuf.{without_batch}
-use Rattle.stow_message.specs.Rising.{without, AreHeld}
+use Rattle.stow_leaves.specs.StowMerge.Covering.{Covers}
+use Rattle.stow_leaves.specs.StowMerge.Pins.{pins_in}
+use Rattle.stow_leaves.specs.StowMerge.declared.flush_job.FlushJob.{FlushJob}
+use Rattle.stow_leaves.proofs.StowMessage.Ranges.{length-filter}
+use Rattle.stow_leaves.specs.StowMessage.MessageBuf.{without_batch}
+use Rattle.stow_leaves.specs.StowMessage.Rising.{without, AreHeld}
 use Rattle.stow_tree_model.proofs.Latest.{contains_cases}
 use Rattle.stow_tree_model.proofs.Orders.{place_cases}
 use Rattle.stow_tree_model.proofs.Pruning.{none_in_nothing}
@@ -21,13 +21,13 @@ use Rattle.stow_tree_model.specs.Messages.{ops_in}
 use Rattle.stow_tree_model.specs.Order.{VersionPlace, place_cmp, place_of}
 use Rattle.stow_tree_model.specs.TreeMessage.{TreeMessage}
 use Rattle.stow_tree_model.specs.Version.{Version}
-use Rattle.stow_leaf.specs.Intervals.{top_key, spans, NoneOutside}
-use Rattle.stow_leaf.specs.LeafRows.{LeafRows, leaf_rows, row_messages, IsLeafTile, LeavesTo}
-use Rattle.stow_leaf.specs.Replacements.{AreThere, IsLeafSize, MeanTheSame}
-use Rattle.stow_leaf.specs.declared.leaf.Leaf.{Leaf}
-use Rattle.stow_leaf.proofs.Found.{none_some, none_unless, some_or, some_left}
-use Rattle.stow_leaf.proofs.Intervals.{by_test}
-use Rattle.stow_leaf.proofs.Over.{above_same, or_none_left}
+use Rattle.stow_leaves.specs.StowLeaf.Intervals.{top_key, spans, NoneOutside}
+use Rattle.stow_leaves.specs.StowLeaf.LeafRows.{LeafRows, leaf_rows, row_messages, IsLeafTile, LeavesTo}
+use Rattle.stow_leaves.specs.StowLeaf.Replacements.{AreThere, IsLeafSize, MeanTheSame}
+use Rattle.stow_leaves.specs.StowLeaf.declared.leaf.Leaf.{Leaf}
+use Rattle.stow_leaves.proofs.StowLeaf.Found.{none_some, none_unless, some_or, some_left}
+use Rattle.stow_leaves.proofs.StowLeaf.Intervals.{by_test}
+use Rattle.stow_leaves.proofs.StowLeaf.Over.{above_same, or_none_left}
 use Rattle.stow_leaves.specs.Absorbs.{fence_at, ops_above, BatchGoes, CanPutPages, PutsPages, StandsFor}
 use Rattle.stow_leaves.proofs.Fences.{fence_is}
 use Rattle.stow_leaves.proofs.Parted.{batch_goes}

@@ -4,10 +4,10 @@ use Rattle.std.proofs.lemmas.Bool.Decides.{nat_tests}
 use Rattle.std.specs.Prelude.{nat_lt}
 use Rattle.std.proofs.lemmas.List.{length-map, get_or-map}
 use Rattle.stow_node.specs.Parts.{Part, low_or, end_of, high_of, IsFor, LiesBetween}
-use Rattle.stow_leaf.specs.Intervals.{top_key, spans}
+use Rattle.stow_leaves.specs.StowLeaf.Intervals.{top_key, spans}
 use Rattle.stow_node.specs.declared.child.Child.{Child}
 use Rattle.stow_node.specs.Nodes.{part_of, parts_of}
-use Rattle.stow_leaf.proofs.Intervals.{lt, by_test, spanned, span_low, span_high}
+use Rattle.stow_leaves.proofs.StowLeaf.Intervals.{lt, by_test, spanned, span_low, span_high}
 
 pub end_of-next : (high : List ℕ) (ps : List Part) (i : ℕ) (d : Part) → i + 1 < length ps → end_of high ps i ≡ (get_or ps (i + 1) d).low
 end_of-next high [] i d h = absurd (omega arith)

@@ -2,12 +2,12 @@
 use Rattle.std.proofs.Common.{zero, suc, ◌≡◌, ◌≢◌, ℕ, ◌<◌, ◌≤◌, true, false, List, [], ◌∷◌, length, get_or, Option, Some, sym, ap, ◌∙◌, subst, arith, inl, ◌⊎◌, ⊎_elim}
 use Rattle.std.specs.Prelude.{Contains, IsSome, slice_get, is_some, if◌then◌else◌}
 use Rattle.std.proofs.lemmas.List.{length-map}
-use Rattle.stow_merge.proofs.Lists.{all_from_members}
-use Rattle.stow_merge.specs.Covering.{Covers, IsCovered}
-use Rattle.stow_merge.specs.Pins.{pins_in}
-use Rattle.stow_merge.specs.declared.flush_job.FlushJob.{FlushJob}
-use Rattle.stow_message.specs.Rising.{in_range, AreOldest}
-use Rattle.stow_message.proofs.RisingLists.{no_path}
+use Rattle.stow_leaves.proofs.StowMerge.Lists.{all_from_members}
+use Rattle.stow_leaves.specs.StowMerge.Covering.{Covers, IsCovered}
+use Rattle.stow_leaves.specs.StowMerge.Pins.{pins_in}
+use Rattle.stow_leaves.specs.StowMerge.declared.flush_job.FlushJob.{FlushJob}
+use Rattle.stow_leaves.specs.StowMessage.Rising.{in_range, AreOldest}
+use Rattle.stow_leaves.proofs.StowMessage.RisingLists.{no_path}
 use Rattle.stow_tree_model.specs.Agreement.{TenantPins}
 use Rattle.stow_tree_model.specs.Messages.{ops_in}
 use Rattle.stow_tree_model.specs.Keys.{tenant_of}
@@ -17,12 +17,12 @@ use Rattle.std.proofs.lemmas.List.Elements.{All-from_recursion}
 use Rattle.stow_tree_model.proofs.Histories.{ops_in-at}
 use Rattle.stow_tree_model.proofs.Latest.{contains_cases}
 use Rattle.stow_tree_model.proofs.Pruning.{contains_here, none_in_nothing}
-use Rattle.stow_leaf.specs.Intervals.{top_key, spans, NoneOutside}
-use Rattle.stow_leaf.specs.declared.leaf.Leaf.{Leaf}
-use Rattle.stow_leaf.proofs.Found.{none_some, none_unless, none_or, or_none, some_left, some_right, first_stays}
-use Rattle.stow_leaf.proofs.Intervals.{lt, by_test, lt_self, le_le, span_low, span_high, spanned, not_spanned, under, beyond}
-use Rattle.stow_leaf.proofs.Ops.{ops-append, ops-in_range}
-use Rattle.stow_leaf.proofs.Steps.{inside_of}
+use Rattle.stow_leaves.specs.StowLeaf.Intervals.{top_key, spans, NoneOutside}
+use Rattle.stow_leaves.specs.StowLeaf.declared.leaf.Leaf.{Leaf}
+use Rattle.stow_leaves.proofs.StowLeaf.Found.{none_some, none_unless, none_or, or_none, some_left, some_right, first_stays}
+use Rattle.stow_leaves.proofs.StowLeaf.Intervals.{lt, by_test, lt_self, le_le, span_low, span_high, spanned, not_spanned, under, beyond}
+use Rattle.stow_leaves.proofs.StowLeaf.Ops.{ops-append, ops-in_range}
+use Rattle.stow_leaves.proofs.StowLeaf.Steps.{inside_of}
 use Rattle.stow_node.specs.declared.child.Child.{Child}
 use Rattle.stow_node.specs.declared.child.Child.TheVariants as in_child
 use Rattle.stow_node.specs.declared.node.Node.TheInside.{Inside}

@@ -2,22 +2,22 @@
 use Rattle.std.proofs.Common.{◌≡◌, ℕ, ◌≤◌, true, false, List, [], ◌∷◌, ◌++◌, length, refl, sym, ap, ◌∙◌, subst, arith}
 use Rattle.std.specs.List.{AllByRecursion}
 use Rattle.std.specs.Ordering.{is_lt}
-use Rattle.stow_bytes.specs.Bytes.{bytes_cmp}
-use Rattle.stow_message.proofs.RisingLists.{lt_is}
+use Rattle.stow_tree_model.specs.StowBytes.Bytes.{bytes_cmp}
+use Rattle.stow_leaves.proofs.StowMessage.RisingLists.{lt_is}
 use Rattle.stow_tree_model.specs.Messages.{ops_in}
 use Rattle.stow_node.specs.declared.child.Child.{Child}
 use Rattle.stow_node.specs.declared.node.Node.TheInside.{Inside}
 use Rattle.stow_node.specs.declared.shape.Shape.{Shape}
-use Rattle.stow_leaf.specs.LeafRows.{LeafRows, first_fence}
+use Rattle.stow_leaves.specs.StowLeaf.LeafRows.{LeafRows, first_fence}
 use Rattle.stow_node.specs.Parts.{Part, low_or, IsTile, TiledTo, messages_in, leaves_in}
-use Rattle.stow_leaf.specs.Intervals.{top_key, spans}
+use Rattle.stow_leaves.specs.StowLeaf.Intervals.{top_key, spans}
 use Rattle.stow_node.specs.Nodes.{part_of, node_part, parts_of, IsBelow, subtree_of, IsNode}
 use Rattle.std.proofs.lemmas.List.{length-map}
 use Rattle.stow_node.proofs.Lowered.{rows_by_part}
-use Rattle.stow_leaf.proofs.Ops.{ops-append}
-use Rattle.stow_leaf.proofs.Found.{both_none}
+use Rattle.stow_leaves.proofs.StowLeaf.Ops.{ops-append}
+use Rattle.stow_leaves.proofs.StowLeaf.Found.{both_none}
 use Rattle.stow_node.proofs.Row.{message_taken, row_taken, messages_apart, rows_apart, row_out, low_at_most}
-use Rattle.stow_leaf.proofs.Intervals.{lt, lt_le, le_le, lt_not, lt_self, span_low, span_high, spanned}
+use Rattle.stow_leaves.proofs.StowLeaf.Intervals.{lt, lt_le, le_le, lt_not, lt_self, span_low, span_high, spanned}
 
 less_than_itself : (a b : List ℕ) → lt a b ≡ true → b ≡ a → ⊥
 less_than_itself a b l e = cc (lt_self a)

@@ -1,14 +1,14 @@
 -- A root that becomes higher, as a job's pages came below it.
 use Rattle.std.proofs.Common.{◌≡◌, ℕ, ◌+◌, ◌<◌, ◌≤◌, true, List, [], ◌∷◌, ◌++◌, length, refl, sym, ap, ◌∙◌, subst, arith}
-use Rattle.stow_leaf.specs.Intervals.{top_key, spans}
-use Rattle.stow_leaf_cache.specs.Cache.{Cache}
+use Rattle.stow_leaves.specs.StowLeaf.Intervals.{top_key, spans}
+use Rattle.stow_leaves.specs.StowLeafCache.Cache.{Cache}
 use Rattle.stow_leaves.specs.Forgets.{Forgets}
-use Rattle.stow_merge.specs.declared.flush_job.FlushJob.{FlushJob}
+use Rattle.stow_leaves.specs.StowMerge.declared.flush_job.FlushJob.{FlushJob}
 use Rattle.stow_tree_model.specs.Agreement.{TenantPins}
 use Rattle.stow_tree_model.specs.Keys.{tenant_of}
 use Rattle.stow_tree_model.specs.Messages.{ops_in}
-use Rattle.stow_leaf.proofs.Found.{none_unless, none_some}
-use Rattle.stow_leaf.proofs.Over.{same_itself}
+use Rattle.stow_leaves.proofs.StowLeaf.Found.{none_unless, none_some}
+use Rattle.stow_leaves.proofs.StowLeaf.Over.{same_itself}
 use Rattle.stow_node.specs.declared.child.Child.{Child}
 use Rattle.stow_node.specs.declared.child.Child.TheVariants as in_child
 use Rattle.stow_node.specs.declared.room.Room.{Room}

@@ -5,17 +5,17 @@ use Rattle.std.specs.Ordering.{is_lt}
 use Rattle.std.specs.Prelude.{IsSome}
 use Rattle.std.specs.declared.vec.Vec.{Vec}
 use Rattle.std.proofs.lemmas.List.Sums.{sum_by-cons}
-use Rattle.stow_bytes.specs.Bytes.{bytes_cmp}
-use Rattle.stow_message.proofs.RisingLists.{lt_is}
-use Rattle.stow_message.specs.MessageBuf.{MessageList, message_list}
+use Rattle.stow_tree_model.specs.StowBytes.Bytes.{bytes_cmp}
+use Rattle.stow_leaves.proofs.StowMessage.RisingLists.{lt_is}
+use Rattle.stow_leaves.specs.StowMessage.MessageBuf.{MessageList, message_list}
 use Rattle.stow_tree_model.specs.Agreement.{TenantPins}
 use Rattle.stow_tree_model.specs.Keys.{tenant_of}
 use Rattle.stow_tree_model.specs.Messages.{ops_in}
 use Rattle.stow_tree_model.specs.Operations.{or_else}
-use Rattle.stow_leaf.specs.Intervals.{top_key, spans}
-use Rattle.stow_leaf.specs.LeafRows.{LeafRows, row_messages, first_fence}
-use Rattle.stow_leaf.proofs.Intervals.{lt}
-use Rattle.stow_leaf.proofs.Ops.{ops-append}
+use Rattle.stow_leaves.specs.StowLeaf.Intervals.{top_key, spans}
+use Rattle.stow_leaves.specs.StowLeaf.LeafRows.{LeafRows, row_messages, first_fence}
+use Rattle.stow_leaves.proofs.StowLeaf.Intervals.{lt}
+use Rattle.stow_leaves.proofs.StowLeaf.Ops.{ops-append}
 use Rattle.stow_node.specs.declared.child.Child.{Child}
 use Rattle.stow_node.specs.declared.child.Child.TheVariants as in_child
 use Rattle.stow_node.specs.declared.node.Node.TheInside.{Inside}
@@ -24,7 +24,7 @@ use Rattle.stow_node.specs.declared.shape.Shape.{Shape}
 use Rattle.stow_groups.specs.Groups.{groups, IsLast}
 use Rattle.stow_node.specs.Rooms.{AreShells}
 use Rattle.std.specs.Vec.{vec_capacity}
-use Rattle.stow_leaf.specs.Replacements.{MeanTheSame}
+use Rattle.stow_leaves.specs.StowLeaf.Replacements.{MeanTheSame}
 use Rattle.stow_node.specs.Flushes.{KeepsMeaning}
 use Rattle.stow_node.specs.Halves.{IsLike, AreHalves}
 use Rattle.stow_node.specs.Nodes.{leaves_of, nearest_in, AreAmong, HasNodeBlock}
@@ -35,7 +35,7 @@ use Rattle.stow_node.specs.Subtree.{Subtree, buffered, messages_of, right_above_
 use Rattle.stow_node.proofs.Cut.{below_end}
 use Rattle.stow_groups.proofs.Counts.{groups_few, groups_hold}
 use Rattle.stow_node.proofs.Lowered.{rows_by_part}
-use Rattle.stow_leaf.proofs.Over.{same_pointwise, same_then}
+use Rattle.stow_leaves.proofs.StowLeaf.Over.{same_pointwise, same_then}
 use Rattle.stow_node.proofs.Nearest.{nearest_halves, nearest_alone, nearest_up}
 use Rattle.stow_node.proofs.Raised.{row_fences, first_of_row, above_leaves}
 use Rattle.stow_node.proofs.Row.{message_taken, row_taken, messages_apart, rows_apart, row_out}

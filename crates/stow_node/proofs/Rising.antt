@@ -1,16 +1,16 @@
 -- A root that becomes higher, as nodes came behind it.
 use Rattle.std.proofs.Common.{◌≡◌, ◌+◌, ◌<◌, ◌≤◌, List, [], ◌∷◌, ◌++◌, length, refl, sym, ap, ◌∙◌, subst, arith, append-nil}
 use Rattle.std.proofs.lemmas.List.Sums.{sum_by-cons}
-use Rattle.stow_leaf.specs.Intervals.{top_key}
-use Rattle.stow_leaf.specs.LeafRows.{row_messages}
-use Rattle.stow_leaf_cache.specs.Cache.{Cache}
+use Rattle.stow_leaves.specs.StowLeaf.Intervals.{top_key}
+use Rattle.stow_leaves.specs.StowLeaf.LeafRows.{row_messages}
+use Rattle.stow_leaves.specs.StowLeafCache.Cache.{Cache}
 use Rattle.stow_tree_model.specs.Agreement.{TenantPins}
 use Rattle.stow_tree_model.specs.Keys.{tenant_of}
 use Rattle.stow_tree_model.specs.Messages.{ops_in}
 use Rattle.stow_node.specs.declared.child.Child.{Child}
 use Rattle.stow_node.specs.declared.room.Room.{Room}
 use Rattle.stow_node.specs.declared.shape.Shape.{Shape}
-use Rattle.stow_leaf.specs.Replacements.{MeanTheSame}
+use Rattle.stow_leaves.specs.StowLeaf.Replacements.{MeanTheSame}
 use Rattle.stow_node.specs.Flushes.{Flushes, KeepsRoot}
 use Rattle.stow_leaves.specs.Forgets.{Forgets}
 use Rattle.stow_node.specs.Nodes.{leaves_of}

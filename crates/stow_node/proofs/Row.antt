@@ -5,12 +5,12 @@ use Rattle.std.specs.Ordering.{is_lt}
 use Rattle.stow_tree_model.specs.Operations.{or_else}
 use Rattle.stow_tree_model.specs.Messages.{ops_in}
 use Rattle.stow_tree_model.specs.TreeMessage.{TreeMessage}
-use Rattle.stow_leaf.specs.LeafRows.{row_messages}
+use Rattle.stow_leaves.specs.StowLeaf.LeafRows.{row_messages}
 use Rattle.stow_node.specs.Parts.{Part, IsTile, TiledTo, low_or, end_of}
-use Rattle.stow_leaf.specs.Intervals.{spans, NoneOutside}
-use Rattle.stow_leaf.proofs.Intervals.{lt, lt_trans, lt_le, le_le, lt_not, lt_self, under, beyond, not_spanned, span_low, span_high}
-use Rattle.stow_leaf.proofs.Found.{both_none, or_none, none_or}
-use Rattle.stow_leaf.proofs.Ops.{ops-append}
+use Rattle.stow_leaves.specs.StowLeaf.Intervals.{spans, NoneOutside}
+use Rattle.stow_leaves.proofs.StowLeaf.Intervals.{lt, lt_trans, lt_le, le_le, lt_not, lt_self, under, beyond, not_spanned, span_low, span_high}
+use Rattle.stow_leaves.proofs.StowLeaf.Found.{both_none, or_none, none_or}
+use Rattle.stow_leaves.proofs.StowLeaf.Ops.{ops-append}
 
 -- what is taken of each part
 abbrev pub Taken : Type 0

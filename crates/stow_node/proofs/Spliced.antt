@@ -7,20 +7,20 @@ use Rattle.std.specs.declared.vec.Vec.{Vec}
 use Rattle.std.proofs.lemmas.Grind.{flat_map-append}
 use Rattle.std.proofs.lemmas.List.{length-map, map-append, take-map, drop-map, drop_more, take-append-drop, length-take-le}
 use Rattle.std.proofs.lemmas.List.Sums.{sum_by-append, sum_by-cons}
-use Rattle.stow_merge.proofs.Lists.{all_split, all_join}
-use Rattle.stow_message.proofs.RisingLists.{no_path}
+use Rattle.stow_leaves.proofs.StowMerge.Lists.{all_split, all_join}
+use Rattle.stow_leaves.proofs.StowMessage.RisingLists.{no_path}
 use Rattle.stow_tree_model.specs.Agreement.{TenantPins}
 use Rattle.stow_tree_model.specs.Keys.{tenant_of}
 use Rattle.stow_tree_model.specs.Messages.{ops_in}
 use Rattle.stow_tree_model.specs.Op.{Op}
 use Rattle.stow_tree_model.specs.Operations.{Operations, or_else, over}
-use Rattle.stow_leaf.specs.Intervals.{top_key, spans}
-use Rattle.stow_leaf.specs.LeafRows.{LeafRows, row_messages, first_fence}
-use Rattle.stow_leaf.specs.Replacements.{IsLeafSize, HasShortValues, MeanTheSame}
-use Rattle.stow_leaf.proofs.Found.{or_none, none_or}
-use Rattle.stow_leaf.proofs.Intervals.{lt, by_test, lt_self, beyond, span_low, span_high}
-use Rattle.stow_leaf.proofs.Ops.{ops-append}
-use Rattle.stow_leaf.proofs.Steps.{inside_of}
+use Rattle.stow_leaves.specs.StowLeaf.Intervals.{top_key, spans}
+use Rattle.stow_leaves.specs.StowLeaf.LeafRows.{LeafRows, row_messages, first_fence}
+use Rattle.stow_leaves.specs.StowLeaf.Replacements.{IsLeafSize, HasShortValues, MeanTheSame}
+use Rattle.stow_leaves.proofs.StowLeaf.Found.{or_none, none_or}
+use Rattle.stow_leaves.proofs.StowLeaf.Intervals.{lt, by_test, lt_self, beyond, span_low, span_high}
+use Rattle.stow_leaves.proofs.StowLeaf.Ops.{ops-append}
+use Rattle.stow_leaves.proofs.StowLeaf.Steps.{inside_of}
 use Rattle.stow_node.specs.declared.child.Child.{Child}
 use Rattle.stow_node.specs.declared.child.Child.TheVariants as in_child
 use Rattle.stow_node.specs.declared.node.Node.TheInside.{Inside}
@@ -34,7 +34,7 @@ use Rattle.stow_node.specs.Subtree.{Subtree, buffered, messages_of}
 use Rattle.stow_node.proofs.Accepted.{below_of, whole_ops}
 use Rattle.stow_node.proofs.Cut.{low_or-append, tiled-left, tiled-right}
 use Rattle.stow_node.proofs.Lowered.{rows_by_part, row_messages-append}
-use Rattle.stow_leaf.proofs.Over.{Above, or_none_left, or_none_right, nothing_short, same_pointwise, above_same, over_same, short_under}
+use Rattle.stow_leaves.proofs.StowLeaf.Over.{Above, or_none_left, or_none_right, nothing_short, same_pointwise, above_same, over_same, short_under}
 use Rattle.stow_node.proofs.Raised.{wider, row_fences, whole_tile}
 use Rattle.stow_node.proofs.Row.{Taken, message_taken, row_taken, messages_apart, rows_apart, none_before, none_from, row_out, low_at_most}
 use Rattle.stow_node.proofs.Standing.{parts_ops, outside_tile, stands, narrowed}

@@ -1,7 +1,7 @@
 -- A row that is cut before a child.
 use Rattle.std.proofs.Common.{zero, suc, ◌≡◌, ℕ, ◌<◌, List, [], ◌∷◌, ◌++◌, length, Option, Some, refl, sym, ap, ◌∙◌, arith, length-append}
 use Rattle.std.specs.Prelude.{slice_get, slice_index_or, slice_set}
-use Rattle.stow_leaf.specs.declared.leaf.Leaf.{Leaf}
+use Rattle.stow_leaves.specs.StowLeaf.declared.leaf.Leaf.{Leaf}
 use Rattle.stow_node.specs.declared.child.Child.{Child}
 use Rattle.stow_node.specs.declared.child.Child.TheVariants as in_child
 use Rattle.stow_node.specs.Subtree.{Subtree}

@@ -3,16 +3,16 @@ use Rattle.std.proofs.Common.{◌≡◌, ℕ, true, false, List, [], ◌∷◌, 
 use Rattle.std.specs.Prelude.{IsSome}
 use Rattle.std.specs.List.{AllByRecursion}
 use Rattle.std.specs.Ordering.{is_lt}
-use Rattle.stow_bytes.specs.Bytes.{bytes_cmp}
-use Rattle.stow_message.proofs.RisingLists.{no_path, lt_is}
+use Rattle.stow_tree_model.specs.StowBytes.Bytes.{bytes_cmp}
+use Rattle.stow_leaves.proofs.StowMessage.RisingLists.{no_path, lt_is}
 use Rattle.stow_tree_model.specs.Messages.{ops_in}
 use Rattle.stow_tree_model.specs.Operations.{or_else}
-use Rattle.stow_leaf.specs.Intervals.{spans}
-use Rattle.stow_leaf.specs.LeafRows.{LeafRows, row_messages, first_fence}
-use Rattle.stow_leaf.specs.Replacements.{AreThere}
-use Rattle.stow_leaf.proofs.Found.{both_none, none_some, none_unless, some_left, some_right}
-use Rattle.stow_leaf.proofs.Intervals.{lt, lt_self, under, spanned, span_low, not_spanned}
-use Rattle.stow_leaf.proofs.Ops.{ops-append}
+use Rattle.stow_leaves.specs.StowLeaf.Intervals.{spans}
+use Rattle.stow_leaves.specs.StowLeaf.LeafRows.{LeafRows, row_messages, first_fence}
+use Rattle.stow_leaves.specs.StowLeaf.Replacements.{AreThere}
+use Rattle.stow_leaves.proofs.StowLeaf.Found.{both_none, none_some, none_unless, some_left, some_right}
+use Rattle.stow_leaves.proofs.StowLeaf.Intervals.{lt, lt_self, under, spanned, span_low, not_spanned}
+use Rattle.stow_leaves.proofs.StowLeaf.Ops.{ops-append}
 use Rattle.stow_node.specs.Nodes.{node_part}
 use Rattle.stow_node.specs.Parts.{Part, IsTile}
 use Rattle.stow_node.specs.Subtree.{Subtree, buffered, messages_of}

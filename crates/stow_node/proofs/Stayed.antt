@@ -14,13 +14,13 @@ use Rattle.stow_node.specs.declared.child.Child.TheVariants as in_child
 use Rattle.stow_node.specs.declared.node.Node.TheInside.{Inside}
 use Rattle.stow_node.specs.declared.shape.Shape.{Shape}
 use Rattle.stow_node.specs.Subtree.{Subtree}
-use Rattle.stow_leaf.specs.LeafRows.{LeafRows, row_messages}
+use Rattle.stow_leaves.specs.StowLeaf.LeafRows.{LeafRows, row_messages}
 use Rattle.stow_node.specs.Parts.{Part, low_or, high_of, IsTile, TiledTo, messages_in, leaves_in, weight_in}
-use Rattle.stow_leaf.specs.Intervals.{top_key}
+use Rattle.stow_leaves.specs.StowLeaf.Intervals.{top_key}
 use Rattle.stow_node.specs.Nodes.{part_of, node_part, parts_of, IsBelow, subtree_of, IsNode, AreLeafSizes}
 use Rattle.stow_node.specs.Moves.{StaysInMeaning}
-use Rattle.stow_leaf.proofs.Ops.{ops-append}
-use Rattle.stow_leaf.proofs.Steps.{inside_of}
+use Rattle.stow_leaves.proofs.StowLeaf.Ops.{ops-append}
+use Rattle.stow_leaves.proofs.StowLeaf.Steps.{inside_of}
 use Rattle.stow_node.proofs.Reallocated.{StaysLike}
 use Rattle.stow_node.proofs.Row.{message_taken, same_at, low_or-set, tiled-set, tile_at}
 

@@ -6,15 +6,15 @@ use Rattle.std.specs.declared.vec.Vec.{Vec}
 use Rattle.std.proofs.lemmas.Grind.{flat_map-append}
 use Rattle.std.proofs.lemmas.List.{map-append, take-map, drop-map, length-take-le}
 use Rattle.std.proofs.lemmas.List.Sums.{sum_by-cons}
-use Rattle.stow_message.specs.Packed.{message_size}
-use Rattle.stow_message.specs.Rising.{is_between}
+use Rattle.stow_leaves.specs.StowMessage.Packed.{message_size}
+use Rattle.stow_leaves.specs.StowMessage.Rising.{is_between}
 use Rattle.stow_tree_model.specs.Agreement.{TenantPins}
 use Rattle.stow_tree_model.specs.Keys.{tenant_of}
 use Rattle.stow_tree_model.specs.Messages.{ops_in}
 use Rattle.stow_tree_model.specs.Operations.{or_else}
-use Rattle.stow_leaf.specs.LeafRows.{row_messages}
-use Rattle.stow_leaf_cache.specs.Cache.{Cache}
-use Rattle.stow_leaf.proofs.Steps.{inside_of}
+use Rattle.stow_leaves.specs.StowLeaf.LeafRows.{row_messages}
+use Rattle.stow_leaves.specs.StowLeafCache.Cache.{Cache}
+use Rattle.stow_leaves.proofs.StowLeaf.Steps.{inside_of}
 use Rattle.stow_node.specs.declared.child.Child.{Child}
 use Rattle.stow_node.specs.declared.child.Child.TheVariants as in_child
 use Rattle.stow_node.specs.declared.node.Node.TheInside.{Inside}
@@ -34,7 +34,7 @@ use Rattle.stow_node.proofs.Reallocated.{StaysLike, block_kept, block_most, like
 use Rattle.stow_node.proofs.Filled.{some_bytes}
 use Rattle.stow_node.proofs.Spliced.{old_parts}
 use Rattle.stow_leaves.proofs.Forgotten.{forgets_within}
-use Rattle.stow_leaf.proofs.Over.{same_pointwise, same_then}
+use Rattle.stow_leaves.proofs.StowLeaf.Over.{same_pointwise, same_then}
 use Rattle.stow_node.proofs.Spliced.{Spliced, spliced, one_takes_place, child_short, before_of, after_of}
 use Rattle.stow_node.proofs.Standing.{parts_ops}
 use Rattle.stow_node.proofs.Stayed.{same_tile, level_at}

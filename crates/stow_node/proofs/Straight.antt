@@ -2,13 +2,13 @@
 use Rattle.std.proofs.Common.{zero, suc, ◌≡◌, ℕ, List, [], ◌∷◌, ◌++◌, length, set, Option, Some, None, refl, sym, ap, ◌∙◌, subst, arith, inl, inr}
 use Rattle.std.specs.Prelude.{slice_get, slice_set, Result, Ok, Err, OnErr}
 use Rattle.std.specs.List.{sum_by}
-use Rattle.stow_leaf_cache.specs.Cache.{Cache}
-use Rattle.stow_leaf.specs.LeafRows.{LeafRows}
+use Rattle.stow_leaves.specs.StowLeafCache.Cache.{Cache}
+use Rattle.stow_leaves.specs.StowLeaf.LeafRows.{LeafRows}
 use Rattle.stow_leaves.specs.Forgets.{Forgets}
-use Rattle.stow_leaf.proofs.Steps.{inside_of}
-use Rattle.stow_message.specs.MessageBuf.{MessageList, without_range}
-use Rattle.stow_message.specs.Packed.{message_size}
-use Rattle.stow_message.specs.Rising.{in_range}
+use Rattle.stow_leaves.proofs.StowLeaf.Steps.{inside_of}
+use Rattle.stow_leaves.specs.StowMessage.MessageBuf.{MessageList, without_range}
+use Rattle.stow_leaves.specs.StowMessage.Packed.{message_size}
+use Rattle.stow_leaves.specs.StowMessage.Rising.{in_range}
 use Rattle.stow_tree_model.specs.Agreement.{TenantPins}
 use Rattle.stow_tree_model.specs.TreeMessage.{TreeMessage}
 use Rattle.stow_node.specs.declared.child.Child.{Child}

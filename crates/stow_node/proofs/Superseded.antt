@@ -1,10 +1,10 @@
 -- A node without messages that newer ones of its buffer supersede.
 use Rattle.std.proofs.Common.{◌≡◌, ℕ, ◌+◌, ◌/◌, ◌<◌, ◌≤◌, List, ◌++◌, ◌∷◌, refl, sym, ap, subst, arith}
 use Rattle.std.specs.Prelude.{◌⊎◌, IsSome}
-use Rattle.stow_leaf.specs.Replacements.{MeanTheSame}
-use Rattle.stow_leaf.proofs.Found.{none_some, none_unless}
-use Rattle.stow_leaf.proofs.Over.{same_itself, same_pointwise, same_then}
-use Rattle.stow_message.specs.MessageBuf.{MessageList}
+use Rattle.stow_leaves.specs.StowLeaf.Replacements.{MeanTheSame}
+use Rattle.stow_leaves.proofs.StowLeaf.Found.{none_some, none_unless}
+use Rattle.stow_leaves.proofs.StowLeaf.Over.{same_itself, same_pointwise, same_then}
+use Rattle.stow_leaves.specs.StowMessage.MessageBuf.{MessageList}
 use Rattle.stow_superseded.specs.Hidden.{DropsHidden}
 use Rattle.stow_superseded.specs.Superseded.{buffer_without_superseded}
 use Rattle.stow_superseded.proofs.HiddenOnes.{hidden_one_same, part_stays}

@@ -3,11 +3,11 @@ use Rattle.std.proofs.Common.{zero, suc, ◌≡◌, ℕ, ◌+◌, ◌/◌, ◌<�
 use Rattle.std.specs.List.{sum_by}
 use Rattle.std.specs.Prelude.{slice_get}
 use Rattle.std.specs.declared.vec.Vec.{Vec}
-use Rattle.stow_leaf_cache.specs.Cache.{Cache}
-use Rattle.stow_leaf.proofs.Steps.{inside_of}
+use Rattle.stow_leaves.specs.StowLeafCache.Cache.{Cache}
+use Rattle.stow_leaves.proofs.StowLeaf.Steps.{inside_of}
 use Rattle.stow_leaves.specs.Absorbs.{Merges}
-use Rattle.stow_message.specs.MessageBuf.{MessageList, without_range}
-use Rattle.stow_message.specs.Packed.{message_size}
+use Rattle.stow_leaves.specs.StowMessage.MessageBuf.{MessageList, without_range}
+use Rattle.stow_leaves.specs.StowMessage.Packed.{message_size}
 use Rattle.stow_tree_model.specs.Agreement.{TenantPins}
 use Rattle.stow_node.specs.declared.child.Child.{Child}
 use Rattle.stow_node.specs.declared.child.Child.TheVariants as in_child

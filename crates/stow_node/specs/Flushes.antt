@@ -1,6 +1,6 @@
 -- A node after messages moved below it, or were merged into its leaves.
 use Rattle.std.specs.Prelude.{◌≡◌, ℕ, ◌<◌, ◌≤◌, List}
-use Rattle.stow_leaf.specs.Replacements.{HasShortValues, MeanTheSame}
+use Rattle.stow_leaves.specs.StowLeaf.Replacements.{HasShortValues, MeanTheSame}
 use Rattle.stow_tree_model.specs.Agreement.{TenantPins}
 use Rattle.stow_tree_model.specs.Keys.{tenant_of}
 use Rattle.stow_tree_model.specs.Messages.{ops_in}

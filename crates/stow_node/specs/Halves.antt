@@ -1,11 +1,11 @@
 -- A node that was cut in two.
 use Rattle.std.specs.Prelude.{◌≡◌, ℕ, ◌+◌, List, ◌++◌, length, true, false}
 use Rattle.std.specs.Ordering.{is_lt}
-use Rattle.stow_bytes.specs.Bytes.{bytes_cmp}
+use Rattle.stow_tree_model.specs.StowBytes.Bytes.{bytes_cmp}
 use Rattle.stow_tree_model.specs.Messages.{ops_in}
 use Rattle.stow_tree_model.specs.Operations.{or_else}
 use Rattle.stow_node.specs.Subtree.{Subtree, buffered, right_above_leaves}
-use Rattle.stow_leaf.specs.Intervals.{top_key}
+use Rattle.stow_leaves.specs.StowLeaf.Intervals.{top_key}
 use Rattle.stow_node.specs.Parts.{IsTile}
 use Rattle.stow_node.specs.Nodes.{node_part, HasNodeBlock}
 

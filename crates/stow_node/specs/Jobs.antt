@@ -1,7 +1,7 @@
 -- Jobs of flushes by what they hold, whatever allocator they have their memory from.
 use Rattle.std.specs.Prelude.{ℕ, List}
-use Rattle.stow_merge.specs.Pins.{pins_in}
-use Rattle.stow_merge.specs.declared.flush_job.FlushJob.{FlushJob}
+use Rattle.stow_leaves.specs.StowMerge.Pins.{pins_in}
+use Rattle.stow_leaves.specs.StowMerge.declared.flush_job.FlushJob.{FlushJob}
 use Rattle.stow_tree_model.specs.Agreement.{TenantPins}
 use Rattle.stow_tree_model.specs.TreeMessage.{TreeMessage}
 use Rattle.stow_tree_model.specs.Version.{Version}

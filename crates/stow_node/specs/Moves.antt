@@ -1,18 +1,18 @@
 -- Messages on their way down.
 use Rattle.std.specs.Prelude.{◌≡◌, ℕ, ◌+◌, ◌*◌, ◌/◌, ◌<◌, ◌≤◌, List, [], ◌∷◌, length, max, slice_index_or, slice_get, slice_set, Some}
 use Rattle.std.specs.List.{sum_by}
-use Rattle.stow_leaf.specs.LeafRows.{LeafRows}
-use Rattle.stow_message.specs.MessageBuf.{MessageList, message_list, with_messages, without_range}
-use Rattle.stow_message.specs.Packed.{message_size}
-use Rattle.stow_message.specs.Rising.{in_range}
-use Rattle.stow_page.specs.Format.{packed_page}
+use Rattle.stow_leaves.specs.StowLeaf.LeafRows.{LeafRows}
+use Rattle.stow_leaves.specs.StowMessage.MessageBuf.{MessageList, message_list, with_messages, without_range}
+use Rattle.stow_leaves.specs.StowMessage.Packed.{message_size}
+use Rattle.stow_leaves.specs.StowMessage.Rising.{in_range}
+use Rattle.stow_leaves.specs.StowPage.Format.{packed_page}
 use Rattle.stow_tree_model.specs.Messages.{ops_in}
 use Rattle.stow_tree_model.specs.TreeMessage.{TreeMessage}
 use Rattle.stow_node.specs.declared.child.Child.{Child}
 use Rattle.stow_node.specs.declared.child.Child.TheVariants as in_child
 use Rattle.stow_node.specs.Subtree.{Subtree, buffered, messages_of}
 use Rattle.stow_node.specs.Parts.{Part, high_of}
-use Rattle.stow_leaf.specs.Intervals.{top_key, NoneOutside}
+use Rattle.stow_leaves.specs.StowLeaf.Intervals.{top_key, NoneOutside}
 use Rattle.stow_node.specs.Nodes.{AreNewer, HasNodeBlock, parts_of}
 
 -- the node with these messages more in its own buffer

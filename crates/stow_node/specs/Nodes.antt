@@ -1,20 +1,20 @@
 -- What a node keeps.
 use Rattle.std.specs.Prelude.{◌≡◌, ◌⊎◌, ℕ, ◌+◌, ◌*◌, ◌<◌, ◌≤◌, List, [], ◌∷◌, ◌++◌, map, length, IsSome, Option, None}
 use Rattle.std.specs.List.{AllByRecursion}
-use Rattle.stow_message.specs.MessageBuf.{MessageList}
-use Rattle.stow_message.specs.Rising.{in_range}
+use Rattle.stow_leaves.specs.StowMessage.MessageBuf.{MessageList}
+use Rattle.stow_leaves.specs.StowMessage.Rising.{in_range}
 use Rattle.stow_tree_model.specs.Messages.{ops_in}
 use Rattle.stow_tree_model.specs.TreeMessage.{TreeMessage}
 use Rattle.stow_node.specs.declared.child.Child.{Child}
 use Rattle.stow_node.specs.declared.child.Child.TheVariants as in_child
-use Rattle.stow_leaf.specs.declared.leaf.Leaf.{Leaf}
+use Rattle.stow_leaves.specs.StowLeaf.declared.leaf.Leaf.{Leaf}
 use Rattle.stow_node.specs.declared.node.Node.TheInside.{Inside}
 use Rattle.stow_node.specs.declared.shape.Shape.{Shape}
 use Rattle.stow_node.specs.Subtree.{Subtree, buffered, right_above_leaves, lower_height, deepest_buffer}
-use Rattle.stow_leaf.specs.LeafRows.{LeafRows, row_messages}
-use Rattle.stow_leaf.specs.Replacements.{IsLeafSize}
+use Rattle.stow_leaves.specs.StowLeaf.LeafRows.{LeafRows, row_messages}
+use Rattle.stow_leaves.specs.StowLeaf.Replacements.{IsLeafSize}
 use Rattle.stow_node.specs.Parts.{Part, TiledTo, low_or, messages_in, leaves_in, weight_in}
-use Rattle.stow_leaf.specs.Intervals.{top_key, NoneOutside}
+use Rattle.stow_leaves.specs.StowLeaf.Intervals.{top_key, NoneOutside}
 
 abbrev pub leaf_part : {A : Type 0} → Leaf A → Part
 leaf_part leaf =

@@ -3,10 +3,10 @@ use Rattle.std.specs.Prelude.{◌≡◌, ℕ, zero, suc, ◌<◌, ◌≤◌, sli
 use Rattle.std.specs.declared.cmp.Ordering.TheVariants.{Less}
 use Rattle.std.specs.Ordering.{is_lt}
 use Rattle.std.specs.List.{AllByRecursion, flat_map, sum_by}
-use Rattle.stow_bytes.specs.Bytes.{bytes_cmp}
+use Rattle.stow_tree_model.specs.StowBytes.Bytes.{bytes_cmp}
 use Rattle.stow_tree_model.specs.TreeMessage.{TreeMessage}
-use Rattle.stow_leaf.specs.Intervals.{top_key, spans, NoneOutside}
-use Rattle.stow_leaf.specs.LeafRows.{LeafRows, row_messages, first_fence}
+use Rattle.stow_leaves.specs.StowLeaf.Intervals.{top_key, spans, NoneOutside}
+use Rattle.stow_leaves.specs.StowLeaf.LeafRows.{LeafRows, row_messages, first_fence}
 
 -- what a parent knows of a child
 pub record Part : Type 0 where

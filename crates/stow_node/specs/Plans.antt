@@ -1,10 +1,10 @@
 -- The way of a plan: which buffer it takes, and where its messages go.
 use Rattle.std.specs.Prelude.{◌≡◌, ◌≢◌, ◌⊎◌, ℕ, ◌≤◌, zero, suc, List, [], slice_get, slice_set, Some, None, Option}
-use Rattle.stow_leaf.specs.LeafRows.{LeafRows}
-use Rattle.stow_merge.specs.Pins.{pins_in}
-use Rattle.stow_merge.specs.declared.flush_job.FlushJob.{FlushJob}
-use Rattle.stow_merge.specs.declared.flush_target.TheConstants.{LEAST_LEAF_TARGET, GREATEST_LEAF_TARGET}
-use Rattle.stow_message.specs.Rising.{in_range}
+use Rattle.stow_leaves.specs.StowLeaf.LeafRows.{LeafRows}
+use Rattle.stow_leaves.specs.StowMerge.Pins.{pins_in}
+use Rattle.stow_leaves.specs.StowMerge.declared.flush_job.FlushJob.{FlushJob}
+use Rattle.stow_leaves.specs.StowMerge.declared.flush_target.TheConstants.{LEAST_LEAF_TARGET, GREATEST_LEAF_TARGET}
+use Rattle.stow_leaves.specs.StowMessage.Rising.{in_range}
 use Rattle.stow_tree_model.specs.Agreement.{TenantPins}
 use Rattle.stow_tree_model.specs.TreeMessage.{TreeMessage}
 use Rattle.stow_node.specs.declared.child.Child.{Child}

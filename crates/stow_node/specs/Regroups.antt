@@ -1,9 +1,9 @@
 -- Nodes in the place of one.
 use Rattle.std.specs.Prelude.{◌≡◌, ℕ, ◌^◌, ◌<◌, ◌≤◌, List, ◌∷◌, ◌++◌, map, length}
 use Rattle.std.specs.List.{AllByRecursion}
-use Rattle.stow_leaf.specs.Intervals.{top_key}
-use Rattle.stow_leaf.specs.LeafRows.{row_messages}
-use Rattle.stow_leaf_cache.specs.Cache.{Cache}
+use Rattle.stow_leaves.specs.StowLeaf.Intervals.{top_key}
+use Rattle.stow_leaves.specs.StowLeaf.LeafRows.{row_messages}
+use Rattle.stow_leaves.specs.StowLeafCache.Cache.{Cache}
 use Rattle.stow_leaves.specs.Forgets.{Forgets}
 use Rattle.stow_tree_model.specs.Agreement.{TenantPins}
 use Rattle.stow_tree_model.specs.Keys.{tenant_of}
@@ -11,7 +11,7 @@ use Rattle.stow_tree_model.specs.Messages.{ops_in}
 use Rattle.stow_tree_model.specs.TreeMessage.{TreeMessage}
 use Rattle.stow_node.specs.declared.child.Child.{Child}
 use Rattle.stow_node.specs.declared.child.Child.TheVariants as in_child
-use Rattle.stow_leaf.specs.Replacements.{MeanTheSame}
+use Rattle.stow_leaves.specs.StowLeaf.Replacements.{MeanTheSame}
 use Rattle.stow_node.specs.Halves.{IsLike}
 use Rattle.stow_node.specs.Nodes.{node_part, leaves_of, nearest_in, AreAmong, AreLeafSizes}
 use Rattle.stow_node.specs.Parts.{Part, low_or, IsTile, TiledTo, messages_in, leaves_in, weight_in}

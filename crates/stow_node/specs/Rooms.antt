@@ -4,7 +4,7 @@ use Rattle.std.specs.List.{AllByRecursion}
 use Rattle.std.specs.Vec.{vec_capacity}
 use Rattle.std.specs.declared.vec.Vec.{Vec}
 use Rattle.stow_groups.specs.Groups.{groups}
-use Rattle.stow_message.specs.MessageBuf.{message_list}
+use Rattle.stow_leaves.specs.StowMessage.MessageBuf.{message_list}
 use Rattle.stow_node.specs.declared.child.Child.{Child}
 use Rattle.stow_node.specs.declared.room.Room.{Room}
 use Rattle.stow_node.specs.declared.shape.Shape.{Shape}

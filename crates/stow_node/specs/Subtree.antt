@@ -1,9 +1,9 @@
 -- What a contract sees of a node: all that stands in it and below it.
 use Rattle.std.specs.Prelude.{ℕ, zero, suc, List, [], ◌∷◌, ◌++◌, Option, None, Some, min}
-use Rattle.stow_message.specs.MessageBuf.{MessageList, message_list}
+use Rattle.stow_leaves.specs.StowMessage.MessageBuf.{MessageList, message_list}
 use Rattle.stow_tree_model.specs.Keys.{packed}
 use Rattle.stow_tree_model.specs.TreeMessage.{TreeMessage}
-use Rattle.stow_leaf.specs.LeafRows.{LeafRows, row_messages}
+use Rattle.stow_leaves.specs.StowLeaf.LeafRows.{LeafRows, row_messages}
 use Rattle.stow_node.specs.declared.shape.Shape.{Shape}
 
 pub record Subtree : Type 0 where

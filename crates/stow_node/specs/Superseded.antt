@@ -1,7 +1,7 @@
 -- A node of whose own messages newer ones supersede some.
 use Rattle.std.specs.Prelude.{◌≡◌, ◌⊎◌, ℕ, ◌+◌, ◌*◌, ◌/◌, ◌≤◌, List, length}
-use Rattle.stow_leaf.specs.Replacements.{MeanTheSame}
-use Rattle.stow_message.specs.MessageBuf.{MessageList}
+use Rattle.stow_leaves.specs.StowLeaf.Replacements.{MeanTheSame}
+use Rattle.stow_leaves.specs.StowMessage.MessageBuf.{MessageList}
 use Rattle.stow_superseded.specs.Hidden.{DropsHidden}
 use Rattle.stow_superseded.specs.Superseded.{buffer_without_superseded}
 use Rattle.stow_tree_model.specs.Agreement.{TenantPins}

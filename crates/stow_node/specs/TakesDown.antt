@@ -1,11 +1,11 @@
 -- A child that takes its messages out of the buffer above it, and may merge all that it has then.
 use Rattle.std.specs.Prelude.{◌≡◌, ◌⊎◌, ℕ, ◌<◌, ◌≤◌, List, [], length, slice_get, slice_set, false, Option, Some, None}
 use Rattle.std.specs.Ordering.{is_lt}
-use Rattle.stow_bytes.specs.Bytes.{bytes_cmp}
-use Rattle.stow_leaf.specs.Intervals.{top_key}
-use Rattle.stow_leaf_cache.specs.Cache.{Cache}
-use Rattle.stow_message.specs.MessageBuf.{MessageList}
-use Rattle.stow_message.specs.Rising.{in_range}
+use Rattle.stow_tree_model.specs.StowBytes.Bytes.{bytes_cmp}
+use Rattle.stow_leaves.specs.StowLeaf.Intervals.{top_key}
+use Rattle.stow_leaves.specs.StowLeafCache.Cache.{Cache}
+use Rattle.stow_leaves.specs.StowMessage.MessageBuf.{MessageList}
+use Rattle.stow_leaves.specs.StowMessage.Rising.{in_range}
 use Rattle.stow_tree_model.specs.Agreement.{TenantPins}
 use Rattle.stow_tree_model.specs.TreeMessage.{TreeMessage}
 use Rattle.stow_node.specs.declared.child.Child.{Child}

@@ -1,10 +1,10 @@
 -- The way of a step's messages.
 use Rattle.std.specs.Prelude.{◌≡◌, ◌⊎◌, ℕ, zero, suc, ◌+◌, ◌≤◌, List, [], ◌∷◌, ◌++◌, length, take, drop, slice_get, slice_set, Some}
-use Rattle.stow_leaf_cache.specs.Cache.{Cache}
-use Rattle.stow_leaf.specs.Intervals.{top_key}
+use Rattle.stow_leaves.specs.StowLeafCache.Cache.{Cache}
+use Rattle.stow_leaves.specs.StowLeaf.Intervals.{top_key}
 use Rattle.stow_leaves.specs.Absorbs.{Merges}
 use Rattle.stow_leaves.specs.AbsorbsAll.{MergesAll}
-use Rattle.stow_message.specs.MessageBuf.{MessageList, message_list, without_range}
+use Rattle.stow_leaves.specs.StowMessage.MessageBuf.{MessageList, message_list, without_range}
 use Rattle.stow_tree_model.specs.Agreement.{TenantPins}
 use Rattle.stow_tree_model.specs.TreeMessage.{TreeMessage}
 use Rattle.stow_node.specs.declared.child.Child.{Child}

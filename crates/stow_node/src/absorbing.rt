@@ -1,9 +1,9 @@
 //! Messages that are merged into the leaves right below a node.
 ghost use Rattle.std.specs.Prelude.{◌≡◌, ◌≤◌, [], map, IfOk, OnErr};
 ghost use Rattle.std.specs.Vec.{vec_len, vec_capacity};
-ghost use Rattle.stow_merge.specs.Pins.{pins_in};
-ghost use Rattle.stow_leaf.specs.Intervals.{top_key};
-ghost use Rattle.stow_leaf.specs.LeafRows.{LeavesTo};
+ghost use Rattle.stow_leaves.specs.StowMerge.Pins.{pins_in};
+ghost use Rattle.stow_leaves.specs.StowLeaf.Intervals.{top_key};
+ghost use Rattle.stow_leaves.specs.StowLeaf.LeafRows.{LeavesTo};
 ghost use Rattle.stow_leaves.specs.Absorbs.{left_above, CanAbsorb, CanPutPages, Merges, PutsPages, StandsFor};
 ghost use Rattle.stow_leaves.specs.AbsorbsAll.{CanAbsorbAll, MergesAll, StandsForAll};
 ghost use Rattle.stow_leaves.specs.Forgets.{Forgets};
@@ -12,12 +12,12 @@ ghost use Rattle.stow_node.specs.declared.child.Child.TheVariants as in_child;
 
 use crate::child::Child;
 use std::alloc::{AllocError, Allocator};
-use stow_leaf::leaf::Leaf;
-use stow_leaf_cache::leaf_cache::LeafCache;
 use stow_leaves::absorbing;
-use stow_merge::flush_result::FlushResult;
-use stow_merge::pins::Pins;
-use stow_message::message_buf::MessageBuf;
+use stow_leaves::stow_leaf::leaf::Leaf;
+use stow_leaves::stow_leaf_cache::leaf_cache::LeafCache;
+use stow_leaves::stow_merge::flush_result::FlushResult;
+use stow_leaves::stow_merge::pins::Pins;
+use stow_leaves::stow_message::message_buf::MessageBuf;
 use stow_tree_model::tenant_key::TenantKey;
 
 /// The leaves once more: their fences copied, their rows shared.

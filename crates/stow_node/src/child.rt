@@ -1,18 +1,18 @@
 //! What stands below a node.
 ghost use Rattle.std.specs.Prelude.{◌≡◌, ◌<◌, ◌≤◌, IsTrue, length, true};
 ghost use Rattle.std.specs.Ordering.{is_lt};
-ghost use Rattle.stow_bytes.specs.Bytes.{bytes_cmp};
+ghost use Rattle.stow_tree_model.specs.StowBytes.Bytes.{bytes_cmp};
 ghost use Rattle.stow_node.specs.Nodes.{part_of, parts_of};
 ghost use Rattle.stow_node.specs.Moves.{AreReallocated, IsReallocatedChild};
 ghost use Rattle.stow_node.specs.Parts.{low_or, high_of, BeginsAbove, BeginsUpTo, IsFor, LiesBetween};
-ghost use Rattle.stow_leaf.specs.Intervals.{top_key, spans};
+ghost use Rattle.stow_leaves.specs.StowLeaf.Intervals.{top_key, spans};
 
 use crate::node::Node;
 use std::alloc::Allocator;
 use std::cmp::Ordering;
-use stow_bytes::compare::compare;
-use stow_leaf::ends::top_key;
-use stow_leaf::leaf::Leaf;
+use stow_leaves::stow_leaf::ends::top_key;
+use stow_leaves::stow_leaf::leaf::Leaf;
+use stow_tree_model::stow_bytes::compare::compare;
 use stow_tree_model::tenant_key::TenantKey;
 
 /// What stands below a node: a leaf, or a node one level lower.

@@ -1,7 +1,7 @@
 //! Words of where children begin, by which the way down looks at few of them.
 use crate::child::Child;
 use std::alloc::Allocator;
-use stow_message::key_word::{front_of, own, shared_of};
+use stow_leaves::stow_message::key_word::{front_of, own, shared_of};
 use stow_tree_model::tenant_key::TenantKey;
 
 /// How many words there are.

@@ -6,7 +6,7 @@ use crate::child::Child;
 use crate::child_words::ChildWords;
 use std::alloc::{Allocator, Global};
 use std::marker::Model;
-use stow_bytes::byte_string::ByteString;
+use stow_tree_model::stow_bytes::byte_string::ByteString;
 use stow_tree_model::tenant_key::TenantKey;
 
 /// The lowest key that a node may hold, with a hint of where its children's keys begin.

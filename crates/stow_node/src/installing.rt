@@ -1,7 +1,7 @@
 //! Whether a job's result can be installed, and how it is.
 ghost use Rattle.std.specs.Prelude.{◌≡◌, ◌↔◌, true, IsTrue, ◌≢◌, ◌+◌, ◌-◌, ◌<◌, ◌≤◌, [], ◌∷◌, length, IfOk, IfErr, OnOk, OnErr};
-ghost use Rattle.stow_leaf.specs.Intervals.{top_key, spans, NoneOutside};
-ghost use Rattle.stow_merge.specs.Pins.{pins_in};
+ghost use Rattle.stow_leaves.specs.StowLeaf.Intervals.{top_key, spans, NoneOutside};
+ghost use Rattle.stow_leaves.specs.StowMerge.Pins.{pins_in};
 ghost use Rattle.stow_node.specs.Installs.{CanInstall, IsAsPlanned, IsLeafOf, AreGone, BatchIsGone, CanComeIn, CoversAll};
 ghost use Rattle.stow_tree_model.specs.Value.{bytes_at};
 ghost use Rattle.stow_tree_model.specs.Version.{version_of};
@@ -24,15 +24,15 @@ use crate::moving::{bytes_for, hand_down, heaviest, is_apart};
 use crate::node::{MOST_HEIGHT, Node};
 use crate::room::Room;
 use std::alloc::{AllocError, Allocator};
-use stow_leaf::ends::top_key;
-use stow_leaf::leaf::Leaf;
-use stow_leaf_cache::leaf_cache::LeafCache;
-use stow_merge::flush_job::FlushJob;
-use stow_merge::flush_result::FlushResult;
-use stow_merge::pins::Pins;
-use stow_message::message_buf::MessageBuf;
-use stow_page::rows::Rows;
-use stow_raw::raw_buf::RawBuf;
+use stow_leaves::stow_leaf::ends::top_key;
+use stow_leaves::stow_leaf::leaf::Leaf;
+use stow_leaves::stow_leaf_cache::leaf_cache::LeafCache;
+use stow_leaves::stow_merge::flush_job::FlushJob;
+use stow_leaves::stow_merge::flush_result::FlushResult;
+use stow_leaves::stow_merge::pins::Pins;
+use stow_leaves::stow_message::message_buf::MessageBuf;
+use stow_leaves::stow_page::rows::Rows;
+use stow_leaves::stow_raw::raw_buf::RawBuf;
 use stow_tree_model::tenant_key::TenantKey;
 use stow_tree_model::version::Version;
 

@@ -62,3 +62,6 @@ mod room;
 pub mod shape;
 mod shell;
 mod superseding;
+
+pub use stow_leaves::{stow_leaf, stow_leaf_cache, stow_merge, stow_message, stow_page, stow_raw};
+pub use stow_superseded;

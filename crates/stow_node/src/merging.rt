@@ -1,12 +1,12 @@
 //! Messages of a node right above leaves that are merged into them.
 ghost use Rattle.std.specs.Prelude.{◌≡◌, ◌↔◌, ◌+◌, ◌-◌, ◌<◌, ◌≤◌, IsTrue, length, IfOk, OnErr};
 ghost use Rattle.stow_leaves.specs.Forgets.{Forgets};
-ghost use Rattle.stow_merge.specs.Pins.{pins_in};
-ghost use Rattle.stow_message.specs.MessageBuf.{without_range};
-ghost use Rattle.stow_message.specs.Rising.{in_range};
+ghost use Rattle.stow_leaves.specs.StowMerge.Pins.{pins_in};
+ghost use Rattle.stow_leaves.specs.StowMessage.MessageBuf.{without_range};
+ghost use Rattle.stow_leaves.specs.StowMessage.Rising.{in_range};
 ghost use Rattle.stow_node.specs.Flushes.{AreShort};
 ghost use Rattle.stow_node.specs.Moves.{accepted, IsLaden};
-ghost use Rattle.stow_leaf.specs.Intervals.{top_key};
+ghost use Rattle.stow_leaves.specs.StowLeaf.Intervals.{top_key};
 ghost use Rattle.stow_node.specs.Regroups.{StepsAsOne, ForgetsCame};
 ghost use Rattle.stow_node.specs.Rooms.{HasRoom};
 ghost use Rattle.stow_node.specs.Subtree.{messages_of};
@@ -20,10 +20,10 @@ use crate::moving::{are_for_last, are_within, heaviest};
 use crate::node::Node;
 use crate::room::Room;
 use std::alloc::{AllocError, Allocator};
-use stow_leaf::ends::top_key;
-use stow_leaf_cache::leaf_cache::LeafCache;
-use stow_merge::pins::Pins;
-use stow_message::message_buf::MessageBuf;
+use stow_leaves::stow_leaf::ends::top_key;
+use stow_leaves::stow_leaf_cache::leaf_cache::LeafCache;
+use stow_leaves::stow_merge::pins::Pins;
+use stow_leaves::stow_message::message_buf::MessageBuf;
 use stow_tree_model::tenant_key::TenantKey;
 
 impl<A: Allocator + Copy> Node<A> {

@@ -1,8 +1,8 @@
 //! Which child most bytes are buffered for, and the way of its messages.
 ghost use Rattle.std.specs.Prelude.{◌≡◌, ◌↔◌, ◌<◌, ◌≤◌, length, slice_index_or, IsTrue, IfOk, IfSome, OnErr, None};
-ghost use Rattle.stow_message.specs.Rising.{in_range, AreNew};
+ghost use Rattle.stow_leaves.specs.StowMessage.Rising.{in_range, AreNew};
 ghost use Rattle.stow_leaves.specs.Forgets.{Forgets};
-ghost use Rattle.stow_merge.specs.Pins.{pins_in};
+ghost use Rattle.stow_leaves.specs.StowMerge.Pins.{pins_in};
 ghost use Rattle.stow_node.specs.Moves.{bytes_for, page_bytes, IsHeaviest, CanHandDown, HandsDown};
 ghost use Rattle.stow_node.specs.Nodes.{leaves_of, parts_of, AreLeaves};
 ghost use Rattle.stow_node.specs.Parts.{Part, high_of};
@@ -11,9 +11,9 @@ ghost use Rattle.stow_node.specs.TakesDown.{CanTakeDown, CanUnlade, MaySkip, May
 use crate::child::{Child, first_low, high_after};
 use crate::room::Room;
 use std::alloc::{AllocError, Allocator};
-use stow_leaf_cache::leaf_cache::LeafCache;
-use stow_merge::pins::Pins;
-use stow_message::message_buf::MessageBuf;
+use stow_leaves::stow_leaf_cache::leaf_cache::LeafCache;
+use stow_leaves::stow_merge::pins::Pins;
+use stow_leaves::stow_message::message_buf::MessageBuf;
 use stow_tree_model::tenant_key::TenantKey;
 
 /// The bytes that the messages for a child take in the buffer above it, their slots among them.

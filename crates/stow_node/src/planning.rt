@@ -1,8 +1,8 @@
 //! Where messages stand deepest, and the job of a leaf.
 ghost use Rattle.std.specs.Prelude.{◌≡◌, ◌≢◌, ◌↔◌, [], map, None, true, false, IfOk};
-ghost use Rattle.stow_leaf.specs.LeafRows.{leaf_rows};
-ghost use Rattle.stow_leaf.specs.Replacements.{CanReplace};
-ghost use Rattle.stow_merge.specs.Pins.{pins_in};
+ghost use Rattle.stow_leaves.specs.StowLeaf.LeafRows.{leaf_rows};
+ghost use Rattle.stow_leaves.specs.StowLeaf.Replacements.{CanReplace};
+ghost use Rattle.stow_leaves.specs.StowMerge.Pins.{pins_in};
 ghost use Rattle.stow_node.specs.Nodes.{part_of, deepest_of, AreNewer};
 ghost use Rattle.stow_node.specs.Plans.{HasLeafTarget, IsDeepestChild, IsLeafJob};
 ghost use Rattle.stow_node.specs.Subtree.{lower_height, height_of_some, buffered, deepest_buffer};
@@ -13,12 +13,12 @@ use crate::node::Node;
 use crate::pick::Pick;
 use crate::shape::Shape;
 use std::alloc::{AllocError, Allocator};
-use stow_leaf::leaf::Leaf;
-use stow_merge::flush_job::FlushJob;
-use stow_merge::flush_target::FlushTarget;
-use stow_merge::pins::Pins;
-use stow_message::copying::copied_range;
-use stow_message::message_buf::MessageBuf;
+use stow_leaves::stow_leaf::leaf::Leaf;
+use stow_leaves::stow_merge::flush_job::FlushJob;
+use stow_leaves::stow_merge::flush_target::FlushTarget;
+use stow_leaves::stow_merge::pins::Pins;
+use stow_leaves::stow_message::copying::copied_range;
+use stow_leaves::stow_message::message_buf::MessageBuf;
 use stow_tree_model::tenant_key::TenantKey;
 use stow_tree_model::tenant_key_buf::TenantKeyBuf;
 

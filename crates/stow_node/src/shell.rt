@@ -1,13 +1,13 @@
 //! What a new node takes.
 ghost use Rattle.std.specs.Prelude.{◌≡◌, ◌≤◌, [], IfOk};
 ghost use Rattle.std.specs.Vec.{vec_capacity};
-ghost use Rattle.stow_message.specs.MessageBuf.{message_list};
+ghost use Rattle.stow_leaves.specs.StowMessage.MessageBuf.{message_list};
 
 use crate::child::Child;
 use crate::shape::Shape;
 use std::alloc::{AllocError, Allocator, Global};
 use std::marker::Model;
-use stow_message::message_buf::MessageBuf;
+use stow_leaves::stow_message::message_buf::MessageBuf;
 
 /// The most bytes of a fence.
 pub(crate) const MOST_FENCE: usize = 1028;

@@ -1,12 +1,12 @@
 //! Messages of a node's own buffer that newer ones supersede.
 ghost use Rattle.std.specs.Prelude.{◌≡◌, IsTrue, false};
-ghost use Rattle.stow_merge.specs.Pins.{pins_in};
+ghost use Rattle.stow_leaves.specs.StowMerge.Pins.{pins_in};
 ghost use Rattle.stow_node.specs.Superseded.{EachMeansTheSame, LosesHidden, MayDropSuperseded};
 
 use crate::node::Node;
 use std::alloc::Allocator;
-use stow_merge::pins::Pins;
-use stow_message::place::Place;
+use stow_leaves::stow_merge::pins::Pins;
+use stow_leaves::stow_message::place::Place;
 use stow_superseded::hidden::drop_hidden;
 use stow_superseded::superseding::without_superseded;
 

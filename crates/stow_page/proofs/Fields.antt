@@ -7,7 +7,7 @@ use Rattle.std.proofs.Math.Seq.{take-append_seam}
 use Rattle.std.proofs.lemmas.List.{get_or-drop, length-drop, length-take-le}
 use Rattle.std.proofs.lemmas.Nat.{from_be_bytes-to_be_bytes_2, from_be_bytes-to_be_bytes_4, from_be_bytes-to_be_bytes_8, be_bytes_8}
 use Rattle.std.specs.Int.{to_be_bytes, from_be_bytes, w16, w32, w64}
-use Rattle.stow_bytes.specs.Limits.{key_limit, tenant_limit, value_limit}
+use Rattle.stow_tree_model.specs.StowBytes.Limits.{key_limit, tenant_limit, value_limit}
 use Rattle.stow_tree_model.specs.Keys.{IsTenantKey, IsOfTenant, tenant_of}
 use Rattle.stow_tree_model.specs.Version.{Version}
 use Rattle.stow_page.specs.Format.{entry, tail, format_byte, header, length_bytes, length_width, longest, place_bytes, IsTold}

@@ -14,3 +14,4 @@ pub mod Joined
 pub mod Marked
 pub mod Noting
 pub mod Taken
+pub use Rattle.stow_tree_model.proofs as StowTreeModel

@@ -2,7 +2,7 @@
 use Rattle.std.proofs.Common.{◌≡◌, ℕ, suc, ◌+◌, ◌<◌, ◌≤◌, List, [], ◌∷◌, ◌++◌, length, drop, take, refl, sym, ◌∙◌, ap, subst, arith, append_assoc, length-append, ⊎_elim, inl, inr, ◌⊎◌}
 use Rattle.std.specs.Int.{to_be_bytes, from_be_bytes, w16, w32, w64}
 use Rattle.stow_tree_model.specs.Keys.{IsTenantKey, IsOfTenant, tenant_of}
-use Rattle.stow_bytes.specs.Limits.{value_limit}
+use Rattle.stow_tree_model.specs.StowBytes.Limits.{value_limit}
 use Rattle.stow_page.specs.Format.{place_bytes, length_bytes, length_width}
 use Rattle.stow_page.specs.declared.format.Format.{Format}
 use Rattle.stow_page.specs.declared.format.Format.TheVariants.{One, Two}

@@ -1,7 +1,7 @@
 -- What is wrong with bytes that are no page: the first fault in reading order.
 use Rattle.std.specs.Prelude.{◌≡◌, ◌≢◌, ◌⊎◌, ℕ, ◌+◌, ◌-◌, ◌<◌, ◌≤◌, false, List, [], ◌∷◌, ◌++◌, length, Option}
 use Rattle.std.specs.Int.{to_be_bytes, from_be_bytes, w16, w32, w64}
-use Rattle.stow_bytes.specs.Limits.{key_limit, value_limit, tenant_limit, number_limit}
+use Rattle.stow_tree_model.specs.StowBytes.Limits.{key_limit, value_limit, tenant_limit, number_limit}
 use Rattle.stow_tree_model.specs.Keys.{IsTenantKey, IsOfTenant}
 use Rattle.stow_tree_model.specs.Order.{VersionsRise}
 use Rattle.stow_tree_model.specs.Version.{Version}

@@ -5,7 +5,7 @@
 use Rattle.std.specs.Prelude.{◌≡◌, ℕ, ◌+◌, ◌≤◌, Bool, false, cond, nat_lt, List, [], ◌∷◌, ◌++◌, length, Option, Some, None}
 use Rattle.std.specs.List.{AllByRecursion, flat_map, list_any}
 use Rattle.std.specs.Int.{to_be_bytes, w16, w32, w64}
-use Rattle.stow_bytes.specs.Limits.{number_limit, value_limit}
+use Rattle.stow_tree_model.specs.StowBytes.Limits.{number_limit, value_limit}
 use Rattle.stow_tree_model.specs.Keys.{IsTenantKey, IsOfTenant}
 use Rattle.stow_tree_model.specs.Value.{IsValue}
 use Rattle.stow_tree_model.specs.Version.{Version}

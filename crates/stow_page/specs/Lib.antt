@@ -4,3 +4,5 @@ pub mod FaultNumber
 pub mod Faults
 pub mod Form
 pub mod Laws
+pub use Rattle.stow_tree_model.specs.StowBytes
+pub use Rattle.stow_tree_model.specs as StowTreeModel

@@ -1,6 +1,6 @@
 //! One version in packed form.
 ghost use Rattle.std.specs.Prelude.{◌≡◌, ◌+◌, ◌≤◌, cond, nat_lt, [], ◌∷◌, ◌++◌, Some, take, drop, length, OnOk, OnErr};
-ghost use Rattle.stow_bytes.specs.Limits.{key_limit, value_limit};
+ghost use Rattle.stow_tree_model.specs.StowBytes.Limits.{key_limit, value_limit};
 ghost use Rattle.stow_page.specs.Rows.{length_in, version_in, value_in, entry_of, IsAtFront, IsTail};
 ghost use Rattle.stow_page.specs.Format.{entry, place_bytes, tail, length_bytes, length_width, longest, format_of, short_limit, IsTold};
 ghost use Rattle.stow_page.specs.declared.format.Format.TheVariants.{One, Two};

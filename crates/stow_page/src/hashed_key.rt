@@ -2,8 +2,8 @@
 ghost use Rattle.std.specs.Prelude.{◌≡◌, ◌≢◌, false, IfSome};
 ghost use Rattle.stow_filter.specs.Filter as of_filter;
 
-use stow_bytes::compare::compare;
 use stow_filter::hash::hash;
+use stow_tree_model::stow_bytes::compare::compare;
 
 /// A key's bytes and their hash.
 #[derive(Clone, Copy)]

@@ -34,3 +34,6 @@ pub mod page;
 pub mod page_fault;
 mod reading;
 pub mod rows;
+
+pub use stow_tree_model;
+pub use stow_tree_model::stow_bytes;

@@ -17,8 +17,8 @@ use crate::notes::Notes;
 use std::alloc::{AllocError, Allocator, Global};
 use std::cmp::Ordering;
 use std::marker::Model;
-use stow_bytes::compare::compare;
 use stow_filter::filter::Filter;
+use stow_tree_model::stow_bytes::compare::compare;
 use stow_tree_model::tenant_key::TenantKey;
 use stow_tree_model::version::Version;
 

@@ -13,7 +13,7 @@ use crate::packed_rows::PackedRows;
 use crate::page_fault::PageFault;
 use crate::rows::Rows;
 use std::alloc::Allocator;
-use stow_bytes::limits::{KEY_LIMIT, NUMBER_LIMIT, TENANT_LIMIT, VALUE_LIMIT};
+use stow_tree_model::stow_bytes::limits::{KEY_LIMIT, NUMBER_LIMIT, TENANT_LIMIT, VALUE_LIMIT};
 use stow_tree_model::tenant_key::TenantKey;
 use stow_tree_model::version::Version;
 

@@ -6,8 +6,8 @@ use Rattle.std.specs.declared.io.Error.{Error}
 use Rattle.std.specs.declared.io.ErrorKind.{ErrorKind}
 use Rattle.std.specs.declared.io.ErrorKind.TheVariants as kind
 use Rattle.std.specs.IoError.{error_kind}
-use Rattle.stow_workers.specs.Failures.{HasFailed}
-use Rattle.stow_workers.specs.Sent.{WritesAll, Written}
+use Rattle.stow_tasks.specs.StowWorkers.Failures.{HasFailed}
+use Rattle.stow_tasks.specs.StowWorkers.Sent.{WritesAll, Written}
 use Rattle.stow_run.specs.declared.failure.Failure.{Failure}
 use Rattle.stow_run.specs.declared.failure.Failure.TheVariants as failure
 use Rattle.stow_run.specs.declared.failure.Endpoint.{Endpoint}

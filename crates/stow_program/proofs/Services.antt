@@ -1,13 +1,13 @@
 -- A lock that is opened for a new service.
 use Rattle.std.proofs.Common.{◌≡◌, ◌+◌, ℕ, List, Result, Ok, Err, ap, sym, subst, ◌∙◌, arith}
 use Rattle.std.specs.Prelude.{IfOk, MatchResult, min}
-use Rattle.stow_core.specs.State.{CoreState, IsNewCore}
-use Rattle.stow_model.specs.Login.{Entry}
+use Rattle.stow_tasks.specs.StowCore.State.{CoreState, IsNewCore}
+use Rattle.stow_tasks.specs.StowModel.Login.{Entry}
 use Rattle.stow_run.specs.declared.serving.Serving.{Serving}
-use Rattle.stow_shared.specs.Opened.{Opens, SharedState}
-use Rattle.stow_shared.specs.Seats.{SeatState}
-use Rattle.stow_tree.specs.TreeState.{new_tree}
-use Rattle.stow_tree.specs.declared.tree_shape.TreeShape.{TreeShape}
+use Rattle.stow_tasks.specs.StowShared.Opened.{Opens, SharedState}
+use Rattle.stow_tasks.specs.StowShared.Seats.{SeatState}
+use Rattle.stow_command_line.specs.StowTree.TreeState.{new_tree}
+use Rattle.stow_command_line.specs.StowTree.declared.tree_shape.TreeShape.{TreeShape}
 use Rattle.stow_program.specs.Services.{IsOpened}
 
 -- what holds of a value that another error was put in the place of

@@ -1,7 +1,7 @@
 -- What the program came to, and what had been read and written by then.
 use Rattle.std.specs.Prelude.{◌≡◌, ◌⊎◌, ℕ, List, [], ◌∷◌, ◌++◌, length, codes, Result, Ok, Err, IfErr, IsErr}
 use Rattle.std.specs.Fmt.{decimal}
-use Rattle.stow_model.specs.Login.{Entry}
+use Rattle.stow_tasks.specs.StowModel.Login.{Entry}
 use Rattle.stow_login.specs.NewTenants.{IsAllowed}
 use Rattle.stow_login.specs.TenantFile.{entries_of_text}
 use Rattle.stow_login.specs.declared.new_tenant.NewTenant.{NewTenant}
@@ -11,8 +11,8 @@ use Rattle.stow_run.specs.declared.job.Job.TheVariants as job
 use Rattle.stow_run.specs.declared.failure.Failure.{Failure}
 use Rattle.stow_run.specs.declared.failure.Failure.TheVariants.{Tenants, InputOutput, Memory}
 use Rattle.stow_run.specs.declared.failure.Endpoint.TheVariants as endpoint
-use Rattle.stow_workers.specs.Failures.{HasFailed}
-use Rattle.stow_workers.specs.Sent.{Written, WritesAll}
+use Rattle.stow_tasks.specs.StowWorkers.Failures.{HasFailed}
+use Rattle.stow_tasks.specs.StowWorkers.Sent.{Written, WritesAll}
 use Rattle.stow_tasks.specs.Ends.{InputFails, IsOfOutput, Unread}
 use Rattle.stow_run.specs.Statuses.{status_after}
 use Rattle.stow_tasks.specs.Entered.{IsEntered}

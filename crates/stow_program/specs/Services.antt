@@ -1,16 +1,16 @@
 -- What serving over TCP comes to.
 use Rattle.std.specs.Prelude.{◌≡◌, ℕ, ◌+◌, List, false, max}
-use Rattle.stow_core.specs.State.{IsNewCore}
-use Rattle.stow_model.specs.Login.{Entry}
+use Rattle.stow_tasks.specs.StowCore.State.{IsNewCore}
+use Rattle.stow_tasks.specs.StowModel.Login.{Entry}
 use Rattle.stow_run.specs.declared.failure.Endpoint.TheVariants as endpoint
 use Rattle.stow_run.specs.declared.failure.Failure.{Failure}
 use Rattle.stow_run.specs.declared.failure.Failure.TheVariants.{InputOutput, Memory}
 use Rattle.stow_run.specs.declared.serving.Serving.{Serving}
-use Rattle.stow_shared.specs.Opened.{Opens, SharedState}
-use Rattle.stow_shared.specs.Seats.{SeatState}
-use Rattle.stow_tree.specs.TreeState.{new_tree}
-use Rattle.stow_tree.specs.declared.tree_shape.TreeShape.{TreeShape}
-use Rattle.stow_workers.specs.Pools.{ComeBack, total_of}
+use Rattle.stow_tasks.specs.StowShared.Opened.{Opens, SharedState}
+use Rattle.stow_tasks.specs.StowShared.Seats.{SeatState}
+use Rattle.stow_command_line.specs.StowTree.TreeState.{new_tree}
+use Rattle.stow_command_line.specs.StowTree.declared.tree_shape.TreeShape.{TreeShape}
+use Rattle.stow_tasks.specs.StowWorkers.Pools.{ComeBack, total_of}
 
 -- memory was refused
 abbrev pub IsMemory : Failure → Type 0

@@ -1,6 +1,6 @@
 //! Whether a tenant file is good.
 ghost use Rattle.std.specs.Prelude.{◌≡◌};
-ghost use Rattle.stow_workers.specs.Sent.{written_of};
+ghost use Rattle.stow_tasks.specs.StowWorkers.Sent.{written_of};
 ghost use Rattle.stow_program.specs.Outcomes.{IsChecked};
 
 use crate::tenant_file::read_tenants;
@@ -8,7 +8,7 @@ use std::alloc::Global;
 use stow_run::failure::Failure;
 use stow_run::folder::Folder;
 use stow_tasks::script::finish;
-use stow_workers::sink::Sink;
+use stow_tasks::stow_workers::sink::Sink;
 
 /// Tells that the file of this path is good, and how many tenants it has.
 pub fn check<'a, D: Folder, W: Sink>(

@@ -14,3 +14,8 @@ pub mod program;
 pub mod serve;
 pub mod service;
 mod tenant_file;
+
+pub use stow_command_line;
+pub use stow_command_line::stow_tree;
+pub use stow_tasks;
+pub use stow_tasks::stow_workers;

@@ -10,11 +10,11 @@ use std::io::Write;
 use std::net::{Net, TcpListener, TcpStream};
 use std::sync::Wait;
 use std::thread::Threads;
+use stow_command_line::stow_tree::tree_shape::TreeShape;
 use stow_login::tenants::Tenants;
 use stow_run::failure::{Endpoint, Failure};
 use stow_run::serving::Serving;
-use stow_tree::tree_shape::TreeShape;
-use stow_workers::sink::Sink;
+use stow_tasks::stow_workers::sink::Sink;
 
 /// Listens at the address, and serves the connections that come there over a new service of the tenants and a tree
 /// of this shape.

@@ -1,6 +1,6 @@
 //! What the program does, over any reader and writers.
 ghost use Rattle.std.specs.Prelude.{◌≡◌, IfErr};
-ghost use Rattle.stow_workers.specs.Counted.{borrow_of};
+ghost use Rattle.stow_tasks.specs.StowWorkers.Counted.{borrow_of};
 ghost use Rattle.stow_tasks.specs.Ends.{held_by, unread_of};
 ghost use Rattle.stow_program.specs.Outcomes.{EndsWith, IsJobRun, streams_of};
 
@@ -21,7 +21,7 @@ use stow_run::salt_source::SaltSource;
 use stow_tasks::entry::entry;
 use stow_tasks::script::finish;
 use stow_tasks::service::serve;
-use stow_workers::counted::Counted;
+use stow_tasks::stow_workers::counted::Counted;
 
 /// Does what the words ask for, the first being the program's own name, and gives the exit status: 0; 2
 /// where the arguments or the script are refused; 3 where the tenant file is; 4 where input or output failed;

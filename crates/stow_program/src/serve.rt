@@ -2,7 +2,7 @@
 ghost use Rattle.std.specs.Prelude.{◌≡◌, ◌+◌, ◌-◌, ◌<◌, IfErr, IfOk, false, min, vec_len};
 ghost use Rattle.stow_program.specs.Outcomes.{EndsServing};
 ghost use Rattle.stow_program.specs.Services.{IsMemory, IsOfNetwork, IsOpened, IsServed, workers_of};
-ghost use Rattle.stow_workers.specs.Pools.{ComeBack, total_of};
+ghost use Rattle.stow_tasks.specs.StowWorkers.Pools.{ComeBack, total_of};
 
 use crate::service::Service;
 use log::info;
@@ -12,19 +12,19 @@ use std::io::Write;
 use std::net::{Net, SocketAddr, TcpListener};
 use std::sync::{Arc, Wait};
 use std::thread::Threads;
+use stow_command_line::stow_tree::tree_shape::TreeShape;
 use stow_login::tenants::Tenants;
 use stow_run::failure::{Endpoint, Failure};
 use stow_run::serving::Serving;
-use stow_shared::seat::Seat;
-use stow_shared::shared::Shared;
-use stow_shared::unkept::Unkept;
 use stow_tasks::new_core::new_core;
 use stow_tasks::script::finish;
-use stow_tree::tree_shape::TreeShape;
-use stow_workers::open_gate::OpenGate;
-use stow_workers::pool::Pool;
-use stow_workers::pool_fault::PoolFault;
-use stow_workers::sink::Sink;
+use stow_tasks::stow_shared::seat::Seat;
+use stow_tasks::stow_shared::shared::Shared;
+use stow_tasks::stow_shared::unkept::Unkept;
+use stow_tasks::stow_workers::open_gate::OpenGate;
+use stow_tasks::stow_workers::pool::Pool;
+use stow_tasks::stow_workers::pool_fault::PoolFault;
+use stow_tasks::stow_workers::sink::Sink;
 
 /// Tells the listener's address on the output, and serves its connections over a new service of the tenants and
 /// a tree of this shape. Where notices are wanted, a line of a log tells the start and another one the end.

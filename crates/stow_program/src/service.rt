@@ -1,8 +1,8 @@
 //! A service whose last connection has ended.
 use std::alloc::{Allocator, Global};
-use stow_shared::seat::Seat;
-use stow_shared::shared::Shared;
-use stow_shared::unkept::Unkept;
+use stow_tasks::stow_shared::seat::Seat;
+use stow_tasks::stow_shared::shared::Shared;
+use stow_tasks::stow_shared::unkept::Unkept;
 
 /// A service whose last connection has ended.
 #[derive(Drop)]

@@ -13,13 +13,13 @@ use std::test::Fail;
 use std::thread::Threads;
 use stow_login::tenants::Tenants;
 use stow_program::program::program;
+use stow_program::stow_tasks::service::serve;
+use stow_program::stow_tree::tree_shape::TreeShape;
+use stow_program::stow_workers::counted::Counted;
 use stow_run::folder::Folder;
 use stow_run::job::Task;
 use stow_run::salt_source::SaltSource;
-use stow_tasks::service::serve;
 use stow_testing::tenants::{AMPLE, AMPLE_THREE, TEN_MILLION, THREE};
-use stow_tree::tree_shape::TreeShape;
-use stow_workers::counted::Counted;
 
 /// The command lines that most runs are of.
 pub const PIPE: &str = "pipe --tenants three.toml";

@@ -2,7 +2,7 @@
 use crate::table::rows_of;
 use std::alloc::{AllocError, Global};
 use std::test::Fail;
-use stow_command_line::arguments::{Arguments, Wish, read_arguments};
+use stow_program::stow_command_line::arguments::{Arguments, Wish, read_arguments};
 use stow_run::job::{Job, Task};
 use stow_run::serving::Serving;
 

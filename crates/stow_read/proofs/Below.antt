@@ -6,10 +6,10 @@ use Rattle.std.proofs.lemmas.Option.{slice_get-get_or}
 use Rattle.stow_tree_model.specs.Messages.{ops_in}
 use Rattle.stow_tree_model.specs.Operations.{or_else}
 use Rattle.std.proofs.lemmas.List.Elements.{Contains-append_left, Contains-append_right}
-use Rattle.stow_leaf.specs.Intervals.{top_key, spans}
-use Rattle.stow_leaf.specs.LeafRows.{LeafRows, row_messages}
-use Rattle.stow_leaf.proofs.Intervals.{lt, span_low, span_high, spanned, lt_le, le_le}
-use Rattle.stow_leaf.proofs.Ops.{ops-append}
+use Rattle.stow_node.specs.StowLeaf.Intervals.{top_key, spans}
+use Rattle.stow_node.specs.StowLeaf.LeafRows.{LeafRows, row_messages}
+use Rattle.stow_node.proofs.StowLeaf.Intervals.{lt, span_low, span_high, spanned, lt_le, le_le}
+use Rattle.stow_node.proofs.StowLeaf.Ops.{ops-append}
 use Rattle.stow_node.specs.declared.child.Child.{Child}
 use Rattle.stow_node.specs.Nodes.{part_of, parts_of, AreChildren}
 use Rattle.stow_node.specs.Parts.{Part, high_of, TiledTo, messages_in, leaves_in, IsFor}

@@ -10,10 +10,10 @@ use Rattle.std.proofs.lemmas.List.Elements.{Contains-append_left, Contains-appen
 use Rattle.stow_bytes.specs.Bytes.{bytes_cmp}
 use Rattle.stow_tree_model.specs.Operations.{Operations, latest}
 use Rattle.stow_tree_model.proofs.Histories.{latest_none}
-use Rattle.stow_message.proofs.RisingLists.{lt_is}
-use Rattle.stow_leaf.specs.Intervals.{spans, top_key}
-use Rattle.stow_leaf.proofs.Found.{found, none_some}
-use Rattle.stow_leaf.proofs.Intervals.{lt, by_test, lt_self, lt_not, lt_trans, le_lt, lt_le, le_le, at_most, under, beyond, not_spanned}
+use Rattle.stow_node.proofs.StowMessage.RisingLists.{lt_is}
+use Rattle.stow_node.specs.StowLeaf.Intervals.{spans, top_key}
+use Rattle.stow_node.proofs.StowLeaf.Found.{found, none_some}
+use Rattle.stow_node.proofs.StowLeaf.Intervals.{lt, by_test, lt_self, lt_not, lt_trans, le_lt, lt_le, le_le, at_most, under, beyond, not_spanned}
 use Rattle.stow_node.specs.Nodes.{AreChildren}
 use Rattle.stow_node.specs.Subtree.{Subtree, messages_of}
 use Rattle.stow_node.specs.declared.child.Child.{Child}

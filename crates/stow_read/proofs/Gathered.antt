@@ -13,11 +13,11 @@ use Rattle.stow_tree_model.specs.TreeMessage.{TreeMessage}
 use Rattle.stow_tree_model.proofs.Falling.{IsHistory}
 use Rattle.stow_tree_model.proofs.Histories.{ops_in-at, ops_in-skip, falls_number}
 use Rattle.stow_tree_model.proofs.Orders.{place_cases}
-use Rattle.stow_leaf.specs.Intervals.{top_key, spans}
-use Rattle.stow_leaf.specs.LeafRows.{row_messages}
-use Rattle.stow_leaf.specs.declared.leaf.Leaf.{Leaf}
-use Rattle.stow_leaf.proofs.Found.{some_or, some_left, some_right, first_stays, or_none}
-use Rattle.stow_leaf.proofs.Ops.{ops-append}
+use Rattle.stow_node.specs.StowLeaf.Intervals.{top_key, spans}
+use Rattle.stow_node.specs.StowLeaf.LeafRows.{row_messages}
+use Rattle.stow_node.specs.StowLeaf.declared.leaf.Leaf.{Leaf}
+use Rattle.stow_node.proofs.StowLeaf.Found.{some_or, some_left, some_right, first_stays, or_none}
+use Rattle.stow_node.proofs.StowLeaf.Ops.{ops-append}
 use Rattle.stow_node.specs.declared.child.Child.{Child}
 use Rattle.stow_node.specs.declared.child.Child.TheVariants as in_child
 use Rattle.stow_node.specs.Nodes.{AreChildren}

@@ -8,9 +8,9 @@ use Rattle.stow_tree_model.specs.Op.{op_of}
 use Rattle.stow_tree_model.specs.Operations.{NumberedValue, Operations, NoneUpTo, applied, latest, or_else, over}
 use Rattle.stow_tree_model.specs.declared.message.Message.{Message}
 use Rattle.stow_tree_model.proofs.Latest.{latest_same, latest_stays}
-use Rattle.stow_leaf.specs.LeafRows.{row_messages}
-use Rattle.stow_leaf.specs.declared.leaf.Leaf.{Leaf}
-use Rattle.stow_leaf.proofs.Found.{none_unless}
+use Rattle.stow_node.specs.StowLeaf.LeafRows.{row_messages}
+use Rattle.stow_node.specs.StowLeaf.declared.leaf.Leaf.{Leaf}
+use Rattle.stow_node.proofs.StowLeaf.Found.{none_unless}
 use Rattle.stow_node.specs.declared.child.Child.{Child}
 use Rattle.stow_node.specs.declared.child.Child.TheVariants as in_child
 use Rattle.stow_node.specs.Nodes.{AreChildren}

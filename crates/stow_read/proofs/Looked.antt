@@ -20,10 +20,10 @@ use Rattle.stow_tree_model.proofs.Latest.{latest_same}
 use Rattle.stow_tree_model.proofs.Ordered.{history_of}
 use Rattle.stow_tree_model.proofs.Orders.{key_cases}
 use Rattle.stow_tree_model.proofs.Readings.{drop_one_less}
-use Rattle.stow_message.specs.Rising.{of_key}
-use Rattle.stow_message.proofs.Ranges.{filter_rises}
-use Rattle.stow_leaf.proofs.Found.{first_stays}
-use Rattle.stow_leaf.proofs.Ops.{ops-filter}
+use Rattle.stow_node.specs.StowMessage.Rising.{of_key}
+use Rattle.stow_node.proofs.StowMessage.Ranges.{filter_rises}
+use Rattle.stow_node.proofs.StowLeaf.Found.{first_stays}
+use Rattle.stow_node.proofs.StowLeaf.Ops.{ops-filter}
 use Rattle.stow_read.specs.Suffixes.{SuffixList, with_suffix, extended, continued, IsAbove}
 use Rattle.stow_read.specs.UpTo.{IsUpTo}
 use Rattle.stow_read.proofs.NewestFirst.{read_own}

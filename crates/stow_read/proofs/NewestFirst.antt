@@ -8,7 +8,7 @@ use Rattle.stow_tree_model.specs.TreeMessage.{TreeMessage}
 use Rattle.stow_tree_model.proofs.Falling.{IsHistory}
 use Rattle.stow_tree_model.proofs.Histories.{ops_in-at, ops_in-skip, ops_in-above}
 use Rattle.stow_tree_model.proofs.Latest.{latest_same, latest_stays}
-use Rattle.stow_leaf.proofs.Found.{none_unless}
+use Rattle.stow_node.proofs.StowLeaf.Found.{none_unless}
 use Rattle.stow_read.specs.Suffixes.{IsAbove}
 
 top_step : (f g : Operations) (n : ℕ) → g n ≡ None → ((k : ℕ) → k < n → f k ≡ g k) → latest f n ≡ applied n (f n) (latest g n)

@@ -7,15 +7,15 @@ use Rattle.std.proofs.lemmas.Bool.Decides.{nat_tests}
 use Rattle.std.proofs.lemmas.List.{length-map, get_or-map}
 use Rattle.stow_tree_model.specs.Messages.{ops_in}
 use Rattle.stow_tree_model.specs.Operations.{Operations, or_else}
-use Rattle.stow_leaf.specs.Intervals.{top_key, spans}
-use Rattle.stow_leaf.specs.LeafRows.{row_messages}
-use Rattle.stow_leaf.proofs.Found.{both_none, none_some, or_none, some_left, some_right}
-use Rattle.stow_leaf.proofs.Intervals.{lt, by_test, lt_trans, lt_le, lt_not, lt_self, spanned, span_low, span_high, beyond}
-use Rattle.stow_leaf.proofs.Ops.{ops-append}
+use Rattle.stow_node.specs.StowLeaf.Intervals.{top_key, spans}
+use Rattle.stow_node.specs.StowLeaf.LeafRows.{row_messages}
+use Rattle.stow_node.proofs.StowLeaf.Found.{both_none, none_some, or_none, some_left, some_right}
+use Rattle.stow_node.proofs.StowLeaf.Intervals.{lt, by_test, lt_trans, lt_le, lt_not, lt_self, spanned, span_low, span_high, beyond}
+use Rattle.stow_node.proofs.StowLeaf.Ops.{ops-append}
 use Rattle.stow_node.specs.Nodes.{AreChildren, part_of, parts_of}
 use Rattle.stow_node.specs.declared.child.Child.{Child}
 use Rattle.stow_node.specs.declared.child.Child.TheVariants as in_child
-use Rattle.stow_leaf.specs.declared.leaf.Leaf.{Leaf}
+use Rattle.stow_node.specs.StowLeaf.declared.leaf.Leaf.{Leaf}
 use Rattle.stow_tree_model.specs.Merged.{row_message}
 use Rattle.stow_tree_model.specs.Op.{Op}
 use Rattle.stow_node.specs.Parts.{Part, IsTile, TiledTo, low_or, high_of, messages_in, leaves_in, IsFor}

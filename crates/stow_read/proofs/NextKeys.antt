@@ -1,7 +1,7 @@
 -- Keys from the lower end of an interval on.
 use Rattle.std.proofs.Common.{◌≡◌, ℕ, zero, suc, ◌≤◌, Bool, true, false, List, [], ◌∷◌, length, drop, refl, ap, ◌∙◌, sym, arith}
 use Rattle.std.specs.Prelude.{not}
-use Rattle.stow_leaf.proofs.Intervals.{lt, lt_not, lt_le, le_le}
+use Rattle.stow_node.proofs.StowLeaf.Intervals.{lt, lt_not, lt_le, le_le}
 use Rattle.stow_read.specs.NextKey.{is_from}
 
 -- ---- the lower end

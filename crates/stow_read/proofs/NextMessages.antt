@@ -12,12 +12,12 @@ use Rattle.stow_tree_model.specs.Order.{MessagesRise}
 use Rattle.stow_tree_model.specs.TreeMessage.{TreeMessage}
 use Rattle.stow_tree_model.proofs.Histories.{ops_in-at}
 use Rattle.stow_tree_model.proofs.Orders.{less_than, more_than}
-use Rattle.stow_message.specs.Packed.{IsMessage}
-use Rattle.stow_message.specs.Rising.{is_below, below}
-use Rattle.stow_message.proofs.RisingLists.{below_tells}
-use Rattle.stow_message.proofs.Stored.{all_at}
-use Rattle.stow_leaf.proofs.Found.{found, first_stays, none_unless}
-use Rattle.stow_leaf.proofs.Intervals.{lt, by_test, lt_self, lt_le}
+use Rattle.stow_node.specs.StowMessage.Packed.{IsMessage}
+use Rattle.stow_node.specs.StowMessage.Rising.{is_below, below}
+use Rattle.stow_node.proofs.StowMessage.RisingLists.{below_tells}
+use Rattle.stow_node.proofs.StowMessage.Stored.{all_at}
+use Rattle.stow_node.proofs.StowLeaf.Found.{found, first_stays, none_unless}
+use Rattle.stow_node.proofs.StowLeaf.Intervals.{lt, by_test, lt_self, lt_le}
 use Rattle.stow_read.specs.NextKey.{is_from, passed_number, HaveNone, IsLowest}
 
 below_most : (o : Ordering) (n m : ℕ) → n < m → is_lt (ordering_then o (nat_cmp n m)) ≡ not (is_lt (ordering_reverse o))

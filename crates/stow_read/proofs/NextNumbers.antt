@@ -19,14 +19,14 @@ use Rattle.stow_tree_model.specs.Version.{Version}
 use Rattle.stow_tree_model.proofs.Histories.{ops_in-skip, falls_number}
 use Rattle.stow_tree_model.proofs.Orders.{key_cases, place_cases, less_than, same_number, more_than}
 use Rattle.stow_tree_model.proofs.Pruning.{contains_here, contains_there}
-use Rattle.stow_message.specs.Packed.{IsMessage}
-use Rattle.stow_message.specs.Rising.{is_below, below}
-use Rattle.stow_message.proofs.RisingLists.{below_tells, lt_is}
-use Rattle.stow_message.proofs.Stored.{all_at}
-use Rattle.stow_page.specs.Rows.{is_above, IsCountUpTo}
-use Rattle.stow_page.proofs.Looked.{versions_rise_at}
-use Rattle.stow_leaf.proofs.Found.{none_unless, both_none, some_left, some_right, row_there, place_le}
-use Rattle.stow_leaf.proofs.Intervals.{lt, at_most}
+use Rattle.stow_node.specs.StowMessage.Packed.{IsMessage}
+use Rattle.stow_node.specs.StowMessage.Rising.{is_below, below}
+use Rattle.stow_node.proofs.StowMessage.RisingLists.{below_tells, lt_is}
+use Rattle.stow_node.proofs.StowMessage.Stored.{all_at}
+use Rattle.stow_node.specs.StowPage.Rows.{is_above, IsCountUpTo}
+use Rattle.stow_node.proofs.StowPage.Looked.{versions_rise_at}
+use Rattle.stow_node.proofs.StowLeaf.Found.{none_unless, both_none, some_left, some_right, row_there, place_le}
+use Rattle.stow_node.proofs.StowLeaf.Intervals.{lt, at_most}
 use Rattle.stow_read.specs.Suffixes.{IsAbove}
 use Rattle.stow_read.specs.Walk.{IsNumberAfter}
 use Rattle.stow_read.specs.Way.{is_next, key_in, buffers_of, ops_down, NewerDown, IsNextTold}

@@ -13,11 +13,11 @@ use Rattle.stow_tree_model.specs.Messages.{ops_in}
 use Rattle.stow_tree_model.specs.Order.{version_place, VersionsRise}
 use Rattle.stow_tree_model.specs.Version.{Version}
 use Rattle.stow_tree_model.proofs.Orders.{less_than, same_number, more_than}
-use Rattle.stow_page.specs.Format.{IsVersion, AreVersions}
-use Rattle.stow_page.specs.Rows.{is_above, IsCountUpTo}
-use Rattle.stow_page.proofs.Looked.{versions_rise_at}
-use Rattle.stow_leaf.proofs.Found.{found_row, row_there, none_unless, place_le}
-use Rattle.stow_leaf.proofs.Intervals.{lt, lt_self, lt_le}
+use Rattle.stow_node.specs.StowPage.Format.{IsVersion, AreVersions}
+use Rattle.stow_node.specs.StowPage.Rows.{is_above, IsCountUpTo}
+use Rattle.stow_node.proofs.StowPage.Looked.{versions_rise_at}
+use Rattle.stow_node.proofs.StowLeaf.Found.{found_row, row_there, none_unless, place_le}
+use Rattle.stow_node.proofs.StowLeaf.Intervals.{lt, lt_self, lt_le}
 use Rattle.stow_read.specs.NextKey.{is_from, passed_number, HaveNone, IsLowest}
 use Rattle.stow_read.proofs.NextKeys.{apart}
 

@@ -8,10 +8,10 @@ use Rattle.stow_tree_model.specs.Merged.{same_key}
 use Rattle.stow_tree_model.specs.Order.{place_cmp, version_place, VersionsRise}
 use Rattle.stow_tree_model.specs.Version.{Version}
 use Rattle.stow_tree_model.proofs.Orders.{key_cases}
-use Rattle.stow_page.specs.Format.{AreVersions}
-use Rattle.stow_page.specs.Rows.{IsCountUpTo}
-use Rattle.stow_leaf.proofs.Found.{is_cut, place_le}
-use Rattle.stow_leaf.proofs.Intervals.{lt, lt_self, at_most}
+use Rattle.stow_node.specs.StowPage.Format.{AreVersions}
+use Rattle.stow_node.specs.StowPage.Rows.{IsCountUpTo}
+use Rattle.stow_node.proofs.StowLeaf.Found.{is_cut, place_le}
+use Rattle.stow_node.proofs.StowLeaf.Intervals.{lt, lt_self, at_most}
 use Rattle.stow_read.proofs.Versioned.{own_rows}
 
 -- the rows before the place have been gone over, and all others' keys are the key or above it

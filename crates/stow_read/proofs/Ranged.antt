@@ -3,8 +3,8 @@ use Rattle.std.proofs.Common.{◌≡◌, ℕ, ◌<◌, true, false, List, [], �
 use Rattle.std.specs.Prelude.{Contains, IsSome}
 use Rattle.std.specs.List.{AllByRecursion}
 use Rattle.std.proofs.lemmas.List.{length-map, map-append}
-use Rattle.stow_leaf.specs.Intervals.{spans}
-use Rattle.stow_leaf.proofs.Intervals.{lt}
+use Rattle.stow_node.specs.StowLeaf.Intervals.{spans}
+use Rattle.stow_node.proofs.StowLeaf.Intervals.{lt}
 use Rattle.stow_tree_model.specs.Operations.{NumberedValue, Operations, latest, value_in}
 use Rattle.stow_read.specs.NextKey.{IsNextKey}
 use Rattle.stow_read.specs.Range.{KeyValue, IsRange}

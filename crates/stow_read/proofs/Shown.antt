@@ -14,7 +14,7 @@ use Rattle.stow_tree_model.specs.Order.{VersionPlace, place_cmp, version_place, 
 use Rattle.stow_tree_model.specs.Version.{Version}
 use Rattle.stow_tree_model.proofs.Histories.{ops_in-at, ops_in-skip, latest_none, falls_number}
 use Rattle.stow_tree_model.proofs.Latest.{latest_stays}
-use Rattle.stow_page.specs.Rows.{is_up_to, last_of, version_at}
+use Rattle.stow_node.specs.StowPage.Rows.{is_up_to, last_of, version_at}
 use Rattle.stow_read.specs.Shown.{value_shown}
 
 -- ---- the newest version up to a number

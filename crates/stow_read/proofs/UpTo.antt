@@ -22,12 +22,12 @@ use Rattle.stow_tree_model.proofs.Folds.{one_more, rises_take}
 use Rattle.stow_tree_model.proofs.Histories.{ops_in-at, ops_in-skip, ops_in-above}
 use Rattle.stow_tree_model.proofs.Ordered.{history_of}
 use Rattle.stow_tree_model.proofs.Orders.{place_cases, place_total}
-use Rattle.stow_message.specs.Packed.{IsMessage}
-use Rattle.stow_message.specs.Rising.{is_below, below, of_key}
-use Rattle.stow_message.proofs.RisingLists.{below_first, below_tells, below_within}
-use Rattle.stow_message.proofs.Stored.{all_at}
-use Rattle.stow_leaf.proofs.Found.{none_unless, none_or, or_none, some_left}
-use Rattle.stow_leaf.proofs.Ops.{ops-append, ops-filter}
+use Rattle.stow_node.specs.StowMessage.Packed.{IsMessage}
+use Rattle.stow_node.specs.StowMessage.Rising.{is_below, below, of_key}
+use Rattle.stow_node.proofs.StowMessage.RisingLists.{below_first, below_tells, below_within}
+use Rattle.stow_node.proofs.StowMessage.Stored.{all_at}
+use Rattle.stow_node.proofs.StowLeaf.Found.{none_unless, none_or, or_none, some_left}
+use Rattle.stow_node.proofs.StowLeaf.Ops.{ops-append, ops-filter}
 use Rattle.stow_read.specs.UpTo.{IsUpTo}
 use Rattle.stow_read.proofs.NextMessages.{valid_at, each_there}
 use Rattle.stow_read.proofs.NextNumbers.{IsBound, found_numbered, own_below, own_not_below}

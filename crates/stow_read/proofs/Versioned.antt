@@ -17,8 +17,8 @@ use Rattle.stow_tree_model.proofs.Histories.{ops_in-at, ops_in-skip, latest_none
 use Rattle.stow_tree_model.proofs.Latest.{latest_same}
 use Rattle.stow_tree_model.proofs.Orders.{key_cases, less_within}
 use Rattle.stow_tree_model.proofs.Readings.{drop_one_less}
-use Rattle.stow_page.specs.Rows.{is_up_to, last_of, value_in_version, version_at}
-use Rattle.stow_leaf.proofs.Found.{some_or, none_unless, first_stays}
+use Rattle.stow_node.specs.StowPage.Rows.{is_up_to, last_of, value_in_version, version_at}
+use Rattle.stow_node.proofs.StowLeaf.Found.{some_or, none_unless, first_stays}
 use Rattle.stow_node.specs.Subtree.{Subtree, messages_of}
 use Rattle.stow_read.specs.Path.{NumbersFall, IsPath}
 use Rattle.stow_read.specs.Shown.{value_shown}
@@ -27,7 +27,7 @@ use Rattle.stow_read.proofs.Gathered.{AllOwn, there_first, under_number}
 use Rattle.stow_read.proofs.Looked.{there_dropped}
 use Rattle.stow_read.proofs.NewestFirst.{newest_step}
 use Rattle.stow_read.proofs.Shown.{rows_show, up_to_cases}
-use Rattle.stow_message.proofs.Removed.{all_dropped}
+use Rattle.stow_node.proofs.StowMessage.Removed.{all_dropped}
 
 -- ---- versions of no operations
 

@@ -6,16 +6,16 @@ use Rattle.stow_tree_model.specs.Merged.{row_message}
 use Rattle.stow_tree_model.specs.Messages.{ops_in}
 use Rattle.stow_tree_model.specs.Operations.{latest, or_else, over}
 use Rattle.stow_tree_model.proofs.Latest.{latest_same}
-use Rattle.stow_leaf.specs.Intervals.{top_key, spans}
-use Rattle.stow_leaf.specs.LeafRows.{LeafRows, leaf_rows, row_messages}
-use Rattle.stow_leaf.specs.declared.leaf.Leaf.{Leaf}
-use Rattle.stow_leaf.proofs.Found.{or_none, both_none}
-use Rattle.stow_leaf.proofs.Intervals.{lt, not_spanned}
+use Rattle.stow_node.specs.StowLeaf.Intervals.{top_key, spans}
+use Rattle.stow_node.specs.StowLeaf.LeafRows.{LeafRows, leaf_rows, row_messages}
+use Rattle.stow_node.specs.StowLeaf.declared.leaf.Leaf.{Leaf}
+use Rattle.stow_node.proofs.StowLeaf.Found.{or_none, both_none}
+use Rattle.stow_node.proofs.StowLeaf.Intervals.{lt, not_spanned}
 use Rattle.stow_node.proofs.Lowered.{rows_by_part}
 use Rattle.stow_node.proofs.Row.{Taken, Apart, message_taken, row_taken, messages_apart, rows_apart, none_before, none_from}
 use Rattle.stow_tree_model.proofs.Histories.{latest_none}
 use Rattle.std.specs.List.{flat_map}
-use Rattle.stow_leaf.proofs.Ops.{ops-append}
+use Rattle.stow_node.proofs.StowLeaf.Ops.{ops-append}
 use Rattle.stow_node.specs.declared.child.Child.{Child}
 use Rattle.stow_node.specs.declared.child.Child.TheVariants as in_child
 use Rattle.stow_node.specs.Nodes.{parts_of, AreChildren}

@@ -12,13 +12,13 @@ use Rattle.stow_tree_model.specs.declared.tenant_key.TenantKey.{TenantKey}
 use Rattle.stow_tree_model.proofs.Histories.{latest_none}
 use Rattle.stow_tree_model.proofs.Latest.{latest_same}
 use Rattle.stow_tree_model.proofs.Orders.{key_cases}
-use Rattle.stow_leaf.specs.Intervals.{top_key, spans}
-use Rattle.stow_leaf.specs.LeafRows.{row_messages}
-use Rattle.stow_leaf.specs.declared.leaf.Leaf.{Leaf}
-use Rattle.stow_leaf.proofs.Found.{none_or, none_some, or_none}
-use Rattle.stow_leaf.proofs.Intervals.{lt, by_test, lt_self, lt_not, lt_trans, lt_le, at_most, spanned, span_low, span_high}
-use Rattle.stow_leaf.proofs.Ops.{ops-append}
-use Rattle.stow_message.specs.MessageBuf.{MessageList}
+use Rattle.stow_node.specs.StowLeaf.Intervals.{top_key, spans}
+use Rattle.stow_node.specs.StowLeaf.LeafRows.{row_messages}
+use Rattle.stow_node.specs.StowLeaf.declared.leaf.Leaf.{Leaf}
+use Rattle.stow_node.proofs.StowLeaf.Found.{none_or, none_some, or_none}
+use Rattle.stow_node.proofs.StowLeaf.Intervals.{lt, by_test, lt_self, lt_not, lt_trans, lt_le, at_most, spanned, span_low, span_high}
+use Rattle.stow_node.proofs.StowLeaf.Ops.{ops-append}
+use Rattle.stow_node.specs.StowMessage.MessageBuf.{MessageList}
 use Rattle.stow_node.specs.declared.child.Child.{Child}
 use Rattle.stow_node.specs.declared.child.Child.TheVariants as in_child
 use Rattle.stow_node.specs.Nodes.{AreChildren}

@@ -2,7 +2,7 @@
 use Rattle.std.specs.Prelude.{◌≡◌, ℕ, ◌<◌, drop, List, Bool, true, false, not, Option, Some, None, IsSome}
 use Rattle.std.specs.Ordering.{is_lt}
 use Rattle.stow_bytes.specs.Bytes.{bytes_cmp}
-use Rattle.stow_leaf.specs.Intervals.{top_key}
+use Rattle.stow_node.specs.StowLeaf.Intervals.{top_key}
 use Rattle.stow_node.specs.Parts.{Part, low_or}
 use Rattle.stow_tree_model.specs.Operations.{Operations}
 

@@ -4,7 +4,7 @@ use Rattle.std.specs.Ordering.{is_lt}
 use Rattle.std.specs.List.{AllByRecursion}
 use Rattle.std.specs.List.Sorted.{IsStrictlySortedBy}
 use Rattle.stow_bytes.specs.Bytes.{bytes_cmp}
-use Rattle.stow_leaf.specs.Intervals.{spans}
+use Rattle.stow_node.specs.StowLeaf.Intervals.{spans}
 use Rattle.stow_tree_model.specs.Operations.{Operations, latest, value_in}
 use Rattle.stow_read.specs.Found.{found_value}
 use Rattle.stow_read.specs.declared.row.Row as coded

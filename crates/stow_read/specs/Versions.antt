@@ -4,7 +4,7 @@ use Rattle.std.specs.List.{AllByRecursion}
 use Rattle.stow_tree_model.specs.Operations.{Operations, latest}
 use Rattle.stow_tree_model.specs.Order.{VersionsRise}
 use Rattle.stow_tree_model.specs.Version.{Version}
-use Rattle.stow_page.specs.Rows.{version_at}
+use Rattle.stow_node.specs.StowPage.Rows.{version_at}
 use Rattle.stow_read.specs.Shown.{value_shown}
 
 -- each is of an operation on the key, and at each number the newest one up to it shows what the key

@@ -4,8 +4,8 @@ use Rattle.std.specs.Ordering.{is_lt}
 use Rattle.std.specs.Option.{option_map}
 use Rattle.std.specs.List.{AllByRecursion}
 use Rattle.stow_bytes.specs.Bytes.{bytes_cmp}
-use Rattle.stow_leaf.specs.Intervals.{spans}
-use Rattle.stow_message.specs.MessageBuf.{MessageList}
+use Rattle.stow_node.specs.StowLeaf.Intervals.{spans}
+use Rattle.stow_node.specs.StowMessage.MessageBuf.{MessageList}
 use Rattle.stow_node.specs.Subtree.{Subtree, messages_of}
 use Rattle.stow_tree_model.specs.Merged.{row_message, same_key}
 use Rattle.stow_tree_model.specs.Messages.{ops_in}

@@ -2,14 +2,14 @@
 ghost use Rattle.std.specs.Prelude.{◌≡◌, ◌<◌, length, true};
 ghost use Rattle.std.specs.Ordering.{is_lt};
 ghost use Rattle.stow_bytes.specs.Bytes.{bytes_cmp};
-ghost use Rattle.stow_leaf.specs.Intervals.{top_key, spans};
+ghost use Rattle.stow_node.specs.StowLeaf.Intervals.{top_key, spans};
 ghost use Rattle.stow_read.specs.Descent.{LeadsDown, LeadsAllTo};
 
 use std::alloc::Allocator;
 use stow_bytes::compare::compare;
-use stow_leaf::ends::top_key;
 use stow_node::child::{Child, child_within, high_after};
 use stow_node::node::Node;
+use stow_node::stow_leaf::ends::top_key;
 use stow_tree_model::tenant_key::TenantKey;
 
 /// What stands below a node for the key.

@@ -1,8 +1,8 @@
 //! What one key has at a number.
 ghost use Rattle.std.specs.Prelude.{◌≡◌, map, true, IfOk, IfSome, Contains};
 ghost use Rattle.std.specs.Option.{option_map};
-ghost use Rattle.stow_leaf.specs.Intervals.{top_key, spans};
-ghost use Rattle.stow_leaf.specs.LeafRows.{leaf_rows};
+ghost use Rattle.stow_node.specs.StowLeaf.Intervals.{top_key, spans};
+ghost use Rattle.stow_node.specs.StowLeaf.LeafRows.{leaf_rows};
 ghost use Rattle.stow_node.specs.Subtree.{messages_of};
 ghost use Rattle.stow_tree_model.specs.Merged.{row_message};
 ghost use Rattle.stow_tree_model.specs.Messages.{ops_in};
@@ -15,11 +15,11 @@ use crate::lent_value::LentValue;
 use crate::lookup::Lookup;
 use crate::suffixes::{Look, Suffixes};
 use std::alloc::{AllocError, Allocator};
-use stow_leaf::leaf::Leaf;
-use stow_message::place::Place;
 use stow_node::child::Child;
 use stow_node::node::Node;
-use stow_page::rows::Rows;
+use stow_node::stow_leaf::leaf::Leaf;
+use stow_node::stow_message::place::Place;
+use stow_node::stow_page::rows::Rows;
 use stow_tree_model::tenant_key::TenantKey;
 
 /// Where a way down ends.

@@ -1,6 +1,6 @@
 //! What a look at a key's newest message or row comes to.
 use crate::newest::Newest;
-use stow_message::place::Place;
+use stow_node::stow_message::place::Place;
 
 /// What a look at a key's newest message or row comes to.
 #[derive(Clone, Copy)]

@@ -1,6 +1,6 @@
 //! A look at a key's newest message or row alone.
 ghost use Rattle.std.specs.Prelude.{◌≡◌, true};
-ghost use Rattle.stow_leaf.specs.Intervals.{top_key, spans};
+ghost use Rattle.stow_node.specs.StowLeaf.Intervals.{top_key, spans};
 ghost use Rattle.stow_node.specs.Subtree.{messages_of};
 ghost use Rattle.stow_tree_model.specs.Messages.{ops_in};
 ghost use Rattle.stow_tree_model.specs.Operations.{latest, value_in, NoneUpTo};
@@ -13,9 +13,9 @@ use crate::glance::Glance;
 use crate::newest::Newest;
 use crate::up_to::newest_up_to;
 use std::alloc::Allocator;
-use stow_message::place::Place;
 use stow_node::child::Child;
 use stow_node::node::Node;
+use stow_node::stow_message::place::Place;
 use stow_tree_model::tenant_key::TenantKey;
 
 /// What the key's newest message or row up to a number tells of the value that it has there. No appends are added up, and

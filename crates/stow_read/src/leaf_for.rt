@@ -1,12 +1,12 @@
 //! The leaf of a key.
 ghost use Rattle.std.specs.Prelude.{◌≡◌, IfSome, Contains};
-ghost use Rattle.stow_leaf.specs.LeafRows.{leaf_rows};
+ghost use Rattle.stow_node.specs.StowLeaf.LeafRows.{leaf_rows};
 
 use crate::descent::{below, may_hold};
 use std::alloc::Allocator;
-use stow_leaf::leaf::Leaf;
 use stow_node::child::Child;
 use stow_node::node::Node;
+use stow_node::stow_leaf::leaf::Leaf;
 use stow_tree_model::tenant_key::TenantKey;
 
 /// The leaf whose rows the key's would be among, if the node can hold the key.

@@ -7,7 +7,7 @@ ghost use Rattle.stow_read.specs.Way.{key_in};
 use crate::next_key::next_in_buffer;
 use crate::start::Start;
 use std::alloc::Allocator;
-use stow_message::message_buf::MessageBuf;
+use stow_node::stow_message::message_buf::MessageBuf;
 use stow_tree_model::tenant_key::TenantKey;
 
 /// A buffer on the way down to a leaf, with its next key.

@@ -1,8 +1,8 @@
 //! What a look-up of one key comes to.
 use crate::found::Found;
 use std::alloc::{Allocator, Global};
-use stow_leaf::leaf::Leaf;
-use stow_message::place::Place;
+use stow_node::stow_leaf::leaf::Leaf;
+use stow_node::stow_message::place::Place;
 
 /// What a look-up of one key comes to.
 #[derive(Drop)]

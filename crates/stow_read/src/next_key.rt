@@ -3,7 +3,7 @@ ghost use Rattle.std.specs.Prelude.{◌≡◌, ◌<◌, length, true, map};
 ghost use Rattle.std.specs.Option.{option_map};
 ghost use Rattle.std.specs.Ordering.{is_lt};
 ghost use Rattle.stow_bytes.specs.Bytes.{bytes_cmp};
-ghost use Rattle.stow_leaf.specs.Intervals.{top_key, spans};
+ghost use Rattle.stow_node.specs.StowLeaf.Intervals.{top_key, spans};
 ghost use Rattle.stow_node.specs.Nodes.{parts_of};
 ghost use Rattle.stow_node.specs.Subtree.{messages_of};
 ghost use Rattle.stow_tree_model.specs.Merged.{row_message};
@@ -14,10 +14,10 @@ use crate::guesses::Guesses;
 use crate::start::Start;
 use std::alloc::Allocator;
 use stow_bytes::compare::compare;
-use stow_message::message_buf::MessageBuf;
 use stow_node::child::{Child, child_for};
 use stow_node::node::Node;
-use stow_page::rows::Rows;
+use stow_node::stow_message::message_buf::MessageBuf;
+use stow_node::stow_page::rows::Rows;
 use stow_tree_model::tenant_key::TenantKey;
 
 /// Whether a key stands below another.

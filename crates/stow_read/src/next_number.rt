@@ -5,8 +5,8 @@ ghost use Rattle.stow_tree_model.specs.Messages.{ops_in};
 ghost use Rattle.stow_read.specs.Walk.{IsNumberAfter};
 
 use std::alloc::Allocator;
-use stow_message::message_buf::MessageBuf;
-use stow_page::rows::Rows;
+use stow_node::stow_message::message_buf::MessageBuf;
+use stow_node::stow_page::rows::Rows;
 use stow_tree_model::tenant_key::TenantKey;
 
 /// The least number above this one of the key's messages in a buffer. It is found the faster the nearer the guess is to

@@ -1,16 +1,16 @@
 //! All that the way down to a key's leaf has of the key.
 ghost use Rattle.std.specs.Prelude.{◌≡◌, ◌++◌, true, map, reverse, IfOk, OnOk};
-ghost use Rattle.stow_leaf.specs.Intervals.{top_key, spans};
-ghost use Rattle.stow_message.specs.Rising.{of_key};
+ghost use Rattle.stow_node.specs.StowLeaf.Intervals.{top_key, spans};
+ghost use Rattle.stow_node.specs.StowMessage.Rising.{of_key};
 ghost use Rattle.stow_tree_model.specs.TreeMessage.{message_of};
 ghost use Rattle.stow_read.specs.Path.{IsPath};
 
 use crate::descent::below;
 use std::alloc::{AllocError, Allocator};
-use stow_leaf::leaf::Leaf;
-use stow_message::message_buf::MessageBuf;
 use stow_node::child::Child;
 use stow_node::node::Node;
+use stow_node::stow_leaf::leaf::Leaf;
+use stow_node::stow_message::message_buf::MessageBuf;
 use stow_tree_model::message::Message;
 use stow_tree_model::tenant_key::TenantKey;
 

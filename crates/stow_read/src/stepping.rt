@@ -1,6 +1,6 @@
 //! From key to key of an interval.
 ghost use Rattle.std.specs.Prelude.{◌≡◌, IfOk, IfSome, option_map, true};
-ghost use Rattle.stow_leaf.specs.Intervals.{top_key, spans};
+ghost use Rattle.stow_node.specs.StowLeaf.Intervals.{top_key, spans};
 ghost use Rattle.stow_node.specs.Subtree.{messages_of};
 ghost use Rattle.stow_tree_model.specs.Messages.{ops_in};
 ghost use Rattle.stow_read.specs.NextKey.{IsNextKey};

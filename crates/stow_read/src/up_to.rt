@@ -1,15 +1,15 @@
 //! The messages of a key up to a number, at the front of a buffer.
 ghost use Rattle.std.specs.Option.{option_map};
 ghost use Rattle.std.specs.Prelude.{◌≡◌, ◌-◌, ◌<◌, ◌≤◌, length, slice_index_or};
-ghost use Rattle.stow_message.specs.Rising.{message_before};
+ghost use Rattle.stow_node.specs.StowMessage.Rising.{message_before};
 ghost use Rattle.stow_tree_model.specs.Messages.{ops_in};
 ghost use Rattle.stow_tree_model.specs.TreeMessage.{message_of};
 ghost use Rattle.stow_read.specs.UpTo.{IsUpTo, IsNewestUpTo};
 
 use std::alloc::Allocator;
-use stow_message::below::Below;
-use stow_message::message_buf::MessageBuf;
-use stow_message::place::Place;
+use stow_node::stow_message::below::Below;
+use stow_node::stow_message::message_buf::MessageBuf;
+use stow_node::stow_message::place::Place;
 use stow_tree_model::message::Message;
 use stow_tree_model::tenant_key::TenantKey;
 

@@ -9,7 +9,7 @@ ghost use Rattle.stow_tree_model.specs.Value.{bytes_at};
 ghost use Rattle.stow_tree_model.specs.Version.{version_of};
 ghost use Rattle.stow_tree_model.specs.VersionBuf.{version_of_buf};
 ghost use Rattle.stow_node.specs.Subtree.{messages_of};
-ghost use Rattle.stow_page.specs.Rows.{last_of, value_in_version};
+ghost use Rattle.stow_node.specs.StowPage.Rows.{last_of, value_in_version};
 ghost use Rattle.stow_read.specs.Versions.{AreVersionsOf};
 
 use crate::descent::may_hold;
@@ -17,7 +17,7 @@ use crate::path::path_of;
 use std::alloc::{AllocError, Allocator};
 use stow_bytes::byte_string::ByteString;
 use stow_node::node::Node;
-use stow_page::rows::Rows;
+use stow_node::stow_page::rows::Rows;
 use stow_tree_model::message::Message;
 use stow_tree_model::op::Op;
 use stow_tree_model::tenant_key::TenantKey;

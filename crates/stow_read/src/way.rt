@@ -4,7 +4,7 @@
 //! next key it is.
 ghost use Rattle.std.specs.Prelude.{◌≡◌, true, false, IfOk, IfSome};
 ghost use Rattle.std.specs.Option.{option_map};
-ghost use Rattle.stow_leaf.specs.Intervals.{top_key, spans};
+ghost use Rattle.stow_node.specs.StowLeaf.Intervals.{top_key, spans};
 ghost use Rattle.stow_tree_model.specs.Operations.{latest, value_in};
 ghost use Rattle.stow_tree_model.specs.Value.{IsValue};
 ghost use Rattle.stow_read.specs.Found.{found_value, lent_of};
@@ -26,10 +26,10 @@ use crate::start::Start;
 use crate::suffixes::{Look, Suffixes};
 use crate::value_head::ValueHead;
 use std::alloc::{AllocError, Allocator};
-use stow_leaf::ends::top_key;
 use stow_node::child::Child;
 use stow_node::node::Node;
-use stow_page::rows::Rows;
+use stow_node::stow_leaf::ends::top_key;
+use stow_node::stow_page::rows::Rows;
 use stow_tree_model::tenant_key::TenantKey;
 use stow_tree_model::tenant_key_buf::TenantKeyBuf;
 

@@ -1,7 +1,7 @@
 -- What the parts of the reader find at the front of some bytes.
 use Rattle.std.specs.Prelude.{◌≡◌, ℕ, ◌<◌, ◌≤◌, false, List, [], ◌++◌, length, take, drop, ⊤}
 use Rattle.std.specs.List.{AllByRecursion}
-use Rattle.stow_bytes.specs.Limits.{words_limit}
+use Rattle.stow_model.specs.StowBytes.Limits.{words_limit}
 use Rattle.stow_model.specs.Message.{Blank, Words}
 use Rattle.stow_model.specs.Spans.{words_at, AreInside}
 use Rattle.stow_model.specs.Wire.{array_line, bulks, FitsBulk, begins_array, Spells, IsBegun, IsFaulty}

@@ -25,12 +25,12 @@ mod line;
 pub mod next;
 mod progress;
 
-pub use stow_bytes::byte_string::ByteString;
 pub use stow_model::item::Item;
 pub use stow_model::items::Items;
 pub use stow_model::message::Message;
 pub use stow_model::refusal::Refusal;
 pub use stow_model::reply::Reply;
 pub use stow_model::simple_string::SimpleString;
+pub use stow_model::stow_bytes::byte_string::ByteString;
 pub use stow_model::stream_fault::StreamFault;
 pub use stow_model::words::Words;

@@ -6,7 +6,7 @@ use Rattle.std.specs.IoError.{error_kind}
 use Rattle.std.specs.declared.io.Error.{Error}
 use Rattle.std.specs.declared.io.ErrorKind.{ErrorKind}
 use Rattle.std.specs.declared.io.ErrorKind.TheVariants as kind
-use Rattle.stow_login.specs.TenantFile.{fault_number}
+use Rattle.stow_script.specs.StowLogin.TenantFile.{fault_number}
 use Rattle.stow_run.specs.declared.failure.Failure.{Failure}
 use Rattle.stow_run.specs.declared.failure.Failure.TheVariants.{Arguments, BadAddress, Tenants, BadLine, InputOutput, Memory}
 use Rattle.stow_run.specs.declared.failure.Endpoint.{Endpoint}

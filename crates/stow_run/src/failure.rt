@@ -4,7 +4,7 @@ ghost use Rattle.stow_run.specs.Statuses.{failure_at, status_of, text_of_failure
 
 use std::alloc::{AllocError, Global};
 use std::io;
-use stow_login::tenants_fault::TenantsFault;
+use stow_script::stow_login::tenants_fault::TenantsFault;
 use stow_script::stumble::Stumble;
 
 /// The status after refused arguments and a bad script.

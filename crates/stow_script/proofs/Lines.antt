@@ -11,14 +11,14 @@ use Rattle.std.proofs.lemmas.Bool.{false≢true, and_parts}
 use Rattle.std.proofs.lemmas.Fmt.{digits_decimal}
 use Rattle.std.proofs.lemmas.List.Elements.{All-head, All-tail, All-nil, All-cons, All-from_get_or}
 use Rattle.std.proofs.lemmas.Slice.Eq.{bytes_eq-Decides}
-use Rattle.stow_bytes.specs.Limits.{number_limit}
+use Rattle.stow_commands.specs.StowBytes.Limits.{number_limit}
 use Rattle.stow_login.specs.Entries.{index_named}
-use Rattle.stow_model.specs.Login.{Entry}
-use Rattle.stow_model.specs.Event.{Event, On, By, SetQuota, Open, Piece, Serve, Close, Plan, Merge, Install, Resize}
+use Rattle.stow_commands.specs.StowModel.Login.{Entry}
+use Rattle.stow_commands.specs.StowModel.Event.{Event, On, By, SetQuota, Open, Piece, Serve, Close, Plan, Merge, Install, Resize}
 use Rattle.stow_script.specs.Text.{StandsFor}
 use Rattle.stow_script.specs.declared.script_line.ScriptLine as script_line
 use Rattle.stow_script.specs.Script.{Line, AsksFor, AsksForEvent, Asks, Shape, Usage, IsArgument, IsBad, IsConnection, IsField, IsName, IsNumberText, IsSkipped, word_of}
-use Rattle.stow_model.specs.declared.event.Event as coded
+use Rattle.stow_commands.specs.StowModel.declared.event.Event as coded
 use Rattle.stow_script.specs.declared.text.TextFault.{TextFault}
 use Rattle.stow_script.specs.declared.text.TextFault.TheVariants.{Malformed, Memory}
 use Rattle.stow_script.specs.Read.{IsCut, IsEventOf, IsEventRead, IsFault, IsIndexRead, IsLineRead, IsNameRead, IsNoEvent, IsNoName, IsNoNumberText, IsNumberRead, StandsForNone}

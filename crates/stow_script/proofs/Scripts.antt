@@ -6,7 +6,7 @@ use borrow.Author.Tests.{ne_eqb}
 use Rattle.std.proofs.lemmas.List.{length_push, map-append}
 use Rattle.std.proofs.lemmas.List.Elements.{All-weaker}
 use Rattle.std.proofs.lemmas.List.Splits.{slice_split_none, slice_split_at}
-use Rattle.stow_model.specs.Login.{Entry}
+use Rattle.stow_commands.specs.StowModel.Login.{Entry}
 use Rattle.stow_script.specs.declared.script_line.ScriptLine as script_line
 use Rattle.stow_script.specs.declared.text.TextFault.{TextFault}
 use Rattle.stow_script.specs.declared.text.TextFault.TheVariants.{Malformed}

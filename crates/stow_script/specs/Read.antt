@@ -3,9 +3,9 @@ use Rattle.std.specs.Prelude.{◌≡◌, ◌≢◌, ℕ, List, ◌∷◌, ◌++�
 use Rattle.std.specs.Borrow.{Bor}
 use Rattle.std.specs.List.{All}
 use Rattle.stow_login.specs.Entries.{index_named}
-use Rattle.stow_model.specs.Login.{Entry}
-use Rattle.stow_model.specs.Event.{Event, event_of}
-use Rattle.stow_model.specs.declared.event.Event as coded
+use Rattle.stow_commands.specs.StowModel.Login.{Entry}
+use Rattle.stow_commands.specs.StowModel.Event.{Event, event_of}
+use Rattle.stow_commands.specs.StowModel.declared.event.Event as coded
 use Rattle.stow_script.specs.declared.text.TextFault.{TextFault}
 use Rattle.stow_script.specs.declared.text.TextFault.TheVariants.{Malformed, Memory}
 use Rattle.stow_script.specs.Text.{StandsFor}

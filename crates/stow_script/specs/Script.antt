@@ -3,10 +3,10 @@
 use Rattle.std.specs.Prelude.{◌≡◌, ◌≢◌, ℕ, ◌+◌, ◌≤◌, ◌==◌, List, [], ◌∷◌, ◌++◌, Some, length, codes, ◌⊎◌}
 use Rattle.std.specs.List.{All, slice_split}
 use Rattle.std.specs.Fmt.{decimal}
-use Rattle.stow_bytes.specs.Limits.{cache_limit, number_limit}
+use Rattle.stow_commands.specs.StowBytes.Limits.{cache_limit, number_limit}
 use Rattle.stow_login.specs.Entries.{index_named}
-use Rattle.stow_model.specs.Login.{Entry}
-use Rattle.stow_model.specs.Event.{Event, event_of, On, By, SetQuota, Open, Piece, Serve, Close, Plan, Merge, Install, Resize}
+use Rattle.stow_commands.specs.StowModel.Login.{Entry}
+use Rattle.stow_commands.specs.StowModel.Event.{Event, event_of, On, By, SetQuota, Open, Piece, Serve, Close, Plan, Merge, Install, Resize}
 use Rattle.stow_script.specs.declared.script_line.ScriptLine as coded
 use Rattle.stow_script.specs.declared.script_line.ScriptLine.TheVariants as in_code
 use Rattle.stow_script.specs.Text.{StandsFor}

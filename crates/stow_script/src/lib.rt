@@ -10,3 +10,5 @@ pub mod reading;
 pub mod script_line;
 pub mod stumble;
 pub mod text;
+
+pub use stow_login;

@@ -1,10 +1,10 @@
 //! Numbers in a script's lines.
-ghost use Rattle.stow_bytes.specs.Limits.{number_limit};
+ghost use Rattle.stow_commands.specs.StowBytes.Limits.{number_limit};
 ghost use Rattle.stow_script.specs.Read.{IsNumberRead};
 
 use crate::text::TextFault;
-use stow_bytes::limits::NUMBER_LIMIT;
 use stow_commands::number::magnitude;
+use stow_commands::stow_bytes::limits::NUMBER_LIMIT;
 
 /// The number within these limits whose decimal text this is, without a sign or a leading zero.
 pub fn number(text: &[u8], low: u32, high: u32) -> Result<u32, TextFault<'_>>

@@ -1,15 +1,15 @@
 //! A script's lines, read.
 ghost use Rattle.std.specs.Prelude.{◌≡◌, ◌≢◌, List, MatchBool, codes};
-ghost use Rattle.stow_model.specs.Login.{Entry};
+ghost use Rattle.stow_commands.specs.StowModel.Login.{Entry};
 ghost use Rattle.stow_script.specs.Read.{IsCut, IsEventRead, IsIndexRead, IsLineRead, IsNameRead};
 
 use crate::number::{number, quota};
 use crate::script_line::ScriptLine;
 use crate::text::{TextFault, unescape};
 use std::alloc::Allocator;
-use stow_bytes::limits::CACHE_LIMIT;
+use stow_commands::stow_bytes::limits::CACHE_LIMIT;
+use stow_commands::stow_model::event::Event;
 use stow_login::tenants::Tenants;
-use stow_model::event::Event;
 
 /// The greatest number of a connection in a script.
 const CONNECTIONS: u32 = 65_535;

@@ -1,6 +1,6 @@
 //! What a line of a script asks for.
 use std::alloc::{Allocator, Global};
-use stow_model::event::Event;
+use stow_commands::stow_model::event::Event;
 
 /// What a line of a script asks for.
 #[derive(Drop)]

@@ -6,7 +6,7 @@ ghost use Rattle.stow_script.specs.Text.{IsByteText, IsEscape, IsHexadecimal, St
 ghost use Rattle.stow_script.specs.Read.{IsFault, IsFront, StandsForNone};
 
 use std::alloc::{AllocError, Allocator};
-use stow_bytes::byte_string::ByteString;
+use stow_commands::stow_bytes::byte_string::ByteString;
 
 /// Why there are no bytes.
 #[derive(Clone, Copy, Debug, PartialEq, Eq)]

@@ -1,25 +1,25 @@
 //! New cores and houses, and their calls without what these promise, so that no test carries it.
 ghost use Rattle.std.specs.Prelude.{IfOk};
-ghost use Rattle.stow_core.specs.State.{IsNewCore};
+ghost use Rattle.stow_house.specs.StowCore.State.{IsNewCore};
 ghost use Rattle.stow_house.specs.Steps.{state_of};
 ghost use Rattle.stow_house.specs.Runs.{IsNewHouse};
 
 use std::alloc::{AllocError, Allocator, Global};
 use std::sync::Arc;
-use stow_core::Core;
 use stow_house::house::House;
 use stow_house::outputs::Outputs;
 use stow_house::run_fault::RunFault;
 use stow_house::step_result::StepResult;
+use stow_house::stow_core::Core;
+use stow_house::stow_merge::flush_result::FlushResult;
+use stow_house::stow_node::installed::Installed;
+use stow_house::stow_tree::shape_report::ShapeReport;
+use stow_house::stow_tree::tree_shape::TreeShape;
 use stow_login::tenants::Tenants;
-use stow_merge::flush_result::FlushResult;
 use stow_model::event::Event;
 use stow_model::reply::Reply;
 use stow_model::words::Words;
-use stow_node::installed::Installed;
 use stow_testing::tenants::THREE;
-use stow_tree::shape_report::ShapeReport;
-use stow_tree::tree_shape::TreeShape;
 
 /// The tenants of a file. Its table is kept in `global` for as long as it is read.
 pub(crate) fn tenants_of<A: Allocator + Copy>(

@@ -1,7 +1,7 @@
 //! What a core tells of a line.
 use crate::making::{call, give};
 use std::alloc::{AllocError, Allocator};
-use stow_core::Core;
+use stow_house::stow_core::Core;
 use stow_model::reply::Reply;
 use stow_testing::lines::words_of;
 use stow_testing::replies::is_text;

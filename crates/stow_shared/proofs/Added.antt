@@ -3,12 +3,12 @@ use Rattle.std.proofs.Common.{◌≡◌, Bool, true, false, Result, Ok, Err, Lis
 use Rattle.std.specs.Prelude.{◌↔◌, IfOk, IfErr, OnErr, if◌then◌else◌}
 use Rattle.std.proofs.lemmas.List.{map-append, reverse-append}
 use Rattle.stow_shared.specs.declared.entry.Entry as coded
-use Rattle.stow_merge.specs.declared.flush_job.FlushJob.{FlushJob}
-use Rattle.stow_node.specs.declared.installed.Installed.{Installed}
-use Rattle.stow_node.specs.declared.installed.Installed.TheVariants as installed
-use Rattle.stow_core.specs.Flushing.{TakesResultOf}
-use Rattle.stow_node.specs.Installs.{BatchIsGone}
-use Rattle.stow_core.specs.State.{Keeps}
+use Rattle.stow_house.specs.StowMerge.declared.flush_job.FlushJob.{FlushJob}
+use Rattle.stow_house.specs.StowNode.declared.installed.Installed.{Installed}
+use Rattle.stow_house.specs.StowNode.declared.installed.Installed.TheVariants as installed
+use Rattle.stow_house.specs.StowCore.Flushing.{TakesResultOf}
+use Rattle.stow_house.specs.StowNode.Installs.{BatchIsGone}
+use Rattle.stow_house.specs.StowCore.State.{Keeps}
 use Rattle.stow_shared.specs.Entries.{Entry, entry_of, entries_of, install_entry}
 use Rattle.stow_shared.specs.Journals.{with_entry}
 use Rattle.stow_shared.specs.Seats.{SeatState}

@@ -9,12 +9,12 @@ use Rattle.stow_model.specs.Login as login
 use Rattle.stow_model.specs.Login.{IsTenant, quota_of}
 use Rattle.stow_model.specs.Reply.{Reply}
 use Rattle.stow_model.specs.Store.{Store, OwnEvent, Asked, GivenQuota, Answer, answer, answer_with, store_after, replies_after}
-use Rattle.stow_core.specs.State.{CoreState, store_of, shared_of, IsNewCore, GivesQuota, Keeps}
-use Rattle.stow_state.specs.State.{IsSound}
-use Rattle.stow_state.specs.Steps.{Call, Maintenance}
-use Rattle.stow_state.proofs.Steps.{step_is_there_law, stays_sound_law}
-use Rattle.stow_state.specs.Steps as in_state
-use Rattle.stow_node.specs.declared.installed.Installed.{Installed}
+use Rattle.stow_house.specs.StowCore.State.{CoreState, store_of, shared_of, IsNewCore, GivesQuota, Keeps}
+use Rattle.stow_house.specs.StowState.State.{IsSound}
+use Rattle.stow_house.specs.StowState.Steps.{Call, Maintenance}
+use Rattle.stow_house.proofs.StowState.Steps.{step_is_there_law, stays_sound_law}
+use Rattle.stow_house.specs.StowState.Steps as in_state
+use Rattle.stow_house.specs.StowNode.declared.installed.Installed.{Installed}
 use Rattle.stow_shared.specs.Entries.{Entry, Step, Resize, Plan, Install, call_entry, resize_entry, quota_entry, plan_entry, install_entry}
 use Rattle.stow_shared.specs.Journals.{line_in, told_in, with_request, with_told, RefusesStrangers, IsLegal, with_entry}
 use Rattle.stow_shared.specs.Books.{IsJournalKept, IsBook, ServesCall}

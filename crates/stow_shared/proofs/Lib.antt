@@ -6,3 +6,4 @@ pub mod Sums
 pub mod Seating
 pub mod Desking
 pub mod Sends
+pub use Rattle.stow_house.proofs as StowHouse

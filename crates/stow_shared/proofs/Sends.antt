@@ -5,8 +5,8 @@ use denote.Struct.Declared.{shape}
 use Rattle.std.specs.declared.alloc.Allocator.{Ghosts}
 use Rattle.std.proofs.Crossing as at_heap
 use Rattle.std.proofs.CrossingOver.{crosses}
-use Rattle.stow_core.proofs.Sends.{core_sends}
-use Rattle.stow_login.proofs.tenants.Tenants.TheSendSync as tenants
+use Rattle.stow_house.proofs.StowCore.Sends.{core_sends}
+use Rattle.stow_house.proofs.StowLogin.tenants.Tenants.TheSendSync as tenants
 use Rattle.stow_shared.proofs.entry.Entry.TheSendSync as entry
 use Rattle.stow_shared.proofs.turns.Turns.TheSendSync as turns
 use Rattle.stow_shared.specs.declared.journal.Journal as journal

@@ -10,11 +10,11 @@ use Rattle.stow_model.specs.Reply.{Reply, reply_of}
 use Rattle.stow_model.specs.Reply as reply
 use Rattle.stow_model.specs.Store.{Request, Answer, Asked, answer, answer_with, is_out_of_memory}
 use Rattle.stow_model.proofs.Refused.{want_of_memory_lem}
-use Rattle.stow_core.specs.declared.prepared.Prepared.{Prepared}
-use Rattle.stow_core.specs.Prepared.{effect, prepared_answer, RefusesStranger}
-use Rattle.stow_core.specs.State.{CoreState, store_of, AnswersRequest, Keeps, Moves}
-use Rattle.stow_state.proofs.Steps.{steps_after_maintenance_law}
-use Rattle.stow_core.specs.State as in_core
+use Rattle.stow_house.specs.StowCore.declared.prepared.Prepared.{Prepared}
+use Rattle.stow_house.specs.StowCore.Prepared.{effect, prepared_answer, RefusesStranger}
+use Rattle.stow_house.specs.StowCore.State.{CoreState, store_of, AnswersRequest, Keeps, Moves}
+use Rattle.stow_house.proofs.StowState.Steps.{steps_after_maintenance_law}
+use Rattle.stow_house.specs.StowCore.State as in_core
 use Rattle.stow_shared.specs.declared.copies.Copies.{Copies}
 use Rattle.stow_shared.specs.Books.{BookState, ServesCall, CallStep}
 use Rattle.stow_shared.specs.Copies.{AreCopies, AreAlike, copied}

@@ -6,7 +6,7 @@ use Rattle.std.proofs.lemmas.List.Elements.{All-tail, All-map}
 use Rattle.std.proofs.lemmas.List.{length-reverse, reverse-reverse, get_or-reverse, get_or_default}
 use Rattle.std.proofs.lemmas.List.Sums.{sum_by-cons}
 use Rattle.stow_shared.specs.Closed.{seats_of, HasReceipts, IsOfSeat}
-use Rattle.stow_login.proofs.Same.{mapped_at, length_of_map}
+use Rattle.stow_house.proofs.StowLogin.Same.{mapped_at, length_of_map}
 use Rattle.stow_shared.specs.declared.entry.Entry as coded
 use Rattle.stow_shared.specs.Entries.{Entry, entry_of, entries_of}
 use Rattle.stow_shared.specs.Journals.{entries_by}

@@ -4,13 +4,13 @@ use Rattle.stow_model.specs.declared.refusal.Refusal.TheVariants as refusal
 use Rattle.stow_model.specs.Login.{IsTenant}
 use Rattle.stow_model.specs.Reply.{Reply}
 use Rattle.stow_model.specs.Reply as reply
-use Rattle.stow_merge.specs.declared.flush_job.FlushJob.{FlushJob}
-use Rattle.stow_node.specs.Installs.{BatchIsGone}
-use Rattle.stow_node.specs.declared.installed.Installed.{Installed}
-use Rattle.stow_node.specs.declared.installed.Installed.TheVariants as installed
-use Rattle.stow_core.specs.Flushing.{IsDrained, IsPlannedFrom, TakesResultOf}
-use Rattle.stow_core.specs.State.{CoreState, shared_of, AnswersRequest, RefusesCall, GivesQuota, Keeps, OthersStay, Resized}
-use Rattle.stow_state.specs.State.{IsSound}
+use Rattle.stow_house.specs.StowMerge.declared.flush_job.FlushJob.{FlushJob}
+use Rattle.stow_house.specs.StowNode.Installs.{BatchIsGone}
+use Rattle.stow_house.specs.StowNode.declared.installed.Installed.{Installed}
+use Rattle.stow_house.specs.StowNode.declared.installed.Installed.TheVariants as installed
+use Rattle.stow_house.specs.StowCore.Flushing.{IsDrained, IsPlannedFrom, TakesResultOf}
+use Rattle.stow_house.specs.StowCore.State.{CoreState, shared_of, AnswersRequest, RefusesCall, GivesQuota, Keeps, OthersStay, Resized}
+use Rattle.stow_house.specs.StowState.State.{IsSound}
 use Rattle.stow_shared.specs.Entries.{Entry, call_entry, resize_entry, quota_entry, plan_entry, install_entry}
 use Rattle.stow_shared.specs.Journals.{with_entry, IsLegal}
 use Rattle.stow_shared.specs.Seats.{SeatState, with_receipt, with_refusal}

@@ -1,7 +1,7 @@
 -- What a journal tells: which seat took a step, and what it did.
 use Rattle.std.specs.Prelude.{ℕ, Bool, List, map, reverse}
 use Rattle.stow_model.specs.Reply.{Reply, reply_of}
-use Rattle.stow_node.specs.declared.installed.Installed.{Installed}
+use Rattle.stow_house.specs.StowNode.declared.installed.Installed.{Installed}
 use Rattle.stow_shared.specs.declared.step.Step as coded_step
 use Rattle.stow_shared.specs.declared.step.Step.TheVariants as in_code
 use Rattle.stow_shared.specs.declared.entry.Entry as coded_entry

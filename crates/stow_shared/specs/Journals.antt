@@ -7,7 +7,7 @@ use Rattle.stow_model.specs.Login.{IsTenant, quota_of}
 use Rattle.stow_model.specs.Reply.{Reply}
 use Rattle.stow_model.specs.Reply as reply
 use Rattle.stow_model.specs.Store.{OwnEvent, Asked, GivenQuota, store_after, replies_after}
-use Rattle.stow_core.specs.State.{CoreState, store_of}
+use Rattle.stow_house.specs.StowCore.State.{CoreState, store_of}
 use Rattle.stow_shared.specs.Entries.{Step, Call, Resize, Quota, Plan, Install, Entry}
 
 -- the journal, or a seat's receipts, with an entry more where entries are kept

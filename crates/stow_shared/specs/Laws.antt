@@ -2,7 +2,7 @@
 use Rattle.std.specs.Prelude.{◌≡◌, ℕ, List, map}
 use Rattle.stow_model.specs.Login.{IsTenant, entry_at}
 use Rattle.stow_model.specs.Reply.{encoding}
-use Rattle.stow_core.specs.State.{CoreState, store_of}
+use Rattle.stow_house.specs.StowCore.State.{CoreState, store_of}
 use Rattle.stow_shared.specs.Entries.{Entry}
 use Rattle.stow_shared.specs.Journals.{line_in, told_in, IsLegal}
 

@@ -1,6 +1,6 @@
 -- A core that is opened for threads.
 use Rattle.std.specs.Prelude.{◌≡◌, ℕ, ◌+◌, ◌≤◌, ◌<◌, List, length, Some, slice_get}
-use Rattle.stow_core.specs.State.{CoreState}
+use Rattle.stow_house.specs.StowCore.State.{CoreState}
 use Rattle.stow_model.specs.Login as login
 use Rattle.stow_shared.specs.declared.open_fault.OpenFault.{OpenFault}
 use Rattle.stow_shared.specs.declared.open_fault.OpenFault.TheVariants as fault

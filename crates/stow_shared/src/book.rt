@@ -1,7 +1,7 @@
 //! What the lock holds.
 ghost use Rattle.std.specs.Prelude.{◌≡◌, ◌↔◌, ◌≤◌, IsTrue, IfOk, IfErr, OnOk, OnErr, [], true};
 ghost use Rattle.stow_bytes.specs.Limits.{number_limit};
-ghost use Rattle.stow_core.specs.State.{IsNewCore};
+ghost use Rattle.stow_house.specs.StowCore.State.{IsNewCore};
 ghost use Rattle.stow_model.specs.Reply.{reply_of};
 ghost use Rattle.stow_shared.specs.Books.{Adds};
 ghost use Rattle.stow_shared.specs.Closed.{IsWhole};
@@ -17,14 +17,14 @@ use crate::seat::Seat;
 use crate::step::Step;
 use std::alloc::{AllocError, Allocator, Global};
 use std::marker::{Model, PhantomData};
-use stow_core::Core;
-use stow_core::prepared::Prepared;
-use stow_login::tenants::Tenants;
-use stow_merge::flush_job::FlushJob;
-use stow_merge::flush_result::FlushResult;
+use stow_house::stow_core::Core;
+use stow_house::stow_core::prepared::Prepared;
+use stow_house::stow_login::tenants::Tenants;
+use stow_house::stow_merge::flush_job::FlushJob;
+use stow_house::stow_merge::flush_result::FlushResult;
+use stow_house::stow_node::installed::Installed;
 use stow_model::reply::Reply;
 use stow_model::words::Words;
-use stow_node::installed::Installed;
 
 /// The core, and the journal that leads to it.
 #[derive(Drop)]

@@ -7,7 +7,7 @@ use crate::entry::Entry;
 use crate::journal::Journal;
 use std::alloc::{Allocator, Global};
 use std::marker::Model;
-use stow_core::Core;
+use stow_house::stow_core::Core;
 
 /// The core and the journal after the lock was closed.
 #[derive(Drop)]

@@ -14,11 +14,11 @@ use std::sync::Wait;
 use stow_house::door::Door;
 use stow_house::flush_door::FlushDoor;
 use stow_house::request::Request;
-use stow_merge::flush_job::FlushJob;
-use stow_merge::flush_result::FlushResult;
+use stow_house::stow_merge::flush_job::FlushJob;
+use stow_house::stow_merge::flush_result::FlushResult;
+use stow_house::stow_node::installed::Installed;
 use stow_model::reply::Reply;
 use stow_model::words::Words;
-use stow_node::installed::Installed;
 
 /// A seat at the lock, as the door of a session, and as that of a flusher. The runtime is the thread's that waits for the lock.
 #[derive(Drop)]

@@ -3,7 +3,7 @@ ghost use Rattle.std.specs.Prelude.{◌≡◌};
 
 use crate::step::Step;
 use std::alloc::{Allocator, Global};
-use stow_node::installed::Installed;
+use stow_house::stow_node::installed::Installed;
 
 /// Which seat took a step, and what it did.
 #[derive(Drop)]

@@ -44,3 +44,6 @@ pub mod shared;
 pub mod step;
 mod turns;
 pub mod unkept;
+
+pub use stow_house;
+pub use stow_house::{stow_core, stow_login, stow_merge, stow_node, stow_resp, stow_tree};

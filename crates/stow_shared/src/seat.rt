@@ -9,12 +9,12 @@ use crate::journal::Journal;
 use std::alloc::{AllocError, Allocator, Global};
 use std::marker::{Model, PhantomData};
 use stow_bytes::limits::NUMBER_LIMIT;
-use stow_core::Core;
-use stow_merge::flush_job::FlushJob;
-use stow_merge::flush_result::FlushResult;
+use stow_house::stow_core::Core;
+use stow_house::stow_merge::flush_job::FlushJob;
+use stow_house::stow_merge::flush_result::FlushResult;
+use stow_house::stow_node::installed::Installed;
 use stow_model::refusal::Refusal;
 use stow_model::reply::Reply;
-use stow_node::installed::Installed;
 
 /// The right of one thread to take steps, with a receipt of each where a journal is kept, and the number of its
 /// calls that memory was refused to.
@@ -99,8 +99,8 @@ impl<J: Journal, A: Allocator> Seat<J, A> {
 }
 
 impl<J: Journal, A: Allocator + Copy> Seat<J, A> {
-    ghost use Rattle.stow_core.specs.State.{shared_of, Keeps, Resized};
-    ghost use Rattle.stow_state.specs.State.{IsSound};
+    ghost use Rattle.stow_house.specs.StowCore.State.{shared_of, Keeps, Resized};
+    ghost use Rattle.stow_house.specs.StowState.State.{IsSound};
     ghost use Rattle.stow_shared.specs.Books.{PlansFlush, InstallsFlush};
     ghost use Rattle.stow_shared.specs.Entries.{entry_of, plan_entry, install_entry};
     ghost use Rattle.stow_shared.specs.Seats.{with_receipt};

@@ -2,7 +2,7 @@
 ghost use Rattle.std.specs.Prelude.{◌≡◌, ◌≤◌, ◌<◌, [], ◌∷◌, length, map, true, is_some, IfOk, IfErr, OnOk, OnErr};
 ghost use Rattle.stow_bytes.specs.Limits.{number_limit};
 ghost use Rattle.std.specs.Arc.{arc_value};
-ghost use Rattle.stow_core.specs.State.{IsNewCore};
+ghost use Rattle.stow_house.specs.StowCore.State.{IsNewCore};
 ghost use Rattle.stow_house.specs.Pipelines.{AnswersFront};
 ghost use Rattle.stow_model.specs.Reply.{reply_of};
 ghost use Rattle.stow_shared.specs.Closed.{Closes};
@@ -22,14 +22,14 @@ use std::alloc::{AllocError, Allocator, Global};
 use std::marker::Model;
 use std::snapshot::Snapshot;
 use std::sync::{Arc, Mutex, Wait};
-use stow_core::Core;
 use stow_house::request::Request;
-use stow_login::tenants::Tenants;
-use stow_merge::flush_job::FlushJob;
-use stow_merge::flush_result::FlushResult;
+use stow_house::stow_core::Core;
+use stow_house::stow_login::tenants::Tenants;
+use stow_house::stow_merge::flush_job::FlushJob;
+use stow_house::stow_merge::flush_result::FlushResult;
+use stow_house::stow_node::installed::Installed;
 use stow_model::reply::Reply;
 use stow_model::words::Words;
-use stow_node::installed::Installed;
 
 /// The most seats at one lock.
 const SEAT_LIMIT: u32 = 1024;

@@ -1,8 +1,8 @@
 //! What one step under the lock did.
 use std::alloc::{Allocator, Global};
+use stow_house::stow_node::installed::Installed;
 use stow_model::reply::Reply;
 use stow_model::words::Words;
-use stow_node::installed::Installed;
 
 /// A step that was taken whole while the lock was held, with its answer.
 #[derive(Drop)]

@@ -1,1 +1,2 @@
 pub mod Young
+pub use Rattle.stow_raw.specs as StowRaw

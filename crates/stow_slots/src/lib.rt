@@ -18,3 +18,5 @@ mod ranking;
 mod settling;
 pub mod slot_buf;
 pub mod young_slot;
+
+pub use stow_raw;

@@ -11,7 +11,7 @@ use Rattle.std.specs.FinMap.{find, put}
 use Rattle.std.specs.List.{AllByRecursion}
 use Rattle.std.specs.List.Sorted.{IsStrictlySortedBy}
 use Rattle.std.proofs.lemmas.Bool.{cond-false}
-use Rattle.stow_bytes.specs.Bytes.{bytes_cmp}
+use Rattle.stow_model.specs.StowBytes.Bytes.{bytes_cmp}
 use Rattle.stow_model.specs.Command.{reading}
 use Rattle.stow_model.specs.declared.refusal.Refusal.TheVariants as refusal
 use Rattle.stow_model.specs.declared.simple_string.SimpleString.TheVariants as simple

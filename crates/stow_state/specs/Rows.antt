@@ -4,7 +4,7 @@ use Rattle.std.specs.Prelude.{map as list_map}
 use Rattle.std.specs.FinMap as map
 use Rattle.std.specs.FinMap.{find}
 use Rattle.std.specs.List.Sorted.{IsStrictlySortedBy}
-use Rattle.stow_bytes.specs.Bytes.{bytes_cmp}
+use Rattle.stow_model.specs.StowBytes.Bytes.{bytes_cmp}
 use Rattle.stow_model.specs.Store.{Rows, Version, Shown, is_within}
 use Rattle.stow_tree_model.specs.Keys.{packed, own_key}
 use Rattle.stow_tree_model.specs.Operations.{NumberedValue}

@@ -6,8 +6,8 @@ use Rattle.std.specs.List.Sorted.{IsStrictlySortedBy}
 use Rattle.std.specs.Ordering.{is_lt, is_eq, ordering_reverse}
 use Rattle.std.specs.declared.cmp.Ordering.TheVariants.{Less, Greater}
 use Rattle.std.proofs.lemmas.List.Elements.{All-from_recursion}
-use Rattle.stow_message.specs.Rising.{below, placed, IsNew}
-use Rattle.stow_message.proofs.RisingLists.{AllAbove, place_total}
+use Rattle.stow_leaf.specs.StowMessage.Rising.{below, placed, IsNew}
+use Rattle.stow_leaf.proofs.StowMessage.RisingLists.{AllAbove, place_total}
 use Rattle.stow_superseded.specs.Superseded.{is_superseded, without_superseded}
 use Rattle.stow_tree_model.specs.Agreement.{TenantPins}
 use Rattle.stow_tree_model.specs.Order.{VersionPlace, place_cmp, place_of, MessagesRise}

@@ -8,7 +8,7 @@ use Rattle.std.proofs.lemmas.Bool.{and_parts}
 use Rattle.stow_leaf.specs.Replacements.{MeanTheSame}
 use Rattle.stow_leaf.proofs.Found.{first_stays, none_or, none_unless}
 use Rattle.stow_leaf.proofs.Over.{Above, same_pointwise, same_then}
-use Rattle.stow_message.proofs.RisingLists.{AllAbove}
+use Rattle.stow_leaf.proofs.StowMessage.RisingLists.{AllAbove}
 use Rattle.stow_superseded.specs.Hidden.{hides}
 use Rattle.stow_superseded.specs.Superseded.{is_whole, is_hidden}
 use Rattle.stow_superseded.proofs.Hiding.{BeginWhole, hidden_same}

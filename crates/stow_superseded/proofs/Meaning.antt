@@ -8,7 +8,7 @@ use Rattle.std.proofs.lemmas.Bool.{and_parts, cases_lt, cases_Bool, cond-true, c
 use Rattle.stow_leaf.specs.Replacements.{MeanTheSame}
 use Rattle.stow_leaf.proofs.Found.{first_stays, none_some, none_or, none_unless, some_or}
 use Rattle.stow_leaf.proofs.Over.{Above, same_itself, same_pointwise, same_then}
-use Rattle.stow_message.proofs.RisingLists.{AllAbove}
+use Rattle.stow_leaf.proofs.StowMessage.RisingLists.{AllAbove}
 use Rattle.stow_superseded.specs.Laws.{SupersededMeanNothing}
 use Rattle.stow_superseded.specs.Superseded.{is_whole, next_whole, is_hidden, is_superseded, without_superseded}
 use Rattle.stow_superseded.proofs.Fewer.{above_without}

@@ -6,8 +6,8 @@ use Rattle.std.specs.List.Sorted.{IsStrictlySortedBy}
 use Rattle.std.proofs.lemmas.Bool.{cond-true, cond-false}
 use Rattle.std.proofs.lemmas.List.{drop_more}
 use Rattle.std.proofs.lemmas.List.Sums.{sum_by-cons}
-use Rattle.stow_message.specs.MessageBuf.{MessageList, message_list}
-use Rattle.stow_message.specs.Packed.{message_size}
+use Rattle.stow_leaf.specs.StowMessage.MessageBuf.{MessageList, message_list}
+use Rattle.stow_leaf.specs.StowMessage.Packed.{message_size}
 use Rattle.stow_superseded.specs.Passes.{of_key}
 use Rattle.stow_superseded.specs.Superseded.{is_whole, next_whole, is_hidden, is_superseded, without_superseded}
 use Rattle.stow_tree_model.specs.Agreement.{TenantPins}

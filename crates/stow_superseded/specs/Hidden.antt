@@ -1,6 +1,6 @@
 -- A message that the one right behind it makes unreadable.
 use Rattle.std.specs.Prelude.{◌≡◌, ◌-◌, ◌&&◌, Bool, true, List, ◌∷◌, ◌++◌, Some}
-use Rattle.stow_message.specs.MessageBuf.{MessageList, message_list}
+use Rattle.stow_leaf.specs.StowMessage.MessageBuf.{MessageList, message_list}
 use Rattle.stow_superseded.specs.Superseded.{is_whole, is_hidden}
 use Rattle.stow_tree_model.specs.Agreement.{TenantPins}
 use Rattle.stow_tree_model.specs.Merged.{same_key}

@@ -1,8 +1,8 @@
 -- Messages that a newer put or removal of their key makes unreadable.
 use Rattle.std.specs.Prelude.{ℕ, Bool, true, false, not, List, [], ◌∷◌, Option, Some, None, if◌then◌else◌}
 use Rattle.std.specs.List.{sum_by}
-use Rattle.stow_message.specs.MessageBuf.{MessageList, message_list}
-use Rattle.stow_message.specs.Packed.{message_size}
+use Rattle.stow_leaf.specs.StowMessage.MessageBuf.{MessageList, message_list}
+use Rattle.stow_leaf.specs.StowMessage.Packed.{message_size}
 use Rattle.stow_tree_model.specs.Agreement.{TenantPins}
 use Rattle.stow_tree_model.specs.Keys.{tenant_of}
 use Rattle.stow_tree_model.specs.Merged.{same_key, is_pin_within}

@@ -1,14 +1,14 @@
 //! A message that the one right behind it hides.
 ghost use Rattle.std.specs.Prelude.{◌≡◌, IsTrue, false};
-ghost use Rattle.stow_merge.specs.Pins.{pins_in};
+ghost use Rattle.stow_leaf.specs.StowMerge.Pins.{pins_in};
 ghost use Rattle.stow_superseded.specs.Hidden.{hides, DropsHidden};
 ghost use Rattle.stow_tree_model.specs.TreeMessage.{message_of};
 
 use crate::superseding::{is_hidden, is_whole};
 use std::alloc::Allocator;
-use stow_merge::pins::Pins;
-use stow_message::message_buf::MessageBuf;
-use stow_message::place::Place;
+use stow_leaf::stow_merge::pins::Pins;
+use stow_leaf::stow_message::message_buf::MessageBuf;
+use stow_leaf::stow_message::place::Place;
 use stow_tree_model::message::Message;
 
 /// Whether the next message is a put or removal that hides this one, and no pin stands between.

@@ -3,8 +3,8 @@ ghost use Rattle.std.specs.Prelude.{◌+◌, ◌<◌, length};
 
 use crate::hidden::hides;
 use std::alloc::Allocator;
-use stow_merge::pins::Pins;
-use stow_message::message_buf::MessageBuf;
+use stow_leaf::stow_merge::pins::Pins;
+use stow_leaf::stow_message::message_buf::MessageBuf;
 
 /// The most messages that are looked at.
 const LOOKS: usize = 64;

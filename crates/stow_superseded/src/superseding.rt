@@ -1,9 +1,9 @@
 //! A buffer without the messages that newer ones supersede.
 ghost use Rattle.std.specs.Prelude.{◌≡◌, ◌+◌, ◌/◌, ◌<◌, ◌≤◌, ◌^◌, ◌∷◌, IfSome, IsTrue, Some, None, if◌then◌else◌};
 ghost use Rattle.std.specs.Option.{option_map};
-ghost use Rattle.stow_merge.specs.Pins.{pins_in};
-ghost use Rattle.stow_message.specs.MessageBuf.{message_list};
-ghost use Rattle.stow_message.specs.Packed.{message_size};
+ghost use Rattle.stow_leaf.specs.StowMerge.Pins.{pins_in};
+ghost use Rattle.stow_leaf.specs.StowMessage.MessageBuf.{message_list};
+ghost use Rattle.stow_leaf.specs.StowMessage.Packed.{message_size};
 ghost use Rattle.stow_superseded.specs.Superseded.{is_whole, is_hidden, buffer_without_superseded};
 ghost use Rattle.stow_tree_model.specs.Merged.{same_key, is_pin_within};
 ghost use Rattle.stow_tree_model.specs.Op.{op_of};
@@ -13,9 +13,9 @@ ghost use Rattle.stow_superseded.specs.Passes.{of_key};
 
 use crate::sampling::is_promising;
 use std::alloc::Allocator;
-use stow_merge::pins::Pins;
-use stow_message::head::size;
-use stow_message::message_buf::MessageBuf;
+use stow_leaf::stow_merge::pins::Pins;
+use stow_leaf::stow_message::head::size;
+use stow_leaf::stow_message::message_buf::MessageBuf;
 use stow_tree_model::message::Message;
 use stow_tree_model::op::Op;
 use stow_tree_model::tenant_key::TenantKey;

@@ -4,7 +4,7 @@ use Rattle.std.specs.Prelude.{IsOk, MatchResult}
 use Rattle.std.specs.Io.KnownBytes.{Keeps}
 use Rattle.std.specs.declared.io.Error.{Error}
 use Rattle.stow_model.specs.Login.{Entry}
-use Rattle.stow_core.specs.State.{CoreState}
+use Rattle.stow_workers.specs.StowCore.State.{CoreState}
 use Rattle.stow_model.specs.declared.stream_fault.StreamFault.{StreamFault}
 use Rattle.stow_workers.specs.declared.served.Served.{Served}
 use Rattle.stow_workers.specs.declared.served.Served.TheVariants as how

@@ -4,12 +4,12 @@ use Rattle.std.specs.Prelude.{IfErr, IfOk}
 use Rattle.std.specs.Result.{is_err}
 use Rattle.stow_model.specs.Event.{Event, event_of}
 use Rattle.stow_model.specs.declared.event.Event as coded
-use Rattle.stow_house.specs.declared.house.House.{House}
-use Rattle.stow_house.specs.declared.mark.Mark.{Mark}
-use Rattle.stow_house.specs.declared.outputs.Outputs.{Outputs}
-use Rattle.stow_house.specs.Outputs.{Told, told_in, marks_in}
-use Rattle.stow_house.specs.Runs.{Ran, RunsOver}
-use Rattle.stow_house.specs.Steps.{state_of}
+use Rattle.stow_workers.specs.StowHouse.declared.house.House.{House}
+use Rattle.stow_workers.specs.StowHouse.declared.mark.Mark.{Mark}
+use Rattle.stow_workers.specs.StowHouse.declared.outputs.Outputs.{Outputs}
+use Rattle.stow_workers.specs.StowHouse.Outputs.{Told, told_in, marks_in}
+use Rattle.stow_workers.specs.StowHouse.Runs.{Ran, RunsOver}
+use Rattle.stow_workers.specs.StowHouse.Steps.{state_of}
 use Rattle.stow_run.specs.declared.failure.Failure.{Failure}
 use Rattle.stow_workers.specs.Sent.{WritesAll}
 use Rattle.stow_tasks.specs.Ends.{IsOfOutput}

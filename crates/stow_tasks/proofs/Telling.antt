@@ -19,9 +19,9 @@ use Rattle.stow_model.specs.Login.{Entry}
 use Rattle.stow_model.specs.declared.event.Event as coded
 use Rattle.stow_model.specs.Reply.{encoding}
 use Rattle.stow_model.specs.Event as event
-use Rattle.stow_house.specs.declared.step_result.StepResult as result
-use Rattle.stow_house.specs.StepResult.{StepResult, step_result_of, Done, Answered, More, Blank, Job, NoJob, Installed, Stale, Refused, NoMemory, CanAnswer}
-use Rattle.stow_house.specs.Steps.{HouseState, IsStepOf}
+use Rattle.stow_workers.specs.StowHouse.declared.step_result.StepResult as result
+use Rattle.stow_workers.specs.StowHouse.StepResult.{StepResult, step_result_of, Done, Answered, More, Blank, Job, NoJob, Installed, Stale, Refused, NoMemory, CanAnswer}
+use Rattle.stow_workers.specs.StowHouse.Steps.{HouseState, IsStepOf}
 use Rattle.stow_workers.specs.Failures.{CountsFailure, HasFailed}
 use Rattle.stow_workers.specs.Sent.{Begins, WritesAll, Written}
 use Rattle.stow_run.specs.declared.failure.Failure.{Failure}

@@ -3,12 +3,12 @@ use Rattle.std.specs.Prelude.{◌≡◌, ℕ, List, [], ◌∷◌, ◌++◌, cod
 use Rattle.std.specs.Fmt.{decimal}
 use Rattle.stow_model.specs.Event.{Event, event_of, ConnectionEvent, FlusherEvent}
 use Rattle.stow_model.specs.declared.event.Event as coded
-use Rattle.stow_house.specs.declared.step_result.StepResult as result
+use Rattle.stow_workers.specs.StowHouse.declared.step_result.StepResult as result
 use Rattle.stow_model.specs.Event as event
 use Rattle.stow_model.specs.declared.usage.Usage.{Usage}
 use Rattle.stow_model.specs.Reply.{encoding}
-use Rattle.stow_house.specs.StepResult.{StepResult, step_result_of, Done, Answered, More, Blank, Job, NoJob, Installed, Stale, Refused, NoMemory}
-use Rattle.stow_tree.specs.declared.shape_report.ShapeReport.{ShapeReport}
+use Rattle.stow_workers.specs.StowHouse.StepResult.{StepResult, step_result_of, Done, Answered, More, Blank, Job, NoJob, Installed, Stale, Refused, NoMemory}
+use Rattle.stow_workers.specs.StowTree.declared.shape_report.ShapeReport.{ShapeReport}
 use Rattle.stow_script.specs.Text.{text_of}
 
 -- the text of an event of a connection and what it led to, where it can lead to that

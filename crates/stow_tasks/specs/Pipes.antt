@@ -3,7 +3,7 @@ use Rattle.std.specs.Prelude.{◌≡◌, ◌⊎◌, ℕ, List, Option, Result, E
 use Rattle.std.specs.Io.KnownBytes.{Keeps}
 use Rattle.std.specs.declared.io.Error.{Error}
 use Rattle.stow_model.specs.Login.{Entry}
-use Rattle.stow_core.specs.State.{CoreState, Calls}
+use Rattle.stow_workers.specs.StowCore.State.{CoreState, Calls}
 use Rattle.stow_workers.specs.declared.served.Served.{Served}
 use Rattle.stow_workers.specs.declared.served.Served.TheVariants as served
 use Rattle.stow_workers.specs.Failures.{HasFailed}

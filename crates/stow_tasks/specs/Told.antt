@@ -2,14 +2,14 @@
 use Rattle.std.specs.Prelude.{◌≡◌, ℕ, zero, suc, List, [], ◌∷◌, ◌++◌, length, map, Option, Result, Ok, Err, IfSome, ◌⊎◌}
 use Rattle.std.specs.Io.KnownBytes.{Appends}
 use Rattle.std.specs.declared.vec.Vec.{Vec}
-use Rattle.stow_house.specs.declared.house.House.{House}
-use Rattle.stow_house.specs.StepResult.{StepResult}
-use Rattle.stow_house.specs.Steps.{HouseState, IsStepOf, Stands, state_of}
-use Rattle.stow_house.specs.Outputs.{Told}
-use Rattle.stow_house.specs.Runs.{IsNewHouse, RunsOver}
-use Rattle.stow_house.specs.declared.mark.Mark.{Mark}
+use Rattle.stow_workers.specs.StowHouse.declared.house.House.{House}
+use Rattle.stow_workers.specs.StowHouse.StepResult.{StepResult}
+use Rattle.stow_workers.specs.StowHouse.Steps.{HouseState, IsStepOf, Stands, state_of}
+use Rattle.stow_workers.specs.StowHouse.Outputs.{Told}
+use Rattle.stow_workers.specs.StowHouse.Runs.{IsNewHouse, RunsOver}
+use Rattle.stow_workers.specs.StowHouse.declared.mark.Mark.{Mark}
 use Rattle.stow_login.specs.Entries.{name_of}
-use Rattle.stow_core.specs.State.{CoreState, store_of, IsNewCore}
+use Rattle.stow_workers.specs.StowCore.State.{CoreState, store_of, IsNewCore}
 use Rattle.stow_workers.specs.Failures.{HasFailed}
 use Rattle.stow_workers.specs.Sent.{Begins, Written, WritesAll, written_of}
 use Rattle.stow_run.specs.declared.failure.Failure.{Failure}
@@ -21,8 +21,8 @@ use Rattle.stow_model.specs.Login.{Entry, IsTenant}
 use Rattle.stow_model.specs.Store.{usage}
 use Rattle.stow_run.specs.declared.job.Task.{Task}
 use Rattle.stow_run.specs.declared.job.Task.TheVariants as task
-use Rattle.stow_tree.specs.declared.shape_report.ShapeReport.{ShapeReport}
-use Rattle.stow_tree.specs.Reports.{IsReport}
+use Rattle.stow_workers.specs.StowTree.declared.shape_report.ShapeReport.{ShapeReport}
+use Rattle.stow_workers.specs.StowTree.Reports.{IsReport}
 use Rattle.stow_tasks.specs.Ends.{Unread}
 use Rattle.stow_tasks.specs.Lines.{IsText, shape_text, usage_text}
 use Rattle.stow_tasks.specs.Pipes.{IsPiped}

@@ -2,10 +2,10 @@
 use Rattle.std.specs.Prelude.{ℕ, List, ◌++◌, codes}
 use Rattle.stow_model.specs.Event.{Event, event_of}
 use Rattle.stow_model.specs.declared.event.Event as coded
-use Rattle.stow_house.specs.declared.step_result.StepResult as result
+use Rattle.stow_workers.specs.StowHouse.declared.step_result.StepResult as result
 use Rattle.stow_model.specs.Event as event
 use Rattle.stow_model.specs.Reply.{encoding}
-use Rattle.stow_house.specs.StepResult.{StepResult, step_result_of, Done, Answered, More, Blank, Job, NoJob, Installed, Stale, Refused, NoMemory}
+use Rattle.stow_workers.specs.StowHouse.StepResult.{StepResult, step_result_of, Done, Answered, More, Blank, Job, NoJob, Installed, Stale, Refused, NoMemory}
 use Rattle.stow_script.specs.Text.{text_of}
 
 -- for an event that was carried out and gives nothing

@@ -15,3 +15,6 @@ pub mod pipe;
 pub mod script;
 pub mod service;
 pub mod usage;
+
+pub use stow_workers;
+pub use stow_workers::stow_shared;

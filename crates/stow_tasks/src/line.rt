@@ -4,20 +4,20 @@ ghost use Rattle.std.specs.Fmt.{decimal};
 ghost use Rattle.std.specs.Io.{StartsWith};
 ghost use Rattle.stow_model.specs.Event.{event_of};
 ghost use Rattle.stow_model.specs.Reply.{encoding, reply_of};
-ghost use Rattle.stow_house.specs.StepResult.{step_result_of, CanAnswer};
+ghost use Rattle.stow_workers.specs.StowHouse.StepResult.{step_result_of, CanAnswer};
 ghost use Rattle.stow_tasks.specs.Lines.{WritesLine, counts_text, shape_text, sizes_text, usage_text};
 ghost use Rattle.stow_tasks.specs.Written.{done_text, written};
 ghost use Rattle.stow_script.specs.Text.{text_of};
 
 use itoa::Buffer;
 use std::alloc::{AllocError, Allocator};
-use stow_house::step_result::StepResult;
 use stow_model::event::Event;
 use stow_model::reply::Reply;
 use stow_model::usage::Usage;
-use stow_resp::encode::Encode;
 use stow_script::text::escape;
-use stow_tree::shape_report::ShapeReport;
+use stow_workers::stow_house::step_result::StepResult;
+use stow_workers::stow_resp::encode::Encode;
+use stow_workers::stow_tree::shape_report::ShapeReport;
 
 /// Adds the line that tells what the event led to, which is something that it can lead to.
 pub fn write_result<A: Allocator + Copy>(

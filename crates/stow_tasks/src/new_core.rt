@@ -1,14 +1,14 @@
 //! The core of a new service.
 ghost use Rattle.std.specs.Prelude.{◌≡◌, IfOk};
 ghost use Rattle.std.specs.Arc.{arc_value};
-ghost use Rattle.stow_core.specs.State.{IsNewCore};
-ghost use Rattle.stow_tree.specs.TreeState.{new_tree};
+ghost use Rattle.stow_workers.specs.StowCore.State.{IsNewCore};
+ghost use Rattle.stow_workers.specs.StowTree.TreeState.{new_tree};
 
 use std::alloc::{AllocError, Allocator};
 use std::sync::Arc;
-use stow_core::Core;
 use stow_login::tenants::Tenants;
-use stow_tree::tree_shape::TreeShape;
+use stow_workers::stow_core::Core;
+use stow_workers::stow_tree::tree_shape::TreeShape;
 
 /// A core in which each tenant's store is empty, over a tree of this shape, of which the command line's parser let only
 /// sizes within their limits through.

@@ -8,7 +8,6 @@ ghost use Rattle.stow_tasks.specs.Pipes.{IsPiped};
 
 use std::alloc::Allocator;
 use std::io::{Read, Write};
-use stow_core::Core;
 use stow_login::tenants::Tenants;
 use stow_run::failure::{Endpoint, Failure};
 use stow_workers::counted::Counted;
@@ -16,6 +15,7 @@ use stow_workers::open_gate::OpenGate;
 use stow_workers::served::Served;
 use stow_workers::serving::serve_connection;
 use stow_workers::sink::Sink;
+use stow_workers::stow_core::Core;
 
 /// Serves the reader's bytes as one connection, and writes the replies. It ends at the end of input, after a
 /// QUIT, and after a fault of the stream.

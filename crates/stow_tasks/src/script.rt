@@ -9,13 +9,11 @@ ghost use Rattle.stow_tasks.specs.Lines.{WritesLine};
 ghost use Rattle.stow_tasks.specs.Read.{IsScriptRead};
 ghost use Rattle.stow_script.specs.Script.{line_of};
 ghost use Rattle.stow_tasks.specs.Told.{IsCarriedOut, IsLineDone, IsTenantThere, IsScripted, IsToldLine, progress_of, usage_of};
-ghost use Rattle.stow_house.specs.Steps.{state_of};
-ghost use Rattle.stow_house.specs.StepResult.{step_result_of, CanAnswer};
+ghost use Rattle.stow_workers.specs.StowHouse.Steps.{state_of};
+ghost use Rattle.stow_workers.specs.StowHouse.StepResult.{step_result_of, CanAnswer};
 
 use crate::line::{write_result, write_shape, write_usage};
 use std::alloc::{AllocError, Allocator};
-use stow_house::house::House;
-use stow_house::step_result::StepResult;
 use stow_login::tenants::Tenants;
 use stow_model::event::Event;
 use stow_run::failure::{Endpoint, Failure};
@@ -25,6 +23,8 @@ use stow_script::stumble::Stumble;
 use stow_script::text::TextFault;
 use stow_workers::sink::Sink;
 use stow_workers::source::Source;
+use stow_workers::stow_house::house::House;
+use stow_workers::stow_house::step_result::StepResult;
 use stow_workers::writing::write_all;
 
 /// How many bytes of answers are kept before they are written.

@@ -11,12 +11,12 @@ use crate::usage::usage;
 use std::alloc::{AllocError, Allocator};
 use std::io::{Read, Write};
 use std::sync::Arc;
-use stow_house::house::House;
 use stow_login::tenants::Tenants;
 use stow_run::failure::Failure;
 use stow_run::job::Task;
-use stow_tree::tree_shape::TreeShape;
 use stow_workers::counted::Counted;
+use stow_workers::stow_house::house::House;
+use stow_workers::stow_tree::tree_shape::TreeShape;
 
 /// Makes a new service of the tenants, over a tree of this shape, and does the task over it.
 pub fn serve<'a, A: Allocator + Copy, R: Read, W: Write>(

@@ -1,20 +1,20 @@
 //! What each tenant uses after a script of events.
 ghost use Rattle.std.specs.Prelude.{◌≡◌, IfOk, map};
 ghost use Rattle.stow_model.specs.Event.{event_of};
-ghost use Rattle.stow_house.specs.Runs.{IsNewHouse};
-ghost use Rattle.stow_house.specs.Steps.{state_of};
+ghost use Rattle.stow_workers.specs.StowHouse.Runs.{IsNewHouse};
+ghost use Rattle.stow_workers.specs.StowHouse.Steps.{state_of};
 ghost use Rattle.stow_script.specs.Script.{line_of};
 ghost use Rattle.stow_tasks.specs.Ends.{InputFails};
 ghost use Rattle.stow_tasks.specs.Told.{AreEventsRead, IsReported, IsUsage, events_in, progress_of, usages_of};
 
 use crate::script::{finish, read_all, read_lines, tell_usage};
 use std::alloc::{AllocError, Allocator};
-use stow_house::house::House;
 use stow_model::event::Event;
 use stow_run::failure::Failure;
 use stow_script::script_line::ScriptLine;
 use stow_workers::sink::Sink;
 use stow_workers::source::Source;
+use stow_workers::stow_house::house::House;
 
 /// Carries out the events of the reader's script, and then writes what each tenant uses, a line each, in the order of their
 /// file. The whole script is checked before its first event is carried out.

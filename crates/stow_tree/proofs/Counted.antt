@@ -3,14 +3,14 @@ use Rattle.std.proofs.Common.{◌≡◌, ℕ, zero, suc, ◌+◌, ◌<◌, ◌�
 use Rattle.std.proofs.Math.Nat.{min-eq_left, min_comm}
 use Rattle.std.proofs.lemmas.Bool.{cases_order}
 use Rattle.std.proofs.lemmas.List.{length-append, length-map, get_or-map, take_all}
-use Rattle.stow_leaf.specs.declared.leaf.Leaf.{Leaf}
-use Rattle.stow_node.specs.declared.child.Child.{Child}
-use Rattle.stow_node.specs.declared.child.Child.TheVariants as in_child
-use Rattle.stow_node.specs.declared.shape.Shape.{Shape}
+use Rattle.stow_flush.specs.StowLeaf.declared.leaf.Leaf.{Leaf}
+use Rattle.stow_flush.specs.StowNode.declared.child.Child.{Child}
+use Rattle.stow_flush.specs.StowNode.declared.child.Child.TheVariants as in_child
+use Rattle.stow_flush.specs.StowNode.declared.shape.Shape.{Shape}
 use Rattle.std.specs.List.{AllByRecursion}
-use Rattle.stow_node.specs.Nodes.{part_of, parts_of, AreChildren, IsBelow}
-use Rattle.stow_node.specs.Parts.{Part, leaves_in, messages_in}
-use Rattle.stow_node.specs.Subtree.{Subtree}
+use Rattle.stow_flush.specs.StowNode.Nodes.{part_of, parts_of, AreChildren, IsBelow}
+use Rattle.stow_flush.specs.StowNode.Parts.{Part, leaves_in, messages_in}
+use Rattle.stow_flush.specs.StowNode.Subtree.{Subtree}
 use Rattle.stow_tree.specs.declared.counting.Counts.{Counts}
 use Rattle.stow_tree.specs.Reports.{told, counts_both, CountsAre}
 

@@ -5,10 +5,10 @@ use Rattle.std.proofs.lemmas.Map.Views.{Contains-from_lookup}
 use Rattle.std.specs.Cmp.Lexicographic.{bytes_decides}
 use Rattle.std.specs.Option.{option_map_or}
 use Rattle.std.specs.Str.{bytes_eq}
-use Rattle.stow_leaf.specs.LeafRows.{LeafRows, leaf_rows}
-use Rattle.stow_leaf.specs.declared.leaf.Leaf.{Leaf}
-use Rattle.stow_leaf_cache.specs.Cache.{Cache, rows_under, leaves_without, leaves_kept, IsOffered, cache_used, cache_resized}
-use Rattle.stow_leaves.specs.Forgets.{Forgets}
+use Rattle.stow_flush.specs.StowLeaf.LeafRows.{LeafRows, leaf_rows}
+use Rattle.stow_flush.specs.StowLeaf.declared.leaf.Leaf.{Leaf}
+use Rattle.stow_flush.specs.StowLeafCache.Cache.{Cache, rows_under, leaves_without, leaves_kept, IsOffered, cache_used, cache_resized}
+use Rattle.stow_flush.specs.StowLeaves.Forgets.{Forgets}
 use Rattle.stow_tree_model.proofs.Latest.{contains_cases}
 use Rattle.stow_tree_model.proofs.Pruning.{contains_here, contains_there, none_in_nothing}
 use Rattle.stow_tree_model.specs.Version.{Version}

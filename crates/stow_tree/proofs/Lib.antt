@@ -11,3 +11,5 @@ pub mod Read
 pub mod Sends
 pub mod Planned
 pub mod PagesIn
+pub use Rattle.stow_flush.proofs.StowMerge
+pub use Rattle.stow_read.proofs as StowRead

@@ -2,9 +2,9 @@
 use Rattle.std.proofs.Common.{◌≡◌, Bool, true, false, refl, ap, ◌∙◌, inl, inr}
 use Rattle.std.specs.Prelude.{IsTrue}
 use Rattle.stow_flush.specs.Rooms.{RootStands}
-use Rattle.stow_message.specs.MessageBuf.{MessageList}
-use Rattle.stow_node.specs.Subtree.{Subtree}
-use Rattle.stow_node.specs.Superseded.{EachMeansTheSame, LosesHidden, MayLoseHidden}
+use Rattle.stow_flush.specs.StowMessage.MessageBuf.{MessageList}
+use Rattle.stow_flush.specs.StowNode.Subtree.{Subtree}
+use Rattle.stow_flush.specs.StowNode.Superseded.{EachMeansTheSame, LosesHidden, MayLoseHidden}
 use Rattle.stow_tree_model.specs.Agreement.{TenantPins}
 
 pub may_lose : (pins : TenantPins) (s t : Subtree) (did : Bool) → (IsTrue did → LosesHidden pins s t) → (did ≡ false → t ≡ s) → MayLoseHidden pins s t

@@ -5,8 +5,8 @@ use Rattle.std.specs.Int.{from_be_bytes, w32}
 use Rattle.std.specs.Ordering.{is_lt, nat_cmp, ordering_then}
 use Rattle.std.proofs.lemmas.Bool.{cases_order}
 use Rattle.stow_bytes.specs.Bytes.{bytes_cmp}
-use Rattle.stow_leaf.specs.Intervals.{top_key, spans}
-use Rattle.stow_leaf.proofs.Intervals.{spanned}
+use Rattle.stow_flush.specs.StowLeaf.Intervals.{top_key, spans}
+use Rattle.stow_flush.proofs.StowLeaf.Intervals.{spanned}
 use Rattle.stow_tree_model.specs.Keys.{packed, tenant_of, IsTenantKey, IsOfTenant}
 use Rattle.stow_tree_model.proofs.Orders.{less_than, same_number, more_than}
 

@@ -2,12 +2,12 @@
 use Rattle.std.proofs.Common.{◌≡◌, ℕ, ◌≤◌, List, [], refl, ap, ◌∙◌, sym, subst, arith, Result, Ok, Err, OnOk}
 use Rattle.std.specs.Prelude.{Contains}
 use Rattle.std.specs.FinMap as finite
-use Rattle.stow_leaf.specs.Replacements.{HasShortValues}
-use Rattle.stow_leaf_cache.specs.Cache.{Cache}
-use Rattle.stow_leaves.specs.Forgets.{Forgets}
-use Rattle.stow_node.specs.Subtree.{Subtree, messages_of, first_subtree}
-use Rattle.stow_node.specs.declared.shape.Shape.{Shape}
-use Rattle.stow_leaf.proofs.Over.{nothing_short}
+use Rattle.stow_flush.specs.StowLeaf.Replacements.{HasShortValues}
+use Rattle.stow_flush.specs.StowLeafCache.Cache.{Cache}
+use Rattle.stow_flush.specs.StowLeaves.Forgets.{Forgets}
+use Rattle.stow_flush.specs.StowNode.Subtree.{Subtree, messages_of, first_subtree}
+use Rattle.stow_flush.specs.StowNode.declared.shape.Shape.{Shape}
+use Rattle.stow_flush.proofs.StowLeaf.Over.{nothing_short}
 use Rattle.stow_flush.specs.Rooms.{BytesFit, RootStands}
 use Rattle.stow_raw.specs.RawBuf.{RawLists, raw_lists}
 use Rattle.stow_tree_model.specs.Agreement.{TenantPins}

@@ -2,8 +2,8 @@
 use Rattle.std.proofs.Common.{Result, Ok, Err}
 use Rattle.std.specs.Prelude.{IfErr}
 use Rattle.stow_flush.specs.Rooms.{RootStands}
-use Rattle.stow_node.specs.Flushes.{KeepsRoot}
-use Rattle.stow_node.specs.Subtree.{Subtree}
+use Rattle.stow_flush.specs.StowNode.Flushes.{KeepsRoot}
+use Rattle.stow_flush.specs.StowNode.Subtree.{Subtree}
 use Rattle.stow_tree_model.specs.Agreement.{TenantPins}
 
 pub root_stands : (pins : TenantPins) (old new : Subtree) → KeepsRoot pins old new → RootStands pins old new

@@ -1,11 +1,11 @@
 -- A tree of which messages moved towards the leaves.
 use Rattle.std.proofs.Common.{◌≡◌, ap, ◌∙◌, sym, subst, arith}
-use Rattle.stow_leaf.specs.LeafRows.{row_messages}
-use Rattle.stow_node.specs.Moves.{StaysInMeaning}
-use Rattle.stow_node.specs.Subtree.{Subtree}
-use Rattle.stow_node.specs.declared.shape.Shape.{Shape}
-use Rattle.stow_node.proofs.PlanSteps.{stays_short}
-use Rattle.stow_node.proofs.Standing.{parts_ops}
+use Rattle.stow_flush.specs.StowLeaf.LeafRows.{row_messages}
+use Rattle.stow_flush.specs.StowNode.Moves.{StaysInMeaning}
+use Rattle.stow_flush.specs.StowNode.Subtree.{Subtree}
+use Rattle.stow_flush.specs.StowNode.declared.shape.Shape.{Shape}
+use Rattle.stow_flush.proofs.StowNode.PlanSteps.{stays_short}
+use Rattle.stow_flush.proofs.StowNode.Standing.{parts_ops}
 use Rattle.stow_tree_model.specs.Messages.{ops_in}
 use Rattle.stow_tree_model.specs.Operations.{or_else}
 use Rattle.stow_tree_model.proofs.SetLemmas.{set_by_ops_law}

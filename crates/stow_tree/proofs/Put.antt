@@ -6,18 +6,18 @@ use Rattle.std.specs.Ordering.{eq_by_cmp}
 use Rattle.std.proofs.lemmas.Bool.{cases_order, cond-true, cond-false}
 use Rattle.std.proofs.lemmas.List.{length-append}
 use Rattle.std.proofs.lemmas.List.Sums.{sum_by-cons}
-use Rattle.stow_leaf.specs.Intervals.{top_key, spans}
-use Rattle.stow_leaf.specs.LeafRows.{row_messages}
-use Rattle.stow_leaf.proofs.Found.{none_some, some_left}
-use Rattle.stow_leaf.proofs.Ops.{Other, ops-append, ops-placed}
-use Rattle.stow_message.specs.Packed.{message_size}
-use Rattle.stow_message.specs.Rising.{placed, all_placed}
-use Rattle.stow_node.specs.Flushes.{AreShort}
-use Rattle.stow_node.specs.Moves.{accepted, CanAccept}
-use Rattle.stow_node.specs.Subtree.{buffered, messages_of}
-use Rattle.stow_node.proofs.Accepted.{length-all_placed}
-use Rattle.stow_node.proofs.Newer.{new_to}
-use Rattle.stow_leaf.specs.Replacements.{HasShortValues}
+use Rattle.stow_flush.specs.StowLeaf.Intervals.{top_key, spans}
+use Rattle.stow_flush.specs.StowLeaf.LeafRows.{row_messages}
+use Rattle.stow_flush.proofs.StowLeaf.Found.{none_some, some_left}
+use Rattle.stow_flush.proofs.StowLeaf.Ops.{Other, ops-append, ops-placed}
+use Rattle.stow_flush.specs.StowMessage.Packed.{message_size}
+use Rattle.stow_flush.specs.StowMessage.Rising.{placed, all_placed}
+use Rattle.stow_flush.specs.StowNode.Flushes.{AreShort}
+use Rattle.stow_flush.specs.StowNode.Moves.{accepted, CanAccept}
+use Rattle.stow_flush.specs.StowNode.Subtree.{buffered, messages_of}
+use Rattle.stow_flush.proofs.StowNode.Accepted.{length-all_placed}
+use Rattle.stow_flush.proofs.StowNode.Newer.{new_to}
+use Rattle.stow_flush.specs.StowLeaf.Replacements.{HasShortValues}
 use Rattle.stow_tree_model.specs.Messages.{Messages, ops_of, ops_in, with_all}
 use Rattle.stow_tree_model.specs.Op.{Op}
 use Rattle.stow_tree_model.specs.Operations.{Operations, latest, applied, outcome, value_in, or_else}

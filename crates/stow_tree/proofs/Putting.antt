@@ -2,7 +2,7 @@
 use Rattle.std.proofs.Common.{◌≡◌, ℕ, zero, suc, ◌+◌, ◌<◌, ◌≤◌, List, [], ◌∷◌, length, drop, get_or, map, refl, ap, ◌∙◌, sym, subst, arith}
 use Rattle.std.proofs.Math.Seq.{drop-cons}
 use Rattle.std.proofs.lemmas.List.{length-map, get_or-map}
-use Rattle.stow_node.specs.Moves.{accepted, CanAccept}
+use Rattle.stow_flush.specs.StowNode.Moves.{accepted, CanAccept}
 use Rattle.stow_tree_model.specs.TreeMessage.{TreeMessage, message_of}
 use Rattle.stow_tree_model.specs.declared.message.Message as lent
 use Rattle.stow_tree.specs.declared.tree.Tree.TheInside.{Inside}

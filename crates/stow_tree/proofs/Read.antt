@@ -1,6 +1,6 @@
 -- What reads of the root tell of the tree.
 use Rattle.std.proofs.Common.{◌≡◌, ℕ, List, ap, ◌∙◌, sym}
-use Rattle.stow_node.specs.Subtree.{Subtree, messages_of}
+use Rattle.stow_flush.specs.StowNode.Subtree.{Subtree, messages_of}
 use Rattle.stow_tree_model.specs.Messages.{ops_of, ops_in}
 use Rattle.stow_tree.specs.TreeState.{TreeState, tree_messages, IsRead}
 use Rattle.stow_tree.proofs.Sets.{ops_messages, all_ops}

@@ -4,14 +4,14 @@ use denote.Param.SendFields.{as_row_send}
 use denote.Param.Send.{IsSend, IsSync, Frees, sendable}
 use Rattle.std.specs.declared.alloc.Allocator.{Ghosts}
 use Rattle.std.proofs.CrossingOver.{crosses}
-use Rattle.stow_leaf.proofs.leaf.Leaf.TheSendSync as leaf
-use Rattle.stow_message.proofs.message_buf.MessageBuf.TheSendSync as message_buf
-use Rattle.stow_node.proofs.fence.Fence.TheSendSync as fence
-use Rattle.stow_node.proofs.shape.Shape.TheSendSync as shape
-use Rattle.stow_node.proofs.node.Node.TheLaws.TheKnot as knot
-use Rattle.stow_node.specs.contracts.node.Node as node
+use Rattle.stow_flush.proofs.StowLeaf.leaf.Leaf.TheSendSync as leaf
+use Rattle.stow_flush.proofs.StowMessage.message_buf.MessageBuf.TheSendSync as message_buf
+use Rattle.stow_flush.proofs.StowNode.fence.Fence.TheSendSync as fence
+use Rattle.stow_flush.proofs.StowNode.shape.Shape.TheSendSync as shape
+use Rattle.stow_flush.proofs.StowNode.node.Node.TheLaws.TheKnot as knot
+use Rattle.stow_flush.specs.StowNode.contracts.node.Node as node
 use Rattle.stow_raw.proofs.raw_buf.RawBuf.TheSendSync as raw
-use Rattle.stow_leaf_cache.proofs.leaf_cache.LeafCache.TheSendSync as cache
+use Rattle.stow_flush.proofs.StowLeafCache.leaf_cache.LeafCache.TheSendSync as cache
 use Rattle.stow_tree.specs.contracts.tree.Tree as tree
 
 pub node_sends : (A : RattleType) (g : Ghosts A.Denot) → IsSend A → IsSync A → Frees g g.dealloc_token → IsSend (node.the_field A g).row

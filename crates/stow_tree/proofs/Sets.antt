@@ -1,10 +1,10 @@
 -- What a tree means, by its root.
 use Rattle.std.proofs.Common.{◌≡◌, ℕ, zero, suc, ◌≤◌, List, [], ◌∷◌, None, refl, ap, ◌∙◌, sym, subst, arith}
 use Rattle.std.specs.List.{AllByRecursion}
-use Rattle.stow_leaf.proofs.Found.{ops-set_of}
-use Rattle.stow_leaf.specs.Replacements.{MeanTheSame}
-use Rattle.stow_node.specs.Subtree.{messages_of}
-use Rattle.stow_leaf.proofs.Over.{same_nothing}
+use Rattle.stow_flush.proofs.StowLeaf.Found.{ops-set_of}
+use Rattle.stow_flush.specs.StowLeaf.Replacements.{MeanTheSame}
+use Rattle.stow_flush.specs.StowNode.Subtree.{messages_of}
+use Rattle.stow_flush.proofs.StowLeaf.Over.{same_nothing}
 use Rattle.stow_flush.specs.Rooms.{BytesFit, RootStands}
 use Rattle.stow_tree_model.specs.Agreement.{TenantPins, AgreeAt}
 use Rattle.stow_tree_model.specs.Keys.{tenant_of}

@@ -2,7 +2,7 @@
 use Rattle.std.proofs.Common.{◌≡◌, ℕ, zero, suc, ◌+◌, ◌<◌, ◌≤◌, List, [], ◌∷◌, length, take, get_or, map, ap, ◌∙◌, sym, subst, arith}
 use Rattle.std.proofs.lemmas.List.{length-map, get_or-map, take_all}
 use Rattle.std.proofs.lemmas.List.Sums.{sum_by-cons}
-use Rattle.stow_message.specs.Packed.{message_size}
+use Rattle.stow_flush.specs.StowMessage.Packed.{message_size}
 use Rattle.stow_tree_model.specs.TreeMessage.{TreeMessage, message_of}
 use Rattle.stow_tree_model.specs.declared.message.Message as lent
 use Rattle.stow_tree.specs.Putting.{bytes_of}

@@ -2,10 +2,10 @@
 use Rattle.std.specs.Prelude.{◌≡◌, ◌≢◌, ℕ, ◌+◌, ◌≤◌, List, [], ◌∷◌, ◌++◌, length, None}
 use Rattle.std.specs.List.{AllByRecursion, sum_by}
 use Rattle.stow_flush.specs.Rooms.{BytesFit, FitsSqueezed}
-use Rattle.stow_message.specs.Packed.{message_size}
-use Rattle.stow_node.specs.Moves.{IsSqueezed}
-use Rattle.stow_node.specs.Subtree.{Subtree, buffered}
-use Rattle.stow_node.specs.Superseded.{MayLoseHidden}
+use Rattle.stow_flush.specs.StowMessage.Packed.{message_size}
+use Rattle.stow_flush.specs.StowNode.Moves.{IsSqueezed}
+use Rattle.stow_flush.specs.StowNode.Subtree.{Subtree, buffered}
+use Rattle.stow_flush.specs.StowNode.Superseded.{MayLoseHidden}
 use Rattle.stow_tree_model.specs.Agreement.{TenantPins}
 use Rattle.stow_tree_model.specs.Messages.{Messages, ops_of, value, with_all}
 use Rattle.stow_tree_model.specs.Operations.{outcome, value_in}

@@ -1,6 +1,6 @@
 -- How large a tree is.
 use Rattle.std.specs.Prelude.{◌≡◌, ℕ, ◌+◌, length, min}
-use Rattle.stow_node.specs.Subtree.{Subtree, buffered}
+use Rattle.stow_flush.specs.StowNode.Subtree.{Subtree, buffered}
 use Rattle.stow_tree.specs.declared.counting.Counts.{Counts}
 use Rattle.stow_tree.specs.declared.shape_report.ShapeReport.{ShapeReport}
 use Rattle.stow_tree.specs.TreeState.{TreeState}

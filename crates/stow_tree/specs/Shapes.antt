@@ -1,7 +1,7 @@
 -- How large the parts of a tree may grow.
 use Rattle.std.specs.Prelude.{◌≤◌}
 use Rattle.stow_bytes.specs.Limits.{cache_limit}
-use Rattle.stow_node.specs.declared.shape.Shape.{Shape}
+use Rattle.stow_flush.specs.StowNode.declared.shape.Shape.{Shape}
 use Rattle.stow_tree.specs.declared.tree_shape.TreeShape.{TreeShape}
 
 -- the sizes of nodes and leaves are within their limits

@@ -1,9 +1,9 @@
 -- What a contract sees of the tree, and what the tree means: one set of messages.
 use Rattle.std.specs.Prelude.{◌≡◌, ℕ, ◌≤◌, List, [], Contains}
-use Rattle.stow_leaf.specs.LeafRows.{LeafRows}
-use Rattle.stow_leaf_cache.specs.Cache.{Cache}
-use Rattle.stow_node.specs.Flushes.{AreShort}
-use Rattle.stow_node.specs.Subtree.{Subtree, messages_of, first_subtree}
+use Rattle.stow_flush.specs.StowLeaf.LeafRows.{LeafRows}
+use Rattle.stow_flush.specs.StowLeafCache.Cache.{Cache}
+use Rattle.stow_flush.specs.StowNode.Flushes.{AreShort}
+use Rattle.stow_flush.specs.StowNode.Subtree.{Subtree, messages_of, first_subtree}
 use Rattle.stow_tree_model.specs.Agreement.{TenantPins, TenantBounds, Agree}
 use Rattle.stow_tree_model.specs.Keys.{packed, tenant_of}
 use Rattle.stow_tree_model.specs.Messages.{Messages, set_of, ops_of}

@@ -3,8 +3,8 @@ ghost use Rattle.std.specs.Prelude.{◌≡◌};
 ghost use Rattle.stow_tree.specs.Reports.{CountsAre, counts_both};
 
 use std::alloc::Allocator;
-use stow_node::child::Child;
-use stow_node::node::Node;
+use stow_flush::stow_node::child::Child;
+use stow_flush::stow_node::node::Node;
 
 /// How many leaves there are, and messages in buffers. A count above 2^64 - 1 is told as that.
 #[derive(Clone, Copy)]

@@ -28,3 +28,6 @@ pub mod shape_report;
 pub mod tree;
 pub mod tree_fault;
 pub mod tree_shape;
+
+pub use stow_flush::{stow_merge, stow_message, stow_node, stow_superseded};
+pub use stow_read;

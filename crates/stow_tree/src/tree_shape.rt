@@ -3,8 +3,8 @@ ghost use Rattle.std.specs.Prelude.{◌≡◌, ◌↔◌, IsTrue};
 ghost use Rattle.stow_tree.specs.Shapes.{IsInRange, nodes_of};
 
 use stow_bytes::limits::CACHE_LIMIT;
-use stow_merge::flush_target::{GREATEST_LEAF_TARGET, LEAST_LEAF_TARGET};
-use stow_node::shape::Shape;
+use stow_flush::stow_merge::flush_target::{GREATEST_LEAF_TARGET, LEAST_LEAF_TARGET};
+use stow_flush::stow_node::shape::Shape;
 
 /// The fewest bytes of a node's buffer.
 pub const LEAST_BUFFER: u32 = 2_097_152;

@@ -13,3 +13,4 @@ pub mod Folds
 pub mod Readings
 pub mod Examples
 pub mod Rising
+pub use Rattle.stow_bytes.proofs as StowBytes

@@ -14,3 +14,4 @@ pub mod Pin
 pub mod VersionBuf
 pub mod Zipped
 pub mod Examples
+pub use Rattle.stow_bytes.specs as StowBytes

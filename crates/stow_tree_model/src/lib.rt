@@ -16,3 +16,5 @@ pub mod tenant_key;
 pub mod tenant_key_buf;
 pub mod version;
 pub mod version_buf;
+
+pub use stow_bytes;

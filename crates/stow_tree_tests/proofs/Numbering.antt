@@ -4,7 +4,7 @@ use Rattle.std.specs.FinMap as finite
 use Rattle.std.specs.List.{AllByRecursion}
 use Rattle.std.proofs.lemmas.List.Sums.{sum_by-cons}
 use Rattle.stow_message.specs.Packed.{message_size}
-use Rattle.stow_node.specs.Subtree.{Subtree}
+use Rattle.stow_dropping.specs.StowNode.Subtree.{Subtree}
 use Rattle.stow_tree_model.specs.Agreement.{TenantPins}
 use Rattle.stow_tree_model.specs.Merged.{same_key}
 use Rattle.stow_tree_model.specs.Messages.{Messages, ops_of, value}
@@ -15,9 +15,9 @@ use Rattle.stow_tree_model.specs.TreeMessage.{TreeMessage}
 use Rattle.stow_tree_model.specs.Value.{IsValue}
 use Rattle.stow_tree_model.proofs.Orders.{key_cases}
 use Rattle.stow_tree_model.proofs.SetLemmas.{ops-with_all, ops_in-other_place}
-use Rattle.stow_tree.specs.Putting.{CanAdd, CanReserve, Puts}
-use Rattle.stow_tree.specs.TreeState.{TreeState, tree_messages, AgreeUnder, HasBound}
-use Rattle.stow_tree.proofs.Sets.{same_messages}
+use Rattle.stow_dropping.specs.StowTree.Putting.{CanAdd, CanReserve, Puts}
+use Rattle.stow_dropping.specs.StowTree.TreeState.{TreeState, tree_messages, AgreeUnder, HasBound}
+use Rattle.stow_dropping.proofs.StowTree.Sets.{same_messages}
 
 -- what agrees has the same bound
 pub bound_under : (pins : TenantPins) (old new : Messages) (last : ℕ) → AgreeUnder pins old new → HasBound old (λ t. last) → HasBound new (λ t. last)

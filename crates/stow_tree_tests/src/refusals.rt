@@ -2,10 +2,10 @@
 use crate::{message, page, raw};
 use std::alloc::{AllocError, Allocator};
 use std::test::Fail;
+use stow_dropping::stow_tree::tree_fault::TreeFault;
+use stow_dropping::stow_tree::tree_shape::TreeShape;
 use stow_refusing::{Plan, Refusing};
 use stow_slots::slot_buf::SlotBuf;
-use stow_tree::tree_fault::TreeFault;
-use stow_tree::tree_shape::TreeShape;
 
 /// What is done.
 #[derive(Clone, Copy)]

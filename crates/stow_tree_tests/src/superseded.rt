@@ -2,12 +2,12 @@
 use crate::keys::Keys;
 use std::alloc::{AllocError, Allocator};
 use std::test::Fail;
+use stow_dropping::stow_superseded::hidden::drop_hidden;
+use stow_dropping::stow_superseded::superseding::without_superseded;
 use stow_merge::pins::Pins;
 use stow_message::message_buf::MessageBuf;
 use stow_message::place::Place;
 use stow_refusing::{Plan, Refusing};
-use stow_superseded::hidden::drop_hidden;
-use stow_superseded::superseding::without_superseded;
 use stow_tree_model::op::Op;
 use stow_tree_model::plain::message;
 

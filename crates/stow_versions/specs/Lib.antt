@@ -1,2 +1,3 @@
 pub mod VersionsState
 pub mod VersionLists
+pub use Rattle.stow_bytes.specs as StowBytes

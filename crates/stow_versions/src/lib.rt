@@ -14,3 +14,5 @@
 pub mod no_such_snapshot;
 pub mod snapshot_fault;
 pub mod versions;
+
+pub use stow_bytes;

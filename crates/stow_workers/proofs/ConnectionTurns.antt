@@ -4,10 +4,10 @@ use Rattle.std.proofs.KnownBytes.{Consumes-nil, Consumes-kept}
 use Rattle.std.specs.Prelude.{IfSome}
 use Rattle.std.specs.Io.KnownBytes.{Consumes}
 use Rattle.stow_model.specs.Login.{Entry}
-use Rattle.stow_house.specs.declared.stop.Stop.{Stop}
-use Rattle.stow_house.specs.declared.stop.Stop.TheVariants as stopped
-use Rattle.stow_house.specs.declared.conversation.Conversation.{Conversation}
-use Rattle.stow_house.specs.Conversations.{DoorCall, talk_of}
+use Rattle.stow_shared.specs.StowHouse.declared.stop.Stop.{Stop}
+use Rattle.stow_shared.specs.StowHouse.declared.stop.Stop.TheVariants as stopped
+use Rattle.stow_shared.specs.StowHouse.declared.conversation.Conversation.{Conversation}
+use Rattle.stow_shared.specs.StowHouse.Conversations.{DoorCall, talk_of}
 use Rattle.stow_workers.specs.declared.client.Client.{Client}
 use Rattle.stow_workers.specs.declared.nonblocking_connection.NonblockingConnection.{NonblockingConnection}
 use Rattle.stow_workers.specs.declared.served.Served.{Served}

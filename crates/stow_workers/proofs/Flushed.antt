@@ -3,9 +3,9 @@ use Rattle.std.proofs.Common.{◌≡◌, ◌∙◌, ◌≤◌, ◌+◌, ◌*◌,
 use mathlib.Core.Bool.{false≢true}
 use Rattle.std.specs.Prelude.{is_some}
 use Rattle.std.proofs.lemmas.Option.{none-some}
-use Rattle.stow_merge.specs.declared.flush_job.FlushJob.{FlushJob}
-use Rattle.stow_node.specs.declared.installed.Installed.{Installed}
-use Rattle.stow_house.specs.FlushDoors.{Flushing, Planned, Came, Refused, message_count, planned, installed}
+use Rattle.stow_shared.specs.StowMerge.declared.flush_job.FlushJob.{FlushJob}
+use Rattle.stow_shared.specs.StowNode.declared.installed.Installed.{Installed}
+use Rattle.stow_shared.specs.StowHouse.FlushDoors.{Flushing, Planned, Came, Refused, message_count, planned, installed}
 use Rattle.stow_workers.specs.Flushes.{FlushTo, HasFlushed, GoesOn, HasJob, CanFollow, AreInTurn, EndsIn, EndsInFew, StopsAtFew, IsOneFlush, FlushesOnce, WakesOnce}
 
 -- ---- one step after others

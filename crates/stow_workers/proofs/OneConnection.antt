@@ -6,13 +6,13 @@ use Rattle.stow_model.specs.Login.{Entry, quota_of}
 use Rattle.stow_model.specs.Reply.{Reply}
 use Rattle.stow_model.specs.Store.{Asked, store_after, empty_store, answer_with, with_reply, is_out_of_memory}
 use Rattle.stow_model.specs.History.{At, ConnectionStep, Plain, Service, part_of, request_of, served_as, with_service, service_of, line_of, told_by, told_at, reply_in_line, Telling, telling_of, with_telling, tellings, is_tenant, answers_to, Follows, IsStep, IsHistory}
-use Rattle.stow_core.specs.State.{CoreState, store_of, IsNewCore, Calls}
-use Rattle.stow_house.specs.Seen.{IsServedTenant}
-use Rattle.stow_house.specs.Conversations.{Exchange, step_of, reply_in, words_of, IsAsked}
-use Rattle.stow_house.specs.Connections.{moved}
-use Rattle.stow_house.proofs.Tenants.{served_tenant}
-use Rattle.stow_house.proofs.Here.{IsShaped, did, same_tenants}
-use Rattle.stow_house.proofs.Stood.{one_more}
+use Rattle.stow_shared.specs.StowCore.State.{CoreState, store_of, IsNewCore, Calls}
+use Rattle.stow_shared.specs.StowHouse.Seen.{IsServedTenant}
+use Rattle.stow_shared.specs.StowHouse.Conversations.{Exchange, step_of, reply_in, words_of, IsAsked}
+use Rattle.stow_shared.specs.StowHouse.Connections.{moved}
+use Rattle.stow_shared.proofs.StowHouse.Tenants.{served_tenant}
+use Rattle.stow_shared.proofs.StowHouse.Here.{IsShaped, did, same_tenants}
+use Rattle.stow_shared.proofs.StowHouse.Stood.{one_more}
 use Rattle.stow_workers.specs.Exchanges.{Call, steps_of, AllFollow, with_call, calls_in, LeadTo, told_in}
 use Rattle.stow_workers.specs.Laws.{history_of, calls_of, asked_by, IsOneHistory, OneConnection}
 

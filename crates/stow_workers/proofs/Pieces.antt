@@ -7,9 +7,9 @@ use Rattle.stow_model.specs.Login.{Entry}
 use Rattle.stow_model.specs.Wire.{IsBegun}
 use Rattle.stow_model.proofs.Messages.{none_begun}
 use Rattle.stow_model.specs.History.{ConnectionStep, IsOpen, Follows, status_of, served_as, taken_by, stream_of}
-use Rattle.stow_house.specs.declared.stop.Stop.{Stop}
-use Rattle.stow_house.specs.declared.stop.Stop.TheVariants as stopped
-use Rattle.stow_house.specs.Conversations.{Read, DoorCall, Talk, as_seen}
+use Rattle.stow_shared.specs.StowHouse.declared.stop.Stop.{Stop}
+use Rattle.stow_shared.specs.StowHouse.declared.stop.Stop.TheVariants as stopped
+use Rattle.stow_shared.specs.StowHouse.Conversations.{Read, DoorCall, Talk, as_seen}
 use Rattle.stow_workers.specs.declared.served.Served.{Served}
 use Rattle.stow_workers.specs.declared.served.Served.TheVariants as served
 use Rattle.stow_workers.specs.Exchanges.{steps_of, AllFollow, calls_in, LeadTo, told_in, spelled}

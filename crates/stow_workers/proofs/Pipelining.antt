@@ -8,16 +8,16 @@ use Rattle.stow_model.specs.declared.reply.Reply as coded
 use Rattle.stow_model.specs.Login.{Entry}
 use Rattle.stow_model.specs.Reply.{Reply, reply_of, encoding}
 use Rattle.stow_model.specs.History.{IsOpen}
-use Rattle.stow_house.specs.declared.request.Request.{Request}
-use Rattle.stow_house.specs.declared.stop.Stop.{Stop}
-use Rattle.stow_house.specs.declared.stop.Stop.TheVariants as stopped
-use Rattle.stow_house.specs.Conversations.{Exchange, DoorCall, Talk, talk_of, as_seen, Asks, Tells}
-use Rattle.stow_house.specs.Pipelines.{AnswersAll, AnswersFront}
-use Rattle.stow_house.specs.Steps.{StandsAt}
+use Rattle.stow_shared.specs.StowHouse.declared.request.Request.{Request}
+use Rattle.stow_shared.specs.StowHouse.declared.stop.Stop.{Stop}
+use Rattle.stow_shared.specs.StowHouse.declared.stop.Stop.TheVariants as stopped
+use Rattle.stow_shared.specs.StowHouse.Conversations.{Exchange, DoorCall, Talk, talk_of, as_seen, Asks, Tells}
+use Rattle.stow_shared.specs.StowHouse.Pipelines.{AnswersAll, AnswersFront}
+use Rattle.stow_shared.specs.StowHouse.Steps.{StandsAt}
 use Rattle.stow_workers.specs.declared.client.Client.{Client}
 use Rattle.stow_workers.specs.declared.replies.Replies.{Replies}
 use Rattle.stow_workers.specs.declared.served.Served.{Served}
-use Rattle.stow_house.specs.declared.conversation.Conversation.{Conversation}
+use Rattle.stow_shared.specs.StowHouse.declared.conversation.Conversation.{Conversation}
 use Rattle.stow_workers.specs.Exchanges.{steps_of, told_in, spelled}
 use Rattle.stow_workers.specs.Pipelined.{AsksAll, End, Ends, HearsAll, encodings, SendsFront, TellsOrStops}
 use Rattle.stow_workers.specs.Sent.{Begins, Written, Sent, sent_at, HasSent, Sends, StaysSent}

@@ -8,15 +8,15 @@ use Rattle.stow_model.specs.Store.{with_reply}
 use Rattle.stow_model.specs.Wire.{IsBegun}
 use Rattle.stow_model.specs.History.{IsOpen, Service, request_of, stream_of, stream_after}
 use Rattle.stow_model.proofs.Fronts.{spelled_some}
-use Rattle.stow_resp.specs.Next.{IsTaken}
-use Rattle.stow_house.specs.declared.stop.Stop.{Stop}
-use Rattle.stow_house.specs.declared.stop.Stop.TheVariants as stopped
-use Rattle.stow_house.specs.Seen.{Seen}
-use Rattle.stow_house.specs.Conversations.{Exchange, Served, Faulted, step_of, reply_in, told_with, words_of, DoorCall, IsAsked, Meets, Talk, as_seen, Tells, Asks}
-use Rattle.stow_house.specs.declared.request.Request.{Request}
-use Rattle.stow_house.specs.Pipelines.{AnswersAll}
-use Rattle.stow_house.specs.Steps.{StandsAt}
-use Rattle.stow_house.proofs.Stood.{follows, stands_here}
+use Rattle.stow_shared.specs.StowResp.Next.{IsTaken}
+use Rattle.stow_shared.specs.StowHouse.declared.stop.Stop.{Stop}
+use Rattle.stow_shared.specs.StowHouse.declared.stop.Stop.TheVariants as stopped
+use Rattle.stow_shared.specs.StowHouse.Seen.{Seen}
+use Rattle.stow_shared.specs.StowHouse.Conversations.{Exchange, Served, Faulted, step_of, reply_in, told_with, words_of, DoorCall, IsAsked, Meets, Talk, as_seen, Tells, Asks}
+use Rattle.stow_shared.specs.StowHouse.declared.request.Request.{Request}
+use Rattle.stow_shared.specs.StowHouse.Pipelines.{AnswersAll}
+use Rattle.stow_shared.specs.StowHouse.Steps.{StandsAt}
+use Rattle.stow_shared.proofs.StowHouse.Stood.{follows, stands_here}
 use Rattle.stow_workers.specs.Exchanges.{steps_of, AllFollow, Call, with_call, calls_in, LeadTo, told_in, spelled}
 use Rattle.stow_workers.specs.Sent.{Begins, Written, Sent, HasSent, StaysSent, SendsReply}
 use Rattle.stow_workers.specs.Talks.{CourseBy, bytes_told}

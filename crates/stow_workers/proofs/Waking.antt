@@ -1,9 +1,9 @@
 -- A desk that wakes flushers answers as its desk does.
 use Rattle.std.proofs.Common.{◌<◌, Bool, List, [], ◌∷◌, length, take, arith}
 use Rattle.stow_model.specs.Reply.{Reply}
-use Rattle.stow_house.specs.Pipelines.{AnswersAll, AnswersFront}
-use Rattle.stow_house.specs.declared.request.Request.{Request}
-use Rattle.stow_house.proofs.Pipelines.{answers_lifted, answers_to}
+use Rattle.stow_shared.specs.StowHouse.Pipelines.{AnswersAll, AnswersFront}
+use Rattle.stow_shared.specs.StowHouse.declared.request.Request.{Request}
+use Rattle.stow_shared.proofs.StowHouse.Pipelines.{answers_lifted, answers_to}
 use Rattle.stow_shared.specs.declared.desk.Desk.{Desk}
 use Rattle.stow_shared.specs.Desks.{DeskCalls}
 use Rattle.stow_workers.specs.declared.waking_desk.WakingDesk.{WakingDesk}

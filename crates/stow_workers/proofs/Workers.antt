@@ -1,8 +1,8 @@
 -- What calls do to a seat, one connection after another, and what flushes do; and relations of lists place by place.
 use Rattle.std.proofs.Common.{◌≡◌, ◌≤◌, ◌<◌, ℕ, zero, suc, Bool, List, [], ◌∷◌, ◌++◌, ◌∙◌, refl, sym, subst, ap, length, take, drop, arith}
 use Rattle.stow_model.specs.Reply.{Reply}
-use Rattle.stow_house.specs.Conversations.{DoorCall}
-use Rattle.stow_house.specs.FlushDoors.{Flushing}
+use Rattle.stow_shared.specs.StowHouse.Conversations.{DoorCall}
+use Rattle.stow_shared.specs.StowHouse.FlushDoors.{Flushing}
 use Rattle.stow_shared.specs.Seats.{SeatState, SeatCalls, SeatFlushes}
 use Rattle.stow_workers.specs.Exchanges.{Call, LeadTo}
 use Rattle.stow_workers.specs.Flushes.{FlushTo, HasFlushed}

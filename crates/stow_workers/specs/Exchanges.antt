@@ -5,7 +5,7 @@ use Rattle.stow_model.specs.Reply.{Reply, encoding}
 use Rattle.stow_model.specs.Login.{Entry}
 use Rattle.stow_model.specs.Store.{with_reply}
 use Rattle.stow_model.specs.History.{ConnectionStep, Plain, Service, request_of, served_as, told_by, Follows}
-use Rattle.stow_house.specs.Conversations.{Exchange, step_of, reply_in, words_of}
+use Rattle.stow_shared.specs.StowHouse.Conversations.{Exchange, step_of, reply_in, words_of}
 
 -- the connection's part of a history: it was opened, and then these
 unfoldable pub steps_of : List Exchange → List ConnectionStep

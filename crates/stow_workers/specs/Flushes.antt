@@ -1,7 +1,7 @@
 -- What a flusher does at its door, told newest first.
 use Rattle.std.specs.Prelude.{◌≡◌, ℕ, ◌<◌, ◌≤◌, List, [], ◌∷◌, length, Option, Some, IsSome, ◌⊎◌}
-use Rattle.stow_node.specs.declared.installed.Installed.{Installed}
-use Rattle.stow_house.specs.FlushDoors.{Flushing, Planned, Came, Refused}
+use Rattle.stow_shared.specs.StowNode.declared.installed.Installed.{Installed}
+use Rattle.stow_shared.specs.StowHouse.FlushDoors.{Flushing, Planned, Came, Refused}
 
 -- what was done led a door from one state to another, each step in the door's relation
 unfoldable pub FlushTo : {D : Type 0} → (D → Flushing → D → Type 0) → D → List Flushing → D

@@ -3,8 +3,8 @@ use Rattle.std.specs.Prelude.{◌≡◌, ℕ, List, map, filter, ◌==◌}
 use Rattle.stow_model.specs.Login.{Entry, quota_of}
 use Rattle.stow_model.specs.Store.{OwnEvent, Asked, store_after, is_out_of_memory}
 use Rattle.stow_model.specs.History.{Step, At, IsHistory, line_of, output_of, told_to}
-use Rattle.stow_core.specs.State.{CoreState, store_of, IsNewCore, Calls}
-use Rattle.stow_house.specs.Conversations.{Exchange}
+use Rattle.stow_shared.specs.StowCore.State.{CoreState, store_of, IsNewCore, Calls}
+use Rattle.stow_shared.specs.StowHouse.Conversations.{Exchange}
 use Rattle.stow_workers.specs.Exchanges.{Call, steps_of, calls_in, told_in}
 use Rattle.stow_workers.specs.Talks.{Course}
 

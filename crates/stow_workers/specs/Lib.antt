@@ -11,3 +11,7 @@ pub mod Pools
 pub mod WakingDesks
 pub mod Pipelined
 pub mod Nonblocking
+pub use Rattle.stow_shared.specs.StowCore
+pub use Rattle.stow_shared.specs.StowHouse
+pub use Rattle.stow_shared.specs as StowShared
+pub use Rattle.stow_shared.specs.StowTree

@@ -2,9 +2,9 @@
 use Rattle.std.specs.Prelude.{◌≡◌, ℕ, ◌<◌, Bool, true, false, List, [], ◌++◌, length, drop, Option, Some, None, Result, Ok, Err, ◌⊎◌}
 use Rattle.std.specs.Io.KnownBytes.{Consumes, IsAtEnd, Keeps}
 use Rattle.stow_model.specs.Login.{Entry}
-use Rattle.stow_house.specs.declared.stop.Stop.{Stop}
-use Rattle.stow_house.specs.declared.stop.Stop.TheVariants as stopped
-use Rattle.stow_house.specs.Conversations.{DoorCall, talk_of}
+use Rattle.stow_shared.specs.StowHouse.declared.stop.Stop.{Stop}
+use Rattle.stow_shared.specs.StowHouse.declared.stop.Stop.TheVariants as stopped
+use Rattle.stow_shared.specs.StowHouse.Conversations.{DoorCall, talk_of}
 use Rattle.stow_workers.specs.declared.nonblocking_connection.NonblockingConnection.{NonblockingConnection}
 use Rattle.stow_workers.specs.declared.served.Served.{Served}
 use Rattle.stow_workers.specs.declared.served.Served.TheVariants as served

@@ -3,10 +3,10 @@ use Rattle.std.specs.Prelude.{◌≡◌, ℕ, List, [], ◌∷◌, ◌++◌, Opt
 use Rattle.stow_model.specs.declared.reply.Reply as coded
 use Rattle.stow_model.specs.Login.{Entry}
 use Rattle.stow_model.specs.Reply.{Reply, reply_of, encoding}
-use Rattle.stow_house.specs.declared.request.Request.{Request}
-use Rattle.stow_house.specs.declared.stop.Stop.{Stop}
-use Rattle.stow_house.specs.declared.stop.Stop.TheVariants as stopped
-use Rattle.stow_house.specs.Conversations.{Talk, Asks, Tells}
+use Rattle.stow_shared.specs.StowHouse.declared.request.Request.{Request}
+use Rattle.stow_shared.specs.StowHouse.declared.stop.Stop.{Stop}
+use Rattle.stow_shared.specs.StowHouse.declared.stop.Stop.TheVariants as stopped
+use Rattle.stow_shared.specs.StowHouse.Conversations.{Talk, Asks, Tells}
 use Rattle.stow_workers.specs.Sent.{Begins, Sent, Sends, SendsReply, StaysSent}
 
 -- the requests were heard, one after another

@@ -4,7 +4,7 @@ use Rattle.std.specs.Io.KnownBytes.{Appends, Consumes, IsAtEnd}
 use Rattle.stow_model.specs.declared.stream_fault.StreamFault.{StreamFault}
 use Rattle.stow_model.specs.Login.{Entry}
 use Rattle.stow_model.specs.History.{ConnectionStep, Took, Broke, IsOpen, Closed, status_of, stream_of, taken_by, Waits}
-use Rattle.stow_house.specs.Conversations.{DoorCall, Exchange}
+use Rattle.stow_shared.specs.StowHouse.Conversations.{DoorCall, Exchange}
 use Rattle.stow_workers.specs.declared.served.Served.{Served}
 use Rattle.stow_workers.specs.declared.served.Served.TheVariants as served
 use Rattle.stow_workers.specs.Failures.{HasFailed}

@@ -6,10 +6,10 @@ use Rattle.stow_model.specs.Reply.{Reply}
 use Rattle.stow_model.specs.Store.{with_reply}
 use Rattle.stow_model.specs.Wire.{IsBegun}
 use Rattle.stow_model.specs.History.{ConnectionStep, IsOpen}
-use Rattle.stow_house.specs.declared.stop.Stop.{Stop}
-use Rattle.stow_house.specs.declared.stop.Stop.TheVariants as stopped
-use Rattle.stow_house.specs.Conversations.{DoorCall, Exchange, Talk, talk_of, as_seen}
-use Rattle.stow_house.specs.Steps.{StandsAt}
+use Rattle.stow_shared.specs.StowHouse.declared.stop.Stop.{Stop}
+use Rattle.stow_shared.specs.StowHouse.declared.stop.Stop.TheVariants as stopped
+use Rattle.stow_shared.specs.StowHouse.Conversations.{DoorCall, Exchange, Talk, talk_of, as_seen}
+use Rattle.stow_shared.specs.StowHouse.Steps.{StandsAt}
 use Rattle.stow_workers.specs.declared.client.Client.{Client}
 use Rattle.stow_workers.specs.declared.served.Served.{Served}
 use Rattle.stow_workers.specs.declared.served.Served.TheVariants as served

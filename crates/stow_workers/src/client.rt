@@ -2,7 +2,7 @@
 ghost use Rattle.std.specs.Prelude.{◌≡◌, ◌↔◌, IsTrue, ◌++◌, ◌<◌, List, [], ◌∷◌, length, map, drop, None, Some, false, option_map, IfSome, OnOk, OnErr};
 ghost use Rattle.stow_model.specs.Login.{Entry};
 ghost use Rattle.stow_model.specs.Reply.{reply_of};
-ghost use Rattle.stow_house.specs.Conversations.{talk_of};
+ghost use Rattle.stow_shared.specs.StowHouse.Conversations.{talk_of};
 ghost use Rattle.stow_workers.specs.Pipelined.{HearsAll, SendsFront, TellsOrStops, encodings};
 ghost use Rattle.stow_workers.specs.Sent.{Written, written_of, Sends, StaysSent, sent_of, sent_at};
 ghost use Rattle.stow_workers.specs.Turns.{Turns, Shortens, StepsTo, IsRested, Lightens, HasLed, RestsBehind, ServesPiece, CanEndPiece, outcome_of, state_of};
@@ -14,14 +14,14 @@ use crate::replies::Replies;
 use crate::served::Served;
 use crate::sink::Sink;
 use std::alloc::{AllocError, Allocator, Global};
-use stow_house::conversation::Conversation;
-use stow_house::door::Door;
-use stow_house::heard::Heard;
-use stow_house::request::Request;
-use stow_house::stop::Stop;
-use stow_login::tenants::Tenants;
 use stow_model::reply::Reply;
 use stow_model::words::Words;
+use stow_shared::stow_house::conversation::Conversation;
+use stow_shared::stow_house::door::Door;
+use stow_shared::stow_house::heard::Heard;
+use stow_shared::stow_house::request::Request;
+use stow_shared::stow_house::stop::Stop;
+use stow_shared::stow_login::tenants::Tenants;
 
 /// A conversation that is being served, and the replies that wait.
 #[derive(Drop)]

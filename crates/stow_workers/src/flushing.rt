@@ -7,7 +7,7 @@ use crate::wake::Wake;
 use crossbeam_channel::Receiver;
 use std::alloc::Allocator;
 use std::sync::Wait;
-use stow_house::flush_door::FlushDoor;
+use stow_shared::stow_house::flush_door::FlushDoor;
 
 /// The most flushes of one wake.
 const FLUSHES: u32 = 16;

@@ -89,3 +89,6 @@ pub mod worker;
 mod worker_handle;
 pub mod workplace;
 pub mod writing;
+
+pub use stow_shared;
+pub use stow_shared::{stow_core, stow_house, stow_merge, stow_node, stow_resp, stow_tree};

@@ -1,7 +1,7 @@
 //! A connection that is served turn by turn, between those of others.
 ghost use Rattle.std.specs.Prelude.{◌≡◌, Bool, [], drop, false, Some, None};
-ghost use Rattle.stow_house.specs.declared.stop.Stop.TheVariants as stopped;
-ghost use Rattle.stow_house.specs.Conversations.{talk_of};
+ghost use Rattle.stow_shared.specs.StowHouse.declared.stop.Stop.TheVariants as stopped;
+ghost use Rattle.stow_shared.specs.StowHouse.Conversations.{talk_of};
 ghost use Rattle.stow_workers.specs.Sent.{Written, written_of, sent_at};
 ghost use Rattle.stow_workers.specs.NonblockingConnections.{TakesTurn, ReaderFailsAt, Receives, IsFed, GoesOnServing, HasWaiting, TellsWaiting, turned_of, unknown};
 ghost use Rattle.stow_workers.specs.Turns.{HasLed, IsRested, IsEven};
@@ -13,9 +13,9 @@ use crate::nonblocking_source::NonblockingSource;
 use crate::served::Served;
 use crate::turned::Turned;
 use std::alloc::{Allocator, Global};
-use stow_house::door::Door;
-use stow_house::stop::Stop;
-use stow_login::tenants::Tenants;
+use stow_shared::stow_house::door::Door;
+use stow_shared::stow_house::stop::Stop;
+use stow_shared::stow_login::tenants::Tenants;
 
 /// The most bytes that are read at once.
 const PIECE: usize = 4096;

@@ -10,8 +10,8 @@ use mio::net::TcpStream;
 use std::alloc::{Allocator, Global};
 use std::io::{ErrorKind, Read};
 use std::net::Shutdown;
-use stow_house::door::Door;
-use stow_login::tenants::Tenants;
+use stow_shared::stow_house::door::Door;
+use stow_shared::stow_login::tenants::Tenants;
 
 /// The most bytes that are read at once.
 const PIECE: usize = 4096;

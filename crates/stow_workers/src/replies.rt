@@ -6,7 +6,7 @@ use crate::sink::Sink;
 use crate::writing::write_all;
 use std::alloc::{AllocError, Allocator, Global};
 use stow_model::reply::Reply;
-use stow_resp::encode::Encode;
+use stow_shared::stow_resp::encode::Encode;
 
 /// More bytes than these are written at once, and more room than for these isn't kept.
 const KEPT: usize = 65_536;

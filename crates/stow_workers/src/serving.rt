@@ -9,8 +9,8 @@ use crate::served::Served;
 use crate::sink::Sink;
 use crate::source::Source;
 use std::alloc::Allocator;
-use stow_house::door::Door;
-use stow_login::tenants::Tenants;
+use stow_shared::stow_house::door::Door;
+use stow_shared::stow_login::tenants::Tenants;
 
 /// The most bytes that are read at once.
 const PIECE: usize = 4096;

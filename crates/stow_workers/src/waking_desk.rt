@@ -1,18 +1,18 @@
 //! A desk that wakes flushers.
 ghost use Rattle.std.specs.Prelude.{◌≡◌, ◌<◌, [], ◌∷◌, length, map};
-ghost use Rattle.stow_house.specs.Pipelines.{AnswersFront};
+ghost use Rattle.stow_shared.specs.StowHouse.Pipelines.{AnswersFront};
 ghost use Rattle.stow_model.specs.Reply.{reply_of};
 ghost use Rattle.stow_workers.specs.WakingDesks.{WakingCalls};
 
 use crate::waker::Waker;
 use std::alloc::{Allocator, Global};
 use std::sync::Wait;
-use stow_house::door::Door;
-use stow_house::request::Request;
 use stow_model::reply::Reply;
 use stow_model::words::Words;
 use stow_shared::desk::Desk;
 use stow_shared::journal::Journal;
+use stow_shared::stow_house::door::Door;
+use stow_shared::stow_house::request::Request;
 
 /// The desk of a worker, whose calls are counted to wake flushers. As a door it is its desk.
 #[derive(Drop)]

@@ -4,14 +4,14 @@ ghost use Rattle.std.specs.Prelude.{◌≡◌, IsSome, None, OnErr, OnOk};
 use crate::workers::Service;
 use std::alloc::{AllocError, Global};
 use std::test::Fail;
-use stow_core::Core;
-use stow_house::flush_door::FlushDoor;
-use stow_merge::flush_job::FlushJob;
-use stow_merge::flush_result::FlushResult;
-use stow_node::installed::Installed;
 use stow_testing::lines::words_of;
 use stow_workers::flushing::serve_wake;
 use stow_workers::open_gate::OpenGate;
+use stow_workers::stow_core::Core;
+use stow_workers::stow_house::flush_door::FlushDoor;
+use stow_workers::stow_merge::flush_job::FlushJob;
+use stow_workers::stow_merge::flush_result::FlushResult;
+use stow_workers::stow_node::installed::Installed;
 
 /// A door over a core whose rows wait in a buffer.
 #[derive(Drop)]

@@ -1,6 +1,6 @@
 //! A pool over loopback: workers side by side, a journal of what they served, and clients that break off.
 ghost use Rattle.std.specs.Prelude.{◌≡◌, IfOk, vec_len};
-ghost use Rattle.stow_core.specs.State.{IsNewCore};
+ghost use Rattle.stow_workers.specs.StowCore.State.{IsNewCore};
 
 use crate::workers::hold::Hold;
 use std::alloc::{AllocError, Allocator, Global};
@@ -13,7 +13,6 @@ use std::sync::{Arc, Wait};
 use std::test::Fail;
 use std::thread::{Threads, join, map_indices};
 use std::time::{Clock, Duration};
-use stow_core::Core;
 use stow_login::tenants::Tenants;
 use stow_model::item::Item;
 use stow_model::items::Items;
@@ -21,18 +20,19 @@ use stow_model::reply::Reply;
 use stow_model::simple_string::SimpleString;
 use stow_model::words::Words;
 use stow_refusing::{Plan, Refusing};
-use stow_shared::entry::Entry;
-use stow_shared::journal::Journal;
-use stow_shared::kept::Kept;
-use stow_shared::seat::Seat;
-use stow_shared::shared::Shared;
-use stow_shared::step::Step;
-use stow_shared::unkept::Unkept;
 use stow_testing::tenants::THREE;
-use stow_tree::tree_shape::TreeShape;
 use stow_workers::open_gate::OpenGate;
 use stow_workers::pool::Pool;
 use stow_workers::pool_fault::PoolFault;
+use stow_workers::stow_core::Core;
+use stow_workers::stow_shared::entry::Entry;
+use stow_workers::stow_shared::journal::Journal;
+use stow_workers::stow_shared::kept::Kept;
+use stow_workers::stow_shared::seat::Seat;
+use stow_workers::stow_shared::shared::Shared;
+use stow_workers::stow_shared::step::Step;
+use stow_workers::stow_shared::unkept::Unkept;
+use stow_workers::stow_tree::tree_shape::TreeShape;
 
 /// The logins of the two tenants.
 const ANN: &str = "AUTH ann bc\n";

@@ -3,7 +3,10 @@
 use crate::making::{call, core_in, give, shape_of};
 use std::alloc::{AllocError, Allocator, Global};
 use std::test::Fail;
-use stow_core::Core;
+use stow_house::stow_core::Core;
+use stow_house::stow_tree::tree_shape::{
+    MOST_BUFFER, MOST_CACHE, MOST_FAN_OUT, MOST_LEAF, TreeShape,
+};
 use stow_model::reply::Reply;
 use stow_model::words::Words;
 use stow_plain::plain_request::PlainRequest;
@@ -12,7 +15,6 @@ use stow_testing::lines::{push_word, repeated, words_of};
 use stow_testing::random::Random;
 use stow_testing::replies::reply_text;
 use stow_testing::tenants::SMALL_QUOTA;
-use stow_tree::tree_shape::{MOST_BUFFER, MOST_CACHE, MOST_FAN_OUT, MOST_LEAF, TreeShape};
 
 const KEYS: [&str; 6] = ["''", "a", "ab", "b", "b0", "c"];
 

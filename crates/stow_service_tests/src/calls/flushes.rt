@@ -3,8 +3,8 @@ use crate::making::{installed, lend, merged, new_core};
 use crate::text::{is_told, row_of};
 use std::alloc::{AllocError, Allocator, Global};
 use std::test::Fail;
-use stow_core::Core;
-use stow_node::installed::Installed;
+use stow_house::stow_core::Core;
+use stow_house::stow_node::installed::Installed;
 
 /// Whether what came of a job of another core, in which tenant 1 wrote `x` to the key `a`, is installed in a core in which it
 /// asked this.

@@ -3,7 +3,7 @@ use crate::making::{call, give, lend, new_core};
 use linked_list_allocator::LocalHeap;
 use std::alloc::{AllocError, Allocator, Global};
 use std::test::Fail;
-use stow_core::Core;
+use stow_house::stow_core::Core;
 use stow_model::refusal::Refusal;
 use stow_model::reply::Reply;
 use stow_model::words::Words;

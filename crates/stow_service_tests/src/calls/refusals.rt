@@ -2,7 +2,7 @@
 use crate::making::{call, give, lend, new_core, shape_of};
 use crate::text::{is_told, number};
 use std::alloc::{AllocError, Allocator, Global};
-use stow_core::Core;
+use stow_house::stow_core::Core;
 use stow_model::words::Words;
 use stow_refusing::{Plan, Refusing};
 use stow_testing::lines::words_of;

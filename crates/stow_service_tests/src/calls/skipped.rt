@@ -4,7 +4,7 @@ use crate::calls::alone::is_alike;
 use crate::making::{call, lend, new_core};
 use crate::refused::{left_after, plan_of};
 use std::alloc::{AllocError, Allocator, Global};
-use stow_core::Core;
+use stow_house::stow_core::Core;
 use stow_model::refusal::Refusal;
 use stow_model::reply::Reply;
 use stow_model::words::Words;

@@ -4,11 +4,11 @@ use crate::making::{call, give, lend, new_core, shape_of};
 use crate::text::{first_other, is_row_told, is_told, told};
 use std::alloc::{AllocError, Allocator, Global};
 use std::test::Fail;
-use stow_core::Core;
+use stow_house::stow_core::Core;
+use stow_house::stow_tree::shape_report::ShapeReport;
 use stow_model::words::Words;
 use stow_testing::lines::{repeated, words_of};
 use stow_testing::replies::{is_text, reply_text};
-use stow_tree::shape_report::ShapeReport;
 
 /// Rows of a tenant, its words, and what it is told.
 const OWN_KEYS: &str = "1 PING => PONG

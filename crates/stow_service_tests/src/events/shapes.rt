@@ -5,11 +5,11 @@ use crate::making::ran_in;
 use std::alloc::{AllocError, Allocator, Global};
 use std::test::Fail;
 use stow_bytes::byte_string::ByteString;
+use stow_house::stow_tree::shape_report::ShapeReport;
+use stow_house::stow_tree::tree_shape::TreeShape;
 use stow_model::event::Event;
 use stow_testing::many::{Exchange, login, reads, writes};
 use stow_testing::tenants::AMPLE;
-use stow_tree::shape_report::ShapeReport;
-use stow_tree::tree_shape::TreeShape;
 
 /// The last reads: some fifty rows, and all at once.
 fn last_of<A: Allocator>(reads: &[Exchange<A>]) -> &[Exchange<A>] {

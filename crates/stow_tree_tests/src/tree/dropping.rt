@@ -4,12 +4,12 @@ use crate::tree::numbered::Numbered;
 use std::alloc::{AllocError, Allocator};
 use std::test::Fail;
 use stow_dropping::dropping::charge_of_drop;
+use stow_dropping::stow_tree::tree_shape::TreeShape;
 use stow_ledger::account::Account;
 use stow_ledger::row_change::RowChange;
 use stow_ledger::sized_version::SizedVersion;
 use stow_merge::pins::Pins;
 use stow_refusing::{Plan, Refusing};
-use stow_tree::tree_shape::TreeShape;
 use stow_tree_model::op::Op;
 use stow_tree_model::tenant_key_buf::TenantKeyBuf;
 

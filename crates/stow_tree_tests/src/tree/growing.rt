@@ -4,8 +4,8 @@ use crate::tree::shapes::LARGEST;
 use crate::tree::small::{COURSE, first_other};
 use crate::tree::trees::{Call, Want};
 use std::test::Fail;
+use stow_dropping::stow_tree::tree_shape::TreeShape;
 use stow_refusing::Refusing;
-use stow_tree::tree_shape::TreeShape;
 
 const SMALLEST: TreeShape = TreeShape::SMALLEST;
 

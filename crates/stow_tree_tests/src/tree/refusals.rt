@@ -6,9 +6,9 @@ use crate::tree::small::COURSE;
 use crate::tree::trees::{Call, Trees, Want};
 use std::alloc::{AllocError, Allocator};
 use std::test::Fail;
+use stow_dropping::stow_tree::shape_report::ShapeReport;
+use stow_dropping::stow_tree::tree_shape::TreeShape;
 use stow_refusing::{Plan, Refusing};
-use stow_tree::shape_report::ShapeReport;
-use stow_tree::tree_shape::TreeShape;
 
 /// What comes before, the calls of which each request is refused then, and how many requests the one with most of them makes,
 /// at least and at most.

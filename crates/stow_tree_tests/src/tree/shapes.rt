@@ -1,11 +1,13 @@
 //! Sizes within their range and out of it.
 use std::alloc::Allocator;
 use std::test::Fail;
+use stow_dropping::stow_tree::shape_report::ShapeReport;
+use stow_dropping::stow_tree::tree::Tree;
+use stow_dropping::stow_tree::tree_fault::TreeFault;
+use stow_dropping::stow_tree::tree_shape::{
+    MOST_BUFFER, MOST_CACHE, MOST_FAN_OUT, MOST_LEAF, TreeShape,
+};
 use stow_refusing::Refusing;
-use stow_tree::shape_report::ShapeReport;
-use stow_tree::tree::Tree;
-use stow_tree::tree_fault::TreeFault;
-use stow_tree::tree_shape::{MOST_BUFFER, MOST_CACHE, MOST_FAN_OUT, MOST_LEAF, TreeShape};
 
 /// Each size is the most.
 pub(crate) const LARGEST: TreeShape = TreeShape {

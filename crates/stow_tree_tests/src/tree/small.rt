@@ -3,8 +3,8 @@ use crate::tree::run::Course;
 use crate::tree::trees::{Call, Trees, Want};
 use std::alloc::{AllocError, Allocator};
 use std::test::Fail;
+use stow_dropping::stow_tree::tree_shape::{MOST_LEAF, TreeShape};
 use stow_refusing::Refusing;
-use stow_tree::tree_shape::{MOST_LEAF, TreeShape};
 
 /// The smallest tree, and three keys of each tenant.
 pub(crate) const COURSE: Course = Course {

@@ -1,13 +1,13 @@
 //! Two trees, and the jobs and results between them.
 use crate::tree::run::{Course, Kind, Read, Run};
 use std::alloc::{AllocError, Allocator};
+use stow_dropping::stow_node::installed::Installed;
+use stow_dropping::stow_tree::shape_report::ShapeReport;
 use stow_merge::fitting::is_mergeable;
 use stow_merge::flush_job::FlushJob;
 use stow_merge::flush_result::FlushResult;
-use stow_node::installed::Installed;
 use stow_page::page::pack;
 use stow_testing::random::Random;
-use stow_tree::shape_report::ShapeReport;
 
 /// A call of one of two trees, at first of that here, which is the one that results come into. Keys are told by their places.
 #[derive(Clone, Copy)]

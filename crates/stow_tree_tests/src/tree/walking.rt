@@ -4,8 +4,8 @@ use crate::tree::run::{Kind, Run, Within};
 use crate::tree::small::COURSE;
 use std::alloc::{AllocError, Allocator};
 use std::test::Fail;
-use stow_read::row::Row;
-use stow_read::row_head::RowHead;
+use stow_dropping::stow_read::row::Row;
+use stow_dropping::stow_read::row_head::RowHead;
 use stow_refusing::Refusing;
 
 /// What is done to three keys, with how many bytes, and whether all of it is pinned then. The root's buffer can't hold all

@@ -4,7 +4,7 @@ use Rattle.stow_core.proofs.Answered.{called, starved}
 use Rattle.stow_core.proofs.Stores.{index_of, own_there, store_view}
 use Rattle.stow_model.specs.Login.{IsTenant}
 use Rattle.stow_model.specs.Reply.{reply_of}
-use Rattle.stow_state.specs.State.{view}
+use Rattle.stow_ledger.specs.StowState.State.{view}
 use Rattle.stow_core.proofs.Core.call.Goals as goal
 
 pub returns-in-Ok : goal.returns-in-Ok

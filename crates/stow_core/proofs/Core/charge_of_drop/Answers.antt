@@ -7,7 +7,7 @@ use Rattle.stow_core.proofs.Drops.{walked, present_free, second_free, number_at,
 use Rattle.stow_core.proofs.Stores.{index_of, tight_index}
 use Rattle.stow_dropping.specs.Dropping.{IsChargeWithout}
 use Rattle.stow_model.specs.Login.{IsTenant}
-use Rattle.stow_tree.specs.TreeState.{tree_messages}
+use Rattle.stow_dropping.specs.StowTree.TreeState.{tree_messages}
 use Rattle.stow_versions.proofs.PinLemmas.{contains_from}
 use Rattle.stow_core.proofs.Core.charge_of_drop.Goals as goal
 

@@ -6,8 +6,8 @@ use Rattle.stow_core.proofs.Answered.{if_ok}
 use Rattle.stow_core.proofs.Carried.{core_of}
 use Rattle.stow_core.proofs.Jobs.{install_told}
 use Rattle.stow_core.proofs.Kept.{core_agrees, keeps_agreed}
-use Rattle.stow_node.specs.declared.installed.Installed.TheVariants as installed
-use Rattle.stow_tree.specs.TreeState.{IsRead}
+use Rattle.stow_dropping.specs.StowNode.declared.installed.Installed.TheVariants as installed
+use Rattle.stow_dropping.specs.StowTree.TreeState.{IsRead}
 use Rattle.stow_core.proofs.RowLengths.{kept_lengths}
 use Rattle.stow_core.proofs.Core.install.Goals as goal
 

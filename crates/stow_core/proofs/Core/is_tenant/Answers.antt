@@ -1,6 +1,6 @@
 use Rattle.std.proofs.Common.{subst}
 use Rattle.stow_core.specs.State.{CoreState, shared_of}
-use Rattle.stow_state.specs.State.{IsSound}
+use Rattle.stow_ledger.specs.StowState.State.{IsSound}
 use Rattle.stow_core.proofs.Core.is_tenant.Goals as goal
 
 pub returns-then-tenant-ne0-clause-sound : goal.returns-then-tenant-ne0-clause-sound

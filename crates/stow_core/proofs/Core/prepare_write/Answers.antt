@@ -14,7 +14,7 @@ use Rattle.stow_core.proofs.Stores.{can_still_write}
 use Rattle.stow_ledger.specs.Accounts.{is_allowed}
 use Rattle.stow_model.specs.Login.{IsTenant}
 use Rattle.stow_model.specs.Reply.{reply_of}
-use Rattle.stow_tree.specs.Putting.{CanReserve, IsReserved}
+use Rattle.stow_dropping.specs.StowTree.Putting.{CanReserve, IsReserved}
 use Rattle.stow_core.proofs.RowLengths.{kept_lengths}
 use Rattle.stow_core.specs.RowLengths.{HaveLength}
 use Rattle.stow_model.specs.Store.{Store}

@@ -1,8 +1,8 @@
 use Rattle.std.proofs.Common.{ap, ◌∙◌, sym}
 use Rattle.stow_model.specs.Store.{Store}
 use Rattle.stow_core.specs.Tenancies.{tenancy_of}
-use Rattle.stow_state.specs.Rows.{rows_at}
-use Rattle.stow_tree.specs.TreeState.{tree_messages}
+use Rattle.stow_ledger.specs.StowState.Rows.{rows_at}
+use Rattle.stow_dropping.specs.StowTree.TreeState.{tree_messages}
 use Rattle.stow_core.proofs.Stores.{stored}
 use Rattle.stow_core.proofs.Core.present.Goals as goal
 

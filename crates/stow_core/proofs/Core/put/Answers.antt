@@ -6,8 +6,8 @@ use Rattle.stow_core.specs.State.{CoreState}
 use Rattle.stow_core.specs.Writes.{given_op, writes_of, AreMessages}
 use Rattle.stow_core.proofs.Carried.{put, last_of, given_to}
 use Rattle.stow_ledger.specs.Accounts.{AccountState, IsGivenBy, is_allowed}
-use Rattle.stow_tree.specs.Putting.{AreApart, IsReserved}
-use Rattle.stow_tree.specs.TreeState.{tree_messages}
+use Rattle.stow_dropping.specs.StowTree.Putting.{AreApart, IsReserved}
+use Rattle.stow_dropping.specs.StowTree.TreeState.{tree_messages}
 use Rattle.stow_tree_model.specs.Messages.{with_all}
 use Rattle.stow_core.proofs.RowLengths.{put_lengths}
 use Rattle.stow_core.proofs.Core.put.Goals as goal

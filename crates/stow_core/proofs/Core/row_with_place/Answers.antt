@@ -6,7 +6,7 @@ use Rattle.stow_model.specs.Login.{IsTenant}
 use Rattle.stow_core.specs.Writes.{row_of}
 use Rattle.stow_core.specs.State.{CoreState, rows_in}
 use Rattle.stow_core.proofs.Stores.{low_index, row_found, row_short, on_ok}
-use Rattle.stow_tree.specs.TreeState.{tree_messages}
+use Rattle.stow_dropping.specs.StowTree.TreeState.{tree_messages}
 use Rattle.stow_tree_model.specs.Keys.{IsTenantKey}
 use Rattle.stow_tree_model.proofs.Packed.{IsTenantKey-packed}
 use Rattle.stow_core.proofs.Core.row_with_place.Goals as goal

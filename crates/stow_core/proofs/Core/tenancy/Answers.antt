@@ -1,6 +1,6 @@
 use Rattle.std.proofs.Common.{◌≡◌, Some, refl, subst}
 use Rattle.stow_core.specs.State.{CoreState, shared_of, store_of}
-use Rattle.stow_state.specs.State.{IsSound}
+use Rattle.stow_ledger.specs.StowState.State.{IsSound}
 use Rattle.stow_core.specs.Tenancies.{tenancy_at, tenancy_of}
 use Rattle.stow_ledger.specs.Accounts.{IsAccountOf}
 use Rattle.stow_core.proofs.Stores.{found_own, found_account}

@@ -1,7 +1,7 @@
 use Rattle.std.proofs.Common.{rules, ◌≡◌, false}
 use Rattle.std.specs.Prelude.{◌==◌}
 use Rattle.std.specs.List.{list_any}
-use Rattle.stow_merge.specs.Pins.{pins_in}
+use Rattle.stow_dropping.specs.StowMerge.Pins.{pins_in}
 use Rattle.stow_core.proofs.PinNumbers.{all_below}
 use Rattle.stow_core.proofs.pinning.add_pin.Goals as goal
 

@@ -1,5 +1,5 @@
 use Rattle.std.proofs.Common.{refl}
-use Rattle.stow_tree.proofs.Read.{read_then}
+use Rattle.stow_dropping.proofs.StowTree.Read.{read_then}
 use Rattle.stow_core.proofs.ranging.first_rows.Goals as goal
 
 pub loop-index-init : goal.loop-index-init

@@ -2,7 +2,7 @@ use Rattle.std.proofs.Common.{ap, ◌∙◌, subst, map, ◌++◌}
 use Rattle.std.specs.List.{AllByRecursion, flat_map}
 use Rattle.stow_tree_model.specs.Intervals.{IsWholeKey}
 use Rattle.stow_core.specs.Ends.{row_bulks}
-use Rattle.stow_read.specs.Range.{key_value}
+use Rattle.stow_dropping.specs.StowRead.Range.{key_value}
 use Rattle.stow_core.proofs.Tenancies.{take_all}
 use Rattle.stow_core.proofs.Told.{one_more_told, keys_of}
 use Rattle.stow_core.proofs.ranging.items_of.Goals as goal

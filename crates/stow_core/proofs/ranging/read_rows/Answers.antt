@@ -1,8 +1,8 @@
 use Rattle.std.proofs.Common.{◌∙◌, subst, sym, map, arith}
 use Rattle.stow_core.proofs.Within.{told_range}
-use Rattle.stow_read.specs.Range.{key_value, IsRange}
+use Rattle.stow_dropping.specs.StowRead.Range.{key_value, IsRange}
 use Rattle.stow_tree_model.specs.Messages.{ops_of}
-use Rattle.stow_tree.specs.TreeState.{tree_messages}
+use Rattle.stow_dropping.specs.StowTree.TreeState.{tree_messages}
 use Rattle.stow_tree_model.specs.Keys.{IsTenantKey}
 use Rattle.stow_tree_model.proofs.Packed.{IsTenantKey-packed}
 use Rattle.stow_core.proofs.ranging.read_rows.Goals as goal

@@ -4,8 +4,8 @@ use Rattle.stow_tree_model.specs.Keys.{packed}
 use Rattle.stow_tree_model.specs.Messages.{ops_of}
 use Rattle.stow_tree.specs.TreeState.{tree_messages}
 use Rattle.stow_ledger.specs.Charges.{charge_after_drop}
-use Rattle.stow_read.specs.Walk.{IsWalk}
-use Rattle.stow_read.specs.declared.row_head.RowHead.{RowHead}
+use Rattle.stow_tree.specs.StowRead.Walk.{IsWalk}
+use Rattle.stow_tree.specs.StowRead.declared.row_head.RowHead.{RowHead}
 use Rattle.stow_dropping.specs.Parts.{all_shown, HaveWholeKeys}
 use Rattle.stow_dropping.proofs.SoFar.{IsDropSoFar, no_part, full_part, last_part, fewer_left}
 use Rattle.stow_dropping.proofs.WholeDrops.{charge_is}

@@ -1,5 +1,5 @@
 use Rattle.std.proofs.Common.{◌∙◌, ◌/◌, max, sym, ap, arith}
-use Rattle.stow_merge.specs.Pins.{pins_in}
+use Rattle.stow_node.specs.StowMerge.Pins.{pins_in}
 use Rattle.stow_node.specs.declared.shape.Shape.{Shape}
 use Rattle.stow_node.proofs.Down.{full_has_messages}
 use Rattle.stow_flush.proofs.Making.{IsMaking, making_first, squeezed_then, moved_then, flushes_stands, stays_stands, stays_few, makes_none, makes_squeezed, makes_more}

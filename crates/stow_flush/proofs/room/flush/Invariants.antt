@@ -1,4 +1,4 @@
-use Rattle.stow_merge.specs.Pins.{pins_in}
+use Rattle.stow_node.specs.StowMerge.Pins.{pins_in}
 use Rattle.stow_flush.specs.Rooms.{FlushesForRoom}
 use Rattle.stow_flush.proofs.Making.{IsMaking}
 use Rattle.stow_flush.proofs.room.flush.Given as goal

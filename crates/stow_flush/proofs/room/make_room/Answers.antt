@@ -1,4 +1,4 @@
-use Rattle.stow_merge.specs.Pins.{pins_in}
+use Rattle.stow_node.specs.StowMerge.Pins.{pins_in}
 use Rattle.stow_node.specs.Subtree.{Subtree}
 use Rattle.std.proofs.Common.{◌≡◌, ◌≤◌, sym, subst}
 use Rattle.stow_flush.specs.Rooms.{RootStands}

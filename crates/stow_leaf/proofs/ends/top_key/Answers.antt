@@ -1,5 +1,5 @@
 use Rattle.std.proofs.Common.{arith}
-use Rattle.stow_tree_model.specs.Keys.{tenant_of}
+use Rattle.stow_merge.specs.StowTreeModel.Keys.{tenant_of}
 use Rattle.stow_leaf.proofs.ends.top_key.Goals as goal
 
 pub from_packed-requires : goal.from_packed-requires

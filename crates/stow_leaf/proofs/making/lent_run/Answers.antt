@@ -1,6 +1,6 @@
 use Rattle.std.proofs.Common.{◌∙◌, ◌<◌, ◌∷◌, [], ◌++◌, length, take, map, sym, ap, arith}
 use Rattle.std.proofs.lemmas.List.{map-append, take_more}
-use Rattle.stow_tree_model.specs.TreeMessage.{message_of}
+use Rattle.stow_merge.specs.StowTreeModel.TreeMessage.{message_of}
 use Rattle.stow_leaf.proofs.making.lent_run.Goals as goal
 
 pub loop-i-preserved : goal.loop-i-preserved

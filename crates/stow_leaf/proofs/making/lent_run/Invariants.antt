@@ -1,5 +1,5 @@
 use Rattle.std.proofs.Common.{◌≡◌, map, take}
-use Rattle.stow_tree_model.specs.TreeMessage.{message_of}
+use Rattle.stow_merge.specs.StowTreeModel.TreeMessage.{message_of}
 use Rattle.stow_leaf.proofs.making.lent_run.Given as goal
 
 abbrev pub invariant-loop-i : goal.invariant-loop-i

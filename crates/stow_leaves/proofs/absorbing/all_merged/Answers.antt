@@ -2,7 +2,7 @@ use Rattle.std.proofs.Common.{◌≡◌, List, [], ◌∷◌, ◌++◌, map, ref
 use Rattle.std.proofs.lemmas.List.{length-map, map-append}
 use Rattle.stow_leaf.specs.LeafRows.{leaf_rows, first_fence}
 use Rattle.stow_leaf.specs.declared.leaf.Leaf.{Leaf}
-use Rattle.stow_merge.specs.Pins.{pins_in}
+use Rattle.stow_leaf.specs.StowMerge.Pins.{pins_in}
 use Rattle.stow_leaves.specs.AbsorbsAll.{CanGiveWay}
 use Rattle.stow_leaves.proofs.Forgotten.{on_err, forgets_kept, forgets_then}
 use Rattle.stow_leaves.proofs.GivenWay.{AllGave, all_stand, giving_ends, giving_first, giving_next, next_end, next_leaf}

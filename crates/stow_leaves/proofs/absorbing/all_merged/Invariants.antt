@@ -1,7 +1,7 @@
 use Rattle.std.proofs.Common.{map}
 use Rattle.std.specs.Vec.{vec_len}
 use Rattle.stow_leaf.specs.LeafRows.{leaf_rows}
-use Rattle.stow_merge.specs.Pins.{pins_in}
+use Rattle.stow_leaf.specs.StowMerge.Pins.{pins_in}
 use Rattle.stow_leaves.proofs.GivenWay.{AreGivingWay}
 use Rattle.stow_leaves.proofs.absorbing.all_merged.Given as goal
 

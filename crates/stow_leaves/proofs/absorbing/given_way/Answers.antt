@@ -1,8 +1,8 @@
 use Rattle.std.proofs.Common.{List, [], ◌∷◌, ◌++◌, length, map, ap, ◌∙◌}
 use Rattle.stow_leaf.specs.LeafRows.{leaf_rows}
 use Rattle.stow_leaf.specs.declared.leaf.Leaf.{Leaf}
-use Rattle.stow_merge.specs.Pins.{pins_in}
-use Rattle.stow_message.specs.Rising.{in_range}
+use Rattle.stow_leaf.specs.StowMerge.Pins.{pins_in}
+use Rattle.stow_leaf.specs.StowMessage.Rising.{in_range}
 use Rattle.stow_leaves.proofs.Forgotten.{forgets_nothing}
 use Rattle.stow_leaves.proofs.GivenWay.{forgets_alone}
 use Rattle.stow_leaves.proofs.Replaced.{can_take}

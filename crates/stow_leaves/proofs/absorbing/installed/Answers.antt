@@ -2,9 +2,9 @@ use Rattle.std.proofs.Common.{◌+◌, map, subst, sym}
 use Rattle.stow_leaf.specs.LeafRows.{LeafRows, leaf_rows}
 use Rattle.stow_leaf.specs.Replacements.{IsJobOf, TakePlace}
 use Rattle.stow_leaf.proofs.Steps.{if_ok}
-use Rattle.stow_merge.specs.Covering.{Covers}
-use Rattle.stow_merge.specs.Pins.{pins_in}
-use Rattle.stow_tree_model.specs.Agreement.{TenantPins}
+use Rattle.stow_leaf.specs.StowMerge.Covering.{Covers}
+use Rattle.stow_leaf.specs.StowMerge.Pins.{pins_in}
+use Rattle.stow_leaf_cache.specs.StowTreeModel.Agreement.{TenantPins}
 use Rattle.stow_leaves.specs.Absorbs.{fence_at}
 use Rattle.stow_leaves.proofs.Replaced.{can_put, installed_stands_for, rows_at, same_leaf}
 use Rattle.stow_leaves.proofs.absorbing.installed.Given as given

@@ -4,7 +4,7 @@ use Rattle.stow_leaf.specs.LeafRows.{LeafRows, leaf_rows}
 use Rattle.stow_leaf.specs.Replacements.{CanReplace, IsReplacement}
 use Rattle.stow_leaf.specs.declared.leaf.Leaf.{Leaf}
 use Rattle.stow_leaf.proofs.Steps.{if_ok}
-use Rattle.stow_merge.specs.Pins.{pins_in}
+use Rattle.stow_leaf.specs.StowMerge.Pins.{pins_in}
 use Rattle.stow_leaves.specs.Absorbs.{fence_at}
 use Rattle.stow_leaves.proofs.Replaced.{can_put, can_replace, merged_stands_for, rows_at, same_leaf}
 use Rattle.stow_leaves.proofs.absorbing.merged.Given as given

@@ -1,9 +1,9 @@
 use Rattle.std.proofs.Common.{◌≡◌, ◌∙◌, length, map, ap, sym, true, false, arith}
 use Rattle.std.proofs.lemmas.List.{length-map}
 use Rattle.std.proofs.lemmas.Option.{slice_get_within}
-use Rattle.stow_tree_model.specs.Merged.{same_key}
-use Rattle.stow_tree_model.specs.TreeMessage.{message_of}
-use Rattle.stow_tree_model.specs.declared.message.Message as messages
+use Rattle.stow_page.specs.StowTreeModel.Merged.{same_key}
+use Rattle.stow_page.specs.StowTreeModel.TreeMessage.{message_of}
+use Rattle.stow_page.specs.StowTreeModel.declared.message.Message as messages
 use Rattle.stow_merge.proofs.OneKeyLemmas.{more_messages, other_message}
 use Rattle.stow_merge.proofs.by_keys.count_of_key.Goals as goal
 

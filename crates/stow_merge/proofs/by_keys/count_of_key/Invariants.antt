@@ -1,6 +1,6 @@
 use Rattle.std.proofs.Common.{◌≡◌, ℕ, ◌<◌, Some, map}
 use Rattle.std.specs.Prelude.{slice_get}
-use Rattle.stow_tree_model.specs.TreeMessage.{TreeMessage, message_of}
+use Rattle.stow_page.specs.StowTreeModel.TreeMessage.{TreeMessage, message_of}
 use Rattle.stow_merge.proofs.by_keys.count_of_key.Given as goal
 
 abbrev pub invariant-loop-i : goal.invariant-loop-i

@@ -1,11 +1,11 @@
 use Rattle.std.proofs.Common.{◌≡◌, ◌∙◌, ◌-◌, ◌++◌, List, length, map, take, drop, get_or, ap, sym, subst, arith}
 use Rattle.std.proofs.lemmas.List.{length-map, take_rest, length-drop}
-use Rattle.stow_tree_model.specs.Merged.{merged, rows_set}
-use Rattle.stow_tree_model.specs.Messages.{with_all}
-use Rattle.stow_tree_model.specs.Order.{VersionsRise}
-use Rattle.stow_tree_model.specs.TreeMessage.{message_of}
-use Rattle.stow_tree_model.specs.declared.message.Message as messages
-use Rattle.stow_tree_model.proofs.Pruning.{pruning}
+use Rattle.stow_page.specs.StowTreeModel.Merged.{merged, rows_set}
+use Rattle.stow_page.specs.StowTreeModel.Messages.{with_all}
+use Rattle.stow_page.specs.StowTreeModel.Order.{VersionsRise}
+use Rattle.stow_page.specs.StowTreeModel.TreeMessage.{message_of}
+use Rattle.stow_page.specs.StowTreeModel.declared.message.Message as messages
+use Rattle.stow_page.proofs.StowTreeModel.Pruning.{pruning}
 use Rattle.stow_merge.specs.OneKey.{AreOfOneKey, CanFollow, IsRunOf, rows_of}
 use Rattle.stow_merge.specs.Pins.{pins_in}
 use Rattle.stow_merge.proofs.Going.{AreRows, IsNext, begins, ends_with, goes_on, key_follows, of_one_key, row_within, run_rises}

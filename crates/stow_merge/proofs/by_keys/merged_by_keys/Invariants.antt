@@ -1,6 +1,6 @@
 use Rattle.std.proofs.Common.{map, length, ◌-◌}
 use Rattle.stow_merge.specs.Pins.{pins_in}
-use Rattle.stow_tree_model.specs.TreeMessage.{message_of}
+use Rattle.stow_page.specs.StowTreeModel.TreeMessage.{message_of}
 use Rattle.stow_merge.proofs.Going.{IsMergedUpTo}
 use Rattle.stow_merge.proofs.by_keys.merged_by_keys.Given as goal
 

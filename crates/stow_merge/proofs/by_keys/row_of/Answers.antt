@@ -1,5 +1,5 @@
 use Rattle.std.proofs.Common.{sym, ◌∙◌, arith}
-use Rattle.stow_tree_model.specs.Version.{version_of}
+use Rattle.stow_page.specs.StowTreeModel.Version.{version_of}
 use Rattle.stow_merge.proofs.OneKeyLemmas.{row_past, one_row, other_row}
 use Rattle.stow_merge.proofs.by_keys.row_of.Goals as goal
 

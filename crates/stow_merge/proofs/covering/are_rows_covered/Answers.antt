@@ -1,7 +1,7 @@
 use Rattle.std.proofs.Common.{◌≡◌, ◌<◌, false, true, length, sym, ◌∙◌, subst, arith}
 use Rattle.std.proofs.lemmas.Option.{get_or_from_slice_get}
-use Rattle.stow_tree_model.specs.Keys.{tenant_of}
-use Rattle.stow_tree_model.specs.Version.{Version, version_of}
+use Rattle.stow_page.specs.StowTreeModel.Keys.{tenant_of}
+use Rattle.stow_page.specs.StowTreeModel.Version.{Version, version_of}
 use Rattle.stow_merge.specs.Covering.{IsCovered}
 use Rattle.stow_merge.specs.Pins.{pins_in}
 use Rattle.stow_merge.proofs.Lists.{one_more_has}

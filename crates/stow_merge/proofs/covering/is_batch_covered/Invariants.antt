@@ -1,6 +1,6 @@
 use Rattle.std.proofs.Common.{ℕ, ◌<◌, get_or}
-use Rattle.stow_tree_model.specs.Keys.{tenant_of}
-use Rattle.stow_tree_model.specs.TreeMessage.{TreeMessage}
+use Rattle.stow_page.specs.StowTreeModel.Keys.{tenant_of}
+use Rattle.stow_page.specs.StowTreeModel.TreeMessage.{TreeMessage}
 use Rattle.stow_merge.specs.Covering.{IsCovered}
 use Rattle.stow_merge.specs.Pins.{pins_in}
 use Rattle.stow_merge.proofs.covering.is_batch_covered.Given as goal

@@ -1,7 +1,7 @@
 use Rattle.std.proofs.Common.{ℕ, ◌<◌, get_or, map}
 use Rattle.stow_message.specs.Rising.{IsNew}
-use Rattle.stow_tree_model.specs.Merged.{row_message}
-use Rattle.stow_tree_model.specs.TreeMessage.{TreeMessage}
+use Rattle.stow_page.specs.StowTreeModel.Merged.{row_message}
+use Rattle.stow_page.specs.StowTreeModel.TreeMessage.{TreeMessage}
 use Rattle.stow_merge.proofs.fitting.are_new.Given as goal
 
 abbrev pub invariant-loop-i : goal.invariant-loop-i

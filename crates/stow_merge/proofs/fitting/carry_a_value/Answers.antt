@@ -1,7 +1,7 @@
 use Rattle.std.proofs.lemmas.Grind.{common_steps}
 use Rattle.std.proofs.Common.{◌≡◌, ◌∙◌, ◌+◌, length, ap, sym, arith, true, false}
-use Rattle.stow_tree_model.specs.Op.{op_of, bytes_in}
-use Rattle.stow_tree_model.specs.declared.message.Message as messages
+use Rattle.stow_page.specs.StowTreeModel.Op.{op_of, bytes_in}
+use Rattle.stow_page.specs.StowTreeModel.declared.message.Message as messages
 use Rattle.stow_merge.proofs.WritingLemmas.{carried_more, carried_within}
 use Rattle.stow_merge.proofs.fitting.carry_a_value.Goals as goal
 

@@ -1,6 +1,6 @@
 use Rattle.std.proofs.Common.{◌≡◌, ◌+◌, length, map, take}
-use Rattle.stow_bytes.specs.Limits.{value_limit}
-use Rattle.stow_tree_model.specs.TreeMessage.{message_of}
+use Rattle.stow_page.specs.StowBytes.Limits.{value_limit}
+use Rattle.stow_page.specs.StowTreeModel.TreeMessage.{message_of}
 use Rattle.stow_merge.proofs.WritingLemmas.{carried}
 use Rattle.stow_merge.proofs.fitting.carry_a_value.Given as goal
 

@@ -1,8 +1,8 @@
 use Rattle.std.proofs.Common.{◌≡◌, ◌∙◌, map, ap, sym, subst, rules}
 use Rattle.std.specs.Prelude.{IsTrue, ◌↔◌}
 use Rattle.stow_message.specs.Rising.{AreNew}
-use Rattle.stow_tree_model.specs.Merged.{merged, row_message}
-use Rattle.stow_tree_model.specs.TreeMessage.{message_of}
+use Rattle.stow_page.specs.StowTreeModel.Merged.{merged, row_message}
+use Rattle.stow_page.specs.StowTreeModel.TreeMessage.{message_of}
 use Rattle.stow_merge.specs.Mergeable.{IsMergeable}
 use Rattle.stow_merge.specs.Pages.{HaveShortValues}
 use Rattle.stow_merge.specs.Pins.{pins_in}

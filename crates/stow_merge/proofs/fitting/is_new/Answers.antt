@@ -4,10 +4,10 @@ use Rattle.std.specs.Ordering.{is_eq}
 use Rattle.std.specs.Cmp.{tied_itself}
 use Rattle.std.proofs.lemmas.Bool.{true≢false}
 use Rattle.stow_message.proofs.RisingLists.{was_false}
-use Rattle.stow_tree_model.specs.Order.{place_cmp, place_of, version_place}
-use Rattle.stow_tree_model.specs.TreeMessage.{message_of}
-use Rattle.stow_tree_model.specs.Version.{version_of}
-use Rattle.stow_tree_model.proofs.Orders.{place_total}
+use Rattle.stow_page.specs.StowTreeModel.Order.{place_cmp, place_of, version_place}
+use Rattle.stow_page.specs.StowTreeModel.TreeMessage.{message_of}
+use Rattle.stow_page.specs.StowTreeModel.Version.{version_of}
+use Rattle.stow_page.proofs.StowTreeModel.Orders.{place_total}
 use Rattle.stow_merge.proofs.Places.{new_by_none, new_by_last, new_is_elsewhere}
 use Rattle.stow_merge.proofs.fitting.is_new.Goals as goal
 

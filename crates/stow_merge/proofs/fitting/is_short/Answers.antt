@@ -1,6 +1,6 @@
 use Rattle.std.proofs.Common.{◌≡◌, ◌∙◌, ◌≤◌, List, ℕ, Option, length, drop, take, map, ap, sym, subst, Some}
-use Rattle.stow_bytes.specs.Limits.{value_limit}
-use Rattle.stow_tree_model.specs.TreeMessage.{message_of}
+use Rattle.stow_page.specs.StowBytes.Limits.{value_limit}
+use Rattle.stow_page.specs.StowTreeModel.TreeMessage.{message_of}
 use Rattle.stow_merge.specs.KeptVersion.{bytes_between, value_between}
 use Rattle.stow_merge.proofs.WritingLemmas.{between_bytes}
 use Rattle.stow_merge.proofs.fitting.is_short.Goals as goal

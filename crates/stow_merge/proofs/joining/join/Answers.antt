@@ -2,13 +2,13 @@ use Rattle.std.proofs.lemmas.Grind.{common_steps}
 use Rattle.std.proofs.Common.{◌≡◌, ◌∙◌, [], ◌++◌, drop, sym, subst, map, arith}
 use Rattle.std.specs.List.Sorted.{IsStrictlySortedBy}
 use Rattle.std.proofs.lemmas.List.{append-nil}
-use Rattle.stow_tree_model.specs.Order.{place_cmp}
-use Rattle.stow_tree_model.specs.Merged.{row_message}
-use Rattle.stow_tree_model.specs.TreeMessage.{message_of}
-use Rattle.stow_tree_model.specs.Version.{version_of}
-use Rattle.stow_tree_model.specs.Zipped.{zipped}
-use Rattle.stow_tree_model.proofs.Merges.{same_places}
-use Rattle.stow_tree_model.proofs.Zipped.{zipped_in_order}
+use Rattle.stow_page.specs.StowTreeModel.Order.{place_cmp}
+use Rattle.stow_page.specs.StowTreeModel.Merged.{row_message}
+use Rattle.stow_page.specs.StowTreeModel.TreeMessage.{message_of}
+use Rattle.stow_page.specs.StowTreeModel.Version.{version_of}
+use Rattle.stow_page.specs.StowTreeModel.Zipped.{zipped}
+use Rattle.stow_page.proofs.StowTreeModel.Merges.{same_places}
+use Rattle.stow_page.proofs.StowTreeModel.Zipped.{zipped_in_order}
 use Rattle.stow_merge.proofs.Pieces.{drop_past}
 use Rattle.stow_merge.proofs.joining.join.Goals as goal
 

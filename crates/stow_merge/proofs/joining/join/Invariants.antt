@@ -1,8 +1,8 @@
 use Rattle.std.proofs.Common.{◌≡◌, ◌+◌, ◌-◌, ◌≤◌, ◌++◌, length, drop, map}
-use Rattle.stow_tree_model.specs.Merged.{row_message}
-use Rattle.stow_tree_model.specs.TreeMessage.{message_of}
-use Rattle.stow_tree_model.specs.Version.{version_of}
-use Rattle.stow_tree_model.specs.Zipped.{zipped}
+use Rattle.stow_page.specs.StowTreeModel.Merged.{row_message}
+use Rattle.stow_page.specs.StowTreeModel.TreeMessage.{message_of}
+use Rattle.stow_page.specs.StowTreeModel.Version.{version_of}
+use Rattle.stow_page.specs.StowTreeModel.Zipped.{zipped}
 use Rattle.stow_merge.proofs.joining.join.Given as goal
 
 abbrev pub invariant-loop-i : goal.invariant-loop-i

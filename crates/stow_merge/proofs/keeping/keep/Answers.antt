@@ -4,10 +4,10 @@ use Rattle.std.proofs.Math.ListN.{get_or-map}
 use Rattle.std.proofs.lemmas.Grind.{common_steps}
 use Rattle.std.proofs.lemmas.List.{length-map}
 use Rattle.std.proofs.lemmas.Option.{slice_get-get_or}
-use Rattle.stow_tree_model.specs.Merged.{trimmed, kept, begins_with, is_kept, version_at}
-use Rattle.stow_tree_model.specs.Operations.{outcome}
-use Rattle.stow_tree_model.specs.TreeMessage.{TreeMessage, message_of}
-use Rattle.stow_tree_model.proofs.Folds.{Folded, fold_none, one_more, loop_step, slice_past}
+use Rattle.stow_page.specs.StowTreeModel.Merged.{trimmed, kept, begins_with, is_kept, version_at}
+use Rattle.stow_page.specs.StowTreeModel.Operations.{outcome}
+use Rattle.stow_page.specs.StowTreeModel.TreeMessage.{TreeMessage, message_of}
+use Rattle.stow_page.proofs.StowTreeModel.Folds.{Folded, fold_none, one_more, loop_step, slice_past}
 use Rattle.stow_merge.specs.KeptVersion.{value_between, kept_version, is_of_key}
 use Rattle.stow_merge.specs.Pins.{pins_in}
 use Rattle.stow_merge.proofs.Pieces.{IsBehind, behind_none, behind_after, behind_if, value_if, value_more, is_some-value, map_if}

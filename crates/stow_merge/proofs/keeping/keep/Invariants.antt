@@ -1,8 +1,8 @@
 use Rattle.std.proofs.Common.{◌≡◌, Some, take, map, reverse}
 use Rattle.std.specs.Prelude.{slice_get}
-use Rattle.stow_tree_model.specs.Merged.{begins_with}
-use Rattle.stow_tree_model.specs.TreeMessage.{TreeMessage, message_of}
-use Rattle.stow_tree_model.proofs.Folds.{Folded}
+use Rattle.stow_page.specs.StowTreeModel.Merged.{begins_with}
+use Rattle.stow_page.specs.StowTreeModel.TreeMessage.{TreeMessage, message_of}
+use Rattle.stow_page.proofs.StowTreeModel.Folds.{Folded}
 use Rattle.stow_merge.specs.KeptVersion.{value_between, kept_version}
 use Rattle.stow_merge.specs.Pins.{pins_in}
 use Rattle.stow_merge.proofs.Pieces.{IsBehind}

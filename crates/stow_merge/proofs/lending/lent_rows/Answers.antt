@@ -2,7 +2,7 @@ use Rattle.std.proofs.lemmas.Grind.{common_steps}
 use Rattle.std.proofs.Common.{◌∙◌, ◌<◌, ◌∷◌, [], ◌++◌, length, take, map, sym, ap, arith}
 use Rattle.std.proofs.lemmas.List.{map-append, take_more}
 use Rattle.std.proofs.lemmas.Option.{get_or_from_slice_get}
-use Rattle.stow_tree_model.specs.Version.{version_of}
+use Rattle.stow_page.specs.StowTreeModel.Version.{version_of}
 use Rattle.stow_merge.proofs.lending.lent_rows.Goals as goal
 
 pub loop-i-preserved : goal.loop-i-preserved

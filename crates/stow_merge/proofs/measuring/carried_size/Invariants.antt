@@ -1,5 +1,5 @@
 use Rattle.std.proofs.Common.{◌≡◌, length, map, take}
-use Rattle.stow_tree_model.specs.TreeMessage.{message_of}
+use Rattle.stow_page.specs.StowTreeModel.TreeMessage.{message_of}
 use Rattle.stow_merge.proofs.WritingLemmas.{carried}
 use Rattle.stow_merge.proofs.measuring.carried_size.Given as goal
 

@@ -2,8 +2,8 @@ use Rattle.std.proofs.Common.{◌≡◌, ◌∙◌, arith, sym, subst, true, fal
 use Rattle.std.proofs.lemmas.Grind.{common_steps}
 use Rattle.stow_page.proofs.Formats.{format_of-long, format_of-short}
 use Rattle.stow_page.specs.Format.{is_long, has_long}
-use Rattle.stow_tree_model.specs.Value.{IsValue}
-use Rattle.stow_tree_model.specs.Version.{Version}
+use Rattle.stow_page.specs.StowTreeModel.Value.{IsValue}
+use Rattle.stow_page.specs.StowTreeModel.Version.{Version}
 use Rattle.stow_merge.specs.Pages.{HaveShortValues}
 use Rattle.stow_merge.specs.Writing.{version_in, versions_in}
 use Rattle.stow_merge.proofs.Lists.{all_mapped_at}

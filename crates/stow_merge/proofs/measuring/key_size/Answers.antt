@@ -1,7 +1,7 @@
 use Rattle.std.proofs.Common.{arith}
 use Rattle.std.proofs.lemmas.Grind.{common_steps}
-use Rattle.stow_tree_model.specs.Value.{IsValue}
-use Rattle.stow_tree_model.specs.Version.{Version}
+use Rattle.stow_page.specs.StowTreeModel.Value.{IsValue}
+use Rattle.stow_page.specs.StowTreeModel.Version.{Version}
 use Rattle.stow_merge.specs.Writing.{version_in}
 use Rattle.stow_merge.proofs.Lists.{all_mapped_at}
 use Rattle.stow_merge.proofs.measuring.key_size.Goals as goal

@@ -1,6 +1,6 @@
 use Rattle.std.proofs.Common.{◌∙◌, ap, arith, drop, length, map, take}
 use Rattle.stow_page.specs.Format.{tail}
-use Rattle.stow_tree_model.specs.TreeMessage.{message_of}
+use Rattle.stow_page.specs.StowTreeModel.TreeMessage.{message_of}
 use Rattle.stow_merge.proofs.WritingLemmas.{carried, carried_value}
 use Rattle.stow_merge.proofs.measuring.tail_size.Goals as goal
 

@@ -1,8 +1,8 @@
 use Rattle.std.proofs.Common.{◌≡◌, ◌∙◌, map, ap, sym, subst}
-use Rattle.stow_tree_model.specs.Merged.{merged, rows_set}
-use Rattle.stow_tree_model.specs.Messages.{with_all}
-use Rattle.stow_tree_model.specs.TreeMessage.{message_of}
-use Rattle.stow_tree_model.specs.Version.{version_of}
+use Rattle.stow_page.specs.StowTreeModel.Merged.{merged, rows_set}
+use Rattle.stow_page.specs.StowTreeModel.Messages.{with_all}
+use Rattle.stow_page.specs.StowTreeModel.TreeMessage.{message_of}
+use Rattle.stow_page.specs.StowTreeModel.Version.{version_of}
 use Rattle.stow_merge.specs.Pins.{pins_in}
 use Rattle.stow_merge.specs.Writing.{CanMerge, versions_in}
 use Rattle.stow_merge.proofs.FewLemmas.{can_merge}

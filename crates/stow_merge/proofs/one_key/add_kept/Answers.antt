@@ -1,7 +1,7 @@
 use Rattle.std.proofs.Common.{◌++◌, ◌∷◌, [], map, take, sym, subst}
-use Rattle.stow_tree_model.specs.Order.{VersionsRise}
-use Rattle.stow_tree_model.specs.Value.{IsValue}
-use Rattle.stow_tree_model.specs.Version.{Version, version_of}
+use Rattle.stow_page.specs.StowTreeModel.Order.{VersionsRise}
+use Rattle.stow_page.specs.StowTreeModel.Value.{IsValue}
+use Rattle.stow_page.specs.StowTreeModel.Version.{Version, version_of}
 use Rattle.stow_merge.specs.Writing.{version_in}
 use Rattle.stow_merge.proofs.Lists.{all_mapped_at}
 use Rattle.stow_merge.proofs.WritingLemmas.{rise_next}

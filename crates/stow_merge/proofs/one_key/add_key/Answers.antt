@@ -1,4 +1,4 @@
-use Rattle.stow_tree_model.specs.Version.{version_of}
+use Rattle.stow_page.specs.StowTreeModel.Version.{version_of}
 use Rattle.stow_merge.proofs.OneKeyLemmas.{none_rise, one_rises}
 use Rattle.stow_merge.proofs.one_key.add_key.Goals as goal
 

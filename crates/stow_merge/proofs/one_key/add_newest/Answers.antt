@@ -1,9 +1,9 @@
 use Rattle.std.proofs.Common.{◌≡◌, ◌∙◌, ◌++◌, IfOk, IsTrue, None, Some, map, ap, sym, subst}
 use Rattle.std.proofs.lemmas.List.{append-nil}
-use Rattle.stow_tree_model.specs.Op.{op_of}
-use Rattle.stow_tree_model.specs.Operations.{bytes_or_none, outcome}
-use Rattle.stow_tree_model.specs.Order.{VersionsRise}
-use Rattle.stow_tree_model.specs.TreeMessage.{message_of}
+use Rattle.stow_page.specs.StowTreeModel.Op.{op_of}
+use Rattle.stow_page.specs.StowTreeModel.Operations.{bytes_or_none, outcome}
+use Rattle.stow_page.specs.StowTreeModel.Order.{VersionsRise}
+use Rattle.stow_page.specs.StowTreeModel.TreeMessage.{message_of}
 use Rattle.stow_merge.specs.OneKey.{folded, left_by, rows_of, version_with}
 use Rattle.stow_merge.proofs.OneKeyLemmas.{newest_makes}
 use Rattle.stow_merge.proofs.one_key.add_newest.Given as given

@@ -1,5 +1,5 @@
 use Rattle.std.proofs.Common.{◌≡◌, ◌∙◌, [], ap, refl, sym}
-use Rattle.stow_tree_model.specs.Keys.{tenant_of}
+use Rattle.stow_page.specs.StowTreeModel.Keys.{tenant_of}
 use Rattle.stow_merge.specs.OneKey.{rows_of}
 use Rattle.stow_merge.specs.Pins.{pins_in}
 use Rattle.stow_merge.proofs.OneKeyLemmas.{newest_stays, none_there, one_at_most}

@@ -1,8 +1,8 @@
 use Rattle.std.proofs.Common.{◌∙◌, map, take, ap, sym}
-use Rattle.stow_tree_model.specs.Op.{op_of}
-use Rattle.stow_tree_model.specs.Operations.{bytes_or_none, outcome}
-use Rattle.stow_tree_model.specs.TreeMessage.{message_of}
-use Rattle.stow_tree_model.specs.declared.message.Message as messages
+use Rattle.stow_page.specs.StowTreeModel.Op.{op_of}
+use Rattle.stow_page.specs.StowTreeModel.Operations.{bytes_or_none, outcome}
+use Rattle.stow_page.specs.StowTreeModel.TreeMessage.{message_of}
+use Rattle.stow_page.specs.StowTreeModel.declared.message.Message as messages
 use Rattle.stow_merge.specs.OneKey.{folded, left_by, rows_of}
 use Rattle.stow_merge.proofs.Folded.{folded_more}
 use Rattle.stow_merge.proofs.WritingLemmas.{mapped_more}

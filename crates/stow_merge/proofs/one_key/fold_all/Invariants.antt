@@ -1,6 +1,6 @@
 use Rattle.std.proofs.Common.{◌≡◌, map, take}
-use Rattle.stow_tree_model.specs.Operations.{bytes_or_none}
-use Rattle.stow_tree_model.specs.TreeMessage.{message_of}
+use Rattle.stow_page.specs.StowTreeModel.Operations.{bytes_or_none}
+use Rattle.stow_page.specs.StowTreeModel.TreeMessage.{message_of}
 use Rattle.stow_merge.specs.OneKey.{folded, left_by, rows_of}
 use Rattle.stow_merge.proofs.one_key.fold_all.Given as goal
 

@@ -1,6 +1,6 @@
 use Rattle.std.proofs.Common.{◌∙◌, ◌+◌, sym, arith}
 use Rattle.std.proofs.lemmas.Option.{slice_get_within}
-use Rattle.stow_tree_model.specs.Version.{version_of}
+use Rattle.stow_page.specs.StowTreeModel.Version.{version_of}
 use Rattle.stow_merge.proofs.PartLemmas.{apart_more}
 use Rattle.stow_merge.proofs.parts.are_apart.Goals as goal
 

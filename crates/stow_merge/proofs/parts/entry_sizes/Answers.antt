@@ -1,6 +1,6 @@
 use Rattle.std.proofs.Common.{◌∙◌, ap, length}
 use Rattle.stow_page.specs.Format.{entry, format_of}
-use Rattle.stow_tree_model.specs.Version.{version_of}
+use Rattle.stow_page.specs.StowTreeModel.Version.{version_of}
 use Rattle.stow_merge.proofs.PartLemmas.{sizes_more}
 use Rattle.stow_merge.proofs.parts.entry_sizes.Goals as goal
 

@@ -1,5 +1,5 @@
 use Rattle.std.proofs.Common.{◌∙◌, ◌++◌, ◌∷◌, [], ap, sym, subst}
-use Rattle.stow_tree_model.specs.Version.{version_of}
+use Rattle.stow_page.specs.StowTreeModel.Version.{version_of}
 use Rattle.stow_merge.specs.Writing.{CanPack}
 use Rattle.stow_merge.proofs.PartLemmas.{pack_more, part_more}
 use Rattle.stow_merge.proofs.parts.part.Given as given

@@ -1,6 +1,6 @@
 use Rattle.std.proofs.Common.{◌∙◌, ap, map}
-use Rattle.stow_tree_model.specs.TreeMessage.{message_of}
-use Rattle.stow_tree_model.proofs.Readings.{rises-in_order}
+use Rattle.stow_page.specs.StowTreeModel.TreeMessage.{message_of}
+use Rattle.stow_page.proofs.StowTreeModel.Readings.{rises-in_order}
 use Rattle.stow_merge.proofs.survey.survey_of.Goals as goal
 
 pub keep-requires : goal.keep-requires

@@ -1,7 +1,7 @@
 use Rattle.std.proofs.Common.{◌≡◌, ◌∙◌, ◌+◌, ◌-◌, ◌<◌, ◌≤◌, ◌∷◌, [], ◌++◌, List, length, drop, take, get_or, map, sym, ap, subst, arith, append_assoc, length-drop, take_all}
 use Rattle.std.proofs.lemmas.List.{append-nil, map-append}
 use Rattle.std.proofs.Math.Seq.{drop-drop, drop-length}
-use Rattle.stow_tree_model.proofs.Readings.{drop_one_less}
+use Rattle.stow_page.proofs.StowTreeModel.Readings.{drop_one_less}
 use Rattle.stow_merge.specs.Writing.{AreRuns, IsKeyRun}
 use Rattle.stow_merge.specs.declared.kept_version.KeptVersion as coded
 use Rattle.stow_merge.proofs.KeyLemmas.{one_run, run_more}

@@ -2,8 +2,8 @@ use Rattle.std.proofs.lemmas.Grind.{common_steps}
 use Rattle.std.proofs.Common.{◌≡◌, ◌∷◌, [], true, false, sym, subst, rules, arith}
 use Rattle.std.specs.List.{AllByRecursion}
 use Rattle.stow_merge.specs.declared.kept_version.KeptVersion as coded
-use Rattle.stow_tree_model.specs.Merged.{same_key}
-use Rattle.stow_tree_model.proofs.Readings.{drop_one_less}
+use Rattle.stow_page.specs.StowTreeModel.Merged.{same_key}
+use Rattle.stow_page.proofs.StowTreeModel.Readings.{drop_one_less}
 use Rattle.stow_merge.proofs.Lists.{all_join}
 use Rattle.stow_merge.proofs.WritingLemmas.{one_more, same_from, other_from}
 use Rattle.stow_merge.proofs.writing.run_length.Goals as goal

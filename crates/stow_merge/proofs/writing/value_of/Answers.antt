@@ -1,5 +1,5 @@
 use Rattle.std.proofs.Common.{◌≡◌, ◌∙◌, ap, sym, map, length, drop, take, Some}
-use Rattle.stow_tree_model.specs.TreeMessage.{message_of}
+use Rattle.stow_page.specs.StowTreeModel.TreeMessage.{message_of}
 use Rattle.stow_merge.specs.KeptVersion.{value_between}
 use Rattle.stow_merge.proofs.WritingLemmas.{between_bytes}
 use Rattle.stow_merge.proofs.writing.value_of.Goals as goal

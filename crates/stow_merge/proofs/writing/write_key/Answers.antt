@@ -1,7 +1,7 @@
 use Rattle.std.proofs.lemmas.Grind.{common_steps}
 use Rattle.std.proofs.Common.{◌++◌, ◌∷◌, [], sym, subst, arith}
-use Rattle.stow_tree_model.specs.Value.{IsValue}
-use Rattle.stow_tree_model.specs.Version.{Version}
+use Rattle.stow_page.specs.StowTreeModel.Value.{IsValue}
+use Rattle.stow_page.specs.StowTreeModel.Version.{Version}
 use Rattle.stow_merge.specs.Writing.{CanPack, version_in, versions_in}
 use Rattle.stow_merge.proofs.Lists.{all_mapped_at, all_split}
 use Rattle.stow_merge.proofs.WritingLemmas.{pack_next}

@@ -2,7 +2,7 @@ use Rattle.std.proofs.lemmas.Grind.{common_steps}
 use Rattle.std.proofs.Common.{◌≡◌, ◌∙◌, ◌+◌, ◌∷◌, [], ◌++◌, List, drop, take, get_or, sym, ap, subst, append_assoc, arith}
 use Rattle.std.specs.List.{AllByRecursion}
 use Rattle.std.proofs.lemmas.List.{take-map, drop-map}
-use Rattle.stow_tree_model.specs.Version.{Version}
+use Rattle.stow_page.specs.StowTreeModel.Version.{Version}
 use Rattle.stow_merge.specs.Pages.{read_in_order}
 use Rattle.stow_merge.specs.Writing.{CanPack, versions_in, keys_in, pages_at}
 use Rattle.stow_merge.proofs.WritingLemmas.{drop_first}

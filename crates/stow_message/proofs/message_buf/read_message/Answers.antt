@@ -1,5 +1,5 @@
 use Rattle.std.proofs.Common.{◌≡◌, ◌+◌, ◌≤◌, length, drop, refl, sym, ap, ◌∙◌, arith, subst, length-take, length-drop}
-use Rattle.stow_bytes.specs.Limits.{value_limit, number_limit}
+use Rattle.stow_tree_model.specs.StowBytes.Limits.{value_limit, number_limit}
 use Rattle.stow_tree_model.specs.Keys.{IsTenantKey, IsOfTenant}
 use Rattle.stow_tree_model.specs.Op.{bytes_in, op_of}
 use Rattle.stow_message.specs.Packed.{op_by}

@@ -1,5 +1,5 @@
 use Rattle.std.proofs.Common.{◌≡◌, ◌++◌, take}
-use Rattle.stow_raw.specs.RawBuf.{raw_lists}
+use Rattle.stow_slots.specs.StowRaw.RawBuf.{raw_lists}
 use Rattle.stow_message.specs.Packed.{all_bytes}
 use Rattle.stow_message.proofs.putting.append_all.Given as goal
 

@@ -1,6 +1,6 @@
 use Rattle.std.proofs.Common.{map, sym, subst}
-use Rattle.stow_leaf.specs.LeafRows.{leaf_rows}
-use Rattle.stow_merge.specs.Pins.{pins_in}
+use Rattle.stow_leaves.specs.StowLeaf.LeafRows.{leaf_rows}
+use Rattle.stow_leaves.specs.StowMerge.Pins.{pins_in}
 use Rattle.stow_leaves.specs.AbsorbsAll.{CanAbsorbAll, MergesAll, StandsForAll}
 use Rattle.stow_leaves.specs.Forgets.{Forgets}
 use Rattle.stow_node.specs.Nodes.{leaves_of}

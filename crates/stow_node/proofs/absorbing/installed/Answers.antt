@@ -1,6 +1,6 @@
 use Rattle.std.proofs.Common.{map, sym, subst}
-use Rattle.stow_leaf.specs.Intervals.{top_key}
-use Rattle.stow_leaf.specs.LeafRows.{leaf_rows, LeavesTo}
+use Rattle.stow_leaves.specs.StowLeaf.Intervals.{top_key}
+use Rattle.stow_leaves.specs.StowLeaf.LeafRows.{leaf_rows, LeavesTo}
 use Rattle.stow_leaves.specs.Absorbs.{CanPutPages, PutsPages}
 use Rattle.stow_leaves.specs.Forgets.{Forgets}
 use Rattle.stow_node.specs.Nodes.{leaves_of}

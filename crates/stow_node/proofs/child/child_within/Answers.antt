@@ -1,7 +1,7 @@
 use Rattle.std.proofs.Common.{◌+◌, ◌-◌, ◌/◌, arith, ap, ◌∙◌, sym}
 use Rattle.std.proofs.lemmas.List.{length-map}
 use Rattle.stow_node.specs.Nodes.{part_of, parts_of}
-use Rattle.stow_leaf.proofs.Intervals.{lt}
+use Rattle.stow_leaves.proofs.StowLeaf.Intervals.{lt}
 use Rattle.stow_node.proofs.Places.{low_spans, is_for, upper_half, lower_half}
 use Rattle.stow_node.proofs.child.child_within.Goals as goal
 

@@ -1,7 +1,7 @@
 use Rattle.std.proofs.Common.{sym, ap, ◌∙◌, arith}
 use Rattle.std.proofs.lemmas.List.{length-map}
 use Rattle.stow_node.specs.Nodes.{part_of}
-use Rattle.stow_leaf.proofs.Intervals.{lt}
+use Rattle.stow_leaves.proofs.StowLeaf.Intervals.{lt}
 use Rattle.stow_node.proofs.Places.{low_at}
 use Rattle.stow_node.proofs.child.is_before.Goals as goal
 

@@ -2,7 +2,7 @@ use Rattle.std.proofs.Common.{sym, ap, ◌∙◌, arith}
 use Rattle.std.proofs.lemmas.Bool.{not-true}
 use Rattle.std.proofs.lemmas.List.{length-map}
 use Rattle.stow_node.specs.Nodes.{part_of, parts_of}
-use Rattle.stow_leaf.proofs.Intervals.{lt}
+use Rattle.stow_leaves.proofs.StowLeaf.Intervals.{lt}
 use Rattle.stow_node.proofs.Places.{at_first, low_at}
 use Rattle.stow_node.proofs.child.is_from.Goals as goal
 

@@ -1,6 +1,6 @@
 use Rattle.std.proofs.Common.{◌≡◌, ◌+◌, ◌-◌, ◌<◌, ap, ◌∙◌, subst, arith}
 use Rattle.std.proofs.lemmas.Bool.Decides.{nat_tests}
-use Rattle.stow_leaf.proofs.Steps.{if_ok}
+use Rattle.stow_leaves.proofs.StowLeaf.Steps.{if_ok}
 use Rattle.stow_groups.specs.Groups.{groups}
 use Rattle.stow_node.specs.Rooms.{IsRoom, nodes_needed, levels_needed, places_needed}
 use Rattle.stow_node.proofs.Rooms.{room_is}

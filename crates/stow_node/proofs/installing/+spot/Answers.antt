@@ -1,8 +1,8 @@
 use Rattle.std.proofs.Common.{rules, ◌≡◌, ℕ, ◌<◌, ◌∙◌, sym, subst}
 use Rattle.std.specs.Prelude.{slice_get, Some, IsTrue}
-use Rattle.stow_message.proofs.RisingLists.{no_path}
-use Rattle.stow_leaf.specs.Intervals.{top_key, spans, NoneOutside}
-use Rattle.stow_merge.specs.Pins.{pins_in}
+use Rattle.stow_leaves.proofs.StowMessage.RisingLists.{no_path}
+use Rattle.stow_leaves.specs.StowLeaf.Intervals.{top_key, spans, NoneOutside}
+use Rattle.stow_leaves.specs.StowMerge.Pins.{pins_in}
 use Rattle.stow_node.specs.Nodes.{parts_of}
 use Rattle.stow_node.specs.Parts.{high_of, IsFor}
 use Rattle.stow_node.specs.declared.child.Child.TheVariants as in_child

@@ -1,6 +1,6 @@
 use Rattle.std.proofs.Common.{◌∙◌, sym, ap}
-use Rattle.stow_leaf.specs.Intervals.{top_key, spans}
-use Rattle.stow_message.proofs.RisingLists.{no_path}
+use Rattle.stow_leaves.specs.StowLeaf.Intervals.{top_key, spans}
+use Rattle.stow_leaves.proofs.StowMessage.RisingLists.{no_path}
 use Rattle.stow_node.proofs.Installable.{fence_held}
 use Rattle.stow_node.proofs.installing.can_install.Goals as goal
 

@@ -1,5 +1,5 @@
 use Rattle.std.proofs.Common.{List, ℕ, slice_index_or, ap, ◌∙◌, ◌≡◌, sym, subst}
-use Rattle.stow_message.specs.Rising.{in_range, AreNew}
+use Rattle.stow_leaves.specs.StowMessage.Rising.{in_range, AreNew}
 use Rattle.stow_tree_model.specs.TreeMessage.{TreeMessage}
 use Rattle.stow_node.specs.Nodes.{parts_of}
 use Rattle.stow_node.specs.Parts.{high_of}

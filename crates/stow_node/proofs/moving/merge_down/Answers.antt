@@ -2,11 +2,11 @@ use Rattle.std.proofs.Common.{◌≡◌, ◌+◌, ◌≤◌, ◌++◌, length, r
 use Rattle.std.specs.List.{sum_by}
 use Rattle.std.specs.Prelude.{slice_set}
 use Rattle.std.proofs.lemmas.Grind.{elements}
-use Rattle.stow_leaf.proofs.Steps.{inside_of}
+use Rattle.stow_leaves.proofs.StowLeaf.Steps.{inside_of}
 use Rattle.stow_leaves.proofs.Forgotten.{on_err}
-use Rattle.stow_merge.specs.Pins.{pins_in}
-use Rattle.stow_message.specs.MessageBuf.{MessageList}
-use Rattle.stow_message.specs.Packed.{message_size}
+use Rattle.stow_leaves.specs.StowMerge.Pins.{pins_in}
+use Rattle.stow_leaves.specs.StowMessage.MessageBuf.{MessageList}
+use Rattle.stow_leaves.specs.StowMessage.Packed.{message_size}
 use Rattle.stow_node.specs.declared.child.Child.TheVariants as in_child
 use Rattle.stow_node.specs.Moves.{messages_for}
 use Rattle.stow_node.specs.Nodes.{parts_of}

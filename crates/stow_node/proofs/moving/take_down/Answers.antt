@@ -1,7 +1,7 @@
 use Rattle.std.proofs.Common.{◌≡◌, List, sym, subst, inr}
-use Rattle.stow_leaf.proofs.Steps.{if_ok}
-use Rattle.stow_merge.specs.Pins.{pins_in}
-use Rattle.stow_message.specs.MessageBuf.{MessageList}
+use Rattle.stow_leaves.proofs.StowLeaf.Steps.{if_ok}
+use Rattle.stow_leaves.specs.StowMerge.Pins.{pins_in}
+use Rattle.stow_leaves.specs.StowMessage.MessageBuf.{MessageList}
 use Rattle.stow_node.specs.declared.child.Child.{Child}
 use Rattle.stow_node.specs.Moves.{HandsDown}
 use Rattle.stow_node.specs.Nodes.{leaves_of}

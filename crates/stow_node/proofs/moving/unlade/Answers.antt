@@ -1,6 +1,6 @@
 use Rattle.std.proofs.Common.{◌≡◌, ◌<◌, ◌≤◌, length, refl, sym, ap, ◌∙◌, subst, arith, length-append}
 use Rattle.std.specs.Prelude.{slice_set}
-use Rattle.stow_leaf.proofs.Steps.{inside_of}
+use Rattle.stow_leaves.proofs.StowLeaf.Steps.{inside_of}
 use Rattle.stow_leaves.proofs.Forgotten.{on_err}
 use Rattle.stow_node.specs.declared.child.Child.TheVariants as in_child
 use Rattle.stow_node.specs.Flushes.{AreShort}

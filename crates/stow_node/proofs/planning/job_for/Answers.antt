@@ -1,7 +1,7 @@
 use Rattle.std.proofs.Common.{ap, ◌∙◌}
-use Rattle.stow_merge.specs.Pins.{pins_in}
-use Rattle.stow_message.specs.MessageBuf.{MessageList, messages_in}
-use Rattle.stow_message.specs.Rising.{in_range}
+use Rattle.stow_leaves.specs.StowMerge.Pins.{pins_in}
+use Rattle.stow_leaves.specs.StowMessage.MessageBuf.{MessageList, messages_in}
+use Rattle.stow_leaves.specs.StowMessage.Rising.{in_range}
 use Rattle.stow_node.proofs.Mergeable.{mergeable}
 use Rattle.stow_node.proofs.planning.job_for.Goals as goal
 

@@ -1,6 +1,6 @@
 use Rattle.std.proofs.Common.{[], ◌∷◌, length, sym, ap, ◌∙◌, subst, arith, length-append}
 use Rattle.std.specs.List.{AllByRecursion}
-use Rattle.stow_merge.proofs.Lists.{all_join}
+use Rattle.stow_leaves.proofs.StowMerge.Lists.{all_join}
 use Rattle.stow_node.specs.Rooms.{IsList}
 use Rattle.stow_node.proofs.room.lists.Goals as goal
 

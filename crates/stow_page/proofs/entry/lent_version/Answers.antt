@@ -1,6 +1,6 @@
 use Rattle.std.proofs.Common.{◌≡◌, ℕ, ◌≤◌, List, length, take, drop, sym, ◌∙◌, ap, subst, arith}
 use Rattle.std.specs.Int.{from_be_bytes, w16, w64}
-use Rattle.stow_bytes.specs.Limits.{number_limit}
+use Rattle.stow_tree_model.specs.StowBytes.Limits.{number_limit}
 use Rattle.stow_tree_model.specs.Keys.{IsTenantKey, IsOfTenant}
 use Rattle.stow_tree_model.specs.Value.{IsValue}
 use Rattle.stow_page.specs.Rows.{version_in, value_in, after_key, IsTail}

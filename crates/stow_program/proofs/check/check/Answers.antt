@@ -1,5 +1,5 @@
 use Rattle.std.proofs.Common.{rules, ◌≡◌, inr, subst}
-use Rattle.stow_workers.specs.Sent.{WritesAll, written_of}
+use Rattle.stow_tasks.specs.StowWorkers.Sent.{WritesAll, written_of}
 use Rattle.stow_program.specs.Outcomes.{good_text}
 use Rattle.stow_program.proofs.check.check.Goals as goal
 

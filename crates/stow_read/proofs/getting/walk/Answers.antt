@@ -1,8 +1,8 @@
 use Rattle.std.proofs.Common.{◌++◌, ap, ◌∙◌, subst}
 use Rattle.stow_tree_model.specs.Messages.{ops_in}
 use Rattle.stow_tree_model.specs.Operations.{latest}
-use Rattle.stow_leaf.specs.LeafRows.{row_messages}
-use Rattle.stow_message.specs.MessageBuf.{MessageList}
+use Rattle.stow_node.specs.StowLeaf.LeafRows.{row_messages}
+use Rattle.stow_node.specs.StowMessage.MessageBuf.{MessageList}
 use Rattle.stow_read.specs.Suffixes.{suffixes_of, looked, Carries}
 use Rattle.stow_read.proofs.Walked.{walking_first, looked_here, walking_on, walked, leaf_there}
 use Rattle.stow_read.proofs.getting.walk.Goals as goal

@@ -1,5 +1,5 @@
 use Rattle.std.proofs.Common.{[], sym, ◌∙◌, subst}
-use Rattle.stow_message.specs.MessageBuf.{MessageList}
+use Rattle.stow_node.specs.StowMessage.MessageBuf.{MessageList}
 use Rattle.stow_tree_model.specs.Messages.{ops_in}
 use Rattle.stow_read.specs.UpTo.{IsTop}
 use Rattle.stow_read.proofs.Walked.{nothing_outside, walking_first}

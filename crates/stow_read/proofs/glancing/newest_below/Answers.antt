@@ -2,7 +2,7 @@ use Rattle.std.proofs.Common.{[], Option, sym, subst}
 use Rattle.stow_tree_model.specs.Messages.{ops_in}
 use Rattle.stow_tree_model.specs.Operations.{NumberedValue, NoneUpTo, value_in}
 use Rattle.stow_tree_model.specs.Value.{IsValue}
-use Rattle.stow_message.specs.MessageBuf.{MessageList}
+use Rattle.stow_node.specs.StowMessage.MessageBuf.{MessageList}
 use Rattle.stow_read.specs.Glance.{IsToldOf}
 use Rattle.stow_read.specs.UpTo.{IsTop}
 use Rattle.stow_read.proofs.Glanced.{below_so_far, row_is, told_here}

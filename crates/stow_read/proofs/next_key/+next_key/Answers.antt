@@ -1,8 +1,8 @@
 use Rattle.std.proofs.Common.{◌<◌, [], length, sym, ap, ◌∙◌, subst, rules}
 use Rattle.std.specs.Option.{option_map}
-use Rattle.stow_message.specs.MessageBuf.{MessageList}
-use Rattle.stow_leaf.specs.Intervals.{top_key, spans}
-use Rattle.stow_leaf.proofs.Intervals.{lt}
+use Rattle.stow_node.specs.StowMessage.MessageBuf.{MessageList}
+use Rattle.stow_node.specs.StowLeaf.Intervals.{top_key, spans}
+use Rattle.stow_node.proofs.StowLeaf.Intervals.{lt}
 use Rattle.stow_node.specs.Nodes.{parts_of, part_of}
 use Rattle.stow_tree_model.specs.Messages.{ops_in}
 use Rattle.stow_tree_model.specs.declared.tenant_key.TenantKey.{TenantKey}

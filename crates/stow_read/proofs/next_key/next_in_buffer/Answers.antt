@@ -1,5 +1,5 @@
 use Rattle.std.proofs.Common.{◌≡◌, sym, ◌∙◌, subst, arith}
-use Rattle.stow_message.specs.Rising.{below}
+use Rattle.stow_node.specs.StowMessage.Rising.{below}
 use Rattle.stow_tree_model.specs.TreeMessage.{message_of}
 use Rattle.stow_read.proofs.NextMessages.{messages_none, messages_next, messages_end}
 use Rattle.stow_read.proofs.next_key.next_in_buffer.Goals as goal

@@ -1,6 +1,6 @@
 use Rattle.std.proofs.Common.{sym, ◌∙◌, subst, arith}
 use Rattle.stow_tree_model.specs.Version.{version_of}
-use Rattle.stow_page.specs.Rows.{IsCountUpTo}
+use Rattle.stow_node.specs.StowPage.Rows.{IsCountUpTo}
 use Rattle.stow_read.proofs.NextRows.{rows_none, rows_next, rows_end}
 use Rattle.stow_read.proofs.next_key.next_in_rows.Goals as goal
 

@@ -1,5 +1,5 @@
 use Rattle.std.proofs.Common.{◌++◌, map, ap, ◌∙◌, sym, subst}
-use Rattle.stow_message.specs.MessageBuf.{MessageList}
+use Rattle.stow_node.specs.StowMessage.MessageBuf.{MessageList}
 use Rattle.stow_tree_model.specs.Order.{MessagesRise}
 use Rattle.stow_tree_model.specs.TreeMessage.{message_of}
 use Rattle.stow_read.specs.Path.{IsPath}

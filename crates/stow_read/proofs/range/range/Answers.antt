@@ -2,7 +2,7 @@ use Rattle.std.proofs.Common.{◌<◌, List, map, Option, Some, None, false, sym
 use Rattle.std.specs.Prelude.{IfSome}
 use Rattle.std.specs.Option.{option_map}
 use Rattle.std.proofs.lemmas.List.{length-map, map-append}
-use Rattle.stow_leaf.proofs.Intervals.{span_high}
+use Rattle.stow_node.proofs.StowLeaf.Intervals.{span_high}
 use Rattle.stow_node.specs.Subtree.{messages_of}
 use Rattle.stow_tree_model.specs.Messages.{ops_in}
 use Rattle.stow_tree_model.specs.Operations.{value_in}

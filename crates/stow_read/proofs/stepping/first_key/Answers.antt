@@ -1,7 +1,7 @@
 use Rattle.std.proofs.Common.{false, None, sym, ap, ◌∙◌, subst}
 use Rattle.std.specs.Option.{option_map}
-use Rattle.stow_leaf.specs.Intervals.{top_key, spans}
-use Rattle.stow_leaf.proofs.Intervals.{lt, lt_self}
+use Rattle.stow_node.specs.StowLeaf.Intervals.{top_key, spans}
+use Rattle.stow_node.proofs.StowLeaf.Intervals.{lt, lt_self}
 use Rattle.stow_node.specs.Subtree.{messages_of}
 use Rattle.stow_tree_model.specs.Messages.{ops_in}
 use Rattle.stow_tree_model.specs.declared.tenant_key.TenantKey.{TenantKey}

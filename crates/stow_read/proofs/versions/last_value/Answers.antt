@@ -1,7 +1,7 @@
 use Rattle.std.proofs.Common.{Some, ap, ◌∙◌, sym}
 use Rattle.std.specs.Option.{option_copied}
 use Rattle.stow_tree_model.specs.VersionBuf.{version_of_buf}
-use Rattle.stow_page.specs.Rows.{value_in_version}
+use Rattle.stow_node.specs.StowPage.Rows.{value_in_version}
 use Rattle.stow_read.proofs.Versioned.{last_is}
 use Rattle.stow_read.proofs.versions.last_value.Goals as goal
 

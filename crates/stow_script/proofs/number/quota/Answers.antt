@@ -1,5 +1,5 @@
 use Rattle.std.proofs.Common.{arith}
-use Rattle.stow_bytes.specs.Limits.{number_limit}
+use Rattle.stow_commands.specs.StowBytes.Limits.{number_limit}
 use Rattle.stow_script.proofs.Numbers.{out_of_limits}
 use Rattle.stow_script.proofs.number.quota.Goals as goal
 

@@ -1,6 +1,6 @@
 use Rattle.std.proofs.Common.{◌≡◌, None, Some, subst}
 use Rattle.std.specs.Prelude.{codes}
-use Rattle.stow_bytes.specs.Limits.{number_limit}
+use Rattle.stow_commands.specs.StowBytes.Limits.{number_limit}
 use Rattle.stow_login.specs.Entries.{index_named}
 use Rattle.stow_script.specs.Read.{IsCut, IsNoEvent, IsNoNumberText}
 use Rattle.stow_script.proofs.Lines.{bad_name, bad_quota, event_fault, fault_so, index_fault, no_number_text, number_fault}

@@ -1,6 +1,6 @@
 use Rattle.std.proofs.Common.{◌≡◌, ◌≢◌, ◌<◌, length, get_or, ap, ◌∙◌, rules}
 use mathlib.Core.Bool.{false≢true}
-use Rattle.stow_login.proofs.Same.{take_same, differ_at}
+use Rattle.stow_house.proofs.StowLogin.Same.{take_same, differ_at}
 use Rattle.stow_shared.proofs.comparing.same_words.Goals as goal
 
 pub returns-then-ne : goal.returns-then-ne

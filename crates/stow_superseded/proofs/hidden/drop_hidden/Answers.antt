@@ -1,6 +1,6 @@
 use Rattle.std.proofs.Common.{◌≡◌, ◌+◌, ◌-◌, ◌++◌, ◌∷◌, suc, take, drop, sym, ap, ◌∙◌, arith}
 use Rattle.std.proofs.lemmas.List.{take-append-drop}
-use Rattle.stow_message.specs.MessageBuf.{message_list}
+use Rattle.stow_leaf.specs.StowMessage.MessageBuf.{message_list}
 use Rattle.stow_tree_model.specs.TreeMessage.{message_of}
 use Rattle.stow_superseded.proofs.HiddenOnes.{first_of_rest}
 use Rattle.stow_superseded.proofs.hidden.drop_hidden.Goals as goal

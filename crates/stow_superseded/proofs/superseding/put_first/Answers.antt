@@ -1,6 +1,6 @@
 use Rattle.std.proofs.Common.{◌+◌, ap, ◌∙◌, arith}
-use Rattle.stow_message.specs.MessageBuf.{message_list}
-use Rattle.stow_message.specs.Packed.{message_size}
+use Rattle.stow_leaf.specs.StowMessage.MessageBuf.{message_list}
+use Rattle.stow_leaf.specs.StowMessage.Packed.{message_size}
 use Rattle.stow_tree_model.specs.TreeMessage.{message_of}
 use Rattle.stow_superseded.proofs.Fewer.{first_below, placed_first, first_new}
 use Rattle.stow_superseded.proofs.superseding.put_first.Goals as goal

@@ -1,7 +1,7 @@
 use Rattle.std.proofs.Common.{◌≡◌, ◌-◌, ◌/◌, Option, Some, sym, subst, ◌∙◌, arith}
 use Rattle.std.proofs.lemmas.Bool.{cond-true, cond-false}
 use Rattle.std.specs.Option.{option_map}
-use Rattle.stow_merge.specs.Pins.{pins_in}
+use Rattle.stow_leaf.specs.StowMerge.Pins.{pins_in}
 use Rattle.stow_tree_model.specs.TreeMessage.{TreeMessage, message_of}
 use Rattle.stow_superseded.proofs.Passing.{IsPassed, passed_rises, passed_over, passed_put, next_after}
 use Rattle.stow_superseded.proofs.superseding.without_superseded.Given as given

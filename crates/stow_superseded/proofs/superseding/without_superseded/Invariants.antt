@@ -1,5 +1,5 @@
 use Rattle.std.specs.Option.{option_map}
-use Rattle.stow_merge.specs.Pins.{pins_in}
+use Rattle.stow_leaf.specs.StowMerge.Pins.{pins_in}
 use Rattle.stow_tree_model.specs.TreeMessage.{message_of}
 use Rattle.stow_superseded.proofs.Passing.{IsPassed}
 use Rattle.stow_superseded.proofs.superseding.without_superseded.Given as goal

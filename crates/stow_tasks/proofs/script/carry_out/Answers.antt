@@ -1,6 +1,6 @@
 use Rattle.std.proofs.Common.{◌+◌, map, take, sym, ◌∙◌, subst, inl}
 use Rattle.stow_script.specs.Script.{line_of}
-use Rattle.stow_house.specs.Steps.{state_of}
+use Rattle.stow_workers.specs.StowHouse.Steps.{state_of}
 use Rattle.stow_workers.specs.Sent.{written_of}
 use Rattle.stow_tasks.specs.Told.{progress_of}
 use Rattle.stow_tasks.proofs.Telling.{HasWritten, all_begins, led_tenants, of_tenant_at, checked_ok, ended, ends_at_output, line_told, failed_write, finished_all, on_err, on_ok, part_told, refused_part, since, some_written, told_sent}

@@ -1,9 +1,9 @@
 use Rattle.std.proofs.Common.{refl, subst, sym, ap}
 use Rattle.stow_model.specs.Event.{event_of}
-use Rattle.stow_house.specs.StepResult.{step_result_of}
-use Rattle.stow_house.specs.Steps.{HouseState, state_of}
-use Rattle.stow_core.specs.State.{CoreState}
-use Rattle.stow_tree.specs.Reports.{IsReport}
+use Rattle.stow_workers.specs.StowHouse.StepResult.{step_result_of}
+use Rattle.stow_workers.specs.StowHouse.Steps.{HouseState, state_of}
+use Rattle.stow_workers.specs.StowCore.State.{CoreState}
+use Rattle.stow_workers.specs.StowTree.Reports.{IsReport}
 use Rattle.stow_tasks.specs.Lines.{shape_text}
 use Rattle.stow_tasks.specs.Told.{usage_of}
 use Rattle.stow_tasks.proofs.Telling.{a_text, err_so, ok_so}

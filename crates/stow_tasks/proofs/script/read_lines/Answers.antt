@@ -1,5 +1,5 @@
 use Rattle.std.proofs.Common.{ap, ◌∙◌}
-use Rattle.stow_core.specs.State.{CoreState}
+use Rattle.stow_workers.specs.StowCore.State.{CoreState}
 use Rattle.stow_tasks.proofs.Telling.{lines_of_tenants}
 use Rattle.stow_tasks.proofs.script.read_lines.Goals as goal
 

@@ -1,8 +1,8 @@
 use Rattle.std.proofs.Common.{◌≡◌, [], ap, inr, sym, ◌∙◌, subst}
 use Rattle.std.specs.Arc.{arc_value}
-use Rattle.stow_core.specs.State.{CoreState, IsNewCore}
-use Rattle.stow_house.specs.Runs.{IsNewHouse}
-use Rattle.stow_house.specs.Steps.{Stands, state_of}
+use Rattle.stow_workers.specs.StowCore.State.{CoreState, IsNewCore}
+use Rattle.stow_workers.specs.StowHouse.Runs.{IsNewHouse}
+use Rattle.stow_workers.specs.StowHouse.Steps.{Stands, state_of}
 use Rattle.stow_tasks.proofs.Telling.{ok_holds}
 use Rattle.stow_tasks.proofs.Pipes.{of_equal_tenants}
 use Rattle.stow_tasks.proofs.service.serve.Goals as goal

@@ -1,6 +1,6 @@
 use Rattle.std.proofs.Common.{sym, ◌∙◌, map}
 use Rattle.stow_model.specs.Event.{event_of}
-use Rattle.stow_house.specs.Outputs.{told_in, marks_in}
+use Rattle.stow_workers.specs.StowHouse.Outputs.{told_in, marks_in}
 use Rattle.stow_tasks.specs.Told.{progress_of}
 use Rattle.stow_tasks.proofs.Reported.{run_of, reported}
 use Rattle.stow_tasks.proofs.usage.report.Goals as goal

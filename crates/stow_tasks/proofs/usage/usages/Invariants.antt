@@ -1,5 +1,5 @@
 use Rattle.std.proofs.Common.{◌≡◌}
-use Rattle.stow_house.specs.Steps.{state_of}
+use Rattle.stow_workers.specs.StowHouse.Steps.{state_of}
 use Rattle.stow_tasks.specs.Told.{usages_up_to}
 use Rattle.stow_tasks.proofs.usage.usages.Given as goal
 

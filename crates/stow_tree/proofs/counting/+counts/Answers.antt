@@ -1,5 +1,5 @@
 use Rattle.std.proofs.Common.{rules, ◌+◌, ◌<◌, ap, ◌∙◌, sym, subst, length}
-use Rattle.stow_message.specs.MessageBuf.{MessageList}
+use Rattle.stow_flush.specs.StowMessage.MessageBuf.{MessageList}
 use Rattle.stow_tree.proofs.Counted.{IsCounting, ChildCounts, leaf_counts, node_counts, counting_first, counting_on, counted_all, child_lower}
 use Rattle.stow_tree.proofs.counting.+counts.Goals as goal
 use Rattle.stow_tree.proofs.counting.+counts.Goals.{in-Leaf, in-Node}

@@ -1,7 +1,7 @@
 use Rattle.std.proofs.Common.{◌≡◌, ◌≤◌, ℕ, List, length, Some}
 use Rattle.std.specs.Io.KnownBytes.{Consumes}
 use Rattle.stow_workers.specs.Sent.{written_of}
-use Rattle.stow_house.specs.declared.stop.Stop.TheVariants as stopped
+use Rattle.stow_shared.specs.StowHouse.declared.stop.Stop.TheVariants as stopped
 use Rattle.stow_workers.specs.Turns.{IsAfter, IsEven, IsRested, state_of}
 use Rattle.stow_workers.proofs.Pieces.{from_here}
 use Rattle.stow_workers.proofs.serving.serve_connection.Given as goal

@@ -1,5 +1,5 @@
 use Rattle.std.proofs.Common.{ap, sym, subst}
-use Rattle.stow_node.specs.Jobs.{job_state}
+use Rattle.stow_core.specs.StowNode.Jobs.{job_state}
 use Rattle.stow_house.specs.Flushers.{held, TakesResult, DropsResult}
 use Rattle.stow_house.proofs.Flushed.{took_result, dropped_result}
 use Rattle.stow_house.proofs.flusher.Flusher.install.Goals as goal

@@ -1,5 +1,5 @@
 use Rattle.std.proofs.Common.{rules, ◌≡◌, ap, sym, ◌∙◌}
-use Rattle.stow_node.specs.Jobs.{job_state}
+use Rattle.stow_core.specs.StowNode.Jobs.{job_state}
 use Rattle.stow_house.specs.Flushers.{held, HasJob}
 use Rattle.stow_house.proofs.flusher.Flusher.merge.Goals as goal
 

@@ -1,10 +1,10 @@
 use Rattle.std.proofs.Common.{◌∙◌, sym, map, subst}
-use Rattle.stow_tree_model.specs.Merged.{merged}
-use Rattle.stow_tree_model.specs.TreeMessage.{message_of}
+use Rattle.stow_merge.specs.StowTreeModel.Merged.{merged}
+use Rattle.stow_merge.specs.StowTreeModel.TreeMessage.{message_of}
 use Rattle.stow_merge.specs.Pages.{ArePagesOf}
 use Rattle.stow_merge.specs.Pins.{pins_in}
-use Rattle.stow_message.proofs.Ranges.{filter_rises}
-use Rattle.stow_message.specs.Rising.{is_between}
+use Rattle.stow_merge.proofs.StowMessage.Ranges.{filter_rises}
+use Rattle.stow_merge.specs.StowMessage.Rising.{is_between}
 use Rattle.stow_leaf.specs.LeafRows.{leaf_rows}
 use Rattle.stow_leaf.specs.Making.{leaves_from}
 use Rattle.stow_leaf.specs.Replacements.{IsReplacement}

@@ -1,8 +1,8 @@
 use Rattle.std.proofs.Common.{List, ap, subst, ◌∙◌, map}
 use Rattle.stow_merge.specs.Pages.{ArePagesOf}
 use Rattle.stow_merge.specs.Pins.{pins_in}
-use Rattle.stow_tree_model.specs.Merged.{merged}
-use Rattle.stow_tree_model.specs.TreeMessage.{TreeMessage, message_of}
+use Rattle.stow_page.specs.StowTreeModel.Merged.{merged}
+use Rattle.stow_page.specs.StowTreeModel.TreeMessage.{TreeMessage, message_of}
 use Rattle.std.specs.Result.{IfOk}
 use Rattle.stow_merge.proofs.flush_job.FlushJob.pages.Goals as goal
 

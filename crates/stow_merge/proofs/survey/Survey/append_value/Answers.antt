@@ -1,9 +1,9 @@
 use Rattle.std.proofs.Common.{◌≡◌, ◌∙◌, ◌++◌, List, OnOk, take, drop, sym, ap, subst, map}
 use Rattle.std.specs.List.{flat_map}
 use Rattle.std.proofs.lemmas.List.{take-map, drop-map}
-use Rattle.stow_tree_model.specs.Op.{bytes_in}
-use Rattle.stow_tree_model.specs.Operations.{bytes_or_none}
-use Rattle.stow_tree_model.specs.TreeMessage.{TreeMessage, message_of}
+use Rattle.stow_page.specs.StowTreeModel.Op.{bytes_in}
+use Rattle.stow_page.specs.StowTreeModel.Operations.{bytes_or_none}
+use Rattle.stow_page.specs.StowTreeModel.TreeMessage.{TreeMessage, message_of}
 use Rattle.stow_merge.specs.KeptVersion.{value_between}
 use Rattle.stow_merge.proofs.survey.Survey.append_value.Goals as goal
 

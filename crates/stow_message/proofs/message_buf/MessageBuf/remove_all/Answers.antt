@@ -1,6 +1,6 @@
 use Rattle.std.proofs.Common.{◌≡◌, ℕ, List, ◌-◌, ◌*◌, ◌<◌, ◌≤◌, [], length, refl, ap, sym, subst, ◌∙◌, arith}
 use Rattle.std.specs.List.{Contains, sum_by}
-use Rattle.stow_raw.specs.RawBuf.{RawLists, raw_used}
+use Rattle.stow_slots.specs.StowRaw.RawBuf.{RawLists, raw_used}
 use Rattle.stow_tree_model.specs.TreeMessage.{TreeMessage, message_of}
 use Rattle.stow_tree_model.specs.Order.{MessagesRise}
 use Rattle.stow_message.specs.Filter.{Covers, IsCovered}

@@ -1,6 +1,6 @@
 use Rattle.std.proofs.Common.{◌+◌, ◌≤◌, drop, length, ap, sym, subst, ◌∙◌, arith}
 use Rattle.std.specs.List.{sum_by}
-use Rattle.stow_raw.specs.RawBuf.{RawLists}
+use Rattle.stow_slots.specs.StowRaw.RawBuf.{RawLists}
 use Rattle.stow_message.specs.Filter.{Covers, IsCovered}
 use Rattle.stow_message.specs.MessageBuf.{messages_in, AreNoLarger}
 use Rattle.stow_message.specs.Packed.{message_bytes, message_at, message_size, IsNoLarger}

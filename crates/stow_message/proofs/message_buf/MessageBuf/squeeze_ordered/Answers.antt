@@ -1,6 +1,6 @@
 use Rattle.std.proofs.Common.{ℕ, List, ◌++◌, ◌∙◌, length, take, drop, refl, ap, sym, subst, arith}
 use Rattle.std.specs.List.{sum_by}
-use Rattle.stow_raw.specs.RawBuf.{raw_lists}
+use Rattle.stow_slots.specs.StowRaw.RawBuf.{raw_lists}
 use Rattle.stow_message.specs.Filter.{Covers}
 use Rattle.stow_message.specs.MessageBuf.{MessageList, AreNoLarger}
 use Rattle.stow_message.specs.Packed.{message_size, message_at, IsNoLarger}

@@ -1,5 +1,5 @@
 use Rattle.std.proofs.Common.{◌≡◌, [], ◌++◌, take, drop}
-use Rattle.stow_raw.specs.RawBuf.{raw_lists}
+use Rattle.stow_slots.specs.StowRaw.RawBuf.{raw_lists}
 use Rattle.stow_message.specs.MessageBuf.{AreNoLarger}
 use Rattle.stow_message.specs.Packed.{all_bytes, places_from}
 use Rattle.stow_message.proofs.message_buf.MessageBuf.squeeze_ordered.Given as goal

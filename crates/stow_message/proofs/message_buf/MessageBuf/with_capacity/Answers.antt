@@ -1,6 +1,6 @@
 use Rattle.std.proofs.Common.{sym, ap, subst}
 use Rattle.std.specs.List.{sum_by}
-use Rattle.stow_raw.specs.RawBuf.{RawLists}
+use Rattle.stow_slots.specs.StowRaw.RawBuf.{RawLists}
 use Rattle.stow_message.specs.Filter.{Covers}
 use Rattle.stow_message.specs.MessageBuf.{messages_in, AreNoLarger, IsPackedBuffer}
 use Rattle.stow_message.specs.Packed.{message_size}

@@ -1,7 +1,7 @@
 use Rattle.std.proofs.Common.{rules, ℕ, ◌<◌, length, set, sym, ap, ◌∙◌, subst, arith}
 use Rattle.std.specs.Vec.{with_item, with_items}
 use Rattle.std.proofs.lemmas.List.{length-map, length-set}
-use Rattle.stow_message.specs.Rising.{in_range, AreNew}
+use Rattle.stow_leaves.specs.StowMessage.Rising.{in_range, AreNew}
 use Rattle.stow_node.specs.declared.child.Child.TheVariants as in_child
 use Rattle.stow_node.specs.Eases.{Eases}
 use Rattle.stow_node.specs.Moves.{HandsDown}

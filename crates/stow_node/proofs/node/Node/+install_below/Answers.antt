@@ -1,8 +1,8 @@
 use Rattle.std.proofs.Common.{rules, ℕ, ◌≡◌, ◌+◌, ◌-◌, ◌<◌, ◌≤◌, List, ◌∷◌, length, set, refl, sym, ap, ◌∙◌, subst, arith, length-set}
 use Rattle.std.specs.Vec.{vec_len, with_item}
 use Rattle.std.proofs.lemmas.List.{length-map}
-use Rattle.stow_leaf.proofs.Steps.{inside_of}
-use Rattle.stow_leaf.specs.Intervals.{top_key, spans}
+use Rattle.stow_leaves.proofs.StowLeaf.Steps.{inside_of}
+use Rattle.stow_leaves.specs.StowLeaf.Intervals.{top_key, spans}
 use Rattle.stow_leaves.specs.Forgets.{Forgets}
 use Rattle.stow_leaves.proofs.Forgotten.{on_err}
 use Rattle.stow_groups.specs.Groups.{groups}

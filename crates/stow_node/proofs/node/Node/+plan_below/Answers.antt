@@ -1,8 +1,8 @@
 use Rattle.std.proofs.Common.{rules, ℕ, ◌≡◌, ◌≢◌, ◌<◌, List, [], ◌∷◌, ◌++◌, length, Some, refl, sym, ap, ◌∙◌, subst, arith}
 use Rattle.std.specs.Prelude.{slice_get}
 use Rattle.std.specs.Vec.{with_item}
-use Rattle.stow_leaf.proofs.Steps.{inside_of, if_ok}
-use Rattle.stow_merge.specs.Pins.{pins_in}
+use Rattle.stow_leaves.proofs.StowLeaf.Steps.{inside_of, if_ok}
+use Rattle.stow_leaves.specs.StowMerge.Pins.{pins_in}
 use Rattle.stow_node.specs.declared.child.Child.TheVariants as in_child
 use Rattle.stow_node.specs.declared.child.Child.{Child}
 use Rattle.stow_node.specs.Flushes.{AreShort}

@@ -1,8 +1,8 @@
 use Rattle.std.proofs.Common.{rules, ℕ, ◌≡◌, ◌+◌, ◌-◌, ◌<◌, ◌≤◌, List, ◌∷◌, ◌++◌, length, set, refl, sym, ap, ◌∙◌, subst, arith, length-set, append-nil}
 use Rattle.std.specs.Vec.{vec_len, with_item, with_items}
 use Rattle.std.proofs.lemmas.List.{length-map}
-use Rattle.stow_leaf.proofs.Steps.{inside_of}
-use Rattle.stow_merge.specs.Pins.{pins_in}
+use Rattle.stow_leaves.proofs.StowLeaf.Steps.{inside_of}
+use Rattle.stow_leaves.specs.StowMerge.Pins.{pins_in}
 use Rattle.stow_node.specs.declared.child.Child.TheVariants as in_child
 use Rattle.stow_node.specs.declared.child.Child.{Child}
 use Rattle.stow_node.specs.Flushes.{AreShort}

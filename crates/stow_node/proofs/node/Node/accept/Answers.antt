@@ -1,6 +1,6 @@
 use Rattle.std.proofs.Common.{[], sym, subst}
-use Rattle.stow_message.proofs.RisingLaws.{rests_rise}
-use Rattle.stow_message.specs.Rising.{in_range}
+use Rattle.stow_leaves.proofs.StowMessage.RisingLaws.{rests_rise}
+use Rattle.stow_leaves.specs.StowMessage.Rising.{in_range}
 use Rattle.stow_node.specs.Subtree.{Subtree}
 use Rattle.stow_node.specs.Moves.{CanAccept}
 use Rattle.stow_node.proofs.Accepted.{Took, took, others}

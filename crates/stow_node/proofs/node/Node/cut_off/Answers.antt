@@ -1,7 +1,7 @@
 use Rattle.std.proofs.Common.{◌≡◌, length, sym, ap, ◌∙◌, arith}
 use Rattle.std.proofs.lemmas.List.{length-take-le}
-use Rattle.stow_message.specs.MessageBuf.{MessageList}
-use Rattle.stow_message.specs.Rising.{is_between}
+use Rattle.stow_leaves.specs.StowMessage.MessageBuf.{MessageList}
+use Rattle.stow_leaves.specs.StowMessage.Rising.{is_between}
 use Rattle.stow_node.specs.Nodes.{part_of}
 use Rattle.stow_node.specs.declared.child.Child.{Child}
 use Rattle.stow_node.specs.declared.shape.Shape.{Shape}

@@ -1,7 +1,7 @@
 use Rattle.std.proofs.Common.{◌≡◌, Bool, true, false, refl, sym, ap, subst, ◌∙◌}
 use Rattle.std.specs.Prelude.{IsTrue}
-use Rattle.stow_merge.specs.Pins.{pins_in}
-use Rattle.stow_message.specs.MessageBuf.{MessageList}
+use Rattle.stow_leaves.specs.StowMerge.Pins.{pins_in}
+use Rattle.stow_leaves.specs.StowMessage.MessageBuf.{MessageList}
 use Rattle.stow_superseded.specs.Hidden.{DropsHidden}
 use Rattle.stow_tree_model.specs.Agreement.{TenantPins}
 use Rattle.stow_tree_model.specs.Order.{MessagesRise}

@@ -1,5 +1,5 @@
 use Rattle.std.proofs.Common.{◌≡◌, ⊎_elim, arith, inr}
-use Rattle.stow_merge.specs.Pins.{pins_in}
+use Rattle.stow_leaves.specs.StowMerge.Pins.{pins_in}
 use Rattle.stow_node.proofs.Superseded.{Dropped, dropped}
 use Rattle.stow_node.proofs.node.Node.drop_superseded.Given as given
 use Rattle.stow_node.proofs.node.Node.drop_superseded.Goals as goal

@@ -1,5 +1,5 @@
 use Rattle.std.proofs.Common.{ap, arith}
-use Rattle.stow_merge.specs.Pins.{pins_in}
+use Rattle.stow_leaves.specs.StowMerge.Pins.{pins_in}
 use Rattle.stow_node.specs.declared.shape.Shape.{Shape}
 use Rattle.stow_node.proofs.Eased.{root_eased}
 use Rattle.stow_node.proofs.Raising.{root_stays}

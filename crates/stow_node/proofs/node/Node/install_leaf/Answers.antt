@@ -1,10 +1,10 @@
 use Rattle.std.proofs.Common.{◌≡◌, ◌+◌, ◌-◌, ◌≤◌, List, length, refl, sym, ap, ◌∙◌, subst, arith}
 use Rattle.std.proofs.lemmas.List.{length-map}
-use Rattle.stow_leaf.specs.Intervals.{top_key, spans}
+use Rattle.stow_leaves.specs.StowLeaf.Intervals.{top_key, spans}
 use Rattle.stow_leaves.specs.Absorbs.{CanPutPages, PutsPages}
 use Rattle.stow_leaves.specs.Forgets.{Forgets}
-use Rattle.stow_message.proofs.Oldest.{oldest_are_held}
-use Rattle.stow_message.specs.Rising.{AreHeld}
+use Rattle.stow_leaves.proofs.StowMessage.Oldest.{oldest_are_held}
+use Rattle.stow_leaves.specs.StowMessage.Rising.{AreHeld}
 use Rattle.stow_groups.specs.Groups.{groups}
 use Rattle.stow_node.specs.Installs.{AreGone, CanInstall}
 use Rattle.stow_node.specs.Nodes.{part_of, parts_of, leaves_of, subtree_of}

@@ -1,10 +1,10 @@
 use Rattle.std.proofs.Common.{◌≡◌, ◌+◌, ◌-◌, ◌<◌, ◌≤◌, List, length, refl, sym, ap, ◌∙◌, subst, arith}
 use Rattle.stow_groups.specs.Groups.{groups}
-use Rattle.stow_leaf.specs.Intervals.{top_key}
+use Rattle.stow_leaves.specs.StowLeaf.Intervals.{top_key}
 use Rattle.stow_leaves.specs.AbsorbsAll.{MergesAll, StandsForAll}
 use Rattle.stow_leaves.specs.Forgets.{Forgets}
-use Rattle.stow_merge.specs.Pins.{pins_in}
-use Rattle.stow_message.specs.MessageBuf.{MessageList}
+use Rattle.stow_leaves.specs.StowMerge.Pins.{pins_in}
+use Rattle.stow_leaves.specs.StowMessage.MessageBuf.{MessageList}
 use Rattle.stow_node.specs.declared.child.Child.{Child}
 use Rattle.stow_node.specs.Flushes.{AreShort}
 use Rattle.stow_node.specs.Nodes.{leaves_of, subtree_of}
@@ -12,7 +12,7 @@ use Rattle.stow_node.specs.Regroups.{Grows, StepsAsOne}
 use Rattle.stow_node.specs.Rooms.{AreShells, HasRoom, nodes_needed}
 use Rattle.stow_node.specs.Subtree.{Subtree, messages_of}
 use Rattle.stow_node.specs.Ways.{MergesInto}
-use Rattle.stow_leaf.proofs.Intervals.{lt_self}
+use Rattle.stow_leaves.proofs.StowLeaf.Intervals.{lt_self}
 use Rattle.stow_node.proofs.Emptied.{AreMerged, Emptied, can_absorb_all, emptied, merges_into}
 use Rattle.stow_node.proofs.Leaves.{children_are_leaves, leaf_count}
 use Rattle.stow_node.proofs.Raised.{whole_tile}

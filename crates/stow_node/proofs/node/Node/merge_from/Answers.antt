@@ -2,15 +2,15 @@ use Rattle.std.proofs.Common.{◌≡◌, ◌+◌, ◌-◌, ◌≤◌, List, leng
 use Rattle.stow_groups.specs.Groups.{groups}
 use Rattle.stow_leaves.specs.AbsorbsAll.{MergesAll, StandsForAll}
 use Rattle.stow_leaves.specs.Forgets.{Forgets}
-use Rattle.stow_merge.specs.Pins.{pins_in}
-use Rattle.stow_message.specs.MessageBuf.{MessageList, without_range}
+use Rattle.stow_leaves.specs.StowMerge.Pins.{pins_in}
+use Rattle.stow_leaves.specs.StowMessage.MessageBuf.{MessageList, without_range}
 use Rattle.stow_node.specs.declared.child.Child.{Child}
 use Rattle.stow_node.specs.Moves.{accepted}
 use Rattle.stow_node.specs.Nodes.{leaves_of, subtree_of}
 use Rattle.stow_node.specs.Regroups.{Grows, StepsAsOne}
 use Rattle.stow_node.specs.Rooms.{AreShells, HasRoom, nodes_needed}
 use Rattle.stow_node.specs.Subtree.{Subtree}
-use Rattle.stow_message.specs.Rising.{in_range}
+use Rattle.stow_leaves.specs.StowMessage.Rising.{in_range}
 use Rattle.stow_node.specs.TakesDown.{CanMergeFrom}
 use Rattle.stow_node.specs.Ways.{MergesInto}
 use Rattle.stow_node.proofs.Emptied.{Emptied, Taking, can_absorb_all, emptied, merges_into, taking, with_taken}

@@ -1,6 +1,6 @@
 use Rattle.std.proofs.Common.{◌≡◌, ◌+◌, ◌-◌, ◌<◌, ◌≤◌, List, length, refl, sym, ap, ◌∙◌, subst, arith}
 use Rattle.std.proofs.lemmas.List.{length-map}
-use Rattle.stow_merge.specs.Pins.{pins_in}
+use Rattle.stow_leaves.specs.StowMerge.Pins.{pins_in}
 use Rattle.stow_leaves.specs.Absorbs.{left_above, CanAbsorb, Merges, StandsFor}
 use Rattle.stow_node.specs.Flushes.{AreShort}
 use Rattle.stow_leaves.specs.Forgets.{Forgets}

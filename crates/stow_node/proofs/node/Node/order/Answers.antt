@@ -1,5 +1,5 @@
 use Rattle.std.proofs.Common.{sym, ap, ◌∙◌, subst}
-use Rattle.stow_message.specs.MessageBuf.{MessageList}
+use Rattle.stow_leaves.specs.StowMessage.MessageBuf.{MessageList}
 use Rattle.stow_node.specs.Nodes.{IsNode, subtree_of}
 use Rattle.stow_node.proofs.node.Node.order.Goals as goal
 

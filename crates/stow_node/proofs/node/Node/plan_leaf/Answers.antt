@@ -2,12 +2,12 @@ use Rattle.std.proofs.Common.{◌≡◌, ◌<◌, List, length, get_or, Some, re
 use Rattle.std.specs.Prelude.{slice_get}
 use Rattle.std.proofs.lemmas.List.{length-map}
 use Rattle.std.proofs.lemmas.Option.{slice_get-get_or}
-use Rattle.stow_leaf.specs.LeafRows.{leaf_rows}
-use Rattle.stow_leaf.specs.Replacements.{CanReplace}
-use Rattle.stow_leaf.proofs.Steps.{if_ok}
+use Rattle.stow_leaves.specs.StowLeaf.LeafRows.{leaf_rows}
+use Rattle.stow_leaves.specs.StowLeaf.Replacements.{CanReplace}
+use Rattle.stow_leaves.proofs.StowLeaf.Steps.{if_ok}
 use Rattle.stow_leaves.proofs.Replaced.{can_replace}
-use Rattle.stow_merge.specs.Pins.{pins_in}
-use Rattle.stow_message.specs.Rising.{in_range}
+use Rattle.stow_leaves.specs.StowMerge.Pins.{pins_in}
+use Rattle.stow_leaves.specs.StowMessage.Rising.{in_range}
 use Rattle.stow_node.specs.Flushes.{AreShort}
 use Rattle.stow_node.specs.Moves.{IsHeaviest}
 use Rattle.stow_node.specs.Nodes.{part_of, parts_of, leaves_of}

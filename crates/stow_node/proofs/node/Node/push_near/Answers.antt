@@ -1,6 +1,6 @@
 use Rattle.std.proofs.Common.{[], ◌∷◌, sym, subst, arith}
 use Rattle.std.proofs.lemmas.List.Sums.{sum_by-cons}
-use Rattle.stow_message.specs.Packed.{message_size}
+use Rattle.stow_leaves.specs.StowMessage.Packed.{message_size}
 use Rattle.stow_tree_model.specs.TreeMessage.{message_of}
 use Rattle.stow_node.specs.Moves.{CanAccept}
 use Rattle.stow_node.proofs.Accepted.{Took, others, took_one}

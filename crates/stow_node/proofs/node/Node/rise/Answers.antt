@@ -1,7 +1,7 @@
 use Rattle.std.proofs.Common.{suc, ◌≡◌, ◌+◌, ◌-◌, ◌*◌, ◌<◌, ◌≤◌, List, [], ◌∷◌, ◌++◌, length, take, drop, refl, sym, ap, ◌∙◌, subst, arith, append-nil}
 use Rattle.std.specs.Vec.{vec_len, vec_capacity}
 use Rattle.std.specs.declared.vec.Vec.{Vec}
-use Rattle.stow_message.specs.MessageBuf.{message_list}
+use Rattle.stow_leaves.specs.StowMessage.MessageBuf.{message_list}
 use Rattle.stow_tree_model.specs.Agreement.{TenantPins}
 use Rattle.stow_node.specs.declared.child.Child.{Child}
 use Rattle.stow_node.specs.declared.child.Child.TheVariants as in_child

@@ -3,7 +3,7 @@ use Rattle.std.specs.Ordering.{is_eq}
 use Rattle.std.specs.Cmp.{tied_itself}
 use Rattle.std.specs.Cmp.Lexicographic.{nat_list_cmp_total}
 use Rattle.std.proofs.lemmas.Bool.{true≢false}
-use Rattle.stow_bytes.specs.Bytes.{bytes_cmp}
+use Rattle.stow_tree_model.specs.StowBytes.Bytes.{bytes_cmp}
 use Rattle.stow_page.proofs.hashed_key.HashedKey.is.Goals as goal
 
 pub returns : goal.returns

@@ -1,6 +1,6 @@
 use Rattle.std.proofs.Common.{[], ◌∷◌, ◌++◌, map, false, ap, ◌∙◌, sym, subst}
-use Rattle.stow_leaf.specs.Intervals.{spans}
-use Rattle.stow_leaf.proofs.Intervals.{lt}
+use Rattle.stow_node.specs.StowLeaf.Intervals.{spans}
+use Rattle.stow_node.proofs.StowLeaf.Intervals.{lt}
 use Rattle.stow_tree_model.specs.Merged.{row_message}
 use Rattle.stow_tree_model.specs.Messages.{ops_in}
 use Rattle.stow_read.specs.NextKey.{IsNextKey}

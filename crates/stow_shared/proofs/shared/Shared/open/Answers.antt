@@ -1,5 +1,5 @@
 use Rattle.std.proofs.Common.{◌≡◌, ◌∙◌, ℕ, List, arith}
-use Rattle.stow_core.specs.State.{CoreState}
+use Rattle.stow_house.specs.StowCore.State.{CoreState}
 use Rattle.stow_model.specs.Login.{Entry}
 use Rattle.stow_shared.specs.Opened.{SharedState}
 use Rattle.stow_shared.proofs.shared.Shared.open.Goals as goal

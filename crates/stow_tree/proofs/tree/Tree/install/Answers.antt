@@ -1,9 +1,9 @@
 use Rattle.std.proofs.Common.{◌≡◌, ap, subst, ◌∙◌, arith}
 use Rattle.std.specs.Prelude.{IfOk}
-use Rattle.stow_leaf.proofs.Steps.{if_ok}
-use Rattle.stow_merge.specs.Pins.{pins_in}
-use Rattle.stow_node.specs.Installs.{CanInstall}
-use Rattle.stow_node.specs.declared.installed.Installed.TheVariants as installed
+use Rattle.stow_flush.proofs.StowLeaf.Steps.{if_ok}
+use Rattle.stow_flush.specs.StowMerge.Pins.{pins_in}
+use Rattle.stow_flush.specs.StowNode.Installs.{CanInstall}
+use Rattle.stow_flush.specs.StowNode.declared.installed.Installed.TheVariants as installed
 use Rattle.stow_tree.specs.TreeState.{TreeState}
 use Rattle.stow_tree.proofs.Made.{room_kept, room_agrees}
 use Rattle.stow_tree.proofs.PagesIn.{root_stands, if_err}

@@ -1,5 +1,5 @@
 use Rattle.std.proofs.Common.{refl, arith, ap, ◌∙◌, sym, subst}
-use Rattle.stow_node.specs.Subtree.{Subtree}
+use Rattle.stow_flush.specs.StowNode.Subtree.{Subtree}
 use Rattle.stow_tree.specs.Shapes.{AreInRange}
 use Rattle.stow_tree.proofs.Made.{new_is_tree, new_is_empty}
 use Rattle.stow_tree.proofs.tree.Tree.new.Goals as goal

@@ -1,5 +1,5 @@
 use Rattle.std.proofs.Common.{◌≡◌, subst}
-use Rattle.stow_node.specs.Moves.{StaysInMeaning}
+use Rattle.stow_flush.specs.StowNode.Moves.{StaysInMeaning}
 use Rattle.stow_tree.specs.TreeState.{TreeState, tree_messages}
 use Rattle.stow_tree.proofs.Planned.{moved_messages, moved_tree}
 use Rattle.stow_tree.proofs.Putting.{state_of}

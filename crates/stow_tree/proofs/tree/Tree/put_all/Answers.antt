@@ -1,5 +1,5 @@
 use Rattle.std.proofs.Common.{map, ap}
-use Rattle.stow_node.specs.Subtree.{Subtree}
+use Rattle.stow_flush.specs.StowNode.Subtree.{Subtree}
 use Rattle.stow_tree_model.specs.TreeMessage.{message_of}
 use Rattle.stow_tree.proofs.Putting.{putting_first, can_push, putting_on, putting_last}
 use Rattle.stow_tree.proofs.tree.Tree.put_all.Goals as goal

@@ -1,5 +1,5 @@
 use Rattle.std.proofs.Common.{map, ap, arith}
-use Rattle.stow_merge.specs.Pins.{pins_in}
+use Rattle.stow_flush.specs.StowMerge.Pins.{pins_in}
 use Rattle.stow_tree_model.specs.TreeMessage.{message_of}
 use Rattle.stow_tree.specs.TreeState.{TreeState}
 use Rattle.stow_tree.proofs.Made.{room_kept, room_reserved, room_agrees}

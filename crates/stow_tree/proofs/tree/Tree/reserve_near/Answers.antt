@@ -2,10 +2,10 @@ use Rattle.std.proofs.Common.{◌∷◌, [], subst, arith}
 use Rattle.std.proofs.lemmas.List.Sums.{sum_by-cons}
 use Rattle.stow_flush.specs.Rooms.{RootStands}
 use Rattle.stow_flush.proofs.Making.{stands_then}
-use Rattle.stow_leaves.specs.Forgets.{Forgets}
-use Rattle.stow_merge.specs.Pins.{pins_in}
-use Rattle.stow_message.specs.Packed.{message_size}
-use Rattle.stow_node.specs.Superseded.{MayLoseHidden}
+use Rattle.stow_flush.specs.StowLeaves.Forgets.{Forgets}
+use Rattle.stow_flush.specs.StowMerge.Pins.{pins_in}
+use Rattle.stow_flush.specs.StowMessage.Packed.{message_size}
+use Rattle.stow_flush.specs.StowNode.Superseded.{MayLoseHidden}
 use Rattle.stow_tree_model.specs.TreeMessage.{message_of}
 use Rattle.stow_tree.proofs.Lost.{may_lose, keeps_place, lost_stands, KeepsPlace}
 use Rattle.stow_tree.proofs.Made.{room_kept, room_reserved, room_agrees}

@@ -1,5 +1,5 @@
 use Rattle.std.proofs.Common.{◌<◌, length, refl, ap, sym, ◌∙◌, subst}
-use Rattle.stow_house.specs.Conversations.{Talk, talk_of}
+use Rattle.stow_shared.specs.StowHouse.Conversations.{Talk, talk_of}
 use Rattle.stow_workers.specs.declared.client.Client.{Client}
 use Rattle.stow_workers.specs.Pipelined.{AsksAll}
 use Rattle.stow_workers.proofs.Pipelining.{asks_on, asks_still}

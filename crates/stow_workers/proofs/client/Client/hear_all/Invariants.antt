@@ -1,5 +1,5 @@
 use Rattle.std.proofs.Common.{◌≡◌, length}
-use Rattle.stow_house.specs.Conversations.{talk_of}
+use Rattle.stow_shared.specs.StowHouse.Conversations.{talk_of}
 use Rattle.stow_workers.specs.Pipelined.{AsksAll}
 use Rattle.stow_workers.proofs.client.Client.hear_all.Given as goal
 

@@ -1,5 +1,5 @@
 use Rattle.std.proofs.Common.{◌≡◌}
-use Rattle.stow_house.specs.Conversations.{talk_of}
+use Rattle.stow_shared.specs.StowHouse.Conversations.{talk_of}
 use Rattle.stow_workers.proofs.client.Client.reuse_words.Given as goal
 
 -- the conversation and the replies are as they were

@@ -1,7 +1,7 @@
 use Rattle.std.proofs.Common.{ap, ◌∙◌, sym, subst, drop}
 use Rattle.std.specs.Option.{option_map}
 use Rattle.stow_model.specs.Reply.{reply_of}
-use Rattle.stow_house.specs.Conversations.{talk_of}
+use Rattle.stow_shared.specs.StowHouse.Conversations.{talk_of}
 use Rattle.stow_workers.specs.declared.client.Client.{Client}
 use Rattle.stow_workers.specs.Sent.{sent_at}
 use Rattle.stow_workers.specs.Turns.{IsRested, Shortens}

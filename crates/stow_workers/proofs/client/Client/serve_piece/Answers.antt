@@ -1,6 +1,6 @@
 use Rattle.std.proofs.Common.{◌≡◌, [], ◌++◌, refl, sym, subst, rules, append-nil}
 use Rattle.std.specs.Prelude.{IfSome}
-use Rattle.stow_house.specs.Conversations.{talk_of}
+use Rattle.stow_shared.specs.StowHouse.Conversations.{talk_of}
 use Rattle.stow_workers.specs.Turns.{CanEndPiece}
 use Rattle.stow_workers.proofs.Pieces.{piece_read, piece_ended, told_at_refusal, outcome_ends}
 use Rattle.stow_workers.proofs.Pipelining.{holds_none, rests_on}

@@ -1,7 +1,7 @@
 use Rattle.std.proofs.Common.{ap, arith}
 use Rattle.stow_merge.specs.Pins.{pins_in}
-use Rattle.stow_node.specs.declared.shape.Shape.{Shape}
-use Rattle.stow_tree.specs.TreeState.{tree_messages}
+use Rattle.stow_dropping.specs.StowNode.declared.shape.Shape.{Shape}
+use Rattle.stow_dropping.specs.StowTree.TreeState.{tree_messages}
 use Rattle.stow_tree_tests.proofs.Numbering.{bound_under}
 use Rattle.stow_tree_tests.proofs.tree.numbered.Numbered.install.Goals as goal
 

@@ -1,5 +1,5 @@
 use Rattle.std.proofs.Common.{ap, arith}
-use Rattle.stow_tree.specs.TreeState.{TreeState}
+use Rattle.stow_dropping.specs.StowTree.TreeState.{TreeState}
 use Rattle.stow_tree_tests.proofs.Numbering.{bound_of_none}
 use Rattle.stow_tree_tests.proofs.tree.numbered.Numbered.new.Goals as goal
 

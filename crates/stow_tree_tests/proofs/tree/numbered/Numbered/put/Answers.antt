@@ -1,8 +1,8 @@
 use Rattle.std.proofs.Common.{◌≡◌, ◌<◌, [], ◌∷◌, refl, ap, arith}
 use Rattle.stow_merge.specs.Pins.{pins_in}
-use Rattle.stow_node.specs.declared.shape.Shape.{Shape}
+use Rattle.stow_dropping.specs.StowNode.declared.shape.Shape.{Shape}
 use Rattle.stow_tree_model.specs.TreeMessage.{TreeMessage, message_of}
-use Rattle.stow_tree.specs.TreeState.{tree_messages}
+use Rattle.stow_dropping.specs.StowTree.TreeState.{tree_messages}
 use Rattle.stow_tree_tests.proofs.Numbering.{bound_under, bound_after}
 use Rattle.stow_tree_tests.proofs.tree.numbered.Numbered.put.Goals as goal
 

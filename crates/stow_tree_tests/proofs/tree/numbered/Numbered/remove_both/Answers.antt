@@ -1,10 +1,10 @@
 use Rattle.std.proofs.Common.{◌≡◌, ◌<◌, refl, map, ap, sym, ◌∙◌, subst, arith}
 use Rattle.std.specs.List.{AllByRecursion}
 use Rattle.stow_merge.specs.Pins.{pins_in}
-use Rattle.stow_node.specs.declared.shape.Shape.{Shape}
+use Rattle.stow_dropping.specs.StowNode.declared.shape.Shape.{Shape}
 use Rattle.stow_tree_model.specs.TreeMessage.{TreeMessage, message_of}
-use Rattle.stow_tree.specs.Putting.{CanReserve}
-use Rattle.stow_tree.specs.TreeState.{tree_messages}
+use Rattle.stow_dropping.specs.StowTree.Putting.{CanReserve}
+use Rattle.stow_dropping.specs.StowTree.TreeState.{tree_messages}
 use Rattle.stow_tree_tests.proofs.Numbering.{bound_under, bound_after, can_remove_both, other_keys}
 use Rattle.stow_tree_tests.proofs.tree.numbered.Numbered.remove_both.Goals as goal
 
