@@ -254,7 +254,7 @@ pub starved : (old new : CoreState) (t : ℕ) (words : List (List ℕ)) → (IsT
     → Calls old t words (reply.Error refusal.OutOfMemory) new
 starved old new t words index seen keeps needs some = record {
   own = λ is. out_of_memory old new t words (index is) (seen is) keeps;
-  needless = λ is needless. absurd (needs needless);
+  needless = λ is none. absurd (needs none);
   stranger = λ unknown. absurd (some unknown);
   others = λ other ne. keeps.stores other;
   entries = keeps.entries;

@@ -1,4 +1,4 @@
-use Rattle.std.proofs.Common.{◌≡◌, false, sym, ◌∙◌}
+use Rattle.std.proofs.Common.{rules, ◌≡◌, false, sym, ◌∙◌}
 use Rattle.std.proofs.Math.Bool.{false≢true}
 use Rattle.std.specs.Prelude.{is_ok}
 use Rattle.stow_commands.specs.Commands.{command_of}

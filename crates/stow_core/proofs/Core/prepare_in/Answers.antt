@@ -6,6 +6,7 @@ use Rattle.stow_core.specs.Prepared.{IsPrepared, serves}
 use Rattle.stow_core.specs.State.{store_of, row_at, rows_in}
 use Rattle.stow_core.proofs.Answered.{command_prepared, only_counted_prepared}
 use Rattle.stow_core.proofs.Kept.{keeps_itself}
+use Rattle.stow_core.proofs.Kinds.{other_than_ping}
 use Rattle.stow_model.specs.LentWords.{words_in}
 use Rattle.stow_model.specs.Reply as reply
 use Rattle.stow_model.specs.Store.{count_rows, counted, get_reply, id_items, item_or_null, length_or_zero, usage, usage_items}
@@ -63,3 +64,45 @@ pub returns-in-ReportUsage-clause-prepared : goal.returns-in-ReportUsage-clause-
 returns-in-ReportUsage-clause-prepared g c =
     command_prepared c.args.self.now c.args.tenant c.args.command command.ReportUsage c.usage_reply.result c.counted-in-ReportUsage.result (reply.Array (usage_items (usage (counted (store_of c.args.self.now c.args.tenant))))) c.in-ReportUsage.is c.counted-in-ReportUsage.ensures
     c.requires.sound c.requires.is_tenant c.usage_reply.ensures refl
+
+pub returns-in-Echo-clause-needless : goal.returns-in-Echo-clause-needless
+returns-in-Echo-clause-needless g c = other_than_ping _ _ c.in-Echo.is refl
+
+pub returns-in-Get-clause-needless : goal.returns-in-Get-clause-needless
+returns-in-Get-clause-needless g c = other_than_ping _ _ c.in-Get.is refl
+
+pub returns-in-GetMany-clause-needless : goal.returns-in-GetMany-clause-needless
+returns-in-GetMany-clause-needless g c = other_than_ping _ _ c.in-GetMany.is refl
+
+pub returns-in-Exists-clause-needless : goal.returns-in-Exists-clause-needless
+returns-in-Exists-clause-needless g c = other_than_ping _ _ c.in-Exists.is refl
+
+pub returns-in-Length-clause-needless : goal.returns-in-Length-clause-needless
+returns-in-Length-clause-needless g c = other_than_ping _ _ c.in-Length.is refl
+
+pub returns-in-Range-clause-needless : goal.returns-in-Range-clause-needless
+returns-in-Range-clause-needless g c = other_than_ping _ _ c.in-Range.is refl
+
+pub returns-in-Del-clause-needless : goal.returns-in-Del-clause-needless
+returns-in-Del-clause-needless g c = other_than_ping _ _ c.in-Del.is refl
+
+pub returns-in-TakeSnapshot-clause-needless : goal.returns-in-TakeSnapshot-clause-needless
+returns-in-TakeSnapshot-clause-needless g c = other_than_ping _ _ c.in-TakeSnapshot.is refl
+
+pub returns-in-ListSnapshots-clause-needless : goal.returns-in-ListSnapshots-clause-needless
+returns-in-ListSnapshots-clause-needless g c = other_than_ping _ _ c.in-ListSnapshots.is refl
+
+pub returns-in-DropSnapshot-clause-needless : goal.returns-in-DropSnapshot-clause-needless
+returns-in-DropSnapshot-clause-needless g c = other_than_ping _ _ c.in-DropSnapshot.is refl
+
+pub returns-in-GetInSnapshot-clause-needless : goal.returns-in-GetInSnapshot-clause-needless
+returns-in-GetInSnapshot-clause-needless g c = other_than_ping _ _ c.in-GetInSnapshot.is refl
+
+pub returns-in-RangeInSnapshot-clause-needless : goal.returns-in-RangeInSnapshot-clause-needless
+returns-in-RangeInSnapshot-clause-needless g c = other_than_ping _ _ c.in-RangeInSnapshot.is refl
+
+pub returns-in-ReportUsage-clause-needless : goal.returns-in-ReportUsage-clause-needless
+returns-in-ReportUsage-clause-needless g c = other_than_ping _ _ c.in-ReportUsage.is refl
+
+pub returns-in-Change-clause-needless : goal.returns-in-Change-clause-needless
+returns-in-Change-clause-needless g c = other_than_ping _ _ c.in-Change.is refl
