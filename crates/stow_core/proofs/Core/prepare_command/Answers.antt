@@ -3,7 +3,7 @@ use Rattle.std.proofs.Math.Bool.{false≢true}
 use Rattle.std.specs.Prelude.{is_ok}
 use Rattle.stow_commands.specs.Commands.{command_of}
 use Rattle.stow_core.proofs.Kept.{kept_sound}
-use Rattle.stow_core.proofs.Kinds.{ping_reads, read_is_no_growth}
+use Rattle.stow_core.proofs.ReadOnly.{ping_reads, read_is_no_growth}
 use Rattle.stow_core.proofs.Later.{prepared_then, tenant_then}
 use Rattle.stow_core.proofs.Core.prepare_command.Goals as goal
 

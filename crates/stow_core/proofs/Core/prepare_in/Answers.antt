@@ -6,7 +6,7 @@ use Rattle.stow_core.specs.Prepared.{IsPrepared, serves}
 use Rattle.stow_core.specs.State.{store_of, row_at, rows_in}
 use Rattle.stow_core.proofs.Answered.{command_prepared, only_counted_prepared}
 use Rattle.stow_core.proofs.Kept.{keeps_itself}
-use Rattle.stow_core.proofs.Kinds.{other_than_ping}
+use Rattle.stow_core.proofs.ReadOnly.{other_than_ping}
 use Rattle.stow_model.specs.LentWords.{words_in}
 use Rattle.stow_model.specs.Reply as reply
 use Rattle.stow_model.specs.Store.{count_rows, counted, get_reply, id_items, item_or_null, length_or_zero, usage, usage_items}

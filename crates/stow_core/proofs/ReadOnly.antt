@@ -1,4 +1,4 @@
--- What commands may do to what rows take.
+-- Commands that only read.
 use Rattle.std.proofs.Common.{◌≡◌, ◌≢◌, Bool, true, false, Option, Some, None, refl, ap, sym, ◌∙◌}
 use Rattle.std.proofs.Math.Bool.{false≢true}
 use Rattle.stow_commands.specs.Commands.{command_of}
