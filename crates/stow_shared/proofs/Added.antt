@@ -8,10 +8,10 @@ use Rattle.stow_house.specs.StowNode.declared.installed.Installed.{Installed}
 use Rattle.stow_house.specs.StowNode.declared.installed.Installed.TheVariants as installed
 use Rattle.stow_house.specs.StowCore.Flushing.{TakesResultOf}
 use Rattle.stow_house.specs.StowNode.Installs.{BatchIsGone}
-use Rattle.stow_house.specs.StowCore.State.{Keeps}
+use Rattle.stow_house.specs.StowCore.State.{CoreState, Keeps}
 use Rattle.stow_shared.specs.Entries.{Entry, entry_of, entries_of, install_entry}
 use Rattle.stow_shared.specs.Journals.{with_entry}
-use Rattle.stow_shared.specs.Seats.{SeatState}
+use Rattle.stow_shared.specs.Seats.{SeatState, with_receipt}
 use Rattle.stow_shared.specs.Books.{BookState, Installs}
 
 -- where entries are kept, the entry is
@@ -39,16 +39,6 @@ first_back Q m (Err e) p = p.0
 none_kept : (keeps : Bool) (entry : Entry) (es : List Entry) → keeps ≡ false → with_entry keeps entry es ≡ es
 none_kept keeps entry es is = ap (λ (k : Bool). if k then entry ∷ es else es) is
 
-pub installs_unkept : {A E : Type 0} (keeps : Bool) (old : BookState) (seat : SeatState) (job : FlushJob A) (r : Result Installed E) (new : BookState) → keeps ≡ false → new.entries ≡ old.entries → Keeps old.core new.core
-    → IfOk r (λ told. told ≡ installed.Stale ↔ ¬ (TakesResultOf old.core job)) → IfOk r (λ told. told ≡ installed.Stale → new.core ≡ old.core) → IfOk r (λ told. told ≡ installed.Done → BatchIsGone job.batch.messages new.core.tree.root)
-    → IfOk r (λ told. Installs keeps old seat job told new seat)
-installs_unkept keeps old seat job (Ok told) new is same stays stale unmoved gone =
-    let entry = install_entry seat.number told in
-    record {
-      core = record { keeps = stays; stale = stale; unmoved = unmoved; gone = gone };
-      adds = record {
-        journal = same ∙ sym (none_kept keeps entry old.entries is);
-        receipt = ap (λ rs. record seat { receipts = rs }) (sym (none_kept keeps entry seat.receipts is));
-      };
-    }
-installs_unkept keeps old seat job (Err e) new is same stays stale unmoved gone = tt
+-- then a seat that saw a core gained no receipt
+pub seen_alone : (keeps : Bool) (entry : Entry) (core : CoreState) (seat : SeatState) → keeps ≡ false → ◌≡◌ {A = SeatState} (record seat { core = core }) (with_receipt keeps entry core seat)
+seen_alone keeps entry core seat is = ap (λ es. record seat { receipts = es; core = core }) (sym (none_kept keeps entry seat.receipts is))

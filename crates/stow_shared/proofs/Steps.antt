@@ -16,11 +16,12 @@ use Rattle.stow_house.specs.StowCore.State.{CoreState, store_of, AnswersRequest,
 use Rattle.stow_house.proofs.StowState.Steps.{steps_after_maintenance_law}
 use Rattle.stow_house.specs.StowCore.State as in_core
 use Rattle.stow_shared.specs.declared.copies.Copies.{Copies}
-use Rattle.stow_shared.specs.Books.{BookState, ServesCall, CallStep}
+use Rattle.stow_shared.specs.Books.{BookState, CallStep, Held, HeldCalls}
+use Rattle.stow_shared.specs.Cores.{ServesCall}
 use Rattle.stow_shared.specs.Copies.{AreCopies, AreAlike, copied}
 use Rattle.stow_shared.specs.Entries.{Entry, call_entry}
 use Rattle.stow_shared.specs.Journals.{with_entry}
-use Rattle.stow_shared.specs.Seats.{SeatState, SeatCalls, with_refusal}
+use Rattle.stow_shared.specs.Seats.{SeatState, SeatCalls, CallsBy, TookStep, with_receipt, with_refusal}
 use Rattle.stow_shared.proofs.Legal.{tenant_or_not}
 
 pub alike : {A : Type 0} (keeps : Bool) (words : List (List ℕ)) (copies : Option (Copies A)) → AreCopies keeps words copies → AreAlike keeps copies
@@ -107,11 +108,26 @@ answered_memory old tenant words told new s =
     (λ (no : ¬ IsTenant old.entries tenant). ap is_out_of_memory (s.stranger no).told_is)
     (tenant_or_not old.entries tenant)
 
--- a call that memory was refused to is counted
-pub call_counted : (keeps : Bool) (seat : SeatState) (tenant : ℕ) (words : List (List ℕ)) (told : Reply) (seat' : SeatState) → told ≡ reply.Error refusal.OutOfMemory → seat' ≡ with_refusal seat → SeatCalls keeps seat tenant words told seat'
-call_counted keeps seat tenant words told seat' says counted = counted ∙ sym (cond-true (is_out_of_memory told) _ _ (ap is_out_of_memory says))
+-- a step of the book's that showed the seat its core
+pub took_step : (keeps : Bool) (entry : Entry) (step : CoreState → CoreState → Type 0) (before after : CoreState) (seat seat' : SeatState) → seat' ≡ with_receipt keeps entry after seat → step before after → TookStep keeps entry step seat seat'
+took_step keeps entry step before after seat seat' gained did =
+    let here : seat'.core ≡ after = ap (λ s. s.core) gained in
+    record {
+      gained = gained ∙ ap (λ core. with_receipt keeps entry core seat) (sym here);
+      before = before;
+      step = subst (λ core. step before core) (sym here) did;
+    }
+
+-- what a call is told says what its seat gained
+calls_by : (b keeps : Bool) (seat : SeatState) (tenant : ℕ) (words : List (List ℕ)) (told : Reply) (seat' : SeatState) → is_out_of_memory told ≡ b → CallsBy b keeps seat tenant words told seat' → SeatCalls keeps seat tenant words told seat'
+calls_by b keeps seat tenant words told seat' is calls = subst (λ (x : Bool). CallsBy x keeps seat tenant words told seat') (sym is) calls
 
 pub seat_calls : (keeps : Bool) (old : BookState) (seat : SeatState) (tenant : ℕ) (words : List (List ℕ)) (told : Reply) (new : BookState) (seat' : SeatState) → CallStep keeps old seat tenant words told new seat' → SeatCalls keeps seat tenant words told seat'
 seat_calls keeps old seat tenant words told new seat' (inl a) =
-    a.adds.receipt ∙ sym (cond-false (is_out_of_memory told) _ _ (answered_memory old.core tenant words told new.core a.core))
-seat_calls keeps old seat tenant words told new seat' (inr l) = call_counted keeps seat tenant words told seat' l.says l.counted
+    calls_by false keeps seat tenant words told seat' (answered_memory old.core tenant words told new.core a.core)
+    (took_step keeps (call_entry seat.number tenant words told) (λ before after. ServesCall before tenant words told after) old.core new.core seat seat' a.adds.receipt a.core)
+seat_calls keeps old seat tenant words told new seat' (inr l) = calls_by true keeps seat tenant words told seat' (ap is_out_of_memory l.says) l.counted
+
+-- the same of what is held
+pub held_calls : (keeps : Bool) (old new : Held) (tenant : ℕ) (words : List (List ℕ)) (told : Reply) → HeldCalls keeps old tenant words told new → SeatCalls keeps old.seat tenant words told new.seat
+held_calls keeps old new tenant words told step = seat_calls keeps old.book old.seat tenant words told new.book new.seat step

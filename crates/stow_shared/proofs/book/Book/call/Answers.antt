@@ -4,7 +4,8 @@ use Rattle.stow_shared.specs.Entries.{Entry, call_entry, entries_of}
 use Rattle.stow_shared.specs.Copies.{copied}
 use Rattle.stow_shared.specs.Journals.{with_entry}
 use Rattle.stow_shared.specs.Seats.{with_refusal}
-use Rattle.stow_shared.specs.Books.{IsBook, ServesCall}
+use Rattle.stow_shared.specs.Books.{IsBook}
+use Rattle.stow_shared.specs.Cores.{ServesCall}
 use Rattle.stow_shared.proofs.Legal.{book_same, book_call}
 use Rattle.stow_shared.proofs.Steps.{alike, entry_is, serves_back}
 use Rattle.stow_shared.proofs.book.Book.call.Given.{Over}
