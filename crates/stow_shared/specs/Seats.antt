@@ -35,7 +35,7 @@ pub record TookStep (keeps : Bool) (entry : Entry) (step : CoreState → CoreSta
     (old new : SeatState) : Type 0 where
   pub gained : new ≡ with_receipt keeps entry new.core old
   pub before : CoreState
-  pub step : step before new.core
+  pub led : step before new.core
 
 -- what the seat gained by a call, by whether it was told want of memory
 abbrev pub CallsBy : Bool → Bool → SeatState → ℕ → List (List ℕ) → Reply → SeatState → Type 0

@@ -1,5 +1,5 @@
 //! What the lock holds.
-ghost use Rattle.std.specs.Prelude.{◌≡◌, ◌↔◌, ◌≤◌, IsTrue, IfOk, IfErr, OnOk, OnErr, [], true};
+ghost use Rattle.std.specs.Prelude.{◌≡◌, ◌↔◌, ◌≤◌, IsTrue, IfOk, IfErr, OnOk, OnErr, [], true, false};
 ghost use Rattle.stow_bytes.specs.Limits.{number_limit};
 ghost use Rattle.stow_house.specs.StowCore.State.{IsNewCore};
 ghost use Rattle.stow_model.specs.Reply.{reply_of};
@@ -103,6 +103,7 @@ impl<J: Journal, A: Allocator + Copy> Book<J, A> {
         ensures { CallStep J.keeps self.old seat.old tenant words.now (reply_of result) self.new
             seat.new }
     {
+        let _known = self.journal.len();
         match Copies::of::<J>(alloc, words) {
             Ok(copies) => self.call(alloc, seat, tenant, words, copies),
             Err(_) => seat.refuse(),
@@ -144,9 +145,7 @@ impl<J: Journal, A: Allocator + Copy> Book<J, A> {
         ensures err { OnErr result (Leaves self.old self.new × (seat.new ≡ seat.old)) }
     {
         if !J::is_kept() {
-            self.core.resize(leaves)?;
-            seat.see(&self.core);
-            return Ok(());
+            return self.resize_unkept(seat, leaves);
         }
         let number = seat.number();
         self.journal.reserve(1)?;
@@ -187,9 +186,7 @@ impl<J: Journal, A: Allocator + Copy> Book<J, A> {
         ensures err { OnErr result (Leaves self.old self.new × (seat.new ≡ seat.old)) }
     {
         if !J::is_kept() {
-            let job = self.core.plan(alloc)?;
-            seat.see(&self.core);
-            return Ok(job);
+            return self.plan_unkept(alloc, seat);
         }
         let number = seat.number();
         self.journal.reserve(1)?;
@@ -213,9 +210,7 @@ impl<J: Journal, A: Allocator + Copy> Book<J, A> {
         ensures back { IfErr result (λ e. e.0 ≡ merge) }
     {
         if !J::is_kept() {
-            let told = self.core.install(alloc, merge)?;
-            seat.see(&self.core);
-            return Ok(told);
+            return self.install_unkept(alloc, seat, merge);
         }
         let number = seat.number();
         if let Err(refused) = self.journal.reserve(1) {
@@ -223,6 +218,53 @@ impl<J: Journal, A: Allocator + Copy> Book<J, A> {
         }
         let told = seat.install(alloc, &mut self.core, merge)?;
         self.journal.push_reserved(Entry::installed(number, told));
+        Ok(told)
+    }
+
+    /// The step of another size of the cache where no entries are kept.
+    fn resize_unkept(&mut self, seat: &mut Seat<J, A>, leaves: usize) -> Result<(), AllocError>
+        requires unkept { J.keeps ≡ false }
+        requires few { leaves ≤ 65536 }
+        ensures ok { OnOk result
+            (Resizes J.keeps self.old seat.old leaves self.new seat.new) }
+        ensures err { OnErr result (Leaves self.old self.new × (seat.new ≡ seat.old)) }
+    {
+        self.core.resize(leaves)?;
+        seat.see(&self.core);
+        Ok(())
+    }
+
+    /// The step of a flush that is planned where no entries are kept.
+    fn plan_unkept(
+        &mut self,
+        alloc: A,
+        seat: &mut Seat<J, A>,
+    ) -> Result<Option<FlushJob<A>>, AllocError>
+        requires { J.keeps ≡ false }
+        ensures ok { IfOk result (λ job.
+            Plans J.keeps self.old seat.old job self.new seat.new) }
+        ensures err { OnErr result (Leaves self.old self.new × (seat.new ≡ seat.old)) }
+    {
+        let job = self.core.plan(alloc)?;
+        seat.see(&self.core);
+        Ok(job)
+    }
+
+    /// The step of a job's result where no entries are kept.
+    fn install_unkept(
+        &mut self,
+        alloc: A,
+        seat: &mut Seat<J, A>,
+        merge: FlushResult<A>,
+    ) -> Result<Installed, (FlushResult<A>, AllocError)>
+        requires { J.keeps ≡ false }
+        ensures ok { IfOk result (λ told.
+            Installs J.keeps self.old seat.old merge.job told self.new seat.new) }
+        ensures err { OnErr result (Leaves self.old self.new × (seat.new ≡ seat.old)) }
+        ensures back { IfErr result (λ e. e.0 ≡ merge) }
+    {
+        let told = self.core.install(alloc, merge)?;
+        seat.see(&self.core);
         Ok(told)
     }
 }
