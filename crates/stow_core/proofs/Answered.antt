@@ -22,6 +22,7 @@ use Rattle.stow_model.specs.declared.reply.Reply.TheVariants as in_reply
 use Rattle.stow_model.specs.Store.{Store, Answer, Request, Asked, counted, served, answer, answer_to, answer_with, can_take, take_answer, del_answer, change_answer, written, exceeds_quota, Written, Unchanged, Failed, outcome, value_in, rows_without}
 use Rattle.stow_ledger.specs.Accounts.{IsGivenBy, is_allowed}
 use Rattle.stow_ledger.specs.Shown.{charge_of}
+use Rattle.stow_core.specs.Memory.{NeedsNoMemory}
 use Rattle.stow_core.specs.Tenancies.{TenancyState, tenancy_at}
 use Rattle.stow_ledger.specs.declared.charge.Charge.{Charge}
 use Rattle.stow_core.specs.declared.change.Change.TheVariants as in_change
@@ -31,7 +32,7 @@ use Rattle.stow_core.proofs.Kept.{keeps_itself}
 use Rattle.stow_ledger.specs.StowState.Rows.{IsIndex}
 use Rattle.stow_ledger.specs.StowState.State.{IsSound, view}
 use Rattle.stow_core.specs.Prepared.{effect, prepared_answer, after_given, after_refusal, after_take, gives, serves, IsPriced, IsCharged, IsPrepared, OnlyCounts}
-use Rattle.stow_core.specs.State.{CoreState, store_of, shared_of, Answers, Calls, Keeps, Moves}
+use Rattle.stow_core.specs.State.{CoreState, store_of, shared_of, Answers, AnswersWithMemory, Calls, Keeps, Moves}
 use Rattle.stow_ledger.specs.StowState.Steps.{Maintenance}
 use Rattle.stow_ledger.proofs.StowState.Steps.{call_of_nothing, step_sound, steps_after_maintenance_law}
 use Rattle.stow_tree_model.specs.Keys.{packed, own_key}
@@ -181,19 +182,17 @@ pub change_refused : (store : Store) (key : List ℕ) (update : Update) (r : Ref
 change_refused store key update r told = ap (change_answer (counted store) key) (sym told)
 
 -- a prepared answer was carried out
-pub answered : (old mid new : CoreState) (t : ℕ) (words : List (List ℕ)) (store : Store) (told : Reply) → Keeps old mid → Moves mid t store new
-    → ◌≡◌ {A = Answer} (store, told) (answer (store_of old t) words) → Answers old new t words told
+answered : (old mid new : CoreState) (t : ℕ) (words : List (List ℕ)) (store : Store) (told : Reply) → Keeps old mid → Moves mid t store new
+    → ◌≡◌ {A = Answer} (store, told) (answer (store_of old t) words) → AnswersWithMemory old new t words told
 unfolding answer_with
 answered old mid new t words store told keeps moves is =
     let again : ◌≡◌ {A = Answer} (answer (store_of mid t) words) (store, told) = ap (λ s. answer s words) (keeps.stores t) ∙ sym is in
-    let request : Request = record { words = words; is_refused = false } in (
-      false,
-      record {
-        alone = ap (λ s. (s, told)) moves.own ∙ is;
-        step = steps_after_maintenance_law (shared_of old) (shared_of mid) (shared_of new) t (Asked request) (Some told) keeps.gives_way.sound keeps.gives_way.step
-            (moves.step (Asked request) (Some told) (λ i. ((again i).0, Some (again i).1)));
-      },
-    )
+    let request : Request = record { words = words; is_refused = false } in
+    record {
+      alone = ap (λ s. (s, told)) moves.own ∙ is;
+      step = steps_after_maintenance_law (shared_of old) (shared_of mid) (shared_of new) t (Asked request) (Some told) keeps.gives_way.sound keeps.gives_way.step
+          (moves.step (Asked request) (Some told) (λ i. ((again i).0, Some (again i).1)));
+    }
 
 pub out_of_memory : (old new : CoreState) (t : ℕ) (words : List (List ℕ)) → IsIndex t → store_of old t ≡ view (shared_of old) t → Keeps old new → Answers old new t words (reply.Error refusal.OutOfMemory)
 unfolding answer_with
@@ -222,7 +221,8 @@ pub called : {A : Type 0} (old mid new : CoreState) (t : ℕ) (words : List (Lis
     → ((IsTenant old.entries t → ⊥) → (reply_of p.reply ≡ reply.Error refusal.NotAuthenticated) × (mid ≡ old))
     → (IsTenant mid.entries p.tenant → Moves mid p.tenant (effect p (store_of mid p.tenant)) new) → ((IsTenant mid.entries p.tenant → ⊥) → new ≡ mid) → Calls old t words told new
 called {A = A} old mid new t words p told keeps same says own stranger carried unmoved = record {
-  own = λ is. answered old mid new t words (effect p (store_of old t)) told keeps (moves is) ((λ i. (effect p (store_of old t), says i)) ∙ own is);
+  own = λ is. (false, answers is);
+  needless = λ is _. answers is;
   stranger = λ unknown. record { told_is = says ∙ (stranger unknown).0; unchanged = stays unknown };
   others = λ other ne. ⊎_elim
       (λ (is : IsTenant old.entries t). (moves is).others other ne ∙ keeps.stores other)
@@ -243,14 +243,18 @@ called {A = A} old mid new t words p told keeps same says own stranger carried u
     moves : IsTenant old.entries t → Moves mid t (effect p (store_of old t)) new
     moves is = subst (λ s. Moves mid t (effect p s) new) (keeps.stores t) (subst (λ u. Moves mid u (effect p (store_of mid u)) new) same (carried (to_mid is)))
 
+    answers : IsTenant old.entries t → AnswersWithMemory old new t words told
+    answers is = answered old mid new t words (effect p (store_of old t)) told keeps (moves is) ((λ i. (effect p (store_of old t), says i)) ∙ own is)
+
     stays : (IsTenant old.entries t → ⊥) → new ≡ old
     stays unknown = unmoved (λ is. unknown (from_mid is)) ∙ (stranger unknown).1
 
--- a call that was refused memory; of whom is no tenant's none is
-pub starved : (old new : CoreState) (t : ℕ) (words : List (List ℕ)) → (IsTenant old.entries t → IsIndex t) → (IsTenant old.entries t → store_of old t ≡ view (shared_of old) t) → Keeps old new → ((IsTenant old.entries t → ⊥) → ⊥)
+-- a call that was refused memory, which neither whom is no tenant's is nor one whose words need none
+pub starved : (old new : CoreState) (t : ℕ) (words : List (List ℕ)) → (IsTenant old.entries t → IsIndex t) → (IsTenant old.entries t → store_of old t ≡ view (shared_of old) t) → Keeps old new → (NeedsNoMemory words → ⊥) → ((IsTenant old.entries t → ⊥) → ⊥)
     → Calls old t words (reply.Error refusal.OutOfMemory) new
-starved old new t words index seen keeps some = record {
+starved old new t words index seen keeps needs some = record {
   own = λ is. out_of_memory old new t words (index is) (seen is) keeps;
+  needless = λ is none. absurd (needs none);
   stranger = λ unknown. absurd (some unknown);
   others = λ other ne. keeps.stores other;
   entries = keeps.entries;

@@ -22,6 +22,7 @@ pub mod Within
 pub mod Told
 pub mod Taking
 pub mod Legality
+pub mod ReadOnly
 pub mod Answered
 pub mod Deletions
 pub mod Shown

@@ -5,6 +5,8 @@ pub mod RowLengths
 pub mod Writes
 pub mod Taken
 pub mod Legal
+pub mod Memory
+pub mod Kinds
 pub mod Ends
 pub mod Prepared
 pub mod Flushing

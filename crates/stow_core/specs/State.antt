@@ -1,8 +1,9 @@
 -- What the core keeps for all tenants together, and one tenant's store in it.
-use Rattle.std.specs.Prelude.{◌≡◌, ◌≢◌, ℕ, ℤ, pos, ◌<◌, length, Bool, IfSome, List, Option, Some, None}
+use Rattle.std.specs.Prelude.{◌≡◌, ◌≢◌, ℕ, ℤ, pos, ◌<◌, length, Bool, false, IfSome, List, Option, Some, None}
 use Rattle.std.specs.FinMap as map
 use Rattle.std.specs.List.{flat_map}
 use Rattle.stow_core.specs.Tenancies.{TenancyState, own_state, tenancy_at, versions_of, is_among}
+use Rattle.stow_core.specs.Memory.{NeedsNoMemory}
 use Rattle.stow_core.specs.declared.interval.Interval.{Interval}
 use Rattle.stow_ledger.specs.Accounts.{IsAccountOf}
 use Rattle.stow_dropping.specs.StowLeafCache.Cache.{cache_resized}
@@ -148,11 +149,18 @@ pub record RefusesCall (old : CoreState) (told : Reply) (new : CoreState) : Type
   pub told_is : told ≡ reply.Error refusal.NotAuthenticated
   pub unchanged : new ≡ old
 
--- a call: a tenant's words are answered in its own store, or as memory was refused; a number that
--- is no tenant's is refused; no other store moves
+-- the words were answered as with memory
+abbrev pub AnswersWithMemory : CoreState → CoreState → ℕ → List (List ℕ) → Reply → Type 0
+AnswersWithMemory old new tenant words told =
+    AnswersRequest old new tenant (record { words = words; is_refused = false }) told
+
+-- a call: a tenant's words are answered in its own store, or as memory was refused, which words
+-- that need none never are; a number that is no tenant's is refused; no other store moves
 pub record Calls (old : CoreState) (tenant : ℕ) (words : List (List ℕ)) (told : Reply)
     (new : CoreState) : Type 0 where
   pub own : IsTenant old.entries tenant → Answers old new tenant words told
+  pub needless : IsTenant old.entries tenant → NeedsNoMemory words
+      → AnswersWithMemory old new tenant words told
   pub stranger : ¬ (IsTenant old.entries tenant) → RefusesCall old told new
   pub others : OthersStay old new tenant
   pub entries : new.entries ≡ old.entries

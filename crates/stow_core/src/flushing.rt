@@ -2,7 +2,7 @@
 ghost use Rattle.std.specs.Prelude.{◌≡◌, ◌↔◌, None, IfOk, IfErr, IfSome};
 ghost use Rattle.stow_dropping.specs.StowNode.Installs.{BatchIsGone};
 ghost use Rattle.stow_dropping.specs.StowNode.declared.installed.Installed.TheVariants as installed;
-ghost use Rattle.stow_dropping.specs.StowTree.TreeState.{IsRead};
+ghost use Rattle.stow_dropping.specs.StowTree.TreeState.{IsRead, tree_messages};
 ghost use Rattle.stow_core.specs.State.{Keeps};
 ghost use Rattle.stow_core.specs.Flushing.{IsDrained, IsPlannedFrom, TakesResultOf};
 
@@ -14,10 +14,11 @@ use stow_dropping::stow_node::installed::Installed;
 use stow_dropping::stow_node::pick::Pick;
 
 impl<A: Allocator + Copy> Core<A> {
-    /// A job for a flush, under the numbers of live snapshots, if a buffer holds a message. No tenant's store changes, also
-    /// where memory is refused.
+    /// A job for a flush, under the numbers of live snapshots, if a buffer holds a message. No tenant's store changes, and the
+    /// messages mean what they did, also where memory is refused.
     pub fn plan(&mut self, alloc: A) -> Result<Option<FlushJob<A>>, AllocError>
         ensures keeps { Keeps self.old self.new }
+        ensures same { tree_messages self.new.tree ≡ tree_messages self.old.tree }
         ensures none { IfOk result (λ job. job ≡ None ↔ IsDrained self.old) }
         ensures job { IfOk result (λ job. IfSome job (IsPlannedFrom self.new)) }
     {

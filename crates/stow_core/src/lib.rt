@@ -3,8 +3,9 @@
 //! What a tenant has is `store_of` of the core's value, its part of the state that all tenants share. `Core::prepare` asks
 //! for all the memory that an answer takes and changes no tenant's store. `Core::commit` then takes none and cannot fail: it
 //! moves the tenant's store as the answer says and leaves every other tenant's as it was. `Core::call` does both: an
-//! answer to which memory was refused leaves every store as it was. Who the tenants are is said by `Tenants`
-//! of `stow_login`.
+//! answer to which memory was refused leaves every store as it was. Words that are refused by themselves, and a PING without a text,
+//! are never told want of memory (`NeedsNoMemory`); that others are told it only where it was refused no contract says. Who the
+//! tenants are is said by `Tenants` of `stow_login`.
 //!
 //! Rows stand in the order of packed keys, each the tenant's index and then its own key, so a tenant's rows
 //! stand together, in the order of its keys. A write is a message to the tree for each of its keys, with the tenant's
@@ -25,8 +26,10 @@
 //! contract: tests call both with ample memory.
 //!
 //! Where memory is short removals still have some: it is held back (`HeldBack`) and given up by the removal that is refused memory,
-//! which is then tried once more. Every other write first gets back what is missing of it. No contract speaks of that, nor of when
-//! leaves are drained: a body of `drain`, `makes_way` or `hold_back` that does nothing is right too, and a test fills a heap.
+//! which is then tried once more. Every other write first gets back what is missing of it. Contracts say which commands are removals
+//! and reads (`kind_of`), that these are tried without getting it back (`is_ready`), and that a removal is tried once more
+//! (`makes_way`). None says how much is held back or freed, or when leaves are drained: a body of `drain` or `hold_back` that does
+//! nothing is right too, and so is one of `makes_way` that frees nothing; a test fills a heap.
 //!
 //! A body of `prepare`, `prepare_command` or `prepare_change` that prepares the same twice is right too, since
 //! a prepared answer that is never carried out changes nothing.
@@ -34,10 +37,11 @@
 //! are then read. Other places of a `SizedRow` or of the core make a search longer, and change nothing else.
 #![tactic(auto)]
 
-ghost use Rattle.std.specs.Prelude.{◌≡◌, ◌<◌, Err, IfOk, OnErr, OnOk, length, map};
+ghost use Rattle.std.specs.Prelude.{◌≡◌, ◌<◌, Err, IfOk, IsOk, OnErr, OnOk, length, map};
 ghost use Rattle.std.specs.Arc.{arc_value};
 ghost use Rattle.stow_model.specs.Reply.{reply_of};
 ghost use Rattle.stow_model.specs.Login.{IsTenant};
+ghost use Rattle.stow_core.specs.Memory.{NeedsNoMemory};
 ghost use Rattle.stow_core.specs.State.{store_of, IsNewCore, Moves, Calls, Resized, Keeps};
 ghost use Rattle.stow_core.specs.Tenancies.{new_tenancy, tenancy_of};
 ghost use Rattle.stow_core.specs.Prepared.{CanCarryOut, PreparesOwn, RefusesStranger, effect};
@@ -78,6 +82,7 @@ pub mod given;
 mod held_back;
 mod interval;
 mod keys;
+mod kind;
 mod length_entry;
 mod lengths;
 mod pinning;
@@ -189,7 +194,7 @@ impl<A: Allocator + Copy> Core<A> {
     }
 
     /// Answers a tenant's words in its own store. No other tenant's store changes, and none where memory is
-    /// refused.
+    /// refused, which is never told of words that need none.
     pub fn call(&mut self, alloc: A, tenant: u32, words: &Words<A>) -> Reply<A>
         ensures { Calls self.old tenant words.now (reply_of result) self.new }
     {
@@ -200,7 +205,8 @@ impl<A: Allocator + Copy> Core<A> {
         }
     }
 
-    /// Finds a tenant's answer, and all the memory that it takes. No tenant's store changes.
+    /// Finds a tenant's answer, and all the memory that it takes. No tenant's store changes. Words that are refused by themselves, and a
+    /// PING without a text, need none, and who is no tenant is refused without any.
     pub fn prepare<'a>(
         &mut self,
         alloc: A,
@@ -211,6 +217,7 @@ impl<A: Allocator + Copy> Core<A> {
         ensures room { IfOk result (λ p. CanCarryOut self.new p) }
         ensures tenant { IfOk result (λ p. p.tenant ≡ tenant) }
         ensures own { PreparesOwn self.old tenant words.now result }
+        ensures needless { NeedsNoMemory words.now → IsOk result }
         ensures stranger { ¬ (IsTenant self.old.entries tenant)
             → RefusesStranger self.old self.new result }
     {

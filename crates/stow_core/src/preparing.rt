@@ -1,5 +1,6 @@
 //! Finding answers, with all the memory that they take.
-ghost use Rattle.std.specs.Prelude.{◌≡◌, IfOk, IsTrue, ◌↔◌};
+ghost use Rattle.std.specs.Prelude.{◌≡◌, IfOk, IsOk, IsTrue, ◌↔◌};
+ghost use Rattle.stow_model.specs.Command.{Ping};
 ghost use Rattle.stow_model.specs.declared.refusal.Refusal.TheVariants as refusal;
 ghost use Rattle.stow_model.specs.declared.reply.Reply.TheVariants as told;
 ghost use Rattle.stow_model.specs.Reply.{reply_of};
@@ -31,7 +32,8 @@ impl<A: Allocator + Copy> Core<A> {
         tenant != 0 && tenant as usize <= self.tenancies.len()
     }
 
-    /// Finds what a command says in the tenant's own rows, with the memory that is there. Its keys are packed in the core's buffer.
+    /// Finds what a command says in the tenant's own rows, with the memory that is there; a PING without a text needs none. Its keys
+    /// are packed in the core's buffer.
     #[inline(never)]
     pub(crate) fn prepare_once<'a>(
         &mut self,
@@ -42,7 +44,9 @@ impl<A: Allocator + Copy> Core<A> {
         requires is_tenant { IsTenant self.old.entries tenant }
         requires sound { IsSound (shared_of self.old) }
         requires legal { HasLegalKeys (command_of command) }
-        ensures { IsPrepared self.old tenant (serves (command_of command.entry)) self.new result }
+        ensures prepared { IsPrepared self.old tenant (serves (command_of command.entry))
+            self.new result }
+        ensures needless { command_of command.entry ≡ Ping → IsOk result }
     {
         let mut buffer = mem::replace(&mut self.buffer, Vec::new(alloc));
         let prepared = self.prepare_in(&mut buffer, alloc, tenant, command);
@@ -62,7 +66,9 @@ impl<A: Allocator + Copy> Core<A> {
         requires is_tenant { IsTenant self.old.entries tenant }
         requires sound { IsSound (shared_of self.old) }
         requires legal { HasLegalKeys (command_of command) }
-        ensures { IsPrepared self.old tenant (serves (command_of command.entry)) self.new result }
+        ensures prepared { IsPrepared self.old tenant (serves (command_of command.entry))
+            self.new result }
+        ensures needless { command_of command.entry ≡ Ping → IsOk result }
     {
         let rows = self.present(tenant);
         match command {

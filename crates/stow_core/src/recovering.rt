@@ -1,13 +1,16 @@
 //! A way back from want of memory.
-ghost use Rattle.std.specs.Prelude.{◌≡◌};
+ghost use Rattle.std.specs.Prelude.{◌≡◌, ◌≢◌, IsFalse, IsOk, IsTrue};
 ghost use Rattle.stow_model.specs.Login.{IsTenant};
 ghost use Rattle.stow_ledger.specs.StowState.State.{IsSound};
 ghost use Rattle.stow_core.specs.Legal.{HasLegalKeys};
 ghost use Rattle.stow_core.specs.State.{shared_of, Keeps};
+ghost use Rattle.stow_core.specs.declared.kind.Kind.TheVariants.{Removal, Growth, Read};
+ghost use Rattle.stow_model.specs.Command.{Ping};
 ghost use Rattle.stow_core.specs.Prepared.{IsPrepared, serves};
 ghost use Rattle.stow_commands.specs.Commands.{command_of};
 
 use crate::Core;
+use crate::kind::{Kind, kind_of};
 use crate::prepared::Prepared;
 use std::alloc::{AllocError, Allocator};
 use stow_commands::command::Command;
@@ -89,9 +92,11 @@ impl<A: Allocator + Copy> Core<A> {
     }
 
     /// Whether a command of this kind can be tried: a write that is no removal first gets back what is missing of the memory that is
-    /// held back.
+    /// held back. A read and a removal always can, and the core is as it was.
     fn is_ready(&mut self, alloc: A, kind: Kind) -> bool
-        ensures { Keeps self.old self.new }
+        ensures keeps { Keeps self.old self.new }
+        ensures ready { kind ≢ Growth → IsTrue result }
+        ensures same { kind ≢ Growth → self.new ≡ self.old }
     {
         let _known = self.is_tenant(0);
         match kind {
@@ -101,9 +106,12 @@ impl<A: Allocator + Copy> Core<A> {
     }
 
     /// Frees what can be had for a command of this kind to which memory was refused. It answers whether the command can be tried once
-    /// more: what only reads is not.
+    /// more: a removal always can, and what only reads is not.
     fn makes_way(&mut self, alloc: A, kind: Kind) -> bool
-        ensures { Keeps self.old self.new }
+        ensures keeps { Keeps self.old self.new }
+        ensures removal { kind ≡ Removal → IsTrue result }
+        ensures read { kind ≡ Read → IsFalse result }
+        ensures same { kind ≡ Read → self.new ≡ self.old }
     {
         let _known = self.is_tenant(0);
         match kind {
@@ -139,7 +147,8 @@ impl<A: Allocator + Copy> Core<A> {
         self.prepare_once(alloc, tenant, command)
     }
 
-    /// Finds what a command says. Where memory is refused to a write, it is tried once more, with what can be freed for it.
+    /// Finds what a command says. Where memory is refused to a write, it is tried once more, with what can be freed for it. A PING
+    /// without a text needs none.
     #[inline(always)]
     pub(crate) fn prepare_command<'a>(
         &mut self,
@@ -150,7 +159,9 @@ impl<A: Allocator + Copy> Core<A> {
         requires is_tenant { IsTenant self.old.entries tenant }
         requires sound { IsSound (shared_of self.old) }
         requires legal { HasLegalKeys (command_of command) }
-        ensures { IsPrepared self.old tenant (serves (command_of command.entry)) self.new result }
+        ensures prepared { IsPrepared self.old tenant (serves (command_of command.entry))
+            self.new result }
+        ensures needless { command_of command.entry ≡ Ping → IsOk result }
     {
         if !self.is_ready(alloc, kind_of(command)) {
             return self.prepare_again(alloc, tenant, command);
@@ -160,21 +171,5 @@ impl<A: Allocator + Copy> Core<A> {
             return prepared;
         }
         self.prepare_again(alloc, tenant, command)
-    }
-}
-
-/// What a command may do to what rows take.
-#[derive(Clone, Copy)]
-enum Kind {
-    Removal,
-    Growth,
-    Read,
-}
-
-fn kind_of(command: Command<'_>) -> Kind {
-    match command {
-        Command::Del(_) | Command::DropSnapshot(_) => Kind::Removal,
-        Command::Change(_, _) | Command::TakeSnapshot => Kind::Growth,
-        _ => Kind::Read,
     }
 }

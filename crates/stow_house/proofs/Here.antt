@@ -18,11 +18,24 @@ use Rattle.stow_house.specs.declared.connection_event.ConnectionEvent.TheVariant
 use Rattle.stow_house.specs.declared.stop.Stop.{Stop}
 use Rattle.stow_house.specs.declared.stop.Stop.TheVariants as stopped
 use Rattle.stow_house.specs.Seen.{Seen, seen, IsServedTenant, never_opened, status_by}
-use Rattle.stow_house.specs.StepResult.{StepResult, Refused, More, answered, answer_to_event, answer_to_own, served_so}
+use Rattle.stow_house.specs.StepResult.{StepResult, Refused, NoMemory, More, answered, answer_to_event, answer_to_own, served_so}
 use Rattle.stow_house.specs.Sessions.{Whole, Taken, Told, ForStoreOf, taking}
 use Rattle.stow_house.specs.Conversations.{Exchange, Read, Served, Faulted, step_of, reply_in, told_with, words_of, IsAsked, request_with, CanBePlain, Meets, Talk, as_seen, status_at, Tells, Asks}
-use Rattle.stow_house.specs.Connections.{meaning, moved, reply_in_core, Happens}
+use Rattle.stow_house.specs.Connections.{meaning, moved, reply_in_core, LeavesAll, Happens}
 use Rattle.stow_house.proofs.Hearing.{Means, means}
+
+-- ---- what is left of the core
+
+-- where nothing changed all is left, whatever the answer
+pub all_left : (r : StepResult) (before after : CoreState) → after ≡ before → LeavesAll r before after
+all_left Refused before after same = same
+all_left NoMemory before after same = same
+all_left _ before after same = tt
+
+-- a message that was taken was not refused
+taken_leaves : (told : Option Reply) (before after : CoreState) → LeavesAll (answered told) before after
+taken_leaves None before after = tt
+taken_leaves (Some reply) before after = tt
 
 -- ---- nothing is taken from the stream
 
@@ -32,6 +45,7 @@ plain e r old new core can status tenant unread result = inr (record {
   own = Plain e;
   is_event = refl;
   entries = refl;
+  leaves = all_left r core core refl;
   moves = λ is. record { moves = record { can = can; status = status; tenant = tenant; unread = unread }; stores = λ t. refl; shared = refl; result = result };
 })
 
@@ -147,6 +161,7 @@ met x serves answers request told old new before after m asked = inr (record {
   own = step_of x;
   is_event = serves;
   entries = same_tenants request (reply_in x) before after asked;
+  leaves = taken_leaves told before after;
   moves = λ is.
       let d = did before.entries x old.tenant before after is (subst (λ o. IsAsked Calls o (reply_in x) before after) (sym m.asks) asked) in
       record { moves = m.moves; stores = d.stores; shared = d.shared; result = ap answered (m.says ∙ d.says) ∙ sym (answers old.status _) };

@@ -21,11 +21,11 @@ use Rattle.stow_core.specs.StowState.Steps as in_state
 use Rattle.stow_core.proofs.StowState.Steps.{run_sound, step_is_there_law}
 use Rattle.stow_house.specs.SharedRuns.{IsCalled, call_of, shared_steps}
 use Rattle.stow_house.specs.Seen.{Seen, IsServedTenant, never_opened}
-use Rattle.stow_house.specs.StepResult.{StepResult, Done, Refused, answer_to_own, answer_to_order, MayAnswer, IsAnswer}
+use Rattle.stow_house.specs.StepResult.{StepResult, Done, Refused, NoMemory, answer_to_own, answer_to_order, MayAnswer, IsAnswer}
 use Rattle.stow_house.specs.Conversations.{Reads, CanWait, Can}
 use Rattle.stow_house.specs.Connections.{moved, MovesConnection, Leads, AsksMemory, IsVoid, Happens}
-use Rattle.stow_house.specs.Steps.{HouseState, StandsAt, Stands, GoesOn, FlusherBy, IsStepOf}
-use Rattle.stow_house.proofs.Here.{moves_by}
+use Rattle.stow_house.specs.Steps.{HouseState, StandsAt, Stands, GoesOn, FlusherBy, FlusherLeaves, IsStepOf}
+use Rattle.stow_house.proofs.Here.{all_left, moves_by}
 use Rattle.stow_house.proofs.Tenants.{served_tenant}
 
 -- ---- what is unread tells what the whole stream tells
@@ -191,6 +191,7 @@ at_connection old new c e r happens others flushers =
       goes_on = λ entries history s. voided entries old new c e r history v others s;
       flushers = flushers;
       tenants = ap (λ x. x.entries) v.core;
+      leaves = all_left r old.core new.core v.core;
     })
     (λ (l : Leads e r (old.seen c) (new.seen c) old.core new.core). record {
       step = At c l.own;
@@ -200,6 +201,7 @@ at_connection old new c e r happens others flushers =
           (λ own. led old new c l.own r history l.entries (l.moves (subst (λ o. IsServedTenant old.core.entries o) (sym (own.connections c).tenant) (served_tenant old.core.entries (part_of c history)))) others own) s;
       flushers = flushers;
       tenants = l.entries;
+      leaves = l.leaves;
     })
     happens
 
@@ -220,6 +222,21 @@ kept_by before after keeps = record { entries = keeps.entries; stores = keeps.st
 pub kept_as : (before after : CoreState) → after ≡ before → IsKept before after
 kept_as before after same = subst (IsKept before) (sym same) (record { entries = refl; stores = λ t. refl; way = idle before })
 
+-- what an event of a flusher leaves of the core is told by what it did
+flusher_leaves : (e : FlusherEvent) (r : StepResult) (old new : HouseState) → FlusherBy e r old new → FlusherLeaves e r old.core new.core
+flusher_leaves (event.Plan f) Refused old new is = is.0.1.core
+flusher_leaves (event.Plan f) NoMemory old new is = is.0.messages
+flusher_leaves (event.Plan f) _ old new is = tt
+flusher_leaves (event.Merge f) Refused old new is = is.2
+flusher_leaves (event.Merge f) NoMemory old new is = is.2
+flusher_leaves (event.Merge f) _ old new is = tt
+flusher_leaves (event.Install f) Refused old new is = is.0.1.core
+flusher_leaves (event.Install f) NoMemory old new is = is.0.2.read.root
+flusher_leaves (event.Install f) _ old new is = tt
+flusher_leaves (event.Resize n) Refused old new is = is.0
+flusher_leaves (event.Resize n) NoMemory old new is = is.0
+flusher_leaves (event.Resize n) _ old new is = tt
+
 -- an event of a flusher changes no connection and no store
 pub flushed : (old new : HouseState) (e : FlusherEvent) (r : StepResult) → MayAnswer e r → ((d : ℕ) → new.seen d ≡ old.seen d)
     → IsKept old.core new.core → FlusherBy e r old new → IsStepOf old (event.By e) r new
@@ -234,6 +251,7 @@ flushed old new e r may seen kept flushers = record {
   };
   flushers = flushers;
   tenants = kept.entries;
+  leaves = flusher_leaves e r old new flushers;
 }
 
 -- ---- a quota
@@ -296,6 +314,7 @@ given old new tenant quota may seen flushers m = record {
   goes_on = λ entries history s. subst (λ es. Stands es old history → GoesOn es (Ordered tenant quota) history Done new) s.tenants (ordered old new tenant quota history may seen m) s;
   flushers = flushers;
   tenants = m.entries;
+  leaves = tt;
 }
 
 -- nobody was given it
@@ -306,6 +325,7 @@ not_given house tenant quota may = record {
   goes_on = λ entries history s. unordered entries house tenant quota history (ap (λ es. may_be_given es tenant quota) (sym s.tenants) ∙ may) s;
   flushers = λ f. refl;
   tenants = refl;
+  leaves = refl;
 }
 
 -- a new house stands at the empty history

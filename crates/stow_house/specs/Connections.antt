@@ -14,7 +14,7 @@ use Rattle.stow_house.specs.declared.step_result.StepResult as result
 use Rattle.stow_house.specs.Seen.{Seen, seen, IsServedTenant}
 use Rattle.stow_house.specs.SharedRuns.{IsCalled}
 use Rattle.stow_house.specs.Conversations.{Moves}
-use Rattle.stow_house.specs.StepResult.{StepResult, step_result_of, NoMemory, answer_to_own}
+use Rattle.stow_house.specs.StepResult.{StepResult, step_result_of, Refused, NoMemory, answer_to_own}
 
 -- what the code's type stands for
 abbrev pub meaning : coded.ConnectionEvent → ConnectionEvent
@@ -35,6 +35,13 @@ reply_in_core core is_refused words tenant =
 
 -- ---- a step
 
+-- an event that is refused, or that memory is refused to, leaves the core as it was, with its tree
+-- and its cache
+abbrev pub LeavesAll : StepResult → CoreState → CoreState → Type 0
+LeavesAll Refused before after = after ≡ before
+LeavesAll NoMemory before after = after ≡ before
+LeavesAll _ before after = Unit {0}
+
 -- a step: what it does to its connection, to each store and to the state that all share, and what
 -- is answered
 pub record MovesConnection (own : ConnectionStep) (r : StepResult) (old new : Seen)
@@ -46,13 +53,14 @@ pub record MovesConnection (own : ConnectionStep) (r : StepResult) (old new : Se
   pub result : r
       ≡ answer_to_own own old.status (told_by before.entries own old.tenant (reply_in_core before))
 
--- a step of this event, by which the tenants stay; what it does, where whoever is served is a
--- tenant
+-- a step of this event, by which the tenants stay, and the whole core where it is refused; what it
+-- does, where whoever is served is a tenant
 pub record Leads (e : ConnectionEvent) (r : StepResult) (old new : Seen)
     (before after : CoreState) : Type 0 where
   pub own : ConnectionStep
   pub is_event : event_of_own own ≡ e
   pub entries : after.entries ≡ before.entries
+  pub leaves : LeavesAll r before after
   pub moves : IsServedTenant before.entries old.tenant → MovesConnection own r old new before after
 
 -- ---- want of memory

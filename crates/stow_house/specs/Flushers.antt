@@ -7,7 +7,7 @@ use Rattle.stow_core.specs.Jobs.{IsPlan, IsStale}
 use Rattle.stow_core.specs.StowNode.Jobs.{JobState, job_state}
 use Rattle.stow_core.specs.State.{CoreState, Keeps}
 use Rattle.stow_core.specs.StowNode.Installs.{BatchIsGone}
-use Rattle.stow_core.specs.StowTree.TreeState.{IsRead}
+use Rattle.stow_core.specs.StowTree.TreeState.{IsRead, tree_messages}
 use Rattle.stow_house.specs.declared.flusher.Flusher.{Flusher}
 use Rattle.stow_house.specs.declared.flusher.Flusher.TheVariants as coded
 use Rattle.stow_house.specs.StepResult.{StepResult, Done, Job, NoJob, Installed, Stale, Refused, NoMemory}
@@ -51,11 +51,12 @@ pub record GetsNoJob (old new : FlusherState) (before after : CoreState) : Type 
   pub still : new ≡ Free
   pub keeps : Keeps before after
 
--- memory was refused: the flusher has no job, and no store moved
+-- memory was refused: the flusher has no job, no store moved, and all messages mean what they did
 pub record WantsRoom (old new : FlusherState) (before after : CoreState) : Type 0 where
   pub free : old ≡ Free
   pub still : new ≡ Free
   pub core : (after ≡ before) ⊎ Keeps before after
+  pub messages : tree_messages after.tree ≡ tree_messages before.tree
 
 -- nothing changed
 pub record Stays (old new : FlusherState) (before after : CoreState) : Type 0 where

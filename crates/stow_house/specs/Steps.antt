@@ -10,11 +10,13 @@ use Rattle.stow_core.specs.State.{CoreState, store_of, shared_of, Resized}
 use Rattle.stow_house.specs.declared.house.House.{House}
 use Rattle.stow_core.specs.StowState.State.{new_state}
 use Rattle.stow_core.specs.StowState.Steps.{SharedRun}
+use Rattle.stow_core.specs.StowTree.TreeState.{tree_messages}
+use Rattle.stow_house.specs.Connections.{LeavesAll}
 use Rattle.stow_house.specs.Flushers.{FlusherState, flusher_at, PlansJob, MergesJob, InstallsResult}
 use Rattle.stow_house.specs.Seen.{Seen, seen_at}
 use Rattle.stow_house.specs.SharedRuns.{shared_steps}
 use Rattle.stow_house.specs.declared.step_result.StepResult as coded
-use Rattle.stow_house.specs.StepResult.{StepResult, Done, step_result_of, IsAnswer}
+use Rattle.stow_house.specs.StepResult.{StepResult, Done, Refused, NoMemory, step_result_of, IsAnswer}
 
 -- what is known of each connection, what each flusher has, and what the core keeps
 pub record HouseState : Type 0 where
@@ -62,9 +64,11 @@ pub record GoesOn (entries : List Entry) (step : Step) (earlier : List Step) (r 
 abbrev pub OtherFlushersStay : ℕ → HouseState → HouseState → Type 0
 OtherFlushersStay f old new = (g : ℕ) → g ≢ f → new.flusher g ≡ old.flusher g
 
--- another size of the cache is one of the tree's, unless it was refused
+-- another size of the cache is one of the tree's; a size above the limit changes nothing, and want
+-- of memory leaves the tree
 abbrev pub CacheBy : ℕ → StepResult → CoreState → CoreState → Type 0
 CacheBy n Done old new = Resized n old new
+CacheBy n Refused old new = new ≡ old
 CacheBy n r old new = new.tree ≡ old.tree
 
 -- what an event that is answered so makes of its flusher, and of the tree of all rows
@@ -86,7 +90,30 @@ FlushersAfter (event.On c e) r old new = (f : ℕ) → new.flusher f ≡ old.flu
 FlushersAfter (event.By e) r old new = FlusherBy e r old new
 FlushersAfter (event.SetQuota tenant quota) r old new = (f : ℕ) → new.flusher f ≡ old.flusher f
 
--- an event is one step, by which every history of the house goes on, and the tenants stay
+-- what an event of a flusher leaves of the core where memory is refused to it: a plan what all
+-- messages mean, though some may stand in another buffer; a merge all; an install the root; and
+-- another size of the cache the tree, with the cache
+abbrev pub VoidLeaves : FlusherEvent → CoreState → CoreState → Type 0
+VoidLeaves (event.Plan f) old new = tree_messages new.tree ≡ tree_messages old.tree
+VoidLeaves (event.Merge f) old new = new ≡ old
+VoidLeaves (event.Install f) old new = new.tree.root ≡ old.tree.root
+VoidLeaves (event.Resize n) old new = new.tree ≡ old.tree
+
+-- .. and where it is answered so: refused, it leaves all
+abbrev pub FlusherLeaves : FlusherEvent → StepResult → CoreState → CoreState → Type 0
+FlusherLeaves e Refused old new = new ≡ old
+FlusherLeaves e NoMemory old new = VoidLeaves e old new
+FlusherLeaves e _ old new = Unit {0}
+
+-- what an event that is refused, or that memory is refused to, leaves of the core: one of a
+-- connection and a quota leave all
+abbrev pub LeavesCore : Event → StepResult → CoreState → CoreState → Type 0
+LeavesCore (event.On c e) r old new = LeavesAll r old new
+LeavesCore (event.By e) r old new = FlusherLeaves e r old new
+LeavesCore (event.SetQuota tenant quota) r old new = LeavesAll r old new
+
+-- an event is one step, by which every history of the house goes on, and the tenants stay; where it
+-- is refused, or memory is refused to it, this is left of the core
 pub record IsStepOf (old : HouseState) (e : Event) (r : StepResult)
     (new : HouseState) : Type 0 where
   pub step : Step
@@ -95,6 +122,7 @@ pub record IsStepOf (old : HouseState) (e : Event) (r : StepResult)
       → GoesOn entries step history r new
   pub flushers : FlushersAfter e r old new
   pub tenants : new.core.entries ≡ old.core.entries
+  pub leaves : LeavesCore e r old.core new.core
 
 abbrev pub Steps : {A : Type 0} → House A → Event → coded.StepResult A → House A → Type 0
 Steps old e result new = IsStepOf (state_of old) e (step_result_of result) (state_of new)

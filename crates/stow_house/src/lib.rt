@@ -11,7 +11,8 @@
 //! a relation too (`specs/FlushDoors.antt`).
 //! `Flusher` has no job, a job, or a job's result. By its answer each of its events says what it has then, and what became of
 //! the tree (`specs/Flushers.antt`); none changes a tenant's store or tells anybody anything, wherever it comes between the
-//! others. A body of such an event that always answers want of memory meets its contract: tests want the other answers.
+//! others. A refused event leaves the core as it was, and so does one of a connection that memory is refused to; what one of a
+//! flusher leaves then is told too (`LeavesCore` of `specs/Steps.antt`). A body of such an event that always answers want of memory meets its contract: tests want the other answers.
 //! Not said: time, and that memory is there; where memory was refused, the outputs name the event.
 #![tactic(auto)]
 

@@ -1,4 +1,5 @@
 use Rattle.std.proofs.Common.{◌≡◌, ap, sym, subst}
+use Rattle.std.proofs.Math.Bool.{false≢true}
 use Rattle.stow_core.specs.State.{CoreState, shared_of, store_of}
 use Rattle.stow_core.proofs.Answered.{called, starved}
 use Rattle.stow_core.proofs.Stores.{index_of, own_there, store_view}
@@ -19,4 +20,4 @@ returns-in-Err g c =
     starved c.args.self.now c.prepare.new.self t c.args.words.now
     (λ is. index_of _ c.self.inside.pins t c.self.invariant.0 (own is))
     (λ is. subst (λ s. store_of s t ≡ view (shared_of s) t) c.self.view_is (let there = own_there _ c.self.inside.pins t c.self.invariant.0 (own is) in store_view _ t there.0 there.1))
-    c.prepare.ensures.keeps (λ unknown. (c.in-Err.ensures.stranger unknown).answers)
+    c.prepare.ensures.keeps (λ needless. absurd (false≢true (c.in-Err.ensures.needless needless))) (λ unknown. (c.in-Err.ensures.stranger unknown).answers)

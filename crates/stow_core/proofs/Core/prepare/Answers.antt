@@ -1,5 +1,6 @@
-use Rattle.std.proofs.Common.{ap, ◌∙◌}
+use Rattle.std.proofs.Common.{ap, subst, sym, ◌∙◌}
 use Rattle.stow_commands.specs.Commands.{command_of}
+use Rattle.stow_core.specs.Memory.{NeedsNone}
 use Rattle.stow_core.specs.State.{store_of}
 use Rattle.stow_core.specs.Prepared.{prepared_answer}
 use Rattle.stow_core.proofs.Answered.{understood, refused_words, if_ok}
@@ -13,7 +14,10 @@ prepare_command-requires-clause-legal g c = understood_legal c.args.words.now (c
 pub returns-in-Ok-clause-own : goal.returns-in-Ok-clause-own
 returns-in-Ok-clause-own g c = λ _.
     let store = store_of c.args.self.now c.args.tenant in
-    if_ok c.prepare_command.result _ _ (λ p says. says ∙ understood store c.args.words.now (command_of c.in-Ok.command) c.in-Ok.ensures) c.prepare_command.ensures.answers
+    if_ok c.prepare_command.result _ _ (λ p says. says ∙ understood store c.args.words.now (command_of c.in-Ok.command) c.in-Ok.ensures) c.prepare_command.ensures.prepared.answers
+
+pub returns-in-Ok-clause-needless : goal.returns-in-Ok-clause-needless
+returns-in-Ok-clause-needless g c = λ needless. c.prepare_command.ensures.needless (subst NeedsNone (sym c.in-Ok.ensures) needless)
 
 pub returns-in-Err-clause-keeps : goal.returns-in-Err-clause-keeps
 returns-in-Err-clause-keeps g c = keeps_itself c.args.self.now c.is_tenant.ensures.sound

@@ -7,7 +7,7 @@ use Rattle.stow_house.proofs.house.House.plan.Goals as goal
 pub returns-in_default-clause-steps : goal.returns-in_default-clause-steps
 returns-in_default-clause-steps g c =
     let free = c.in_default.ensures.err in
-    plan_steps _ _ c.args.f NoMemory (λ d. refl) (λ h differ. c.make_place.ensures.same h) (record { free = free; still = c.make_place.ensures.same c.args.f ∙ free; core = inl refl })
+    plan_steps _ _ c.args.f NoMemory (λ d. refl) (λ h differ. c.make_place.ensures.same h) (record { free = free; still = c.make_place.ensures.same c.args.f ∙ free; core = inl refl; messages = refl })
 
 pub returns-clause-steps : goal.returns-clause-steps
 returns-clause-steps g c =
