@@ -742,7 +742,7 @@ fn shape_behind_steps<R: Wait + Abort, J: Journal, A: Allocator + Copy>(
 ) -> ShapeReport {
     told(rt, alloc, &shared, &mut seat, 1, "SET a x");
     let read = told(rt, alloc, &shared, &mut seat, 1, "GET a");
-    assert!(rt; matches!(&read, Reply::Bulk(value) if value.as_slice() == b"x"));
+    assert!(rt; matches!(&read, Reply::Bulk(value) if value.as_slice() == b"x".as_slice()));
     assert!(rt; flushes(rt, alloc, &shared, &mut seat));
     let again = told(rt, alloc, &shared, &mut seat, 1, "GET a");
     assert!(rt; same_reply(&again, &read));
