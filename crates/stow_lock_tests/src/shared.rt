@@ -731,8 +731,8 @@ fn holds_withstand_each_refusal(rt: HostRuntime) {
     assert!(rt; refusals >= 8, "{refusals} refusals");
 }
 
-/// The tree behind the steps of a seat, each of which is seen by what it did: a value that is read back, a flush that brings it to
-/// its leaf, a quota that refuses the next write, and a cache of so many leaves.
+/// The tree behind the steps of a seat, each of which is seen by what it did: a cache of so many leaves, which a read fills, a value that
+/// is read back, a flush that brings it to its leaf, and a quota that refuses the next write.
 fn shape_behind_steps<R: Wait + Abort, J: Journal, A: Allocator + Copy>(
     rt: &R,
     alloc: A,
@@ -740,6 +740,7 @@ fn shape_behind_steps<R: Wait + Abort, J: Journal, A: Allocator + Copy>(
     mut seat: Seat<J, A>,
     leaves: usize,
 ) -> ShapeReport {
+    assert!(rt; shared.resize(rt, &mut seat, leaves).is_ok());
     told(rt, alloc, &shared, &mut seat, 1, "SET a x");
     let read = told(rt, alloc, &shared, &mut seat, 1, "GET a");
     assert!(rt; matches!(&read, Reply::Bulk(value) if value.as_slice() == b"x".as_slice()));
@@ -749,7 +750,6 @@ fn shape_behind_steps<R: Wait + Abort, J: Journal, A: Allocator + Copy>(
     assert!(rt; shared.set_quota(rt, &mut seat, 1, 0).is_ok());
     let refused = told(rt, alloc, &shared, &mut seat, 1, "SET b y");
     assert!(rt; is_refusal(&refused, Refusal::QuotaExceeded));
-    assert!(rt; shared.resize(rt, &mut seat, leaves).is_ok());
     closed_by_one(rt, alloc, shared, seat).core().shape()
 }
 
