@@ -731,8 +731,8 @@ fn holds_withstand_each_refusal(rt: HostRuntime) {
     assert!(rt; refusals >= 8, "{refusals} refusals");
 }
 
-/// The tree behind the steps of a seat, each of which is seen by what it did: a cache of so many leaves, which a read fills, a value that
-/// is read back, a flush that brings it to its leaf, and a quota that refuses the next write.
+/// The tree behind the steps of a seat, each of which is seen by what it did: a cache of so many leaves, which a RANGE fills, a value
+/// that is read back, a flush that brings it to its leaf, and a quota that refuses the next write.
 fn shape_behind_steps<R: Wait + Abort, J: Journal, A: Allocator + Copy>(
     rt: &R,
     alloc: A,
@@ -745,8 +745,8 @@ fn shape_behind_steps<R: Wait + Abort, J: Journal, A: Allocator + Copy>(
     let read = told(rt, alloc, &shared, &mut seat, 1, "GET a");
     assert!(rt; matches!(&read, Reply::Bulk(value) if value.as_slice() == b"x".as_slice()));
     assert!(rt; flushes(rt, alloc, &shared, &mut seat));
-    let again = told(rt, alloc, &shared, &mut seat, 1, "GET a");
-    assert!(rt; same_reply(&again, &read));
+    let rows = told(rt, alloc, &shared, &mut seat, 1, "RANGE a b 9");
+    assert!(rt; matches!(&rows, Reply::Array(told) if told.len() == 2));
     assert!(rt; shared.set_quota(rt, &mut seat, 1, 0).is_ok());
     let refused = told(rt, alloc, &shared, &mut seat, 1, "SET b y");
     assert!(rt; is_refusal(&refused, Refusal::QuotaExceeded));
