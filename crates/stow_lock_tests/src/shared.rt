@@ -33,7 +33,6 @@ use stow_workers::stow_shared::seat::Seat;
 use stow_workers::stow_shared::shared::Shared;
 use stow_workers::stow_shared::step::Step;
 use stow_workers::stow_shared::unkept::Unkept;
-use stow_workers::stow_tree::shape_report::ShapeReport;
 use stow_workers::stow_tree::tree_shape::TreeShape;
 
 const OK: Reply = Reply::Simple(SimpleString::Ok);
@@ -678,91 +677,7 @@ fn requests_are_answered_together(rt: HostRuntime) -> Result<(), Fail> {
     let last = shared.call_all(&rt, alloc, &mut seat, &requests.as_slice()[4..], &mut none);
     assert!(rt; same_reply(&last, &Reply::Integer(3)));
     assert_eq!(rt; seat.receipts().len(), 5);
-    let closed = closed_by_one(&rt, alloc, shared, seat);
-    assert_eq!(rt; closed.entries().len(), 5);
-    assert_eq!(rt; own_entries(&rt, alloc, closed.entries(), 1), 5);
     Ok(())
-}
-
-/// Two additions.
-fn two_additions<A: Allocator + Copy>(alloc: A) -> Result<Vec<Request<A>, A>, AllocError> {
-    let mut requests = Vec::new(alloc);
-    requests.push(addition(alloc)?)?;
-    requests.push(addition(alloc)?)?;
-    Ok(requests)
-}
-
-/// Whether this request for memory is refused to one of two additions that one hold answers. That one then leaves no entry and no
-/// receipt, and is counted; the other is carried out.
-fn hold_withstands<R: Wait + Abort, B: Allocator>(
-    rt: &R,
-    heap: &Refusing<B>,
-    global: Global,
-    at: u64,
-) -> bool {
-    let (shared, mut seat) = opened_for_one::<_, Kept, _>(rt, heap, global);
-    let requests = two_additions(heap).expect(rt, "memory");
-    let mut more = Vec::with_capacity(heap, 8).expect(rt, "memory");
-    heap.set(Plan::RefuseAt(at));
-    let _first = shared.call_all(rt, heap, &mut seat, requests.as_slice(), &mut more);
-    let asked = heap.asked();
-    heap.set(Plan::Grant);
-    if asked <= at {
-        return false;
-    }
-    assert!(rt; more.len() == 1 && seat.refused() == 1, "request {at}");
-    assert!(rt; seat.receipts().len() == 1, "request {at}");
-    let next = told(rt, heap, &shared, &mut seat, 1, "INCR n");
-    assert!(rt; same_reply(&next, &Reply::Integer(2)), "request {at}");
-    assert_eq!(rt; closed_unaided(rt, heap, shared, seat).entries().len(), 2);
-    true
-}
-
-#[test]
-fn holds_withstand_each_refusal(rt: HostRuntime) {
-    let heap = Refusing::new(rt.alloc());
-    let mut refusals: u64 = 0;
-    for at in 0..100u64 {
-        if !hold_withstands(&rt, &heap, rt.alloc(), at) {
-            break;
-        }
-        refusals = at + 1;
-    }
-    assert!(rt; refusals >= 8, "{refusals} refusals");
-}
-
-/// The tree behind the steps of a seat, each of which is seen by what it did: a cache of so many leaves, which a RANGE fills, a value
-/// that is read back, a flush that brings it to its leaf, and a quota that refuses the next write.
-fn shape_behind_steps<R: Wait + Abort, J: Journal, A: Allocator + Copy>(
-    rt: &R,
-    alloc: A,
-    shared: Shared<J, A>,
-    mut seat: Seat<J, A>,
-    leaves: usize,
-) -> ShapeReport {
-    assert!(rt; shared.resize(rt, &mut seat, leaves).is_ok());
-    told(rt, alloc, &shared, &mut seat, 1, "SET a x");
-    let read = told(rt, alloc, &shared, &mut seat, 1, "GET a");
-    assert!(rt; matches!(&read, Reply::Bulk(value) if value.as_slice() == b"x".as_slice()));
-    assert!(rt; flushes(rt, alloc, &shared, &mut seat));
-    let rows = told(rt, alloc, &shared, &mut seat, 1, "RANGE a b 9");
-    assert!(rt; matches!(&rows, Reply::Array(told) if told.len() == 2));
-    assert!(rt; shared.set_quota(rt, &mut seat, 1, 0).is_ok());
-    let refused = told(rt, alloc, &shared, &mut seat, 1, "SET b y");
-    assert!(rt; is_refusal(&refused, Refusal::QuotaExceeded));
-    closed_by_one(rt, alloc, shared, seat).core().shape()
-}
-
-// Where no journal is kept, no entry tells of a step: it is seen by what it did.
-#[test]
-fn unkept_steps_are_taken(rt: HostRuntime) {
-    let alloc: Global = rt.alloc();
-    for leaves in [0usize, 5] {
-        let (shared, seat) = opened_for_one::<_, Unkept, Global>(&rt, alloc, alloc);
-        let shape = shape_behind_steps(&rt, alloc, shared, seat, leaves);
-        assert!(rt; shape.leaves == 1 && shape.buffered == 0, "{leaves}");
-        assert_eq!(rt; shape.cached, leaves.min(1) as u64, "{leaves}");
-    }
 }
 
 /// An addition, a request that asks for many rows, and an addition.

@@ -8,11 +8,11 @@ use Rattle.stow_house.specs.StowNode.declared.installed.Installed.{Installed}
 use Rattle.stow_house.specs.StowNode.declared.installed.Installed.TheVariants as installed
 use Rattle.stow_house.specs.StowCore.Flushing.{TakesResultOf}
 use Rattle.stow_house.specs.StowNode.Installs.{BatchIsGone}
-use Rattle.stow_house.specs.StowCore.State.{CoreState, Keeps}
+use Rattle.stow_house.specs.StowCore.State.{Keeps}
 use Rattle.stow_shared.specs.Entries.{Entry, entry_of, entries_of, install_entry}
 use Rattle.stow_shared.specs.Journals.{with_entry}
-use Rattle.stow_shared.specs.Seats.{SeatState, with_receipt}
-use Rattle.stow_shared.specs.Books.{BookState, Installs, Adds}
+use Rattle.stow_shared.specs.Seats.{SeatState}
+use Rattle.stow_shared.specs.Books.{BookState, Installs}
 
 -- where entries are kept, the entry is
 pub is_kept : (keeps : Bool) (entry told : Entry) (es : List Entry) → keeps ≡ true → entry ≡ told → entry ∷ es ≡ with_entry keeps told es
@@ -39,20 +39,16 @@ first_back Q m (Err e) p = p.0
 none_kept : (keeps : Bool) (entry : Entry) (es : List Entry) → keeps ≡ false → with_entry keeps entry es ≡ es
 none_kept keeps entry es is = ap (λ (k : Bool). if k then entry ∷ es else es) is
 
--- then a seat that saw a core gained no receipt
-pub seen_alone : (keeps : Bool) (entry : Entry) (core : CoreState) (seat : SeatState) → keeps ≡ false → ◌≡◌ {A = SeatState} (record seat { core = core }) (with_receipt keeps entry core seat)
-seen_alone keeps entry core seat is = ap (λ es. record seat { receipts = es; core = core }) (sym (none_kept keeps entry seat.receipts is))
-
--- an entry was added, and then the seat saw the core that the step left
-pub seen_behind : (keeps : Bool) (entry : Entry) (core : CoreState) (old new : List Entry) (seat mid seat' : SeatState) → Adds keeps entry seat.core old seat new mid → seat' ≡ record mid { core = core } → Adds keeps entry core old seat new seat'
-seen_behind keeps entry core old new seat mid seat' adds saw = record {
-  journal = adds.journal;
-  receipt = saw ∙ ap (λ (s : SeatState). record s { core = core }) adds.receipt;
-}
-
--- where no entries are kept, the seat's seeing the core is all
-pub unkept_seen : (keeps : Bool) (entry : Entry) (core : CoreState) (es : List Entry) (seat seat' : SeatState) → keeps ≡ false → seat' ≡ record seat { core = core } → Adds keeps entry core es seat es seat'
-unkept_seen keeps entry core es seat seat' is saw = record {
-  journal = sym (none_kept keeps entry es is);
-  receipt = saw ∙ seen_alone keeps entry core seat is;
-}
+pub installs_unkept : {A E : Type 0} (keeps : Bool) (old : BookState) (seat : SeatState) (job : FlushJob A) (r : Result Installed E) (new : BookState) → keeps ≡ false → new.entries ≡ old.entries → Keeps old.core new.core
+    → IfOk r (λ told. told ≡ installed.Stale ↔ ¬ (TakesResultOf old.core job)) → IfOk r (λ told. told ≡ installed.Stale → new.core ≡ old.core) → IfOk r (λ told. told ≡ installed.Done → BatchIsGone job.batch.messages new.core.tree.root)
+    → IfOk r (λ told. Installs keeps old seat job told new seat)
+installs_unkept keeps old seat job (Ok told) new is same stays stale unmoved gone =
+    let entry = install_entry seat.number told in
+    record {
+      core = record { keeps = stays; stale = stale; unmoved = unmoved; gone = gone };
+      adds = record {
+        journal = same ∙ sym (none_kept keeps entry old.entries is);
+        receipt = ap (λ rs. record seat { receipts = rs }) (sym (none_kept keeps entry seat.receipts is));
+      };
+    }
+installs_unkept keeps old seat job (Err e) new is same stays stale unmoved gone = tt

@@ -17,8 +17,7 @@ use Rattle.stow_house.specs.StowState.Steps as in_state
 use Rattle.stow_house.specs.StowNode.declared.installed.Installed.{Installed}
 use Rattle.stow_shared.specs.Entries.{Entry, Step, Resize, Plan, Install, call_entry, resize_entry, quota_entry, plan_entry, install_entry}
 use Rattle.stow_shared.specs.Journals.{line_in, told_in, with_request, with_told, RefusesStrangers, IsLegal, with_entry}
-use Rattle.stow_shared.specs.Books.{IsJournalKept, IsBook}
-use Rattle.stow_shared.specs.Cores.{ServesCall}
+use Rattle.stow_shared.specs.Books.{IsJournalKept, IsBook, ServesCall}
 
 -- an index is a tenant's, or none's
 pub tenant_or_not : (entries : List login.Entry) (t : ℕ) → IsTenant entries t ⊎ (¬ IsTenant entries t)

@@ -3,15 +3,14 @@ use Rattle.std.proofs.Common.{◌≡◌, ℕ, ◌+◌, List, [], ◌∷◌, ◌+
 use Rattle.std.specs.Prelude.{slice_get}
 use Rattle.std.proofs.lemmas.List.{get_or_append_left, get_or_push, length_push}
 use Rattle.std.proofs.lemmas.Option.{slice_get-get_or}
-use Rattle.stow_house.specs.StowCore.State.{CoreState}
 use Rattle.stow_shared.specs.Opened.{AreNewSeats}
 use Rattle.stow_shared.specs.Seats.{SeatState, new_seat}
 
-pub one_more_seat : (core : CoreState) (n : ℕ) (seats : List SeatState) → AreNewSeats core n seats → AreNewSeats core (n + 1) (seats ++ new_seat core (n + 1) ∷ [])
-one_more_seat core n seats new =
-    let next = new_seat core (n + 1) in
+pub one_more_seat : (n : ℕ) (seats : List SeatState) → AreNewSeats n seats → AreNewSeats (n + 1) (seats ++ new_seat (n + 1) ∷ [])
+one_more_seat n seats new =
+    let next = new_seat (n + 1) in
     let more = seats ++ next ∷ [] in
-    let P : ℕ → Type 0 = λ k. slice_get more k ≡ Some (new_seat core (k + 1)) in
+    let P : ℕ → Type 0 = λ k. slice_get more k ≡ Some (new_seat (k + 1)) in
     let count : length more ≡ n + 1 = length_push seats next ∙ ap (λ m. m + 1) new.0 in (
       count,
       below_more P n

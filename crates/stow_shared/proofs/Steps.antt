@@ -1,6 +1,6 @@
 -- The steps of a call, from what the core promises.
 use Rattle.std.proofs.Common.{◌≡◌, ℕ, Bool, true, false, List, refl, ap, ◌∙◌, sym, subst, Some, None, Option, ⊎_elim, inl, inr}
-use Rattle.std.specs.Prelude.{◌↔◌, Result, Ok, Err, IfOk, OnOk, OnErr, is_some}
+use Rattle.std.specs.Prelude.{Ok}
 use Rattle.std.proofs.lemmas.Bool.{cond-true, cond-false}
 use Rattle.stow_model.specs.declared.refusal.Refusal.TheVariants as refusal
 use Rattle.stow_model.specs.declared.reply.Reply as coded
@@ -16,16 +16,11 @@ use Rattle.stow_house.specs.StowCore.State.{CoreState, store_of, AnswersRequest,
 use Rattle.stow_house.proofs.StowState.Steps.{steps_after_maintenance_law}
 use Rattle.stow_house.specs.StowCore.State as in_core
 use Rattle.stow_shared.specs.declared.copies.Copies.{Copies}
-use Rattle.stow_shared.specs.Books.{BookState, CallStep, Held, HeldCalls}
-use Rattle.stow_house.specs.StowMerge.declared.flush_job.FlushJob.{FlushJob}
-use Rattle.stow_house.specs.StowNode.declared.installed.Installed.{Installed}
-use Rattle.stow_house.specs.StowCore.Flushing.{IsDrained}
-use Rattle.stow_house.specs.FlushDoors.{message_count, planned, installed}
-use Rattle.stow_shared.specs.Cores.{ServesCall, PlansFlush, InstallsFlush}
+use Rattle.stow_shared.specs.Books.{BookState, ServesCall, CallStep}
 use Rattle.stow_shared.specs.Copies.{AreCopies, AreAlike, copied}
-use Rattle.stow_shared.specs.Entries.{Entry, call_entry, plan_entry, install_entry}
+use Rattle.stow_shared.specs.Entries.{Entry, call_entry}
 use Rattle.stow_shared.specs.Journals.{with_entry}
-use Rattle.stow_shared.specs.Seats.{SeatState, SeatCalls, SeatFlushes, CallsBy, TookStep, with_receipt, with_refusal}
+use Rattle.stow_shared.specs.Seats.{SeatState, SeatCalls, with_refusal}
 use Rattle.stow_shared.proofs.Legal.{tenant_or_not}
 
 pub alike : {A : Type 0} (keeps : Bool) (words : List (List ℕ)) (copies : Option (Copies A)) → AreCopies keeps words copies → AreAlike keeps copies
@@ -112,54 +107,11 @@ answered_memory old tenant words told new s =
     (λ (no : ¬ IsTenant old.entries tenant). ap is_out_of_memory (s.stranger no).told_is)
     (tenant_or_not old.entries tenant)
 
--- a step of the book's that showed the seat its core
-pub took_step : (keeps : Bool) (entry : Entry) (step : CoreState → CoreState → Type 0) (before after : CoreState) (seat seat' : SeatState) → seat' ≡ with_receipt keeps entry after seat → step before after → TookStep keeps entry step seat seat'
-took_step keeps entry step before after seat seat' gained did =
-    let here : seat'.core ≡ after = ap (λ s. s.core) gained in
-    record {
-      gained = gained ∙ ap (λ core. with_receipt keeps entry core seat) (sym here);
-      before = before;
-      led = subst (λ core. step before core) (sym here) did;
-    }
-
--- what a call is told says what its seat gained
-calls_by : (b keeps : Bool) (seat : SeatState) (tenant : ℕ) (words : List (List ℕ)) (told : Reply) (seat' : SeatState) → is_out_of_memory told ≡ b → CallsBy b keeps seat tenant words told seat' → SeatCalls keeps seat tenant words told seat'
-calls_by b keeps seat tenant words told seat' is calls = subst (λ (x : Bool). CallsBy x keeps seat tenant words told seat') (sym is) calls
+-- a call that memory was refused to is counted
+pub call_counted : (keeps : Bool) (seat : SeatState) (tenant : ℕ) (words : List (List ℕ)) (told : Reply) (seat' : SeatState) → told ≡ reply.Error refusal.OutOfMemory → seat' ≡ with_refusal seat → SeatCalls keeps seat tenant words told seat'
+call_counted keeps seat tenant words told seat' says counted = counted ∙ sym (cond-true (is_out_of_memory told) _ _ (ap is_out_of_memory says))
 
 pub seat_calls : (keeps : Bool) (old : BookState) (seat : SeatState) (tenant : ℕ) (words : List (List ℕ)) (told : Reply) (new : BookState) (seat' : SeatState) → CallStep keeps old seat tenant words told new seat' → SeatCalls keeps seat tenant words told seat'
 seat_calls keeps old seat tenant words told new seat' (inl a) =
-    calls_by false keeps seat tenant words told seat' (answered_memory old.core tenant words told new.core a.core)
-    (took_step keeps (call_entry seat.number tenant words told) (λ before after. ServesCall before tenant words told after) old.core new.core seat seat' a.adds.receipt a.core)
-seat_calls keeps old seat tenant words told new seat' (inr l) = calls_by true keeps seat tenant words told seat' (ap is_out_of_memory l.says) l.counted
-
--- the same of what is held
-pub held_calls : (keeps : Bool) (old new : Held) (tenant : ℕ) (words : List (List ℕ)) (told : Reply) → HeldCalls keeps old tenant words told new → SeatCalls keeps old.seat tenant words told new.seat
-held_calls keeps old new tenant words told step = seat_calls keeps old.book old.seat tenant words told new.book new.seat step
-
--- ---- what its doors pass on
-
--- what an answer says, said otherwise
-pub if_ok_so : {T E : Type 0} (P Q : T → Type 0) (r : Result T E) → ((x : T) → P x → Q x) → IfOk r P → IfOk r Q
-if_ok_so P Q (Ok x) so p = so x p
-if_ok_so P Q (Err e) so p = tt
-
-pub on_ok_so : {T E P Q : Type 0} (r : Result T E) → (P → Q) → OnOk r P → OnOk r Q
-on_ok_so (Ok x) so p = so p
-on_ok_so (Err e) so p = tt
-
--- a step that is of one kind is of another
-pub took_so : (keeps : Bool) (entry : Entry) (step step' : CoreState → CoreState → Type 0) (seat seat' : SeatState) → ((before after : CoreState) → step before after → step' before after) → TookStep keeps entry step seat seat' → TookStep keeps entry step' seat seat'
-took_so keeps entry step step' seat seat' so took = record { gained = took.gained; before = took.before; led = so took.before seat'.core took.led }
-
-none_alike : {A : Type 0} (job : Option (FlushJob A)) (D : Type 0) → (job ≡ None ↔ D) → (message_count job ≡ None ↔ D)
-none_alike None D none = (λ e. none.0 refl, λ d. refl)
-none_alike (Some job) D none = (λ e. cc e, λ d. cc (none.1 d))
-
-pub plan_flushes : {A E : Type 0} (keeps : Bool) (seat seat' : SeatState) (r : Result (Option (FlushJob A)) E) → IfOk r (λ job. TookStep keeps (plan_entry seat.number (is_some job)) (λ before after. PlansFlush before job after) seat seat') → OnErr r (seat' ≡ seat) → SeatFlushes keeps seat (planned r) seat'
-plan_flushes keeps seat seat' (Ok None) took stays = took_so keeps _ _ _ seat seat' (λ before after p. record { keeps = p.keeps; none = none_alike None (IsDrained before) p.none }) took
-plan_flushes keeps seat seat' (Ok (Some job)) took stays = took_so keeps _ _ _ seat seat' (λ before after p. record { keeps = p.keeps; none = none_alike (Some job) (IsDrained before) p.none }) took
-plan_flushes keeps seat seat' (Err e) took stays = stays
-
-pub install_flushes : {A E : Type 0} (keeps : Bool) (seat seat' : SeatState) (job : FlushJob A) (r : Result Installed E) → IfOk r (λ told. TookStep keeps (install_entry seat.number told) (λ before after. InstallsFlush before job told after) seat seat') → OnErr r (seat' ≡ seat) → SeatFlushes keeps seat (installed r) seat'
-install_flushes keeps seat seat' job (Ok told) took stays = took_so keeps _ _ _ seat seat' (λ before after i. i.keeps) took
-install_flushes keeps seat seat' job (Err e) took stays = stays
+    a.adds.receipt ∙ sym (cond-false (is_out_of_memory told) _ _ (answered_memory old.core tenant words told new.core a.core))
+seat_calls keeps old seat tenant words told new seat' (inr l) = call_counted keeps seat tenant words told seat' l.says l.counted

@@ -1,14 +1,16 @@
 -- What stands under the lock, and its steps.
-use Rattle.std.specs.Prelude.{◌≡◌, ℕ, Bool, true, List, Option, is_some, ◌⊎◌}
+use Rattle.std.specs.Prelude.{◌≡◌, ◌↔◌, ℕ, Bool, true, false, List, Option, None, IfSome, is_some, ◌⊎◌}
 use Rattle.stow_model.specs.declared.refusal.Refusal.TheVariants as refusal
 use Rattle.stow_model.specs.Login.{IsTenant}
 use Rattle.stow_model.specs.Reply.{Reply}
 use Rattle.stow_model.specs.Reply as reply
 use Rattle.stow_house.specs.StowMerge.declared.flush_job.FlushJob.{FlushJob}
+use Rattle.stow_house.specs.StowNode.Installs.{BatchIsGone}
 use Rattle.stow_house.specs.StowNode.declared.installed.Installed.{Installed}
-use Rattle.stow_house.specs.StowCore.State.{CoreState, shared_of, GivesQuota, Keeps}
+use Rattle.stow_house.specs.StowNode.declared.installed.Installed.TheVariants as installed
+use Rattle.stow_house.specs.StowCore.Flushing.{IsDrained, IsPlannedFrom, TakesResultOf}
+use Rattle.stow_house.specs.StowCore.State.{CoreState, shared_of, AnswersRequest, RefusesCall, GivesQuota, Keeps, OthersStay, Resized}
 use Rattle.stow_house.specs.StowState.State.{IsSound}
-use Rattle.stow_shared.specs.Cores.{ServesCall, ResizesCache, PlansFlush, InstallsFlush}
 use Rattle.stow_shared.specs.Entries.{Entry, call_entry, resize_entry, quota_entry, plan_entry, install_entry}
 use Rattle.stow_shared.specs.Journals.{with_entry, IsLegal}
 use Rattle.stow_shared.specs.Seats.{SeatState, with_receipt, with_refusal}
@@ -28,12 +30,22 @@ pub record IsBook (keeps : Bool) (entries : List Entry) (core : CoreState) : Typ
   pub sound : IsSound (shared_of core)
   pub kept : IsJournalKept keeps entries core
 
--- an entry was added to a journal, and the same to a seat's receipts, where they are kept; the seat
--- has this core as its last step left it
-pub record Adds (keeps : Bool) (entry : Entry) (core : CoreState) (old : List Entry)
-    (seat : SeatState) (new : List Entry) (seat' : SeatState) : Type 0 where
+-- The words were answered in the caller's own store, as its own step says, to which nothing was
+-- refused, and that is a step of the state that all share. An index that is no tenant's was
+-- refused, and nothing changed. No other store moved.
+pub record ServesCall (old : CoreState) (tenant : ℕ) (words : List (List ℕ)) (told : Reply)
+    (new : CoreState) : Type 0 where
+  pub own : IsTenant old.entries tenant
+      → AnswersRequest old new tenant (record { words = words; is_refused = false }) told
+  pub stranger : ¬ (IsTenant old.entries tenant) → RefusesCall old told new
+  pub others : OthersStay old new tenant
+  pub tenants : new.entries ≡ old.entries
+
+-- an entry was added to a journal, and the same to a seat's receipts, where they are kept
+pub record Adds (keeps : Bool) (entry : Entry) (old : List Entry) (seat : SeatState)
+    (new : List Entry) (seat' : SeatState) : Type 0 where
   pub journal : new ≡ with_entry keeps entry old
-  pub receipt : seat' ≡ with_receipt keeps entry core seat
+  pub receipt : seat' ≡ with_receipt keeps entry seat
 
 -- memory was refused: nothing was added and no store moved
 pub record Leaves (old new : BookState) : Type 0 where
@@ -44,8 +56,8 @@ pub record Leaves (old new : BookState) : Type 0 where
 pub record AnswersCall (keeps : Bool) (old : BookState) (seat : SeatState) (tenant : ℕ)
     (words : List (List ℕ)) (told : Reply) (new : BookState) (seat' : SeatState) : Type 0 where
   pub core : ServesCall old.core tenant words told new.core
-  pub adds : Adds keeps (call_entry seat.number tenant words told) new.core old.entries seat
-      new.entries seat'
+  pub adds : Adds keeps (call_entry seat.number tenant words told) old.entries seat new.entries
+      seat'
 
 -- a call that memory was refused to, which its seat counts; of an index that is no tenant's nothing
 -- changed
@@ -63,40 +75,43 @@ CallStep keeps old seat tenant words told new seat' =
     AnswersCall keeps old seat tenant words told new seat'
     ⊎ LacksMemory old seat tenant told new seat'
 
--- the book and the seat of one who holds the lock
-pub record Held : Type 0 where
-  pub book : BookState
-  pub seat : SeatState
-
--- the same of what is held, as a relation of a door's
-abbrev pub HeldCalls : Bool → Held → ℕ → List (List ℕ) → Reply → Held → Type 0
-HeldCalls keeps old tenant words told new =
-    CallStep keeps old.book old.seat tenant words told new.book new.seat
-
 -- the step of another size of the cache, with its one entry and receipt
 pub record Resizes (keeps : Bool) (old : BookState) (seat : SeatState) (leaves : ℕ)
     (new : BookState) (seat' : SeatState) : Type 0 where
-  pub core : ResizesCache leaves old.core new.core
-  pub adds : Adds keeps (resize_entry seat.number leaves) new.core old.entries seat new.entries
-      seat'
+  pub core : Keeps old.core new.core
+  pub cache : Resized leaves old.core new.core
+  pub adds : Adds keeps (resize_entry seat.number leaves) old.entries seat new.entries seat'
 
 -- the step of a quota for a tenant, with its one entry and receipt
 pub record Orders (keeps : Bool) (old : BookState) (seat : SeatState) (tenant quota : ℕ)
     (new : BookState) (seat' : SeatState) : Type 0 where
   pub core : GivesQuota old.core tenant quota new.core
-  pub adds : Adds keeps (quota_entry seat.number tenant quota) new.core old.entries seat
-      new.entries seat'
+  pub adds : Adds keeps (quota_entry seat.number tenant quota) old.entries seat new.entries seat'
+
+-- A flush was planned: no store moved, and there is no job just where no buffer holds a message.
+pub record PlansFlush {A : Type 0} (old : CoreState) (job : Option (FlushJob A)) (new : CoreState)
+    : Type 0 where
+  pub keeps : Keeps old new
+  pub none : job ≡ None ↔ IsDrained old
+  pub planned : IfSome job (IsPlannedFrom new)
+
+-- The result of a job came: no store moved. It is stale just where it can't be installed, and then
+-- nothing changed; else its batch is gone from the buffers.
+pub record InstallsFlush {A : Type 0} (old : CoreState) (job : FlushJob A) (told : Installed)
+    (new : CoreState) : Type 0 where
+  pub keeps : Keeps old new
+  pub stale : told ≡ installed.Stale ↔ ¬ (TakesResultOf old job)
+  pub unmoved : told ≡ installed.Stale → new ≡ old
+  pub gone : told ≡ installed.Done → BatchIsGone job.batch.messages new.tree.root
 
 -- the step of a flush that is planned, with its one entry and receipt
 pub record Plans {A : Type 0} (keeps : Bool) (old : BookState) (seat : SeatState)
     (job : Option (FlushJob A)) (new : BookState) (seat' : SeatState) : Type 0 where
   pub core : PlansFlush old.core job new.core
-  pub adds : Adds keeps (plan_entry seat.number (is_some job)) new.core old.entries seat
-      new.entries seat'
+  pub adds : Adds keeps (plan_entry seat.number (is_some job)) old.entries seat new.entries seat'
 
 -- the step of a job's result, with its one entry and receipt
 pub record Installs {A : Type 0} (keeps : Bool) (old : BookState) (seat : SeatState)
     (job : FlushJob A) (told : Installed) (new : BookState) (seat' : SeatState) : Type 0 where
   pub core : InstallsFlush old.core job told new.core
-  pub adds : Adds keeps (install_entry seat.number told) new.core old.entries seat new.entries
-      seat'
+  pub adds : Adds keeps (install_entry seat.number told) old.entries seat new.entries seat'

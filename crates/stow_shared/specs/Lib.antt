@@ -1,6 +1,5 @@
 pub mod Entries
 pub mod Journals
-pub mod Cores
 pub mod Seats
 pub mod Books
 pub mod Copies

@@ -18,9 +18,9 @@ abbrev pub IsSeatCount : ℕ → Type 0
 IsSeatCount count = (1 ≤ count) × (count ≤ 1024)
 
 -- so many seats, numbered from 1, from which no step was taken
-abbrev pub AreNewSeats : CoreState → ℕ → List SeatState → Type 0
-AreNewSeats core count seats = (length seats ≡ count)
-    × ((k : ℕ) → k < count → slice_get seats k ≡ Some (new_seat core (k + 1)))
+abbrev pub AreNewSeats : ℕ → List SeatState → Type 0
+AreNewSeats count seats = (length seats ≡ count)
+    × ((k : ℕ) → k < count → slice_get seats k ≡ Some (new_seat (k + 1)))
 
 abbrev pub fault_number : OpenFault → ℕ
 fault_number fault.SeatCount = 1
@@ -36,4 +36,4 @@ pub record Opens (core : CoreState) (count : ℕ) (shared : SharedState) (seats 
     : Type 0 where
   pub counted : IsSeatCount count
   pub shares : shared ≡ record { tenants = core.entries; seats = count; opened = core }
-  pub each : AreNewSeats core count seats
+  pub each : AreNewSeats count seats

@@ -1,5 +1,5 @@
 //! What the lock holds.
-ghost use Rattle.std.specs.Prelude.{◌≡◌, ◌↔◌, ◌≤◌, IsTrue, IfOk, IfErr, OnOk, OnErr, [], true, false};
+ghost use Rattle.std.specs.Prelude.{◌≡◌, ◌↔◌, ◌≤◌, IsTrue, IfOk, IfErr, OnOk, OnErr, [], true};
 ghost use Rattle.stow_bytes.specs.Limits.{number_limit};
 ghost use Rattle.stow_house.specs.StowCore.State.{IsNewCore};
 ghost use Rattle.stow_model.specs.Reply.{reply_of};
@@ -91,27 +91,8 @@ impl<J: Journal, A: Allocator + Copy> Book<J, A> {
             && are_of_seats(self.journal.as_slice(), count)
     }
 
-    /// Answers a tenant's words, whole: the step of a call, with the copies that its entry and its receipt take. Where memory is
-    /// refused, no store moves and nothing is added, and the seat counts the call.
-    pub fn answer(
-        &mut self,
-        alloc: A,
-        seat: &mut Seat<J, A>,
-        tenant: u32,
-        words: &Words<A>,
-    ) -> Reply<A>
-        ensures { CallStep J.keeps self.old seat.old tenant words.now (reply_of result) self.new
-            seat.new }
-    {
-        let _known = self.journal.len();
-        match Copies::of::<J>(alloc, words) {
-            Ok(copies) => self.call(alloc, seat, tenant, words, copies),
-            Err(_) => seat.refuse(),
-        }
-    }
-
     /// The step of a call. Where memory is refused, no store moves and nothing is added.
-    fn call(
+    pub fn call(
         &mut self,
         alloc: A,
         seat: &mut Seat<J, A>,
@@ -128,11 +109,7 @@ impl<J: Journal, A: Allocator + Copy> Book<J, A> {
             Err(_) => return seat.refuse(),
         };
         match keep_call(alloc, &mut self.journal, seat, tenant, copies, prepared) {
-            Ok(prepared) => {
-                let reply = self.core.commit(prepared);
-                seat.see(&self.core);
-                reply
-            }
+            Ok(prepared) => self.core.commit(prepared),
             Err(_) => seat.refuse(),
         }
     }
@@ -145,7 +122,7 @@ impl<J: Journal, A: Allocator + Copy> Book<J, A> {
         ensures err { OnErr result (Leaves self.old self.new × (seat.new ≡ seat.old)) }
     {
         if !J::is_kept() {
-            return self.resize_unkept(seat, leaves);
+            return self.core.resize(leaves);
         }
         let number = seat.number();
         self.journal.reserve(1)?;
@@ -170,7 +147,6 @@ impl<J: Journal, A: Allocator + Copy> Book<J, A> {
     {
         keep_quota(&mut self.journal, seat, tenant, quota)?;
         self.core.set_quota(tenant, quota);
-        seat.see(&self.core);
         Ok(())
     }
 
@@ -186,7 +162,7 @@ impl<J: Journal, A: Allocator + Copy> Book<J, A> {
         ensures err { OnErr result (Leaves self.old self.new × (seat.new ≡ seat.old)) }
     {
         if !J::is_kept() {
-            return self.plan_unkept(alloc, seat);
+            return self.core.plan(alloc);
         }
         let number = seat.number();
         self.journal.reserve(1)?;
@@ -210,7 +186,7 @@ impl<J: Journal, A: Allocator + Copy> Book<J, A> {
         ensures back { IfErr result (λ e. e.0 ≡ merge) }
     {
         if !J::is_kept() {
-            return self.install_unkept(alloc, seat, merge);
+            return self.core.install(alloc, merge);
         }
         let number = seat.number();
         if let Err(refused) = self.journal.reserve(1) {
@@ -218,53 +194,6 @@ impl<J: Journal, A: Allocator + Copy> Book<J, A> {
         }
         let told = seat.install(alloc, &mut self.core, merge)?;
         self.journal.push_reserved(Entry::installed(number, told));
-        Ok(told)
-    }
-
-    /// The step of another size of the cache where no entries are kept.
-    fn resize_unkept(&mut self, seat: &mut Seat<J, A>, leaves: usize) -> Result<(), AllocError>
-        requires unkept { J.keeps ≡ false }
-        requires few { leaves ≤ 65536 }
-        ensures ok { OnOk result
-            (Resizes J.keeps self.old seat.old leaves self.new seat.new) }
-        ensures err { OnErr result (Leaves self.old self.new × (seat.new ≡ seat.old)) }
-    {
-        self.core.resize(leaves)?;
-        seat.see(&self.core);
-        Ok(())
-    }
-
-    /// The step of a flush that is planned where no entries are kept.
-    fn plan_unkept(
-        &mut self,
-        alloc: A,
-        seat: &mut Seat<J, A>,
-    ) -> Result<Option<FlushJob<A>>, AllocError>
-        requires { J.keeps ≡ false }
-        ensures ok { IfOk result (λ job.
-            Plans J.keeps self.old seat.old job self.new seat.new) }
-        ensures err { OnErr result (Leaves self.old self.new × (seat.new ≡ seat.old)) }
-    {
-        let job = self.core.plan(alloc)?;
-        seat.see(&self.core);
-        Ok(job)
-    }
-
-    /// The step of a job's result where no entries are kept.
-    fn install_unkept(
-        &mut self,
-        alloc: A,
-        seat: &mut Seat<J, A>,
-        merge: FlushResult<A>,
-    ) -> Result<Installed, (FlushResult<A>, AllocError)>
-        requires { J.keeps ≡ false }
-        ensures ok { IfOk result (λ told.
-            Installs J.keeps self.old seat.old merge.job told self.new seat.new) }
-        ensures err { OnErr result (Leaves self.old self.new × (seat.new ≡ seat.old)) }
-        ensures back { IfErr result (λ e. e.0 ≡ merge) }
-    {
-        let told = self.core.install(alloc, merge)?;
-        seat.see(&self.core);
         Ok(told)
     }
 }
@@ -304,8 +233,7 @@ fn keep_call<'a, J: Journal, A: Allocator + Copy>(
     ensures ok { OnOk result
         (Adds J.keeps
         (call_entry seat.old.number tenant (copied copies) (reply_of prepared.entry.reply))
-        seat.old.core (entries_of journal.old.items) seat.old (entries_of journal.new.items)
-        seat.new) }
+        (entries_of journal.old.items) seat.old (entries_of journal.new.items) seat.new) }
     ensures err { OnErr result ((journal.new.items ≡ journal.old.items) × (seat.new ≡ seat.old)) }
 {
     let Some(Copies { entry, receipt }) = copies else {
@@ -338,7 +266,7 @@ fn keep_quota<J: Journal, A: Allocator + Copy>(
     quota: u64,
 ) -> Result<(), AllocError>
     ensures ok { OnOk result
-        (Adds J.keeps (quota_entry seat.old.number tenant quota) seat.old.core
+        (Adds J.keeps (quota_entry seat.old.number tenant quota)
         (entries_of journal.old.items) seat.old (entries_of journal.new.items) seat.new) }
     ensures err { OnErr result ((journal.new.items ≡ journal.old.items) × (seat.new ≡ seat.old)) }
     ensures memory { OnErr result (J.keeps ≡ true) }
@@ -361,7 +289,7 @@ fn keep<J: Journal, A: Allocator + Copy>(
 ) -> Result<(), AllocError>
     requires { entry_of receipt ≡ entry_of entry }
     ensures ok { OnOk result
-        (Adds true (entry_of entry) seat.old.core (entries_of journal.old.items) seat.old
+        (Adds true (entry_of entry) (entries_of journal.old.items) seat.old
         (entries_of journal.new.items) seat.new) }
     ensures err { OnErr result ((journal.new.items ≡ journal.old.items) × (seat.new ≡ seat.old)) }
 {

@@ -11,7 +11,7 @@ use crate::seat::Seat;
 use std::alloc::Allocator;
 
 /// How many of the seats have this number.
-fn count_of<J: Journal, A: Allocator + Copy>(seats: &[Seat<J, A>], number: u32) -> usize
+fn count_of<J: Journal, A: Allocator>(seats: &[Seat<J, A>], number: u32) -> usize
     ensures { result ≡ seats_of number seats.now }
 {
     let mut count = 0;
@@ -24,10 +24,7 @@ fn count_of<J: Journal, A: Allocator + Copy>(seats: &[Seat<J, A>], number: u32) 
 }
 
 /// Whether there is one seat of each number up to the count, and no other.
-pub(crate) fn are_one_each<J: Journal, A: Allocator + Copy>(
-    seats: &[Seat<J, A>],
-    count: u32,
-) -> bool
+pub(crate) fn are_one_each<J: Journal, A: Allocator>(seats: &[Seat<J, A>], count: u32) -> bool
     ensures { IsTrue result ↔ AreOneEach count seats.now }
 {
     if seats.len() != count as usize {
@@ -42,7 +39,7 @@ pub(crate) fn are_one_each<J: Journal, A: Allocator + Copy>(
 }
 
 /// Whether the seat's receipts are the journal's entries of its number, in order.
-fn has_receipts<J: Journal, A: Allocator + Copy>(seat: &Seat<J, A>, journal: &[Entry<A>]) -> bool
+fn has_receipts<J: Journal, A: Allocator>(seat: &Seat<J, A>, journal: &[Entry<A>]) -> bool
     ensures { IsTrue result ↔ HasReceipts (entries_of journal.now) seat.now }
 {
     let number = seat.number();
@@ -59,7 +56,7 @@ fn has_receipts<J: Journal, A: Allocator + Copy>(seat: &Seat<J, A>, journal: &[E
 }
 
 /// Whether each seat's receipts are the journal's entries of its number.
-pub(crate) fn have_receipts<J: Journal, A: Allocator + Copy>(
+pub(crate) fn have_receipts<J: Journal, A: Allocator>(
     seats: &[Seat<J, A>],
     journal: &[Entry<A>],
 ) -> bool

@@ -11,9 +11,7 @@
 //! there is no journal, and a step copies nothing and asks for no memory beside the core's own.
 //!
 //! Of a value under a lock a proof knows what its type keeps and nothing else. So what `Shared::call`, `resize`, `set_quota`, `plan`
-//! and `install` promise is what their seat gained: the receipt, where they are kept, and over either journal the core as the step left
-//! it, to which that step led some core (`TookStep`). That core is erased, costs nothing, and only the book's steps show it to a seat
-//! (`Seat::see`). `Shared::close` compares what is handed back with what the lock held. Where it
+//! and `install` promise is what their seat gained, and `Shared::close` compares what is handed back with what the lock held. Where it
 //! answers `Ok`, the core's tenants are those that were opened, the journal leads to the core, each seat's receipts are the
 //! journal's entries of its number, in order, and no entry is of anything else: what the seats were told is a legal
 //! journal. Two such journals in which a tenant calls alike tell it the same and leave it the same store
@@ -23,10 +21,9 @@
 //! speaks of that.
 //!
 //! Not said: that a call returns, since it waits for the lock, nor in which order steps of different seats come. A
-//! body that answers want of memory, or a `close` that always gives all back, meets its contract. Nor is it said that the core that a step
-//! begins with is the one that the step before it left, since other seats take steps between. Tests call each with
-//! ample memory, from one seat and from two, and with each request for memory refused in turn; and where no journal is kept they look
-//! at what each step did.
+//! body that answers want of memory, or a `close` that always gives all back, meets its contract; so does a `Shared::call`
+//! that does nothing under the lock and makes its receipt up, whose journal `close` then refuses. Tests call each with
+//! ample memory, from one seat and from two, and with each request for memory refused in turn.
 #![tactic(auto)]
 
 pub mod book;

@@ -2,9 +2,10 @@
 ghost use Rattle.std.specs.Prelude.{◌≡◌, ◌<◌, [], ◌∷◌, length, map};
 ghost use Rattle.stow_house.specs.Pipelines.{AnswersFront};
 ghost use Rattle.stow_model.specs.Reply.{reply_of};
-ghost use Rattle.stow_shared.specs.Books.{HeldCalls};
+ghost use Rattle.stow_shared.specs.Seats.{SeatCalls};
 
 use crate::book::Book;
+use crate::copies::Copies;
 use crate::journal::Journal;
 use crate::seat::Seat;
 use crate::turns::asks_for_many;
@@ -24,9 +25,26 @@ fn is_long<A: Allocator>(reply: &Reply<A>) -> bool {
     }
 }
 
+/// Answers a request, whole. The seat gains the receipt of it where entries are kept; where memory was refused it gains none,
+/// and counts the call.
+fn answer<J: Journal, A: Allocator + Copy>(
+    book: &mut Book<J, A>,
+    alloc: A,
+    seat: &mut Seat<J, A>,
+    request: &Request<A>,
+) -> Reply<A>
+    ensures { SeatCalls J.keeps seat.old request.now.tenant request.now.words (reply_of result)
+        seat.new }
+{
+    let words = &request.words;
+    match Copies::of::<J>(alloc, words) {
+        Ok(copies) => book.call(alloc, seat, request.tenant, words, copies),
+        Err(_) => seat.refuse(),
+    }
+}
+
 /// Answers requests one after another, the first of them at least: its reply, and those of the next ones, for as many as `more`
-/// has room, no reply before them may be long, and none of them asks for many rows: for such a one a turn is taken first. Each is
-/// one step of the book's, in their order: with its effect, its entry and its receipt.
+/// has room, no reply before them may be long, and none of them asks for many rows: for such a one a turn is taken first.
 pub(crate) fn answer_all<J: Journal, A: Allocator + Copy>(
     book: &mut Book<J, A>,
     alloc: A,
@@ -36,21 +54,18 @@ pub(crate) fn answer_all<J: Journal, A: Allocator + Copy>(
 ) -> Reply<A>
     requires some { 0 < length requests.now }
     requires none { more.old.items ≡ [] }
-    ensures answers { AnswersFront (HeldCalls J.keeps)
-        (record { book = book.old; seat = seat.old }) requests.now
-        (reply_of result ∷ map reply_of more.new.items)
-        (record { book = book.new; seat = seat.new }) }
+    ensures answers { AnswersFront (SeatCalls J.keeps) seat.old requests.now
+        (reply_of result ∷ map reply_of more.new.items) seat.new }
     ensures within { length more.new.items < length requests.now }
 {
-    let request = &requests[0];
-    let first = book.answer(alloc, seat, request.tenant, &request.words);
+    let first = answer(book, alloc, seat, &requests[0]);
     let mut is_last = is_long(&first);
     for i in 1..requests.len() {
         let request = &requests[i];
         if is_last || more.len() == more.capacity() || asks_for_many(&request.words) {
             return first;
         }
-        let reply = book.answer(alloc, seat, request.tenant, &request.words);
+        let reply = answer(book, alloc, seat, request);
         is_last = is_long(&reply);
         more.push_reserved(reply);
     }

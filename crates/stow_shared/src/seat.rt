@@ -8,7 +8,6 @@ use crate::entry::Entry;
 use crate::journal::Journal;
 use std::alloc::{AllocError, Allocator, Global};
 use std::marker::{Model, PhantomData};
-use std::snapshot::Snapshot;
 use stow_bytes::limits::NUMBER_LIMIT;
 use stow_house::stow_core::Core;
 use stow_house::stow_merge::flush_job::FlushJob;
@@ -20,16 +19,14 @@ use stow_model::reply::Reply;
 /// The right of one thread to take steps, with a receipt of each where a journal is kept, and the number of its
 /// calls that memory was refused to.
 #[derive(Drop)]
-pub struct Seat<J: Journal, A: Allocator + Copy = Global> {
+pub struct Seat<J: Journal, A: Allocator = Global> {
     number: u32,
     receipts: Vec<Entry<A>, A>,
     refused: u64,
-    /// The core as its last step left it, of which contracts alone speak: the receipt of that step, whether a journal is kept or not.
-    core: Snapshot<Core<A>>,
     of: PhantomData<J>,
 }
 
-impl<J: Journal, A: Allocator + Copy> Model for Seat<J, A> {
+impl<J: Journal, A: Allocator> Model for Seat<J, A> {
     ghost use Rattle.stow_shared.specs.Entries.{entries_of};
     ghost use Rattle.stow_shared.specs.Seats.{SeatState};
 
@@ -39,23 +36,21 @@ impl<J: Journal, A: Allocator + Copy> Model for Seat<J, A> {
       number = s.number;
       receipts = entries_of s.receipts.items;
       refused = s.refused;
-      core = s.core.value;
     } };
 }
 
-impl<J: Journal, A: Allocator + Copy> Seat<J, A> {
+impl<J: Journal, A: Allocator> Seat<J, A> {
     ghost use Rattle.stow_shared.specs.Entries.{entry_of, entries_of};
     ghost use Rattle.stow_shared.specs.Seats.{new_seat, with_refusal};
 
-    /// A seat at this core, from which no step was taken.
-    pub(crate) fn new(alloc: A, core: &Core<A>, number: u32) -> Seat<J, A>
-        ensures { result ≡ new_seat core.now number }
+    /// A seat from which no step was taken.
+    pub(crate) fn new(alloc: A, number: u32) -> Seat<J, A>
+        ensures { result ≡ new_seat number }
     {
         Seat {
             number,
             receipts: Vec::new(alloc),
             refused: 0,
-            core: Snapshot::of(core),
             of: PhantomData,
         }
     }
@@ -79,13 +74,6 @@ impl<J: Journal, A: Allocator + Copy> Seat<J, A> {
         ensures { result ≡ self.now.refused }
     {
         self.refused
-    }
-
-    /// Takes the core as a step left it. It costs nothing: contracts alone speak of it.
-    pub(crate) fn see(&mut self, core: &Core<A>)
-        ensures { self.new ≡ record self.old { core = core.now } }
-    {
-        self.core = Snapshot::of(core);
     }
 
     /// Adds a receipt. An `Err` changes nothing.
@@ -113,7 +101,7 @@ impl<J: Journal, A: Allocator + Copy> Seat<J, A> {
 impl<J: Journal, A: Allocator + Copy> Seat<J, A> {
     ghost use Rattle.stow_house.specs.StowCore.State.{shared_of, Keeps, Resized};
     ghost use Rattle.stow_house.specs.StowState.State.{IsSound};
-    ghost use Rattle.stow_shared.specs.Cores.{PlansFlush, InstallsFlush};
+    ghost use Rattle.stow_shared.specs.Books.{PlansFlush, InstallsFlush};
     ghost use Rattle.stow_shared.specs.Entries.{entry_of, plan_entry, install_entry};
     ghost use Rattle.stow_shared.specs.Seats.{with_receipt};
 
@@ -126,7 +114,7 @@ impl<J: Journal, A: Allocator + Copy> Seat<J, A> {
     ) -> Result<(), AllocError>
         requires { IsSound (shared_of core.old) }
         ensures ok { OnOk result
-            (self.new ≡ with_receipt true (entry_of receipt) core.new self.old) }
+            (self.new ≡ record self.old { receipts = entry_of receipt ∷ self.old.receipts }) }
         ensures err { OnErr result (self.new ≡ self.old) }
         ensures core { OnOk result (Resized leaves core.old core.new) }
         ensures keeps { Keeps core.old core.new }
@@ -134,10 +122,8 @@ impl<J: Journal, A: Allocator + Copy> Seat<J, A> {
         self.receipts.reserve(1)?;
         core.resize(leaves)?;
         self.receipts.push_reserved(receipt);
-        self.see(core);
         Ok(())
     }
-
     /// Plans a flush in the core, and adds the receipt of it. An `Err` adds none.
     pub(crate) fn plan(
         &mut self,
@@ -146,7 +132,7 @@ impl<J: Journal, A: Allocator + Copy> Seat<J, A> {
     ) -> Result<Option<FlushJob<A>>, AllocError>
         requires { IsSound (shared_of core.old) }
         ensures ok { IfOk result (λ job. self.new
-            ≡ with_receipt true (plan_entry self.old.number (is_some job)) core.new self.old) }
+            ≡ with_receipt true (plan_entry self.old.number (is_some job)) self.old) }
         ensures err { OnErr result (self.new ≡ self.old) }
         ensures core { IfOk result (λ job. PlansFlush core.old job core.new) }
         ensures keeps { Keeps core.old core.new }
@@ -155,7 +141,6 @@ impl<J: Journal, A: Allocator + Copy> Seat<J, A> {
         let job = core.plan(alloc)?;
         self.receipts
             .push_reserved(Entry::planned(self.number, job.is_some()));
-        self.see(core);
         Ok(job)
     }
 
@@ -168,7 +153,7 @@ impl<J: Journal, A: Allocator + Copy> Seat<J, A> {
     ) -> Result<Installed, (FlushResult<A>, AllocError)>
         requires { IsSound (shared_of core.old) }
         ensures ok { IfOk result (λ told. self.new
-            ≡ with_receipt true (install_entry self.old.number told) core.new self.old) }
+            ≡ with_receipt true (install_entry self.old.number told) self.old) }
         ensures err { OnErr result (self.new ≡ self.old) }
         ensures back { IfErr result (λ e. e.0 ≡ merge) }
         ensures core { IfOk result (λ told. InstallsFlush core.old merge.job told core.new) }
@@ -180,7 +165,6 @@ impl<J: Journal, A: Allocator + Copy> Seat<J, A> {
         let told = core.install(alloc, merge)?;
         self.receipts
             .push_reserved(Entry::installed(self.number, told));
-        self.see(core);
         Ok(told)
     }
 }

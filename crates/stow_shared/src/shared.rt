@@ -2,17 +2,17 @@
 ghost use Rattle.std.specs.Prelude.{◌≡◌, ◌≤◌, ◌<◌, [], ◌∷◌, length, map, true, is_some, IfOk, IfErr, OnOk, OnErr};
 ghost use Rattle.stow_bytes.specs.Limits.{number_limit};
 ghost use Rattle.std.specs.Arc.{arc_value};
-ghost use Rattle.stow_house.specs.StowCore.State.{GivesQuota, IsNewCore};
+ghost use Rattle.stow_house.specs.StowCore.State.{IsNewCore};
 ghost use Rattle.stow_house.specs.Pipelines.{AnswersFront};
 ghost use Rattle.stow_model.specs.Reply.{reply_of};
 ghost use Rattle.stow_shared.specs.Closed.{Closes};
 ghost use Rattle.stow_shared.specs.Entries.{install_entry, plan_entry, quota_entry, resize_entry};
 ghost use Rattle.stow_shared.specs.Opened.{AreNewSeats, IsFaultOf, IsSeatCount, Opens};
-ghost use Rattle.stow_shared.specs.Cores.{ResizesCache, PlansFlush, InstallsFlush};
-ghost use Rattle.stow_shared.specs.Seats.{SeatCalls, TookStep};
+ghost use Rattle.stow_shared.specs.Seats.{SeatCalls, with_receipt};
 
 use crate::book::Book;
 use crate::closed::Closed;
+use crate::copies::Copies;
 use crate::journal::Journal;
 use crate::open_fault::OpenFault;
 use crate::pipelined::answer_all;
@@ -74,7 +74,7 @@ impl<J: Journal, A: Allocator + Copy> Shared<J, A> {
         if seats == 0 || seats > SEAT_LIMIT {
             return Err((core, OpenFault::SeatCount));
         }
-        let Ok(handed) = new_seats(alloc, &core, seats) else {
+        let Ok(handed) = new_seats(alloc, seats) else {
             return Err((core, OpenFault::OutOfMemory));
         };
         match Arc::try_clone(core.tenants()) {
@@ -131,7 +131,10 @@ impl<J: Journal, A: Allocator + Copy> Shared<J, A> {
     ) -> Reply<A>
         ensures { SeatCalls J.keeps seat.old tenant words.now (reply_of result) seat.new }
     {
-        self.book.lock(rt).answer(alloc, seat, tenant, words)
+        match Copies::of::<J>(alloc, words) {
+            Ok(copies) => self.book.lock(rt).call(alloc, seat, tenant, words, copies),
+            Err(_) => seat.refuse(),
+        }
     }
 
     /// Answers requests one after another while the lock is held, each as `call` does: the first of them at least, and the next
@@ -187,8 +190,7 @@ impl<J: Journal, A: Allocator + Copy> Shared<J, A> {
     ) -> Result<(), AllocError>
         requires { leaves ≤ 65536 }
         ensures ok { OnOk result
-            (TookStep J.keeps (resize_entry seat.old.number leaves) (ResizesCache leaves) seat.old
-            seat.new) }
+            (seat.new ≡ with_receipt J.keeps (resize_entry seat.old.number leaves) seat.old) }
         ensures err { OnErr result (seat.new ≡ seat.old) }
     {
         self.book.lock(rt).resize(seat, leaves)
@@ -205,8 +207,7 @@ impl<J: Journal, A: Allocator + Copy> Shared<J, A> {
     ) -> Result<(), AllocError>
         requires { quota ≤ number_limit }
         ensures ok { OnOk result
-            (TookStep J.keeps (quota_entry seat.old.number tenant quota)
-            (λ before after. GivesQuota before tenant quota after) seat.old seat.new) }
+            (seat.new ≡ with_receipt J.keeps (quota_entry seat.old.number tenant quota) seat.old) }
         ensures err { OnErr result (seat.new ≡ seat.old) }
         ensures memory { OnErr result (J.keeps ≡ true) }
     {
@@ -221,9 +222,8 @@ impl<J: Journal, A: Allocator + Copy> Shared<J, A> {
         alloc: A,
         seat: &mut Seat<J, A>,
     ) -> Result<Option<FlushJob<A>>, AllocError>
-        ensures ok { IfOk result (λ job.
-            TookStep J.keeps (plan_entry seat.old.number (is_some job))
-            (λ before after. PlansFlush before job after) seat.old seat.new) }
+        ensures ok { IfOk result (λ job. seat.new
+            ≡ with_receipt J.keeps (plan_entry seat.old.number (is_some job)) seat.old) }
         ensures err { OnErr result (seat.new ≡ seat.old) }
     {
         self.book.lock(rt).plan(alloc, seat)
@@ -238,9 +238,8 @@ impl<J: Journal, A: Allocator + Copy> Shared<J, A> {
         seat: &mut Seat<J, A>,
         merge: FlushResult<A>,
     ) -> Result<Installed, (FlushResult<A>, AllocError)>
-        ensures ok { IfOk result (λ told.
-            TookStep J.keeps (install_entry seat.old.number told)
-            (λ before after. InstallsFlush before merge.job told after) seat.old seat.new) }
+        ensures ok { IfOk result (λ told. seat.new
+            ≡ with_receipt J.keeps (install_entry seat.old.number told) seat.old) }
         ensures err { OnErr result (seat.new ≡ seat.old) }
         ensures back { IfErr result (λ e. e.0 ≡ merge) }
     {
@@ -279,18 +278,17 @@ impl<J: Journal, A: Allocator + Copy> Shared<J, A> {
     }
 }
 
-/// So many seats at a core, numbered from 1.
+/// So many seats, numbered from 1.
 fn new_seats<J: Journal, A: Allocator + Copy>(
     alloc: A,
-    core: &Core<A>,
     count: u32,
 ) -> Result<Vec<Seat<J, A>, A>, AllocError>
     requires { IsSeatCount count }
-    ensures { IfOk result (λ seats. AreNewSeats core.now count seats.items) }
+    ensures { IfOk result (λ seats. AreNewSeats count seats.items) }
 {
     let mut seats = Vec::with_capacity(alloc, count as usize)?;
     for before in 0..count {
-        seats.push(Seat::new(alloc, core, before + 1))?;
+        seats.push(Seat::new(alloc, before + 1))?;
     }
     Ok(seats)
 }

@@ -11,10 +11,10 @@ use stow_shared::seat::Seat;
 
 /// A thread that gives a seat back, from which nothing but plans and installs was done.
 #[derive(Drop)]
-pub struct FlushPromise<J: Journal, A: Allocator + Copy = Global> {
+pub struct FlushPromise<J: Journal, A: Allocator = Global> {
     pub seat: Snapshot<Seat<J, A>>,
 }
 
-impl<J: Journal, A: Allocator + Copy> Promise<Seat<J, A>> for FlushPromise<J, A> {
+impl<J: Journal, A: Allocator> Promise<Seat<J, A>> for FlushPromise<J, A> {
     ghost kept_by = { λ promise seat. HasFlushed (SeatFlushes J.keeps) promise.seat.value seat };
 }

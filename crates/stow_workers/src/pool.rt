@@ -175,7 +175,7 @@ where
 }
 
 /// The seats, once the threads of all workers have ended.
-fn join_all<R: Threads, J: Journal, A: Allocator + Copy>(
+fn join_all<R: Threads, J: Journal, A: Allocator>(
     rt: &R,
     workers: Vec<Worker<J, A>, A>,
     mut returned: Vec<Seat<J, A>, A>,

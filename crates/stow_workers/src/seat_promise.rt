@@ -10,10 +10,10 @@ use stow_shared::seat::Seat;
 
 /// A thread that gives a seat back, from which nothing but calls was done.
 #[derive(Drop)]
-pub struct SeatPromise<J: Journal, A: Allocator + Copy = Global> {
+pub struct SeatPromise<J: Journal, A: Allocator = Global> {
     pub seat: Snapshot<Seat<J, A>>,
 }
 
-impl<J: Journal, A: Allocator + Copy> Promise<Seat<J, A>> for SeatPromise<J, A> {
+impl<J: Journal, A: Allocator> Promise<Seat<J, A>> for SeatPromise<J, A> {
     ghost kept_by = { λ promise seat. HasCalled J.keeps promise.seat.value seat };
 }

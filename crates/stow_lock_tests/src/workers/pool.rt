@@ -526,7 +526,7 @@ fn at_once<R: Net<Listener = TcpListener, Stream = TcpStream>>(rt: &R) -> io::Re
 }
 
 /// Whether these are seats 1 to 3, in their order.
-fn are_three<J: Journal, A: Allocator + Copy>(seats: &[Seat<J, A>]) -> bool {
+fn are_three<J: Journal, A: Allocator>(seats: &[Seat<J, A>]) -> bool {
     seats.iter().map(|seat| seat.number()).eq([1, 2, 3])
 }
 

@@ -3,9 +3,8 @@ use Rattle.stow_model.specs.Reply.{reply_of}
 use Rattle.stow_shared.specs.Entries.{Entry, call_entry, entries_of}
 use Rattle.stow_shared.specs.Copies.{copied}
 use Rattle.stow_shared.specs.Journals.{with_entry}
-use Rattle.stow_shared.specs.Seats.{SeatState, with_refusal}
-use Rattle.stow_shared.specs.Books.{IsBook}
-use Rattle.stow_shared.specs.Cores.{ServesCall}
+use Rattle.stow_shared.specs.Seats.{with_refusal}
+use Rattle.stow_shared.specs.Books.{IsBook, ServesCall}
 use Rattle.stow_shared.proofs.Legal.{book_same, book_call}
 use Rattle.stow_shared.proofs.Steps.{alike, entry_is, serves_back}
 use Rattle.stow_shared.proofs.book.Book.call.Given.{Over}
@@ -47,25 +46,25 @@ returns-in-Err-keep_call g c =
 
 -- ---- the call was answered
 
-told_is : (g : Over) (c : goal.After-see g) → reply_of c.commit-reply.result ≡ reply_of c.in-Ok.prepared.reply
-told_is g c = ap reply_of (c.commit-reply.ensures.reply ∙ ap (λ p. p.reply) c.in-Ok-keep_call.ensures.same)
+told_is : (g : Over) (c : goal.After-commit g) → reply_of c.commit.result ≡ reply_of c.in-Ok.prepared.reply
+told_is g c = ap reply_of (c.commit.ensures.reply ∙ ap (λ p. p.reply) c.in-Ok-keep_call.ensures.same)
 
-serves : (g : Over) (c : goal.After-see g) → ServesCall c.self.inside.core c.args.tenant c.args.words.now (reply_of c.commit-reply.result) c.commit-reply.new.self
+serves : (g : Over) (c : goal.After-commit g) → ServesCall c.self.inside.core c.args.tenant c.args.words.now (reply_of c.commit.result) c.commit.new.self
 serves g c =
-    serves_back c.self.inside.core c.prepare.new.self c.commit-reply.new.self c.args.tenant c.args.words.now c.in-Ok.prepared c.in-Ok-keep_call.prepared c.commit-reply.result c.in-Ok-keep_call.ensures.same
+    serves_back c.self.inside.core c.prepare.new.self c.commit.new.self c.args.tenant c.args.words.now c.in-Ok.prepared c.in-Ok-keep_call.prepared c.commit.result c.in-Ok-keep_call.ensures.same
     c.prepare.ensures.keeps c.in-Ok.ensures.tenant c.in-Ok.ensures.own c.in-Ok.ensures.stranger
-    c.commit-reply.ensures.reply c.commit-reply.ensures.own c.commit-reply.ensures.stranger
+    c.commit.ensures.reply c.commit.ensures.own c.commit.ensures.stranger
 
-added : (g : Over) (c : goal.After-see g) (es : List Entry) → with_entry g.J.Journal.keeps (call_entry c.args.seat.now.number c.args.tenant (copied c.args.copies) (reply_of c.in-Ok.prepared.reply)) es
-    ≡ with_entry g.J.Journal.keeps (call_entry c.args.seat.now.number c.args.tenant c.args.words.now (reply_of c.commit-reply.result)) es
-added g c es = entry_is g.J.Journal.keeps c.args.words.now c.args.copies c.requires c.args.seat.now.number c.args.tenant (reply_of c.in-Ok.prepared.reply) (reply_of c.commit-reply.result) es (told_is g c)
+added : (g : Over) (c : goal.After-commit g) (es : List Entry) → with_entry g.J.Journal.keeps (call_entry c.args.seat.now.number c.args.tenant (copied c.args.copies) (reply_of c.in-Ok.prepared.reply)) es
+    ≡ with_entry g.J.Journal.keeps (call_entry c.args.seat.now.number c.args.tenant c.args.words.now (reply_of c.commit.result)) es
+added g c es = entry_is g.J.Journal.keeps c.args.words.now c.args.copies c.requires c.args.seat.now.number c.args.tenant (reply_of c.in-Ok.prepared.reply) (reply_of c.commit.result) es (told_is g c)
 
 pub invariant_of-self-in-Ok-keep_call : goal.invariant_of-self-in-Ok-keep_call
 invariant_of-self-in-Ok-keep_call g c =
     let es = entries_of c.self.inside.journal.items in
-    let P : List Entry → Type 0 = λ x. IsBook g.J.Journal.keeps x c.commit-reply.new.self in
+    let P : List Entry → Type 0 = λ x. IsBook g.J.Journal.keeps x c.commit.new.self in
     subst P (sym (c.in-Ok-keep_call.ensures.ok.journal ∙ added g c es))
-    (book_call g.J.Journal.keeps c.args.seat.now.number c.args.tenant c.args.words.now (reply_of c.commit-reply.result) es c.self.inside.core c.commit-reply.new.self (serves g c) c.self.invariant)
+    (book_call g.J.Journal.keeps c.args.seat.now.number c.args.tenant c.args.words.now (reply_of c.commit.result) es c.self.inside.core c.commit.new.self (serves g c) c.self.invariant)
 
 pub returns-in-Ok-keep_call : goal.returns-in-Ok-keep_call
 returns-in-Ok-keep_call g c =
@@ -74,7 +73,6 @@ returns-in-Ok-keep_call g c =
       core = serves g c;
       adds = record {
         journal = c.in-Ok-keep_call.ensures.ok.journal ∙ added g c (entries_of c.self.inside.journal.items);
-        receipt = c.see.ensures ∙ ap (λ (s : SeatState). record s { core = c.commit-reply.new.self }) c.in-Ok-keep_call.ensures.ok.receipt
-            ∙ ap (λ es. record c.args.seat.now { receipts = es; core = c.commit-reply.new.self }) (added g c c.args.seat.now.receipts);
+        receipt = c.in-Ok-keep_call.ensures.ok.receipt ∙ ap (λ es. record c.args.seat.now { receipts = es }) (added g c c.args.seat.now.receipts);
       };
     }))

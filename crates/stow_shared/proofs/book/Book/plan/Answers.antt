@@ -6,6 +6,9 @@ use Rattle.stow_shared.proofs.Added.{err_so, is_kept, one_more}
 use Rattle.stow_shared.proofs.Legal.{book_same, book_plan, keeps_itself}
 use Rattle.stow_shared.proofs.book.Book.plan.Goals as goal
 
+pub invariant_of-self : goal.invariant_of-self
+invariant_of-self g c = book_same g.J.Journal.keeps (entries_of c.self.inside.journal.items) c.self.inside.core c.plan.new.self c.plan.ensures.keeps c.self.invariant
+
 pub returns-in_err-reserve-clause-err : goal.returns-in_err-reserve-clause-err
 returns-in_err-reserve-clause-err g c =
     err_so c.from_residual.result
@@ -14,7 +17,7 @@ returns-in_err-reserve-clause-err g c =
 pub invariant_of-self-in_err-job : goal.invariant_of-self-in_err-job
 invariant_of-self-in_err-job g c =
     rw (c.reserve.ensures.items)
-    (book_same g.J.Journal.keeps (entries_of c.self.inside.journal.items) c.self.inside.core c.plan.new.core c.plan.ensures.keeps c.self.invariant)
+    (book_same g.J.Journal.keeps (entries_of c.self.inside.journal.items) c.self.inside.core c.plan-2.new.core c.plan-2.ensures.keeps c.self.invariant)
 
 pub invariant_of-self-2 : goal.invariant_of-self-2
 invariant_of-self-2 g c =
@@ -22,10 +25,10 @@ invariant_of-self-2 g c =
     let es = entries_of c.self.inside.journal.items in
     let told = plan_entry c.args.seat.now.number (is_some c.in_ok-job.job) in
     let says = c.planned.ensures ∙ (λ i. plan_entry (c.number-number.ensures i) (c.is_some.ensures i)) in
-    let P : List Entry → Type 0 = λ x. IsBook g.J.Journal.keeps x c.plan.new.core in
+    let P : List Entry → Type 0 = λ x. IsBook g.J.Journal.keeps x c.plan-2.new.core in
     subst P (sym (one_more g.J.Journal.keeps told _ _ _ c.planned.result keeps c.reserve.ensures.items c.push_reserved.ensures.items says))
-    (book_plan g.J.Journal.keeps c.args.seat.now.number (is_some c.in_ok-job.job) es c.plan.new.core
-    (book_same g.J.Journal.keeps es c.self.inside.core c.plan.new.core c.plan.ensures.keeps c.self.invariant))
+    (book_plan g.J.Journal.keeps c.args.seat.now.number (is_some c.in_ok-job.job) es c.plan-2.new.core
+    (book_same g.J.Journal.keeps es c.self.inside.core c.plan-2.new.core c.plan-2.ensures.keeps c.self.invariant))
 
 pub returns-clause-ok : goal.returns-clause-ok
 returns-clause-ok g c =
@@ -38,6 +41,6 @@ returns-clause-ok g c =
       core = c.in_ok-job.ensures.core;
       adds = record {
         journal = one_more g.J.Journal.keeps told _ _ _ c.planned.result keeps c.reserve.ensures.items c.push_reserved.ensures.items says;
-        receipt = c.in_ok-job.ensures.ok ∙ ap (λ es. record c.args.seat.now { receipts = es; core = c.plan.new.core }) (is_kept g.J.Journal.keeps told told receipts keeps refl);
+        receipt = c.in_ok-job.ensures.ok ∙ ap (λ es. record c.args.seat.now { receipts = es }) (is_kept g.J.Journal.keeps told told receipts keeps refl);
       };
     })

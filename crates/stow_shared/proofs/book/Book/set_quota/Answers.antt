@@ -1,7 +1,6 @@
 use Rattle.std.proofs.Common.{List, sym, subst}
 use Rattle.stow_shared.specs.Books.{IsBook}
-use Rattle.stow_shared.specs.Entries.{Entry, entries_of, quota_entry}
-use Rattle.stow_shared.proofs.Added.{seen_behind}
+use Rattle.stow_shared.specs.Entries.{Entry, entries_of}
 use Rattle.stow_shared.proofs.Legal.{book_quota}
 use Rattle.stow_shared.proofs.book.Book.set_quota.Goals as goal
 
@@ -12,4 +11,4 @@ invariant_of-self-2 g c =
     (book_quota g.J.Journal.keeps c.args.seat.now.number c.args.tenant c.args.quota (entries_of c.self.inside.journal.items) c.self.inside.core c.set_quota.new.self c.set_quota.ensures c.self.invariant)
 
 pub returns-clause-ok : goal.returns-clause-ok
-returns-clause-ok g c = rw (← c.self.view_is) (record { core = c.set_quota.ensures; adds = seen_behind g.J.Journal.keeps (quota_entry c.args.seat.now.number c.args.tenant c.args.quota) c.set_quota.new.self _ _ c.args.seat.now _ _ c.in_ok-keep_quota.ensures.ok c.see.ensures })
+returns-clause-ok g c = rw (← c.self.view_is) (record { core = c.set_quota.ensures; adds = c.in_ok-keep_quota.ensures.ok })
